@@ -7,7 +7,8 @@
 
 use std::process::ExitCode;
 use toll_office::run;
+use toll_opener::{SqlOpener, run_script};
 
 fn main(rt: HostRuntime) -> ExitCode {
-    ExitCode::from(u8::try_from(run(&rt)).unwrap_or(u8::MAX))
+    ExitCode::from(u8::try_from(run(&rt, SqlOpener, run_script)).unwrap_or(u8::MAX))
 }

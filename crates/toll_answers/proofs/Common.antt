@@ -4,7 +4,7 @@ pub use Rattle.std.specs.Cmp.{IsTotalOrder}
 unfoldable pub use Rattle.std.specs.List.Sorted.{IsStrictlySortedBy}
 pub use Rattle.std.specs.Ordering.{is_gt, ordering_reverse}
 pub use Rattle.std.specs.declared.cmp.Ordering.{Ordering}
-pub use Rattle.toll_answers.specs.Common.{Action, AreEdges, AreRowsGiven, BatchRow, Bytes, CancelOrder, Checks, Command, Edge, History, IsChain, IsEdge, IsLawful, IsRowsOf, IsTrace, LotId, LotRow, MoveRow, OrderRow, PlaceOrder, Record, Refused, Reject, Release, RequirementKey, RequirementLine, Slice, Step, Verdict, Way, acme, all_accepted, batch_of, by, bytes_cmp, edge_of, first_of, grow, held_in, house_name, known_batch_checks, line_key, line_of, list_any, lot_at, lot_row, material_at, measure_of, on_hand_in, one_product, order_of, owner_key, owner_known, pair_cmp, requirement_cmp, result_cmp, same_bytes, standing, verdicts, voided_in}
+pub use Rattle.toll_answers.specs.Common.{Action, AreEdges, AreRowsGiven, BatchRow, Bytes, CancelOrder, Checks, Command, Edge, History, IsChain, IsEdge, IsLawful, IsRowsOf, IsTrace, LotId, LotRow, MoveRow, OrderRow, PlaceOrder, Record, Refused, Reject, Release, RequirementKey, RequirementLine, Slice, Step, Verdict, Way, acme, accepted_verdicts, batch_of, by, bytes_cmp, edge_of, verdict_of_checks, grow, held_in, house_name, known_batch_checks, line_key, line_of, list_any, lot_at, lot_row, material_at, measure_of, on_hand_in, one_product, order_of, owner_key, owner_known, pair_cmp, requirement_cmp, result_cmp, same_bytes, standing, verdicts, voided_in}
 pub use Rattle.toll_answers.specs.Edges.{IsOwnJoined, IsPlantJoined}
 pub use Rattle.toll_base.proofs.Texts.{requirement_cmp_total, result_cmp_total}
 pub use Rattle.toll_base.specs.Lots.{edge_cmp, lot_cmp}
@@ -19,10 +19,10 @@ unfoldable pub use Rattle.toll_history.specs.History.{acts, part}
 pub use Rattle.toll_history.specs.History.{adds_owner}
 pub use Rattle.toll_history.specs.Laws.{BringsOwn, TakesKnown, has_this_key}
 unfoldable pub use Rattle.toll_history.specs.Movements.{count_lots, count_sublots, lot_made, material_used, stock, sublot_known}
-pub use Rattle.toll_history.specs.Movements.{Movement, brings_into, has_key, movement_of, movement_recorded, movements, takes_from, voids_key}
-pub use Rattle.toll_history.specs.Tables.{Tables}
+pub use Rattle.toll_history.specs.Movements.{Movement, brings_into, has_move_key, movement_of, movement_recorded, movements, takes_from, voids_key}
+pub use Rattle.toll_history.specs.OwnerFacts.{OwnerFacts}
 unfoldable pub use Rattle.toll_history.specs.Verdict.{checks}
-pub use Rattle.toll_history.specs.Verdict.{Accepted, IsValid, Repeated, cancel_checks, crosses, grown, is_actual, order_checks, reject_checks, release_checks, verdict}
+pub use Rattle.toll_history.specs.Verdict.{Accepted, IsValidAction, Repeated, cancel_checks, crosses, grown, is_actual, order_checks, reject_checks, release_checks, verdict}
 pub use Rattle.toll_history.specs.Work.{requirement_of}
 pub use Rattle.toll_stock.proofs.Sums.{along, each_found}
 pub use Rattle.toll_trace.proofs.Members.{Contains-cases, Contains-filter, Contains-filter_map, Contains-from_filter, Contains-from_filter_map, Contains-from_map, Contains-here, Contains-later, Contains-map, Contains-none, member_of_all}

@@ -16,19 +16,19 @@ use Rattle.toll_answers.specs.Edges.{WasDone, IsOwnEdge, IsOwnJoined}
 -- ---- edges
 
 -- the movements that were done and not voided
-abbrev done : List Action → List MoveRow
-done own = filter (λ row. not (voided_in own row.key)) (filter_map movement_recorded own)
+abbrev unvoided_moves : List Action → List MoveRow
+unvoided_moves own = filter (λ row. not (voided_in own row.key)) (filter_map movement_recorded own)
 
 is_record : (a : Action) (row : MoveRow) → movement_recorded a ≡ Some row → a ≡ Record row
 is_record (Record new) row is = (cc)
 is_record a row is = absurd (cc)
 
-done_listed : (own : List Action) (row : MoveRow) → WasDone own row → Contains (done own) row
+done_listed : (own : List Action) (row : MoveRow) → WasDone own row → Contains (unvoided_moves own) row
 done_listed own row d =
     Contains-filter (λ (row : MoveRow). not (voided_in own row.key)) (filter_map movement_recorded own) row
     (Contains-filter_map movement_recorded own (Record row) row d.recorded refl) (ap not d.not_voided)
 
-listed_done : (own : List Action) (row : MoveRow) → Contains (done own) row → WasDone own row
+listed_done : (own : List Action) (row : MoveRow) → Contains (unvoided_moves own) row → WasDone own row
 listed_done own row i =
     let kept = Contains-from_filter (λ (row : MoveRow). not (voided_in own row.key)) (filter_map movement_recorded own) row i in
     let recorded = Contains-from_filter_map movement_recorded own row kept.0 in
@@ -38,17 +38,17 @@ listed_done own row i =
     }
 
 abbrev pub drawn_here : List Action → List Edge
-drawn_here own = drawn (done own)
+drawn_here own = drawn (unvoided_moves own)
 
 drawn_own : (own : List Action) (e : Edge) → Contains (drawn_here own) e → IsOwnEdge own e
-drawn_own own e i = drawn_same (Contains (done own)) (WasDone own) (listed_done own) e (listed_drawn (done own) e i)
+drawn_own own e i = drawn_same (Contains (unvoided_moves own)) (WasDone own) (listed_done own) e (listed_drawn (unvoided_moves own) e i)
 
 own_drawn : (own : List Action) (e : Edge) → IsOwnEdge own e → Contains (drawn_here own) e
-own_drawn own e is = drawn_listed (done own) e (drawn_same (WasDone own) (Contains (done own)) (done_listed own) e is)
+own_drawn own e is = drawn_listed (unvoided_moves own) e (drawn_same (WasDone own) (Contains (unvoided_moves own)) (done_listed own) e is)
 
 -- two edges in the other order
-pub turned : (x y e : Edge) → Contains (x ∷ y ∷ []) e → Contains (y ∷ x ∷ []) e
-turned x y e i = elim (Contains-cases x (y ∷ []) e i) [
+pub edges_swapped : (x y e : Edge) → Contains (x ∷ y ∷ []) e → Contains (y ∷ x ∷ []) e
+edges_swapped x y e i = elim (Contains-cases x (y ∷ []) e i) [
   | inl is ↦ subst (Contains (y ∷ x ∷ [])) is (Contains-later y (x ∷ []) x (Contains-here x []))
   | inr j ↦ elim (Contains-cases y [] e j) [
     | inl is ↦ subst (Contains (y ∷ x ∷ [])) is (Contains-here y (x ∷ []))

@@ -34,13 +34,13 @@ module _ {K R L : Type 0} (cmp : K → K → Ordering) (o : IsTotalOrder cmp) (k
   none_tied k l [] tied above = refl
   none_tied k l (x ∷ xs) tied above = ap (λ r. cond (is_eq r) (Some x) (row_at cmp key xs k)) (o.congr k l (key x) tied ∙ above.0) ∙ none_tied k l xs tied above.1
 
-  passed_over : (b : Bool) (rest : Option L) → (b ≡ true → rest ≡ None) → rest ≡ cond b None rest
-  passed_over true rest none = none refl
-  passed_over false rest none = refl
+  made_passed_over : (b : Bool) (rest : Option L) → (b ≡ true → rest ≡ None) → rest ≡ cond b None rest
+  made_passed_over true rest none = none refl
+  made_passed_over false rest none = refl
 
-  first : (b : Bool) (x : R) (rest : Option R) → cond b (make x) (option_and_then make rest) ≡ option_and_then make (cond b (Some x) rest)
-  first true x rest = refl
-  first false x rest = refl
+  made_first : (b : Bool) (x : R) (rest : Option R) → cond b (make x) (option_and_then make rest) ≡ option_and_then make (cond b (Some x) rest)
+  made_first true x rest = refl
+  made_first false x rest = refl
 
   -- at a key stands what is made of its row
   pub made_at : (rows : List R) (k : K) → IsInKeyOrder cmp key rows → row_at cmp made_key (filter_map make rows) k ≡ option_and_then make (row_at cmp key rows k)
@@ -48,8 +48,8 @@ module _ {K R L : Type 0} (cmp : K → K → Ordering) (o : IsTotalOrder cmp) (k
   made_at [] k ordered = refl
   made_at (x ∷ xs) k ordered =
       elim (make x) as (λ made. make x ≡ made → row_at cmp made_key (cons_option made (filter_map make xs)) k ≡ cond (is_eq (cmp k (key x))) made (row_at cmp made_key (filter_map make xs) k)) [
-        | None ↦ λ is. passed_over (is_eq (cmp k (key x))) _ (λ tied. made_at xs k ordered.1 ∙ ap (option_and_then make) (none_tied k (key x) xs ((Equal-is _).0 tied) ordered.0))
+        | None ↦ λ is. made_passed_over (is_eq (cmp k (key x))) _ (λ tied. made_at xs k ordered.1 ∙ ap (option_and_then make) (none_tied k (key x) xs ((Equal-is _).0 tied) ordered.0))
         | Some made ↦ λ is. ap (λ l. cond (is_eq (cmp k l)) (Some made) (row_at cmp made_key (filter_map make xs) k)) (same x made is)
       ] refl
       ∙ ap (cond (is_eq (cmp k (key x))) (make x)) (made_at xs k ordered.1)
-      ∙ first (is_eq (cmp k (key x))) x (row_at cmp key xs k)
+      ∙ made_first (is_eq (cmp k (key x))) x (row_at cmp key xs k)

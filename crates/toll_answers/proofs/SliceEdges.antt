@@ -1,27 +1,27 @@
 -- What stands in a slice is what its owner did and didn't void, over each history whose rows it has.
 use Rattle.std.proofs.Common.{◌≡◌, ℕ, ◌+◌, ◌≤◌, Bool, true, false, cond, Some, None, is_some, List, [], ◌∷◌, sym, ap, subst, ◌∙◌, inl, inr, arith}
 use Rattle.std.specs.Prelude.{Contains}
-use Rattle.toll_answers.proofs.Common.{Bytes, same_bytes, count, or_else, Action, Record, History, acts, movement_of, Tables, IsRowsOf, IsLawful, has_this_key, Edge, MoveRow, same_bytes-refl, found_once, Stands, IsEdge, AreEdges, Contains-none, Contains-here, Contains-later, Contains-cases, drawn_same, edges_same}
+use Rattle.toll_answers.proofs.Common.{Bytes, same_bytes, count, or_else, Action, Record, History, acts, movement_of, OwnerFacts, IsRowsOf, IsLawful, has_this_key, Edge, MoveRow, same_bytes-refl, found_once, Stands, IsEdge, AreEdges, Contains-none, Contains-here, Contains-later, Contains-cases, drawn_same, edges_same}
 use Rattle.toll_base.specs.Slice.{Slice}
 use Rattle.toll_answers.specs.Edges.{WasDone, IsOwnEdge}
 
 -- what a key finds was recorded
-found_recorded : (own : List Action) (key : Bytes) (row : MoveRow) → movement_of own key ≡ Some row → Contains own (Record row)
-found_recorded [] key row is = absurd (cc)
-found_recorded (Record new ∷ own) key row is =
+edge_found_recorded : (own : List Action) (key : Bytes) (row : MoveRow) → movement_of own key ≡ Some row → Contains own (Record row)
+edge_found_recorded [] key row is = absurd (cc)
+edge_found_recorded (Record new ∷ own) key row is =
     elim (same_bytes key new.key) as (λ b. or_else (cond b (Some new) None) (movement_of own key) ≡ Some row → Contains (Record new ∷ own) (Record row)) [
       | true ↦ λ is. let r : new ≡ row = (cc) in subst (λ x. Contains (Record new ∷ own) (Record x)) r (Contains-here (Record new) own)
-      | false ↦ λ is. Contains-later (Record new) own (Record row) (found_recorded own key row is)
+      | false ↦ λ is. Contains-later (Record new) own (Record row) (edge_found_recorded own key row is)
     ] is
-found_recorded (a ∷ own) key row is = Contains-later a own (Record row) (found_recorded own key row is)
+edge_found_recorded (a ∷ own) key row is = Contains-later a own (Record row) (edge_found_recorded own key row is)
 
 -- a recorded movement is counted with its key
-counted : (own : List Action) (row : MoveRow) → Contains own (Record row) → 1 ≤ count (has_this_key row.key) own
-counted [] row i = absurd (Contains-none (Record row) i)
-counted (a ∷ own) row i = elim (Contains-cases a own (Record row) i) [
+recorded_counts : (own : List Action) (row : MoveRow) → Contains own (Record row) → 1 ≤ count (has_this_key row.key) own
+recorded_counts [] row i = absurd (Contains-none (Record row) i)
+recorded_counts (a ∷ own) row i = elim (Contains-cases a own (Record row) i) [
   | inl is ↦ subst (λ x. 1 ≤ cond (has_this_key row.key x) 1 0 + count (has_this_key row.key) own) (sym is)
       (subst (λ b. 1 ≤ cond b 1 0 + count (has_this_key row.key) own) (sym (same_bytes-refl row.key)) (omega arith))
-  | inr later ↦ more (has_this_key row.key a) (count (has_this_key row.key) own) (counted own row later)
+  | inr later ↦ more (has_this_key row.key a) (count (has_this_key row.key) own) (recorded_counts own row later)
 ]
   where
     more : (b : Bool) (n : ℕ) → 1 ≤ n → 1 ≤ cond b 1 0 + n
@@ -37,7 +37,7 @@ recorded_found (Record new ∷ own) row once i = elim (Contains-cases (Record ne
       subst (λ x. movement_of (Record x ∷ own) row.key ≡ Some row) (sym same)
       (ap (λ b. or_else (cond b (Some row) None) (movement_of own row.key)) (same_bytes-refl row.key))
   | inr later ↦ elim (same_bytes row.key new.key) as (λ b. cond b 1 0 + count (has_this_key row.key) own ≤ 1 → or_else (cond b (Some new) None) (movement_of own row.key) ≡ Some row) [
-    | true ↦ λ once. let one = counted own row later in absurd (omega arith)
+    | true ↦ λ once. let one = recorded_counts own row later in absurd (omega arith)
     | false ↦ λ once. recorded_found own row (omega arith) later
   ] once
 ]
@@ -46,23 +46,23 @@ recorded_found (a ∷ own) row once i = elim (Contains-cases a own (Record row) 
   | inr later ↦ recorded_found own row (omega arith) later
 ]
 
-at_most_one : (b : Bool) (n : ℕ) → n ≡ cond b 1 0 → n ≤ 1
-at_most_one true n is = omega arith
-at_most_one false n is = omega arith
+edge_at_most_one : (b : Bool) (n : ℕ) → n ≡ cond b 1 0 → n ≤ 1
+edge_at_most_one true n is = omega arith
+edge_at_most_one false n is = omega arith
 
 module _ (H : History) (s : Slice) (rows : IsRowsOf H s) where
   stands_was_done : (row : MoveRow) → Stands s row → WasDone (acts s.owner H) row
   stands_was_done row stands = record {
-    recorded = found_recorded (acts s.owner H) row.key row (sym (ap (λ (t : Tables). t.movement row.key) rows) ∙ stands.recorded);
-    not_voided = sym (ap (λ (t : Tables). t.voided row.key) rows) ∙ stands.not_voided;
+    recorded = edge_found_recorded (acts s.owner H) row.key row (sym (ap (λ (t : OwnerFacts). t.movement row.key) rows) ∙ stands.recorded);
+    not_voided = sym (ap (λ (t : OwnerFacts). t.voided row.key) rows) ∙ stands.not_voided;
   }
 
   done_stands : IsLawful H → (row : MoveRow) → WasDone (acts s.owner H) row → Stands s row
   done_stands lawful row done =
-      let once = at_most_one (is_some (movement_of (acts s.owner H) row.key)) _ (found_once s.owner row.key H lawful) in
+      let once = edge_at_most_one (is_some (movement_of (acts s.owner H) row.key)) _ (found_once s.owner row.key H lawful) in
       record {
-        recorded = ap (λ (t : Tables). t.movement row.key) rows ∙ recorded_found (acts s.owner H) row once done.recorded;
-        not_voided = ap (λ (t : Tables). t.voided row.key) rows ∙ done.not_voided;
+        recorded = ap (λ (t : OwnerFacts). t.movement row.key) rows ∙ recorded_found (acts s.owner H) row once done.recorded;
+        not_voided = ap (λ (t : OwnerFacts). t.voided row.key) rows ∙ done.not_voided;
       }
 
   -- so they draw the same edges

@@ -2,7 +2,7 @@
 use Rattle.std.proofs.Common.{◌≡◌, Bool, true, false, not, ◌&&◌, ◌||◌, None, [], ◌∷◌, refl, sym, ap, subst, ◌∙◌, inl, inr}
 use mathlib.Core.Bool.{false≢true}
 use Rattle.std.specs.Prelude.{Contains}
-use Rattle.toll_answers.proofs.Common.{or_parts, Bytes, same_bytes, is_some_where, Action, Record, Void, by, History, acts, Movement, has_key, movements, standing, movement_of, voided_in, voids_key, Accepted, IsLawful, is_actual, verdict, MoveRow, same_bytes-exact, same_bytes-refl, void_of_actual, acts-own, acts-other, Contains-none, Contains-here, Contains-later, Contains-cases, Contains-filter, Contains-from_filter}
+use Rattle.toll_answers.proofs.Common.{or_parts, Bytes, same_bytes, is_some_where, Action, Record, Void, by, History, acts, Movement, has_move_key, movements, standing, movement_of, voided_in, voids_key, Accepted, IsLawful, is_actual, verdict, MoveRow, same_bytes-exact, same_bytes-refl, void_of_actual, acts-own, acts-other, Contains-none, Contains-here, Contains-later, Contains-cases, Contains-filter, Contains-from_filter}
 use Rattle.toll_history.proofs.Acts.{any_acts}
 use Rattle.toll_history.proofs.Found.{key_is_new}
 use Rattle.toll_answers.specs.Edges.{WasDone}
@@ -10,13 +10,13 @@ use Rattle.toll_answers.specs.Edges.{WasDone}
 -- ---- what an owner did, after one command more
 
 -- it is that command, or was done before
-data IsDone (H : History) (w : Bytes) (a : Action) (o : Bytes) (b : Action) : Type 0 where
-  now : w ≡ o → a ≡ b → IsDone H w a o b
-  before : Contains (acts o H) b → IsDone H w a o b
+data IsNewOrBefore (H : History) (w : Bytes) (a : Action) (o : Bytes) (b : Action) : Type 0 where
+  now : w ≡ o → a ≡ b → IsNewOrBefore H w a o b
+  before : Contains (acts o H) b → IsNewOrBefore H w a o b
 
-done_cases : (H : History) (w : Bytes) (a : Action) (o : Bytes) (b : Action) → Contains (acts o (by w a ∷ H)) b → IsDone H w a o b
+done_cases : (H : History) (w : Bytes) (a : Action) (o : Bytes) (b : Action) → Contains (acts o (by w a ∷ H)) b → IsNewOrBefore H w a o b
 done_cases H w a o b there =
-    elim (same_bytes w o) as (λ t. same_bytes w o ≡ t → IsDone H w a o b) [
+    elim (same_bytes w o) as (λ t. same_bytes w o ≡ t → IsNewOrBefore H w a o b) [
       | true ↦ λ own. elim (Contains-cases a (acts o H) b (subst (λ own_acts. Contains own_acts b) (acts-own o (by w a) H own) there)) [
         | inl is ↦ now (same_bytes-exact w o own) is
         | inr earlier ↦ before earlier
@@ -40,7 +40,7 @@ unfolding acts
 recorded_moved [] o row there = absurd (Contains-none (Record row) there)
 recorded_moved (c ∷ H) o row there = step H c.owner c.action (done_cases H c.owner c.action o (Record row) there) (recorded_moved H o row)
   where
-    step : (H : History) (w : Bytes) (a : Action) → IsDone H w a o (Record row) → (Contains (acts o H) (Record row) → Contains (movements H) (o, row)) → Contains (movements (by w a ∷ H)) (o, row)
+    step : (H : History) (w : Bytes) (a : Action) → IsNewOrBefore H w a o (Record row) → (Contains (acts o H) (Record row) → Contains (movements H) (o, row)) → Contains (movements (by w a ∷ H)) (o, row)
     step H w (Record new) (now own is) ih =
         let r : new ≡ row = (cc) in
         subst (Contains ((w, new) ∷ movements H)) (λ i. (own i, r i)) (Contains-here (w, new) (movements H))
@@ -79,11 +79,11 @@ stands_step H w (Record row) m lawful accepted ih there = elim (Contains-cases (
   }
 ]
 stands_step H w (Void key) m lawful accepted ih there =
-    let left = Contains-from_filter (λ (m : Movement). not (has_key w key m)) (standing H) m there in
+    let left = Contains-from_filter (λ (m : Movement). not (has_move_key w key m)) (standing H) m there in
     let was = ih left.0 in
     record {
       recorded = done_later H w (Void key) m.0 (Record m.1) was.recorded;
-      not_voided = voided_more H w (Void key) m.0 m.1.key (not_it (has_key w key m) left.1) was.not_voided;
+      not_voided = voided_more H w (Void key) m.0 m.1.key (not_it (has_move_key w key m) left.1) was.not_voided;
     }
   where
     not_it : (b : Bool) → not b ≡ true → b ≡ false
@@ -102,13 +102,13 @@ standing_done (c ∷ H) lawful m there = stands_step H c.owner c.action m lawful
 
 -- ---- and what was done and not voided stands
 
-done_step : (H : History) (w : Bytes) (a : Action) (o : Bytes) (row : MoveRow) → IsDone H w a o (Record row) → (same_bytes w o && voids_key row.key a) ≡ false → (Contains (acts o H) (Record row) → Contains (standing H) (o, row)) → Contains (standing (by w a ∷ H)) (o, row)
+done_step : (H : History) (w : Bytes) (a : Action) (o : Bytes) (row : MoveRow) → IsNewOrBefore H w a o (Record row) → (same_bytes w o && voids_key row.key a) ≡ false → (Contains (acts o H) (Record row) → Contains (standing H) (o, row)) → Contains (standing (by w a ∷ H)) (o, row)
 done_step H w (Record new) o row (now own is) misses ih =
     let r : new ≡ row = (cc) in
     subst (Contains ((w, new) ∷ standing H)) (λ i. (own i, r i)) (Contains-here (w, new) (standing H))
 done_step H w (Record new) o row (before there) misses ih = Contains-later (w, new) (standing H) (o, row) (ih there)
 done_step H w (Void key) o row (now own is) misses ih = absurd (cc)
-done_step H w (Void key) o row (before there) misses ih = Contains-filter (λ (m : Movement). not (has_key w key m)) (standing H) (o, row) (ih there) (ap not misses)
+done_step H w (Void key) o row (before there) misses ih = Contains-filter (λ (m : Movement). not (has_move_key w key m)) (standing H) (o, row) (ih there) (ap not misses)
 done_step H w a o row (now own is) misses ih = absurd (cc)
 done_step H w a o row (before there) misses ih = ih there
 

@@ -30,22 +30,22 @@ pub record IsWalkedTo (lot : Bytes) (sublots : List SublotRow) (sum : ℕ) (left
   pub order : AreInOrder left
 
 -- what is up to a lot is not of a later one
-passed : (row : SublotRow) (rows : List SublotRow) (lot later : Bytes) → is_gt (bytes_cmp row.lot lot) ≡ false → bytes_cmp lot later ≡ Less → held_in later (row ∷ rows) ≡ held_in later rows
-passed row rows lot later le lt = ap (λ r. cond (is_eq r) row.amount 0 + held_in later rows) (up_to_before nat_list_cmp_total row.lot lot later le lt) ∙ zero-add _
+passed_lot : (row : SublotRow) (rows : List SublotRow) (lot later : Bytes) → is_gt (bytes_cmp row.lot lot) ≡ false → bytes_cmp lot later ≡ Less → held_in later (row ∷ rows) ≡ held_in later rows
+passed_lot row rows lot later le lt = ap (λ r. cond (is_eq r) row.amount 0 + held_in later rows) (up_to_before nat_list_cmp_total row.lot lot later le lt) ∙ zero-add _
 
 not_its : (row : SublotRow) (rows : List SublotRow) (lot : Bytes) → bytes_cmp lot row.lot ≡ Less → held_in lot (row ∷ rows) ≡ held_in lot rows
 not_its row rows lot lt = ap (λ r. cond (is_eq r) row.amount 0 + held_in lot rows) (nat_list_cmp_total.antisymm row.lot lot ∙ ap ordering_reverse lt) ∙ zero-add _
 
 -- nothing is left of a lot from the first later one on
-none_left : (row : SublotRow) (rows : List SublotRow) (lot : Bytes) → AreInOrder (row ∷ rows) → bytes_cmp lot row.lot ≡ Less → held_in lot (row ∷ rows) ≡ 0
+none_of_later : (row : SublotRow) (rows : List SublotRow) (lot : Bytes) → AreInOrder (row ∷ rows) → bytes_cmp lot row.lot ≡ Less → held_in lot (row ∷ rows) ≡ 0
 unfolding IsStrictlySortedBy
-none_left row [] lot ordered lt = not_its row [] lot lt
-none_left row (x ∷ xs) lot ordered lt = not_its row (x ∷ xs) lot lt ∙ none_left x xs lot ordered.1 (up_to_before (back_total nat_list_cmp_total) x.lot row.lot lot (first_not_above _ _ (ap is_gt ordered.0.0)) lt)
+none_of_later row [] lot ordered lt = not_its row [] lot lt
+none_of_later row (x ∷ xs) lot ordered lt = not_its row (x ∷ xs) lot lt ∙ none_of_later x xs lot ordered.1 (up_to_before (back_total nat_list_cmp_total) x.lot row.lot lot (first_not_above _ _ (ap is_gt ordered.0.0)) lt)
 
 module _ (lot : Bytes) (sublots : List SublotRow) (sum : ℕ) (left : List SublotRow) (walked : IsWalkedTo lot sublots sum left) where
   module _ (row : SublotRow) (rows : List SublotRow) (first : left ≡ row ∷ rows) where
-    here : IsWalkedTo lot sublots sum (row ∷ rows)
-    here = subst (IsWalkedTo lot sublots sum) first walked
+    walk_here : IsWalkedTo lot sublots sum (row ∷ rows)
+    walk_here = subst (IsWalkedTo lot sublots sum) first walked
 
     -- over a sublot that is of no later lot
     pub walked_on : (r : Ordering) → r ≡ bytes_cmp row.lot lot → is_gt r ≡ false → (more : ℕ) → more ≡ sum + cond (is_eq r) row.amount 0 → IsWalkedTo lot sublots more rows
@@ -53,17 +53,17 @@ module _ (lot : Bytes) (sublots : List SublotRow) (sum : ℕ) (left : List Sublo
     walked_on r is le more adds = record {
       amount =
           let same : cond (is_eq r) row.amount 0 ≡ cond (is_eq (bytes_cmp row.lot lot)) row.amount 0 = ap (λ r. cond (is_eq r) row.amount 0) is in
-          let so_far = here.amount in
+          let so_far = walk_here.amount in
           omega arith;
-      later = λ l lt. sym (passed row rows lot l (ap is_gt (sym is) ∙ le) lt) ∙ here.later l lt;
-      order = here.order.1;
+      later = λ l lt. sym (passed_lot row rows lot l (ap is_gt (sym is) ∙ le) lt) ∙ walk_here.later l lt;
+      order = walk_here.order.1;
     }
 
     -- up to a sublot of a later lot
     pub walked_by : Greater ≡ bytes_cmp row.lot lot → sum ≡ held_in lot sublots
     walked_by gt =
-        let none = none_left row rows lot here.order (nat_list_cmp_total.antisymm lot row.lot ∙ ap ordering_reverse (sym gt)) in
-        let so_far = here.amount in
+        let none = none_of_later row rows lot walk_here.order (nat_list_cmp_total.antisymm lot row.lot ∙ ap ordering_reverse (sym gt)) in
+        let so_far = walk_here.amount in
         omega arith
 
   -- to the end

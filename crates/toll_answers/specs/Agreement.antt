@@ -14,8 +14,8 @@ abbrev pub IsPlantTrace : History → Way → LotId → List Step → Type 0
 IsPlantTrace H way from steps = IsTrace (IsPlantJoined H way) from steps
 
 -- the edge leads to a lot of the owner, from one of the owner or of HOUSE
-abbrev pub IsWithin : (o : Bytes) → Edge → Type 0
-IsWithin o e = (e.to.owner ≡ o) × ((e.from.owner ≡ o) ⊎ (e.from.owner ≡ house_name))
+abbrev pub LeadsIntoOwn : (o : Bytes) → Edge → Type 0
+LeadsIntoOwn o e = (e.to.owner ≡ o) × ((e.from.owner ≡ o) ⊎ (e.from.owner ≡ house_name))
 
 -- both lots of the edge are known
 abbrev pub AreKnown : History → Edge → Type 0

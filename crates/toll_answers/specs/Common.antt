@@ -9,10 +9,10 @@ pub use Rattle.toll_history.specs.Command.{Action, AddOwner, AddRecipe, AddUnit,
 pub use Rattle.toll_history.specs.Common.{BatchRow, Bytes, LotId, MoveRow, OrderRow, Refusal, RequirementKey, ResultRow, Slice, SublotRow, house_name, list_any, lot_at, material_at, option_map, option_map_or, requirement_cmp, same_bytes, void_at}
 pub use Rattle.toll_history.specs.History.{History, acts, owner_key, owner_known, part}
 pub use Rattle.toll_history.specs.Movements.{standing, voided_in}
-pub use Rattle.toll_history.specs.Tables.{IsRowsOf, lot_row, sublot_row, tables_given}
-pub use Rattle.toll_history.specs.Verdict.{Checks, IsLawful, IsValid, Refused, Verdict, first_of, grow, known_batch_checks, verdict}
+pub use Rattle.toll_history.specs.OwnerFacts.{IsRowsOf, lot_row, sublot_row, facts_given}
+pub use Rattle.toll_history.specs.Verdict.{Checks, IsLawful, IsValidAction, Refused, Verdict, verdict_of_checks, grow, known_batch_checks, verdict}
 pub use Rattle.toll_history.specs.Work.{batch_of, measure_of, order_of}
-pub use Rattle.toll_history.specs.Worked.{acme, after, all_accepted, material, one_product, receives, require, verdicts}
+pub use Rattle.toll_history.specs.Worked.{acme, history_after, accepted_verdicts, material, one_product, receives, require, verdicts}
 pub use Rattle.toll_stock.specs.LotTotals.{held_in, on_hand_in}
 pub use Rattle.toll_trace.specs.Chain.{IsChain, edge_of}
 pub use Rattle.toll_trace.specs.Edges.{AreEdges, IsDrawn, IsEdge}

@@ -8,6 +8,6 @@ pub mod InSlice
 pub mod Views
 pub mod Columns
 pub mod Texts
-pub mod OwnerRequests
+pub mod OwnerReply
 pub mod Replies
 pub mod PlantAnswers

@@ -1,21 +1,58 @@
 -- The answers to the plant over a list of commands.
-use Rattle.std.specs.Prelude.{◌≡◌, ℕ, not, Option, Some, is_none, List, [], ◌∷◌, ◌++◌}
-use Rattle.toll_answers.specs.Common.{Bytes, bytes_cmp, RequirementKey, requirement_cmp, AreRowsGiven, Command, History, acts, owner_known, order_of, batch_of, tables_given, lot_row, Verdict, Refused, Checks, first_of, verdict, grow, known_batch_checks, Refusal, UnknownOwner, UnknownLot, LotId, BatchRow, OrderRow, Step, IsTrace, line_of, line_key, RequirementLine}
+use Rattle.std.specs.Prelude.{◌≡◌, not, Option, Some, None, is_none, IfSome, List, [], ◌∷◌, ◌++◌}
+use Rattle.toll_base.specs.declared.movement.Move.TheVariants as move
+use Rattle.toll_history.specs.Command.{AddMaterial, AddTest, CloseBatch, RecordResult, Require, Void}
+use Rattle.toll_answers.specs.Common.{Bytes, bytes_cmp, house_name, option_map_or, RequirementKey, requirement_cmp, AreRowsGiven, AddOwner, AddRecipe, AddUnit, CancelOrder, CommandBatch, OpenBatch, PlaceOrder, Reject, Release, Command, by, moves, IsValidAction, History, acts, owner_known, order_of, batch_of, facts_given, lot_row, Verdict, Refused, Checks, verdict_of_checks, verdict, grow, known_batch_checks, UnknownOwner, UnknownLot, LotId, BatchRow, OrderRow, Step, IsTrace, line_of, line_key, RequirementLine}
 use Rattle.toll_answers.specs.Edges.{IsPlantJoined}
 use Rattle.toll_trace.specs.declared.way.Way.{Way}
 use Rattle.toll_answers.specs.Recall.{IsRecall}
+use Rattle.toll_answers.specs.declared.plant_cmd.PlantCmd.{PlantCmd}
+use Rattle.toll_answers.specs.declared.plant_cmd.PlantCmd.TheVariants as cmd
 use Rattle.toll_answers.specs.declared.genealogy.recall.RecallLine.{RecallLine}
 use Rattle.toll_answers.specs.Texts.{orders_text, IsStockText, batch_text, trace_text, recall_text}
 
--- what the plant does: a command, a question, or words of which a value couldn't be read
-pub data PlantRequest : Type 0 where
-  Does : (command : Command) → PlantRequest
-  AsksOrders : (owner : Bytes) → PlantRequest
-  AsksStock : (owner : Bytes) → PlantRequest
-  AsksBatch : (owner order : Bytes) (number : ℕ) → PlantRequest
-  AsksTrace : (lot : LotId) (way : Way) → PlantRequest
-  AsksRecall : (lot : LotId) → PlantRequest
-  CannotRead : (why : Refusal) → PlantRequest
+-- ---- what a command of the plant is
+
+-- what is recorded of it; nothing of a question, nor of words of which a value couldn't be read
+abbrev pub command_of : PlantCmd → Option Command
+command_of (cmd.OwnerAdd owner key) = Some (by owner (AddOwner key))
+command_of (cmd.UnitAdd unit) = Some (by house_name (AddUnit unit))
+command_of (cmd.MaterialAdd owner material measure) = Some (by owner (AddMaterial (record { material = material; measure = measure })))
+command_of (cmd.TestAdd owner material test limits) = Some (by owner (AddTest (record { material = material; test = test; limits = limits })))
+command_of (cmd.RecipeAdd owner recipe segments) = Some (by owner (AddRecipe (record { recipe = recipe; segments = segments })))
+command_of (cmd.Require owner row) = Some (by owner (Require row))
+command_of (cmd.Order order recipe batches) = Some (by house_name (PlaceOrder order recipe batches))
+command_of (cmd.Cancel order) = Some (by house_name (CancelOrder order))
+command_of (cmd.Open owner order unit) = Some (by owner (OpenBatch order unit))
+command_of (cmd.Do owner order number command) = Some (by owner (CommandBatch order number command))
+command_of (cmd.Close owner order number) = Some (by owner (CloseBatch order number))
+command_of (cmd.Receive owner key material lot sublot amount day) = Some (moves owner key (move.Receive material lot sublot) amount day)
+command_of (cmd.Split owner key lot sublot target amount day) = Some (moves owner key (move.Split lot sublot target) amount day)
+command_of (cmd.Ship owner key lot sublot amount day) = Some (moves owner key (move.Ship lot sublot) amount day)
+command_of (cmd.Scrap owner key lot sublot amount day) = Some (moves owner key (move.Scrap lot sublot) amount day)
+command_of (cmd.Result owner lot test value day) = Some (by owner (RecordResult lot test value day))
+command_of (cmd.Release lot) = Some (by house_name (Release lot))
+command_of (cmd.Reject lot) = Some (by house_name (Reject lot))
+command_of (cmd.Actual key owner order number segment role material lot sublot amount day) = Some (moves owner key (move.Actual order number segment role material lot sublot) amount day)
+command_of (cmd.Void owner key) = Some (by owner (Void key))
+command_of _ = None
+
+-- the owner that a question is about; HOUSE, where it names none
+abbrev pub asked_about : PlantCmd → Bytes
+asked_about (cmd.Orders owner) = owner
+asked_about (cmd.Stock owner) = owner
+asked_about (cmd.Batch owner order number) = owner
+asked_about (cmd.Trace lot way) = lot.owner
+asked_about (cmd.Recall lot) = lot.owner
+asked_about _ = house_name
+
+-- whom it concerns
+abbrev pub concerned : PlantCmd → Bytes
+concerned q = option_map_or (λ c. c.owner) (command_of q) (asked_about q)
+
+-- the values of what is recorded are within their bounds
+abbrev pub IsValidCommand : PlantCmd → Type 0
+IsValidCommand q = IfSome (command_of q) (λ c. IsValidAction c.action)
 
 -- an answer to the plant: a verdict, or a text
 pub data PlantAnswer : Type 0 where
@@ -70,16 +107,24 @@ owner_checks H o = (not (owner_known H o), Some UnknownOwner) ∷ []
 abbrev pub lot_checks : History → LotId → Checks
 lot_checks H lot = owner_checks H lot.owner ++ (is_none (lot_row H lot.owner lot.lot), Some UnknownLot) ∷ []
 
-abbrev pub IsPlantAnswer : History → PlantRequest → PlantAnswer → Type 0
-IsPlantAnswer H (Does c) r = r ≡ Judged (verdict H c)
-IsPlantAnswer H (AsksOrders o) r = IsCheckedOr (first_of (owner_checks H o)) (AreOrdersShown H o r) r
-IsPlantAnswer H (AsksStock o) r = IsCheckedOr (first_of (owner_checks H o)) (IsStockShown H o r) r
-IsPlantAnswer H (AsksBatch o order number) r = IsCheckedOr (first_of (owner_checks H o)) (IsBatchShownOr H o (order_of (acts o H) order) (batch_of (acts o H) (order, number)) (first_of (known_batch_checks (tables_given H o) order number)) r) r
-IsPlantAnswer H (AsksTrace lot way) r = IsCheckedOr (first_of (lot_checks H lot)) (IsTraceShown H lot way r) r
-IsPlantAnswer H (AsksRecall lot) r = IsCheckedOr (first_of (lot_checks H lot)) (IsRecallShown H lot r) r
-IsPlantAnswer H (CannotRead why) r = r ≡ Judged (Refused why)
+-- the verdict on what is recorded; where nothing is, what is so of the answer otherwise
+abbrev pub IsVerdictOr : History → Option Command → Type 0 → PlantAnswer → Type 0
+IsVerdictOr H (Some c) otherwise r = r ≡ Judged (verdict H c)
+IsVerdictOr H None otherwise r = otherwise
+
+-- the answer to a question, and to words that couldn't be read
+abbrev pub IsQuestionAnswer : History → PlantCmd → PlantAnswer → Type 0
+IsQuestionAnswer H (cmd.Orders o) r = IsCheckedOr (verdict_of_checks (owner_checks H o)) (AreOrdersShown H o r) r
+IsQuestionAnswer H (cmd.Stock o) r = IsCheckedOr (verdict_of_checks (owner_checks H o)) (IsStockShown H o r) r
+IsQuestionAnswer H (cmd.Batch o order number) r = IsCheckedOr (verdict_of_checks (owner_checks H o)) (IsBatchShownOr H o (order_of (acts o H) order) (batch_of (acts o H) (order, number)) (verdict_of_checks (known_batch_checks (facts_given H o) order number)) r) r
+IsQuestionAnswer H (cmd.Trace lot way) r = IsCheckedOr (verdict_of_checks (lot_checks H lot)) (IsTraceShown H lot way r) r
+IsQuestionAnswer H (cmd.Recall lot) r = IsCheckedOr (verdict_of_checks (lot_checks H lot)) (IsRecallShown H lot r) r
+IsQuestionAnswer H (cmd.Unread why) r = r ≡ Judged (Refused why)
+IsQuestionAnswer H _ r = ⊥
+
+abbrev pub IsPlantAnswer : History → PlantCmd → PlantAnswer → Type 0
+IsPlantAnswer H q r = IsVerdictOr H (command_of q) (IsQuestionAnswer H q r) r
 
 -- the history after it
-abbrev pub after_plant : History → PlantRequest → History
-after_plant H (Does c) = grow H c
-after_plant H _ = H
+abbrev pub after_plant : History → PlantCmd → History
+after_plant H q = option_map_or (grow H) (command_of q) H

@@ -7,11 +7,11 @@ use Rattle.toll_answers.specs.Edges.{IsPlantJoined}
 use Rattle.toll_answers.specs.declared.genealogy.recall.RecallLine.{RecallLine}
 
 -- the line of a step of the trace
-abbrev pub recall_line : History → Step → Option RecallLine
-recall_line H s =
+abbrev pub recall_line_of : History → Step → Option RecallLine
+recall_line_of H s =
     option_map (λ row. record { step = s; disposition = row.disposition; totals = record { on_hand = on_hand H s.lot; shipped = shipped H s.lot } }) (lot_row H s.lot.owner s.lot.lot)
 
 -- the lots of the forward trace over all edges, each with what is on hand and was shipped of it
 pub record IsRecall (H : History) (lot : LotId) (lines : List RecallLine) : Type 0 where
   pub traced : IsTrace (IsPlantJoined H Forward) lot (map (λ line. line.step) lines)
-  pub each : map (λ line. Some line) lines ≡ map (λ line. recall_line H line.step) lines
+  pub each : map (λ line. Some line) lines ≡ map (λ line. recall_line_of H line.step) lines

@@ -1,6 +1,6 @@
 -- Histories that worked examples of genealogy begin with.
 use Rattle.std.specs.Prelude.{List, [], ◌∷◌, codes}
-use Rattle.toll_answers.specs.Common.{Bytes, house_name, AddOwner, AddUnit, AddRecipe, PlaceOrder, OpenBatch, CommandBatch, Release, Command, by, moves, History, Edge, LotId, after, acme, material, require, receives}
+use Rattle.toll_answers.specs.Common.{Bytes, house_name, AddOwner, AddUnit, AddRecipe, PlaceOrder, OpenBatch, CommandBatch, Release, Command, by, moves, History, Edge, LotId, history_after, acme, material, require, receives}
 use Rattle.toll_base.specs.Lots.{lot_id}
 use Rattle.toll_base.specs.declared.role.Role.TheVariants.{Consumed, Produced}
 use Rattle.toll_base.specs.declared.movement.Move.TheVariants.{Actual}
@@ -62,7 +62,7 @@ consumed_in_a_circle =
     ∷ []
 
 abbrev pub circle : History
-circle = after [] consumed_in_a_circle
+circle = history_after [] consumed_in_a_circle
 
 -- HOUSE makes H-2 of H-1, and ACME makes P1 of H-2
 abbrev pub made_of_house_material : List Command
@@ -95,4 +95,4 @@ made_of_house_material =
     ∷ []
 
 abbrev pub house_material : History
-house_material = after [] made_of_house_material
+house_material = history_after [] made_of_house_material

@@ -1,9 +1,10 @@
-//! The answers to owners and the plant over a history: views of lots and stock, genealogy and recalls,
-//! and the plant's texts.
+//! The plant's commands, and the answers to owners and the plant over a history: views of lots and stock,
+//! genealogy and recalls, and the plant's texts.
 #![tactic(auto)]
 
 mod genealogy;
 mod isolation;
+mod plant_cmd;
 mod print;
 mod views;
 
@@ -15,5 +16,6 @@ pub use genealogy::{
     traces_go_by_the_owners_batches, traces_of_a_batch, traces_of_a_circle,
 };
 pub use isolation::replies_come_from_the_owners_part;
+pub use plant_cmd::PlantCmd;
 pub use print::{batch_text, orders_text, recall_text, stock_text, trace_text};
 pub use views::{LotView, StockLine, has_consumed, lot_view, stock_lines};

@@ -4,7 +4,7 @@ use Rattle.toll_base.proofs.Common.{nat_list_cmp_total, option_map_or}
 use Rattle.toll_base.specs.Bytes.{Bytes, same_bytes, bytes_cmp}
 use Rattle.toll_base.specs.Keys.{batch_cmp}
 use Rattle.toll_base.specs.Table.{row_at, put_row}
-use Rattle.toll_base.specs.ActualCounts.{counted, count_of, AreCountsOf, HasKnown}
+use Rattle.toll_base.specs.ActualCounts.{actual_count_at, count_of, AreCountsOf, HasKnown}
 use Rattle.toll_base.specs.SliceRules.{is_actual_of}
 use Rattle.toll_base.specs.Words.{is_some_where}
 use Rattle.toll_base.specs.declared.movement.MoveRow.{MoveRow}
@@ -23,9 +23,9 @@ is_some_by : (b : Bool) (new : ActualCount) (old : Option ActualCount) → is_so
 is_some_by true new old h = refl
 is_some_by false new old h = h
 
-more_by : (b : Bool) (new here at : ℕ) → (b ≡ true → here ≡ at) → new ≡ at + 1 → cond b new here ≡ cond b 1 0 + here
-more_by true new here at is more = let same = is refl in omega arith
-more_by false new here at is more = omega arith
+actual_more_at : (b : Bool) (new here at : ℕ) → (b ≡ true → here ≡ at) → new ≡ at + 1 → cond b new here ≡ cond b 1 0 + here
+actual_more_at true new here at is more = let same = is refl in omega arith
+actual_more_at false new here at is more = omega arith
 
 less_by : (b : Bool) (new here at : ℕ) → (b ≡ true → here ≡ at) → new + 1 ≡ at → cond b 1 0 + cond b new here ≡ here
 less_by true new here at is less = let same = is refl in omega arith
@@ -46,7 +46,7 @@ same_along P o o' n n' h at =
     coe 1 0 (i. P (same_bytes-exact o o' parts.0 i) (nat_eq-exact n n' parts.1 i)) at
 
 -- a batch without a row has the count 0
-pub no_row : (rows : List ActualCount) (o : Bytes) (n : ℕ) → is_some (counted rows o n) ≡ false → 0 ≡ count_of rows o n
+pub no_row : (rows : List ActualCount) (o : Bytes) (n : ℕ) → is_some (actual_count_at rows o n) ≡ false → 0 ≡ count_of rows o n
 no_row rows o n h = sym (ap (λ row. option_map_or (λ r. r.count) row 0) (none_of _ h))
 
 -- an actual is of its own batch
@@ -62,26 +62,26 @@ module _ (rows : List ActualCount) (new : ActualCount) where
   abbrev pub is_for : Bytes → ℕ → Bool
   is_for o n = same_bytes o new.order && n == new.number
 
-  pub counted-put : (o : Bytes) (n : ℕ) → counted put_count o n ≡ cond (is_for o n) (Some new) (counted rows o n)
-  counted-put o n =
+  pub actual_count_at-put : (o : Bytes) (n : ℕ) → actual_count_at put_count o n ≡ cond (is_for o n) (Some new) (actual_count_at rows o n)
+  actual_count_at-put o n =
       row_at-put_row batch_cmp batch_cmp_total (λ row. (row.order, row.number)) rows new (o, n)
-      ∙ ap (λ b. cond b (Some new) (counted rows o n)) (same_batch (o, n) (new.order, new.number))
+      ∙ ap (λ b. cond b (Some new) (actual_count_at rows o n)) (same_batch (o, n) (new.order, new.number))
 
   pub count-put : (o : Bytes) (n : ℕ) → count_of put_count o n ≡ cond (is_for o n) new.count (count_of rows o n)
-  count-put o n = ap (λ row. option_map_or (λ r. r.count) row 0) (counted-put o n) ∙ count_by (is_for o n) new (counted rows o n)
+  count-put o n = ap (λ row. option_map_or (λ r. r.count) row 0) (actual_count_at-put o n) ∙ count_by (is_for o n) new (actual_count_at rows o n)
 
-  pub still_counted : (o : Bytes) (n : ℕ) → is_some (counted rows o n) ≡ true → is_some (counted put_count o n) ≡ true
-  still_counted o n h = ap is_some (counted-put o n) ∙ is_some_by (is_for o n) new (counted rows o n) h
+  pub still_counted : (o : Bytes) (n : ℕ) → is_some (actual_count_at rows o n) ≡ true → is_some (actual_count_at put_count o n) ≡ true
+  still_counted o n h = ap is_some (actual_count_at-put o n) ∙ is_some_by (is_for o n) new (actual_count_at rows o n) h
 
-  pub now_counted : (o : Bytes) (n : ℕ) → is_for o n ≡ true → is_some (counted put_count o n) ≡ true
-  now_counted o n h = ap is_some (counted-put o n) ∙ ap (λ b. is_some (cond b (Some new) (counted rows o n))) h
+  pub now_counted : (o : Bytes) (n : ℕ) → is_for o n ≡ true → is_some (actual_count_at put_count o n) ≡ true
+  now_counted o n h = ap is_some (actual_count_at-put o n) ∙ ap (λ b. is_some (cond b (Some new) (actual_count_at rows o n))) h
 
   here_is : (o : Bytes) (n : ℕ) → is_for o n ≡ true → count_of rows o n ≡ count_of rows new.order new.number
   here_is o n h = same_along (λ o' n'. count_of rows o' n' ≡ count_of rows new.order new.number) o new.order n new.number h refl
 
   -- the new row counts one more than there was
   pub one_more : new.count ≡ count_of rows new.order new.number + 1 → (o : Bytes) (n : ℕ) → count_of put_count o n ≡ cond (is_for o n) 1 0 + count_of rows o n
-  one_more more o n = count-put o n ∙ more_by (is_for o n) _ _ _ (here_is o n) more
+  one_more more o n = count-put o n ∙ actual_more_at (is_for o n) _ _ _ (here_is o n) more
 
   -- or one less
   pub one_less : new.count + 1 ≡ count_of rows new.order new.number → (o : Bytes) (n : ℕ) → cond (is_for o n) 1 0 + count_of put_count o n ≡ count_of rows o n
@@ -92,13 +92,13 @@ module _ (rows : List ActualCount) (new : ActualCount) where
   as_many same o n = count-put o n ∙ same_by (is_for o n) _ _ _ (here_is o n) same
 
   -- the same batches have rows, where the new row's batch has one
-  pub same_batches : is_some (counted rows new.order new.number) ≡ true → (o : Bytes) (n : ℕ) → is_some (counted put_count o n) ≡ is_some (counted rows o n)
-  same_batches there o n = ap is_some (counted-put o n) ∙ some_by (is_for o n) new (counted rows o n) (λ h. same_along (λ o' n'. is_some (counted rows o' n') ≡ true) o new.order n new.number h there)
+  pub same_batches : is_some (actual_count_at rows new.order new.number) ≡ true → (o : Bytes) (n : ℕ) → is_some (actual_count_at put_count o n) ≡ is_some (actual_count_at rows o n)
+  same_batches there o n = ap is_some (actual_count_at-put o n) ∙ some_by (is_for o n) new (actual_count_at rows o n) (λ h. same_along (λ o' n'. is_some (actual_count_at rows o' n') ≡ true) o new.order n new.number h there)
 
 -- a batch with a count has a row
-pub has_row : (rows : List ActualCount) (o : Bytes) (n : ℕ) → 1 ≤ count_of rows o n → is_some (counted rows o n) ≡ true
+pub has_row : (rows : List ActualCount) (o : Bytes) (n : ℕ) → 1 ≤ count_of rows o n → is_some (actual_count_at rows o n) ≡ true
 has_row rows o n some =
-    elim (counted rows o n) as (λ row. 1 ≤ option_map_or (λ r. r.count) row 0 → is_some row ≡ true) [
+    elim (actual_count_at rows o n) as (λ row. 1 ≤ option_map_or (λ r. r.count) row 0 → is_some row ≡ true) [
       | None ↦ λ h. absurd (omega arith)
       | Some row ↦ λ h. refl
     ] some

@@ -10,11 +10,11 @@ use Rattle.toll_base.specs.Bytes.{Bytes}
 use Rattle.toll_base.specs.Values.{is_digit, is_text_of}
 use Rattle.toll_base.proofs.Bools.{all_three}
 
-tells_digits : IsDigitsTest (λ ds. list_all is_digit ds ≡ true)
-tells_digits = (search rules)
+pub tests_digits : IsDigitsTest (λ ds. list_all is_digit ds ≡ true)
+tests_digits = (search rules)
 
-own : IsNumeralModel (λ ds. list_all is_digit ds ≡ true) (digits_value 10)
-own = numerals_by_value _ tells_digits
+pub digits_model : IsNumeralModel (λ ds. list_all is_digit ds ≡ true) (digits_value 10)
+digits_model = numerals_by_value _ tests_digits
 
 -- what a text of 1 to 10 digits is
 record IsShortNumeral (bytes : Bytes) : Type 0 where
@@ -28,10 +28,10 @@ short_numeral bytes h =
     record { some = grind (arith, nat_tests, parts.0); few = grind (arith, nat_tests, parts.1); digits = parts.2 }
 
 -- it is read as the number that they write
-pub parsed : {E : Type 0} (bytes : Bytes) (r : Result ℕ E) → is_text_of is_digit 1 10 bytes ≡ true → ParsesUnsigned 64 10 bytes r → r ≡ Ok (digits_value 10 bytes)
-parsed bytes r h read =
+pub digits_parsed : {E : Type 0} (bytes : Bytes) (r : Result ℕ E) → is_text_of is_digit 1 10 bytes ≡ true → ParsesUnsigned 64 10 bytes r → r ≡ Ok (digits_value 10 bytes)
+digits_parsed bytes r h read =
     let numeral = short_numeral bytes h in
-    parse_gives own 64 bytes r read numeral.digits (omega (arith, numeral.some)) (omega (arith, digits_value_short own bytes 10 numeral.digits numeral.few))
+    parse_gives digits_model 64 bytes r read numeral.digits (omega (arith, numeral.some)) (omega (arith, digits_value_short digits_model bytes 10 numeral.digits numeral.few))
 
 pub digits_are_text : (bytes : Bytes) → is_text_of is_digit 1 10 bytes ≡ true → IsUtf8 bytes
-digits_are_text bytes h = IsUtf8-from_ascii bytes (IsAscii-from_digits bytes (own.to bytes (short_numeral bytes h).digits))
+digits_are_text bytes h = IsUtf8-from_ascii bytes (IsAscii-from_digits bytes (digits_model.to bytes (short_numeral bytes h).digits))

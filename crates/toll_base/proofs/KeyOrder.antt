@@ -27,24 +27,24 @@ module _ {K R : Type 0} (cmp : K → K → Ordering) (o : IsTotalOrder cmp) (key
   turned a b r h = o.antisymm b a ∙ ap ordering_reverse h
 
   -- a row before the one with the key is below it
-  pub below : (x : R) (xs : List R) (k : K) (i : ℕ) → AllByRecursion (λ y. cmp (key x) y ≡ Less) (map key xs) → i < length xs → HoldsAt (λ y. cmp (key y) k ≡ Equal) xs i → cmp (key x) k ≡ Less
-  below x [] k i above lt at = absurd (omega arith)
-  below x (y ∷ ys) k zero above lt at = sym (alike_right o (key y) k (key x) (at y)) ∙ above.0
-  below x (y ∷ ys) k (suc i) above lt at = below x ys k i above.1 (omega arith) at
+  pub key_below : (x : R) (xs : List R) (k : K) (i : ℕ) → AllByRecursion (λ y. cmp (key x) y ≡ Less) (map key xs) → i < length xs → HoldsAt (λ y. cmp (key y) k ≡ Equal) xs i → cmp (key x) k ≡ Less
+  key_below x [] k i above lt at = absurd (omega arith)
+  key_below x (y ∷ ys) k zero above lt at = sym (alike_right o (key y) k (key x) (at y)) ∙ above.0
+  key_below x (y ∷ ys) k (suc i) above lt at = key_below x ys k i above.1 (omega arith) at
 
   -- the row found is the one with the key
   pub row_at_found : (xs : List R) (k : K) (i : ℕ) (d : R) → IsInKeyOrder cmp key xs → i < length xs → HoldsAt (λ y. cmp (key y) k ≡ Equal) xs i → row_at cmp key xs k ≡ Some (get_or xs i d)
   unfolding row_at IsStrictlySortedBy
   row_at_found [] k i d ordered lt at = absurd (omega arith)
   row_at_found (x ∷ xs) k zero d ordered lt at = rw (tied_back o (key x) k (at x))
-  row_at_found (x ∷ xs) k (suc i) d ordered lt at = rw (turned (key x) k Less (below x xs k i ordered.0 (omega arith) at)) (row_at_found xs k i d ordered.1 (omega arith) at)
+  row_at_found (x ∷ xs) k (suc i) d ordered lt at = rw (turned (key x) k Less (key_below x xs k i ordered.0 (omega arith) at)) (row_at_found xs k i d ordered.1 (omega arith) at)
 
   -- writing over it replaces the row
   replace_row_found : (xs : List R) (new : R) (i : ℕ) → IsInKeyOrder cmp key xs → i < length xs → HoldsAt (λ y. cmp (key y) (key new) ≡ Equal) xs i → set xs i new ≡ replace_row cmp key xs new
   unfolding IsStrictlySortedBy
   replace_row_found [] new i ordered lt at = absurd (omega arith)
   replace_row_found (x ∷ xs) new zero ordered lt at = rw (tied_back o (key x) (key new) (at x))
-  replace_row_found (x ∷ xs) new (suc i) ordered lt at = rw (turned (key x) (key new) Less (below x xs (key new) i ordered.0 (omega arith) at)) (ap (λ ys. x ∷ ys) (replace_row_found xs new i ordered.1 (omega arith) at))
+  replace_row_found (x ∷ xs) new (suc i) ordered lt at = rw (turned (key x) (key new) Less (key_below x xs (key new) i ordered.0 (omega arith) at)) (ap (λ ys. x ∷ ys) (replace_row_found xs new i ordered.1 (omega arith) at))
 
   abbrev pub IsGap : List R → K → ℕ → Type 0
   IsGap xs k = IsPartitionPoint (λ y. cmp (key y) k ≡ Less) (λ y. cmp (key y) k ≡ Greater) xs
@@ -71,16 +71,16 @@ module _ {K R : Type 0} (cmp : K → K → Ordering) (o : IsTotalOrder cmp) (key
   all_above a b [] lt above = tt
   all_above a b (k ∷ ks) lt above = (o.trans a b k lt above.0, all_above a b ks lt above.1)
 
-  all_alike : (a b : K) (ks : List K) → cmp a b ≡ Equal → AllByRecursion (λ k. cmp b k ≡ Less) ks → AllByRecursion (λ k. cmp a k ≡ Less) ks
-  all_alike a b [] e above = tt
-  all_alike a b (k ∷ ks) e above = (o.congr a b k e ∙ above.0, all_alike a b ks e above.1)
+  key_all_alike : (a b : K) (ks : List K) → cmp a b ≡ Equal → AllByRecursion (λ k. cmp b k ≡ Less) ks → AllByRecursion (λ k. cmp a k ≡ Less) ks
+  key_all_alike a b [] e above = tt
+  key_all_alike a b (k ∷ ks) e above = (o.congr a b k e ∙ above.0, key_all_alike a b ks e above.1)
 
-  all_replaced : (a : K) (xs : List R) (new : R) → AllByRecursion (λ k. cmp a k ≡ Less) (map key xs) → AllByRecursion (λ k. cmp a k ≡ Less) (map key (replace_row cmp key xs new))
-  all_replaced a [] new above = tt
-  all_replaced a (x ∷ xs) new above =
+  key_all_replaced : (a : K) (xs : List R) (new : R) → AllByRecursion (λ k. cmp a k ≡ Less) (map key xs) → AllByRecursion (λ k. cmp a k ≡ Less) (map key (replace_row cmp key xs new))
+  key_all_replaced a [] new above = tt
+  key_all_replaced a (x ∷ xs) new above =
       elim (cmp (key new) (key x)) as (λ r. cmp (key new) (key x) ≡ r → AllByRecursion (λ k. cmp a k ≡ Less) (map key (if is_eq r then new ∷ xs else x ∷ replace_row cmp key xs new))) [
         | Equal ↦ λ e. (alike_right o (key new) (key x) a e ∙ above.0, above.1)
-        | _ ↦ λ e. (above.0, all_replaced a xs new above.1)
+        | _ ↦ λ e. (above.0, key_all_replaced a xs new above.1)
       ] refl
 
   replace_row_ordered : (xs : List R) (new : R) → IsInKeyOrder cmp key xs → IsInKeyOrder cmp key (replace_row cmp key xs new)
@@ -88,16 +88,16 @@ module _ {K R : Type 0} (cmp : K → K → Ordering) (o : IsTotalOrder cmp) (key
   replace_row_ordered [] new ordered = tt
   replace_row_ordered (x ∷ xs) new ordered =
       elim (cmp (key new) (key x)) as (λ r. cmp (key new) (key x) ≡ r → IsStrictlySortedBy cmp (map key (if is_eq r then new ∷ xs else x ∷ replace_row cmp key xs new))) [
-        | Equal ↦ λ e. (all_alike _ _ _ e ordered.0, ordered.1)
-        | _ ↦ λ e. (all_replaced (key x) xs new ordered.0, replace_row_ordered xs new ordered.1)
+        | Equal ↦ λ e. (key_all_alike _ _ _ e ordered.0, ordered.1)
+        | _ ↦ λ e. (key_all_replaced (key x) xs new ordered.0, replace_row_ordered xs new ordered.1)
       ] refl
 
-  all_inserted : (a : K) (xs : List R) (new : R) → cmp a (key new) ≡ Less → AllByRecursion (λ k. cmp a k ≡ Less) (map key xs) → AllByRecursion (λ k. cmp a k ≡ Less) (map key (insert_row cmp key xs new))
-  all_inserted a [] new lt above = (lt, tt)
-  all_inserted a (x ∷ xs) new lt above =
+  key_all_inserted : (a : K) (xs : List R) (new : R) → cmp a (key new) ≡ Less → AllByRecursion (λ k. cmp a k ≡ Less) (map key xs) → AllByRecursion (λ k. cmp a k ≡ Less) (map key (insert_row cmp key xs new))
+  key_all_inserted a [] new lt above = (lt, tt)
+  key_all_inserted a (x ∷ xs) new lt above =
       elim (is_lt (cmp (key new) (key x))) as (λ b. AllByRecursion (λ k. cmp a k ≡ Less) (map key (if b then new ∷ x ∷ xs else x ∷ insert_row cmp key xs new))) [
         | true ↦ (lt, above)
-        | false ↦ (above.0, all_inserted a xs new lt above.1)
+        | false ↦ (above.0, key_all_inserted a xs new lt above.1)
       ]
 
   insert_row_ordered : (xs : List R) (new : R) → row_at cmp key xs (key new) ≡ None → IsInKeyOrder cmp key xs → IsInKeyOrder cmp key (insert_row cmp key xs new)
@@ -107,7 +107,7 @@ module _ {K R : Type 0} (cmp : K → K → Ordering) (o : IsTotalOrder cmp) (key
       elim (cmp (key new) (key x)) as (λ r. cmp (key new) (key x) ≡ r → (if is_eq r then Some x else row_at cmp key xs (key new)) ≡ None → IsStrictlySortedBy cmp (map key (if is_lt r then new ∷ x ∷ xs else x ∷ insert_row cmp key xs new))) [
         | Less ↦ λ e none. ((e, all_above _ _ _ e ordered.0), ordered)
         | Equal ↦ λ e none. (cc)
-        | Greater ↦ λ e none. (all_inserted (key x) xs new (turned (key new) (key x) Greater e) ordered.0, insert_row_ordered xs new none ordered.1)
+        | Greater ↦ λ e none. (key_all_inserted (key x) xs new (turned (key new) (key x) Greater e) ordered.0, insert_row_ordered xs new none ordered.1)
       ] refl absent
 
   -- a row that is put leaves the rows in order
@@ -157,19 +157,19 @@ module _ {K R : Type 0} (cmp : K → K → Ordering) (o : IsTotalOrder cmp) (key
   -- ---- look-ups and lengths after a row is put, in any list
   module _ (x new : R) (k : K) where
     -- a key that ties with both ties them
-    apart : is_eq (cmp (key new) (key x)) ≡ false → is_eq (cmp k (key x)) ≡ true → is_eq (cmp k (key new)) ≡ true → ⊥
-    apart differ with_x with_new = false≢true (sym differ ∙ sym ((eq_by_cmp_equiv o).congr k (key new) (key x) with_new) ∙ with_x)
+    key_apart : is_eq (cmp (key new) (key x)) ≡ false → is_eq (cmp k (key x)) ≡ true → is_eq (cmp k (key new)) ≡ true → ⊥
+    key_apart differ with_x with_new = false≢true (sym differ ∙ sym ((eq_by_cmp_equiv o).congr k (key new) (key x) with_new) ∙ with_x)
 
-    alike : is_eq (cmp (key new) (key x)) ≡ true → is_eq (cmp k (key x)) ≡ is_eq (cmp k (key new))
-    alike same = (eq_by_cmp_equiv o).symm k (key x) ∙ sym ((eq_by_cmp_equiv o).congr (key new) (key x) k same) ∙ (eq_by_cmp_equiv o).symm (key new) k
+    key_alike : is_eq (cmp (key new) (key x)) ≡ true → is_eq (cmp k (key x)) ≡ is_eq (cmp k (key new))
+    key_alike same = (eq_by_cmp_equiv o).symm k (key x) ∙ sym ((eq_by_cmp_equiv o).congr (key new) (key x) k same) ∙ (eq_by_cmp_equiv o).symm (key new) k
 
   row_at_replaced : (xs : List R) (new : R) (k : K) → is_some (row_at cmp key xs (key new)) ≡ true → row_at cmp key (replace_row cmp key xs new) k ≡ cond (is_eq (cmp k (key new))) (Some new) (row_at cmp key xs k)
   unfolding row_at
   row_at_replaced [] new k found = absurd (false≢true found)
   row_at_replaced (x ∷ xs) new k found =
       elim (is_eq (cmp (key new) (key x))) as (λ b. is_eq (cmp (key new) (key x)) ≡ b → is_some (cond b (Some x) (row_at cmp key xs (key new))) ≡ true → row_at cmp key (cond b (new ∷ xs) (x ∷ replace_row cmp key xs new)) k ≡ cond (is_eq (cmp k (key new))) (Some new) (cond (is_eq (cmp k (key x))) (Some x) (row_at cmp key xs k))) [
-        | true ↦ λ same h. rw (alike x new k same) (cond_twice (is_eq (cmp k (key new))) (Some new) (Some x) (row_at cmp key xs k))
-        | false ↦ λ differ h. ap (cond (is_eq (cmp k (key x))) (Some x)) (row_at_replaced xs new k h) ∙ cond_swap (is_eq (cmp k (key x))) (is_eq (cmp k (key new))) (Some x) (Some new) (row_at cmp key xs k) (apart x new k differ)
+        | true ↦ λ same h. rw (key_alike x new k same) (cond_twice (is_eq (cmp k (key new))) (Some new) (Some x) (row_at cmp key xs k))
+        | false ↦ λ differ h. ap (cond (is_eq (cmp k (key x))) (Some x)) (row_at_replaced xs new k h) ∙ cond_swap (is_eq (cmp k (key x))) (is_eq (cmp k (key new))) (Some x) (Some new) (row_at cmp key xs k) (key_apart x new k differ)
       ] refl found
 
   row_at_inserted : (xs : List R) (new : R) (k : K) → row_at cmp key xs (key new) ≡ None → row_at cmp key (insert_row cmp key xs new) k ≡ cond (is_eq (cmp k (key new))) (Some new) (row_at cmp key xs k)
@@ -179,7 +179,7 @@ module _ {K R : Type 0} (cmp : K → K → Ordering) (o : IsTotalOrder cmp) (key
       let parts = cond_none _ _ _ absent in
       elim (is_lt (cmp (key new) (key x))) as (λ b. row_at cmp key (cond b (new ∷ x ∷ xs) (x ∷ insert_row cmp key xs new)) k ≡ cond (is_eq (cmp k (key new))) (Some new) (cond (is_eq (cmp k (key x))) (Some x) (row_at cmp key xs k))) [
         | true ↦ refl
-        | false ↦ ap (cond (is_eq (cmp k (key x))) (Some x)) (row_at_inserted xs new k parts.others) ∙ cond_swap (is_eq (cmp k (key x))) (is_eq (cmp k (key new))) (Some x) (Some new) (row_at cmp key xs k) (apart x new k parts.test)
+        | false ↦ ap (cond (is_eq (cmp k (key x))) (Some x)) (row_at_inserted xs new k parts.others) ∙ cond_swap (is_eq (cmp k (key x))) (is_eq (cmp k (key new))) (Some x) (Some new) (row_at cmp key xs k) (key_apart x new k parts.test)
       ]
 
   length_replaced : (xs : List R) (new : R) → length (replace_row cmp key xs new) ≡ length xs

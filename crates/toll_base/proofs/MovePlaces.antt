@@ -6,9 +6,9 @@ use Rattle.std.proofs.lemmas.List.Edits.{length-insert}
 use Rattle.std.proofs.lemmas.Option.{slice_get-get_or}
 use Rattle.toll_base.proofs.Common.{false≢true, is_lt, insert, nat_list_cmp_total, option_map_or, ordering_index, IsBinarySearchResult, IsNonDecreasingBy, MatchResult, Ordering, Less, Equal, Greater}
 use Rattle.toll_base.proofs.KeyOrder.{comparisons_rise, row_at_found, put_at, put_in_gap}
-use Rattle.toll_base.proofs.PlacedRows.{length-rows_at, get_or-rows_at, has_row, have_inserted, inserted, have_set, set_at}
+use Rattle.toll_base.proofs.PlacedRows.{length-rows_at, get_or-rows_at, placed_has_row, have_inserted, inserted, have_set, set_at}
 use Rattle.toll_base.specs.Bytes.{Bytes, bytes_cmp}
-use Rattle.toll_base.specs.MoveRows.{rows_at, ArePlacesOf, place_cmp}
+use Rattle.toll_base.specs.MoveRows.{rows_at, ArePlacesOf, key_cmp_at}
 use Rattle.toll_base.specs.Places.{HasKeyAt, IsPlaceFor}
 use Rattle.toll_base.specs.Table.{row_at, put_row}
 use Rattle.toll_base.specs.declared.movement.MoveRow.{MoveRow}
@@ -19,41 +19,41 @@ module _ (rows : List MoveRow) (places : List ℕ) (are : ArePlacesOf rows place
 
   module _ (k : Bytes) where
     -- a place compares as its row does
-    compares : (i e : ℕ) (d : MoveRow) → i < length places → place_cmp rows k (get_or places i e) ≡ bytes_cmp (get_or seen i d).key k
+    compares : (i e : ℕ) (d : MoveRow) → i < length places → key_cmp_at rows k (get_or places i e) ≡ bytes_cmp (get_or seen i d).key k
     compares i e d lt =
-        ap (λ o. option_map_or (λ row. bytes_cmp row.key k) o Less) (slice_get-get_or rows (get_or places i e) d (has_row rows places i e are.have lt))
+        ap (λ o. option_map_or (λ row. bytes_cmp row.key k) o Less) (slice_get-get_or rows (get_or places i e) d (placed_has_row rows places i e are.have lt))
         ∙ sym (ap (λ row. bytes_cmp row.key k) (get_or-rows_at rows places i d e are.have lt))
 
     rise : IsNonDecreasingBy (λ row. ordering_index (bytes_cmp row.key k)) seen
     rise = comparisons_rise bytes_cmp nat_list_cmp_total (λ row. row.key) seen k are.ordered
 
-    rise_by : (d : MoveRow) (i j e : ℕ) → i ≤ j → j < length places → ordering_index (place_cmp rows k (get_or places i e)) ≤ ordering_index (place_cmp rows k (get_or places j e))
+    rise_by : (d : MoveRow) (i j e : ℕ) → i ≤ j → j < length places → ordering_index (key_cmp_at rows k (get_or places i e)) ≤ ordering_index (key_cmp_at rows k (get_or places j e))
     rise_by d i j e le lt =
         let rises = rise i j d le (omega (arith, lt, length-rows_at rows places are.have)) in
         rw (compares i e d (omega (arith, le, lt)), compares j e d lt) rises
 
 -- the comparisons rise along the places
-rises : (rows : List MoveRow) (places : List ℕ) → ArePlacesOf rows places → (k : Bytes) → IsNonDecreasingBy (λ place. ordering_index (place_cmp rows k place)) places
-rises [] places are k i j e le lt = absurd (omega (arith, are.all))
-rises (row ∷ rows) places are k i j e le lt = rise_by (row ∷ rows) places are k row i j e le lt
+places_rise : (rows : List MoveRow) (places : List ℕ) → ArePlacesOf rows places → (k : Bytes) → IsNonDecreasingBy (λ place. ordering_index (key_cmp_at rows k place)) places
+places_rise [] places are k i j e le lt = absurd (omega (arith, are.all))
+places_rise (row ∷ rows) places are k i j e le lt = rise_by (row ∷ rows) places are k row i j e le lt
 
 -- a binary search among the places ends at the key or at its gap
-pub searched : (rows : List MoveRow) (places : List ℕ) → ArePlacesOf rows places → (k : Bytes) (r : Result ℕ ℕ) → IsSearchInRange r (length places) → IsBinarySearchResult (place_cmp rows k) places r
+pub place_searched : (rows : List MoveRow) (places : List ℕ) → ArePlacesOf rows places → (k : Bytes) (r : Result ℕ ℕ) → IsSearchInRange r (length places) → IsBinarySearchResult (key_cmp_at rows k) places r
     → MatchResult r (HasKeyAt bytes_cmp (λ row. row.key) (rows_at rows places) k) (IsPlaceFor bytes_cmp (λ row. row.key) (rows_at rows places) k)
-searched rows places are k (Ok i) lt found = λ d. sym (compares rows places are k i 0 d lt) ∙ found 0
-searched rows places are k (Err i) le found =
-    let parts = found (rises rows places are k) in
+place_searched rows places are k (Ok i) lt found = λ d. sym (compares rows places are k i 0 d lt) ∙ found 0
+place_searched rows places are k (Err i) le found =
+    let parts = found (places_rise rows places are k) in
     let len = length-rows_at rows places are.have in (
       (λ j d low high. sym (compares rows places are k j 0 d (omega (arith, high, le))) ∙ parts.0 j 0 low high),
       (λ j d low high. sym (compares rows places are k j 0 d (omega (arith, high, len))) ∙ parts.1 j 0 low (omega (arith, high, len))),
     )
 
 -- where the last row's key is lower, all are
-pub behind_all : (rows : List MoveRow) (places : List ℕ) → ArePlacesOf rows places → (k : Bytes) (last : ℕ) → last ≡ get_or places (length places - 1) 0 → place_cmp rows k last ≡ Less
+pub behind_all : (rows : List MoveRow) (places : List ℕ) → ArePlacesOf rows places → (k : Bytes) (last : ℕ) → last ≡ get_or places (length places - 1) 0 → key_cmp_at rows k last ≡ Less
     → IsPlaceFor bytes_cmp (λ row. row.key) (rows_at rows places) k (length places)
 behind_all rows places are k last is lower =
     let len = length-rows_at rows places are.have in (
-      (λ j d low high. sym (compares rows places are k j 0 d high) ∙ least _ (subst (λ r. ordering_index (place_cmp rows k (get_or places j 0)) ≤ ordering_index r) (ap (place_cmp rows k) (sym is) ∙ lower) (rises rows places are k j (length places - 1) 0 (omega (arith, high)) (omega (arith, high))))),
+      (λ j d low high. sym (compares rows places are k j 0 d high) ∙ least _ (subst (λ r. ordering_index (key_cmp_at rows k (get_or places j 0)) ≤ ordering_index r) (ap (key_cmp_at rows k) (sym is) ∙ lower) (places_rise rows places are k j (length places - 1) 0 (omega (arith, high)) (omega (arith, high))))),
       (λ j d low high. absurd (omega (arith, low, high, len))),
     )
   where
@@ -93,10 +93,10 @@ module _ (rows : List MoveRow) (places : List ℕ) (are : ArePlacesOf rows place
         };
       }
 
-pub less_of : (r : Ordering) → is_lt r ≡ true → r ≡ Less
-less_of Less h = refl
-less_of Equal h = absurd (false≢true h)
-less_of Greater h = absurd (false≢true h)
+pub less_exact : (r : Ordering) → is_lt r ≡ true → r ≡ Less
+less_exact Less h = refl
+less_exact Equal h = absurd (false≢true h)
+less_exact Greater h = absurd (false≢true h)
 
 module _ (rows : List MoveRow) (places : List ℕ) (are : ArePlacesOf rows places) (k : Bytes) where
   -- the row at the place where the key is

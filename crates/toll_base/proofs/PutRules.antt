@@ -29,16 +29,16 @@ is_some_put : {X : Type 0} (b : Bool) (new : X) (o : Option X) → is_some o ≡
 is_some_put true new o h = refl
 is_some_put false new o h = h
 
-one_by : (b : Bool) (n : ℕ) → cond b 1 0 + n ≡ cond b (1 + n) n
-one_by true n = refl
-one_by false n = omega arith
+cond_one_more : (b : Bool) (n : ℕ) → cond b 1 0 + n ≡ cond b (1 + n) n
+cond_one_more true n = refl
+cond_one_more false n = omega arith
 
 pub count-is : {X : Type 0} (p : X → Bool) (xs : List X) → count p xs ≡ count_by p xs
-count-is p xs = is_count_by (count p) p refl (λ x xs. one_by (p x) (count p xs)) xs
+count-is p xs = is_count_by (count p) p refl (λ x xs. cond_one_more (p x) (count p xs)) xs
 
 module _ {K R : Type 0} (cmp : K → K → Ordering) (o : IsTotalOrder cmp) (key : R → K) where
-  pub room : (most : ℕ) (rows : List R) (row : R) → length rows ≤ most → has_room cmp key most rows row ≡ true → length (put_row cmp key rows row) ≤ most
-  room most rows row le h = let len = length-put_row cmp o key rows row in rw len (room_by (is_some (row_at cmp key rows (key row))) (length rows) most le h)
+  pub rule_room : (most : ℕ) (rows : List R) (row : R) → length rows ≤ most → has_room cmp key most rows row ≡ true → length (put_row cmp key rows row) ≤ most
+  rule_room most rows row le h = let len = length-put_row cmp o key rows row in rw len (room_by (is_some (row_at cmp key rows (key row))) (length rows) most le h)
 
   pub room_back : (most : ℕ) (rows : List R) (row : R) → length (put_row cmp key rows row) ≤ most → has_room cmp key most rows row ≡ true
   room_back most rows row le = room_by_back (is_some (row_at cmp key rows (key row))) (length rows) most (subst (λ n. n ≤ most) (length-put_row cmp o key rows row) le)

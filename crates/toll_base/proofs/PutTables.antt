@@ -6,27 +6,27 @@ use Rattle.toll_base.specs.Words.{count, is_some_where}
 use Rattle.toll_base.proofs.KeyOrder.{length-put_row, none_of}
 use Rattle.toll_base.proofs.PutRules.{count-put_row}
 
-more_rows : (found : Bool) (n : ℕ) → found ≡ false → cond found 0 1 + n ≡ suc n
-more_rows true n h = absurd (false≢true (sym h))
-more_rows false n h = omega arith
+one_row_more : (found : Bool) (n : ℕ) → found ≡ false → cond found 0 1 + n ≡ suc n
+one_row_more true n h = absurd (false≢true (sym h))
+one_row_more false n h = omega arith
 
-as_many : (found : Bool) (n : ℕ) → found ≡ true → cond found 0 1 + n ≡ n
-as_many true n h = omega arith
-as_many false n h = absurd (false≢true h)
+as_many_rows : (found : Bool) (n : ℕ) → found ≡ true → cond found 0 1 + n ≡ n
+as_many_rows true n h = omega arith
+as_many_rows false n h = absurd (false≢true h)
 
-swapped : (a b rest : Bool) → (a || (b || rest)) ≡ (b || (a || rest))
-swapped true true rest = refl
-swapped true false rest = refl
-swapped false b rest = refl
+or_swapped : (a b rest : Bool) → (a || (b || rest)) ≡ (b || (a || rest))
+or_swapped true true rest = refl
+or_swapped true false rest = refl
+or_swapped false b rest = refl
 
 module _ {K R : Type 0} (cmp : K → K → Ordering) (o : IsTotalOrder cmp) (key : R → K) (rows : List R) (row : R) where
   -- of a new key there is a row more
   pub length-new : is_some (row_at cmp key rows (key row)) ≡ false → length (put_row cmp key rows row) ≡ suc (length rows)
-  length-new absent = length-put_row cmp o key rows row ∙ more_rows (is_some (row_at cmp key rows (key row))) (length rows) absent
+  length-new absent = length-put_row cmp o key rows row ∙ one_row_more (is_some (row_at cmp key rows (key row))) (length rows) absent
 
   -- of a known one there are as many
   pub length-known : is_some (row_at cmp key rows (key row)) ≡ true → length (put_row cmp key rows row) ≡ length rows
-  length-known found = length-put_row cmp o key rows row ∙ as_many (is_some (row_at cmp key rows (key row))) (length rows) found
+  length-known found = length-put_row cmp o key rows row ∙ as_many_rows (is_some (row_at cmp key rows (key row))) (length rows) found
 
   -- of a new key, one more passes where the row does
   pub count-new : (p : R → Bool) → is_some (row_at cmp key rows (key row)) ≡ false → count p (put_row cmp key rows row) ≡ cond (p row) (suc (count p rows)) (count p rows)
@@ -54,7 +54,7 @@ any_inserted cmp key p [] row = refl
 any_inserted cmp key p (x ∷ xs) row =
     elim (is_lt (cmp (key row) (key x))) as (λ b. list_any p (cond b (row ∷ x ∷ xs) (x ∷ insert_row cmp key xs row)) ≡ (p row || (p x || list_any p xs))) [
       | true ↦ refl
-      | false ↦ ap (λ b. p x || b) (any_inserted cmp key p xs row) ∙ swapped (p x) (p row) (list_any p xs)
+      | false ↦ ap (λ b. p x || b) (any_inserted cmp key p xs row) ∙ or_swapped (p x) (p row) (list_any p xs)
     ]
 
 any_replaced : {K R : Type 0} (cmp : K → K → Ordering) (key : R → K) (p : R → Bool) (rows : List R) (row old : R) → row_at cmp key rows (key row) ≡ Some old → p old ≡ p row → list_any p (replace_row cmp key rows row) ≡ list_any p rows

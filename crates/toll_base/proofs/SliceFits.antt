@@ -16,23 +16,23 @@ use Rattle.toll_base.specs.declared.rows.Row.TheVariants.{Material, Test, Recipe
 use Rattle.toll_base.proofs.Bools.{both, and_is, all_three}
 use Rattle.toll_base.proofs.Texts.{pair_cmp_total, result_cmp_total, requirement_cmp_total}
 use Rattle.toll_base.proofs.ActualCountLemmas.{same_along, own_batch}
-use Rattle.toll_base.proofs.PutRules.{room, room_back, none_or_more, still_there, each_put, new_of_each, count-put_row}
+use Rattle.toll_base.proofs.PutRules.{rule_room, room_back, none_or_more, still_there, each_put, new_of_each, count-put_row}
 use Rattle.toll_base.specs.declared.capacity.TheConstants.{MOST_ACTUALS, MOST_LOTS, MOST_MATERIALS, MOST_MOVEMENTS, MOST_ORDERS, MOST_RECIPES, MOST_REQUIREMENTS, MOST_RESULTS, MOST_STOCK, MOST_SUBLOTS, MOST_TESTS}
 
 -- ---- the actuals of a batch
 
 -- how many there are after the put, by whether the old row and the new one are of the batch
-kept : (old new : Bool) (n after : ℕ) → cond old 1 0 + after ≡ cond new 1 0 + n → n ≤ MOST_ACTUALS → (new ≡ true → (nat_lt n MOST_ACTUALS || old) ≡ true) → after ≤ MOST_ACTUALS
-kept old false n after is le h = omega arith
-kept true true n after is le h = omega arith
-kept false true n after is le h = let full = h refl in grind (arith, nat_tests)
+count_kept : (old new : Bool) (n after : ℕ) → cond old 1 0 + after ≡ cond new 1 0 + n → n ≤ MOST_ACTUALS → (new ≡ true → (nat_lt n MOST_ACTUALS || old) ≡ true) → after ≤ MOST_ACTUALS
+count_kept old false n after is le h = omega arith
+count_kept true true n after is le h = omega arith
+count_kept false true n after is le h = let full = h refl in grind (arith, nat_tests)
 
-or_true : (b : Bool) → (b || true) ≡ true
-or_true true = refl
-or_true false = refl
+or_with_true : (b : Bool) → (b || true) ≡ true
+or_with_true true = refl
+or_with_true false = refl
 
 had : (old : Bool) (n after : ℕ) → cond old 1 0 + after ≡ 1 + n → after ≤ MOST_ACTUALS → (nat_lt n MOST_ACTUALS || old) ≡ true
-had true n after is le = or_true (nat_lt n MOST_ACTUALS)
+had true n after is le = or_with_true (nat_lt n MOST_ACTUALS)
 had false n after is le = grind (arith, nat_tests)
 
 module _ (s : Slice) where
@@ -58,32 +58,32 @@ module _ (s : Slice) where
   module _ (keeps : KeepsRules s) where
     pub fits_keeps : (row : Row) → row_fits s row ≡ true → KeepsRules (with_row s row)
     fits_keeps (Material row) h =
-        let materials = room bytes_cmp nat_list_cmp_total (λ r. r.material) MOST_MATERIALS s.materials row keeps.materials h in
+        let materials = rule_room bytes_cmp nat_list_cmp_total (λ r. r.material) MOST_MATERIALS s.materials row keeps.materials h in
         let lot_materials = λ (k : Bytes). none_or_more _ _ (lot_at s k) (λ lot. still_there bytes_cmp nat_list_cmp_total (λ r. r.material) s.materials row lot.material) (keeps.lot_materials k) in
         assumption (materials, lot_materials, keeps)
-    fits_keeps (Test row) h = assumption (room pair_cmp pair_cmp_total (λ r. (r.material, r.test)) MOST_TESTS s.tests row keeps.tests h, keeps)
-    fits_keeps (Recipe row) h = assumption (room bytes_cmp nat_list_cmp_total (λ r. r.recipe) MOST_RECIPES s.recipes row keeps.recipes h, keeps)
-    fits_keeps (Requirement row) h = assumption (room requirement_cmp requirement_cmp_total (λ r. (r.recipe, r.segment, r.role, r.source, r.material)) MOST_REQUIREMENTS s.requirements row keeps.requirements h, keeps)
-    fits_keeps (Order row) h = assumption (room bytes_cmp nat_list_cmp_total (λ r. r.order) MOST_ORDERS s.orders row keeps.orders h, keeps)
+    fits_keeps (Test row) h = assumption (rule_room pair_cmp pair_cmp_total (λ r. (r.material, r.test)) MOST_TESTS s.tests row keeps.tests h, keeps)
+    fits_keeps (Recipe row) h = assumption (rule_room bytes_cmp nat_list_cmp_total (λ r. r.recipe) MOST_RECIPES s.recipes row keeps.recipes h, keeps)
+    fits_keeps (Requirement row) h = assumption (rule_room requirement_cmp requirement_cmp_total (λ r. (r.recipe, r.segment, r.role, r.source, r.material)) MOST_REQUIREMENTS s.requirements row keeps.requirements h, keeps)
+    fits_keeps (Order row) h = assumption (rule_room bytes_cmp nat_list_cmp_total (λ r. r.order) MOST_ORDERS s.orders row keeps.orders h, keeps)
     fits_keeps (Batch row) h = assumption keeps
     fits_keeps (Lot row) h =
         let parts = both _ (is_some (material_at s row.material)) h in
-        let lots = room bytes_cmp nat_list_cmp_total (λ r. r.lot) MOST_LOTS s.lots row keeps.lots parts.0 in
+        let lots = rule_room bytes_cmp nat_list_cmp_total (λ r. r.lot) MOST_LOTS s.lots row keeps.lots parts.0 in
         let lot_materials = each_put bytes_cmp nat_list_cmp_total (λ r. r.lot) (λ r. is_some (material_at s r.material)) s.lots row keeps.lot_materials parts.1 in
         let sublot_lots = λ (k : Bytes × Bytes). none_or_more _ _ (sublot_at s k) (λ sublot. still_there bytes_cmp nat_list_cmp_total (λ r. r.lot) s.lots row sublot.lot) (keeps.sublot_lots k) in
         assumption (lots, lot_materials, sublot_lots, keeps)
     fits_keeps (Sublot row) h =
         let parts = all_three _ (nat_le row.amount MOST_STOCK) (is_some (lot_at s row.lot)) h in
-        let sublots = room pair_cmp pair_cmp_total (λ r. (r.lot, r.sublot)) MOST_SUBLOTS s.sublots row keeps.sublots parts.0 in
+        let sublots = rule_room pair_cmp pair_cmp_total (λ r. (r.lot, r.sublot)) MOST_SUBLOTS s.sublots row keeps.sublots parts.0 in
         let amounts = each_put pair_cmp pair_cmp_total (λ r. (r.lot, r.sublot)) (λ r. nat_le r.amount MOST_STOCK) s.sublots row keeps.amounts parts.1 in
         let sublot_lots = each_put pair_cmp pair_cmp_total (λ r. (r.lot, r.sublot)) (λ r. is_some (lot_at s r.lot)) s.sublots row keeps.sublot_lots parts.2 in
         assumption (sublots, amounts, sublot_lots, keeps)
     fits_keeps (Move row) h =
         let parts = both _ (batch_has_room s row.key row.what) h in
-        let moves = room bytes_cmp nat_list_cmp_total (λ r. r.key) MOST_MOVEMENTS s.moves row keeps.moves parts.0 in
-        let actuals = λ (order : Bytes) (number : ℕ). kept _ (is_actual_of order number row.what) _ _ (counts_put row order number) (keeps.actuals order number) (room_along row.key row.what order number parts.1) in
+        let moves = rule_room bytes_cmp nat_list_cmp_total (λ r. r.key) MOST_MOVEMENTS s.moves row keeps.moves parts.0 in
+        let actuals = λ (order : Bytes) (number : ℕ). count_kept _ (is_actual_of order number row.what) _ _ (counts_put row order number) (keeps.actuals order number) (room_along row.key row.what order number parts.1) in
         assumption (moves, actuals, keeps)
-    fits_keeps (Result row) h = assumption (room result_cmp result_cmp_total (λ r. (r.lot, r.test, r.number)) MOST_RESULTS s.results row keeps.results h, keeps)
+    fits_keeps (Result row) h = assumption (rule_room result_cmp result_cmp_total (λ r. (r.lot, r.test, r.number)) MOST_RESULTS s.results row keeps.results h, keeps)
     fits_keeps (Void row) h = assumption keeps
 
   -- ---- and one that keeps them fits

@@ -11,12 +11,12 @@ use Rattle.toll_base.specs.declared.movement.Move.{Move as Moved}
 use Rattle.toll_base.specs.declared.actual_count.ActualCount.{ActualCount}
 
 -- the row that counts this batch's actuals
-abbrev pub counted : List ActualCount → Bytes → ℕ → Option ActualCount
-counted rows order number = row_at batch_cmp (λ row. (row.order, row.number)) rows (order, number)
+abbrev pub actual_count_at : List ActualCount → Bytes → ℕ → Option ActualCount
+actual_count_at rows order number = row_at batch_cmp (λ row. (row.order, row.number)) rows (order, number)
 
 -- the count of this batch, 0 where no row says one
 abbrev pub count_of : List ActualCount → Bytes → ℕ → ℕ
-count_of rows order number = option_map_or (λ row. row.count) (counted rows order number) 0
+count_of rows order number = option_map_or (λ row. row.count) (actual_count_at rows order number) 0
 
 -- these rows count the actuals of each batch among the movements
 abbrev pub AreCountsOf : List ActualCount → List MoveRow → Type 0
@@ -24,11 +24,11 @@ AreCountsOf rows moves = (order : Bytes) (number : ℕ) → count_of rows order 
 
 -- the batch that an actual is of has a row
 abbrev pub HasRowFor : List ActualCount → Moved → Type 0
-HasRowFor rows what = (order : Bytes) (number : ℕ) → is_actual_of order number what ≡ true → is_some (counted rows order number) ≡ true
+HasRowFor rows what = (order : Bytes) (number : ℕ) → is_actual_of order number what ≡ true → is_some (actual_count_at rows order number) ≡ true
 
 -- the same batches have rows
 abbrev pub HaveSameBatches : List ActualCount → List ActualCount → Type 0
-HaveSameBatches old new = (order : Bytes) (number : ℕ) → is_some (counted new order number) ≡ is_some (counted old order number)
+HaveSameBatches old new = (order : Bytes) (number : ℕ) → is_some (actual_count_at new order number) ≡ is_some (actual_count_at old order number)
 
 -- the batch that a known actual is of has a row, which counts it
 abbrev pub HasKnown : List ActualCount → Option MoveRow → Type 0

@@ -8,6 +8,7 @@ pub mod MoveRows
 pub mod Roles
 pub mod Keys
 pub mod Slice
+pub mod Rows
 pub mod SliceRules
 pub mod ActualCounts
 pub mod SliceView

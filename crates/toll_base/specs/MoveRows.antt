@@ -32,5 +32,5 @@ abbrev pub IsPlaceAmong : List MoveRow → List ℕ → Bytes → ℕ → Type 0
 IsPlaceAmong rows places key = IsPlaceFor bytes_cmp (λ row. row.key) (rows_at rows places) key
 
 -- how the key of the row at a place compares with this one
-abbrev pub place_cmp : List MoveRow → Bytes → ℕ → Ordering
-place_cmp rows key place = option_map_or (λ row. bytes_cmp row.key key) (slice_get rows place) Less
+abbrev pub key_cmp_at : List MoveRow → Bytes → ℕ → Ordering
+key_cmp_at rows key place = option_map_or (λ row. bytes_cmp row.key key) (slice_get rows place) Less

@@ -12,6 +12,10 @@ use Rattle.toll_base.specs.declared.rows.Row.TheVariants.{Material, Test, Recipe
 use Rattle.toll_base.specs.declared.movement.Move.{Move as Moved}
 use Rattle.toll_base.specs.declared.movement.Move.TheVariants.{Actual}
 
+abbrev pub is_actual : Moved → Bool
+is_actual (Actual order number segment role material lot sublot) = true
+is_actual _ = false
+
 -- an actual of this batch
 abbrev pub is_actual_of : Bytes → ℕ → Moved → Bool
 is_actual_of order number (Actual o n segment role material lot sublot) = same_bytes order o && number == n

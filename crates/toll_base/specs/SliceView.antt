@@ -1,9 +1,9 @@
 -- What is seen of the rows of a slice.
 use Rattle.toll_base.specs.Slice.{Slice}
-use Rattle.toll_base.specs.declared.tables.Tables.TheInside.{Inside}
+use Rattle.toll_base.specs.declared.row_tables.RowTables.TheInside.{Inside}
 
-abbrev pub shown : Inside → Slice
-shown s = record {
+abbrev pub slice_view : Inside → Slice
+slice_view s = record {
   owner = s.owner;
   materials = s.materials;
   tests = s.tests;

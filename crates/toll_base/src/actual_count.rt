@@ -1,6 +1,6 @@
 //! How many actuals each batch has.
 ghost use Rattle.std.specs.Prelude.{◌≡◌, ℕ, ◌+◌, ◌<◌, ◌≤◌, ◌^◌, OnOk, true, is_some};
-ghost use Rattle.toll_base.specs.ActualCounts.{counted, count_of, counts_for, HasRowFor, HaveSameBatches};
+ghost use Rattle.toll_base.specs.ActualCounts.{actual_count_at, count_of, counts_for, HasRowFor, HaveSameBatches};
 ghost use Rattle.toll_base.specs.Bytes.{Bytes};
 ghost use Rattle.toll_base.specs.SliceRules.{is_actual_of};
 
@@ -41,7 +41,7 @@ pub fn count_in(counts: &Table<ActualCount>, order: &Name, number: BatchNo) -> u
 /// Gives the batch of an actual a row with the count 0, if it has no row yet.
 pub fn add_row(counts: &mut Table<ActualCount>, what: &Move) -> Result<(), AllocError>
     ensures same { (order : Bytes) (number : ℕ) → count_of counts.new order number ≡ count_of counts.old order number }
-    ensures kept { (order : Bytes) (number : ℕ) → is_some (counted counts.old order number) ≡ true → is_some (counted counts.new order number) ≡ true }
+    ensures kept { (order : Bytes) (number : ℕ) → is_some (actual_count_at counts.old order number) ≡ true → is_some (actual_count_at counts.new order number) ≡ true }
     ensures row { OnOk result (HasRowFor counts.new what.now) }
 {
     if let Move::Actual { order, number, .. } = what {

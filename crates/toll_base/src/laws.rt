@@ -4,7 +4,7 @@ ghost use Rattle.toll_base.specs.declared.bounded.TheConstants.{MOST_AMOUNT, MOS
 ghost use Rattle.toll_base.specs.declared.capacity.TheConstants.{MOST_ACTUALS, MOST_LOTS, MOST_MATERIALS, MOST_MOVEMENTS, MOST_ORDERS, MOST_OWNERS, MOST_RECIPES, MOST_REQUIREMENTS, MOST_RESULTS, MOST_STOCK, MOST_SUBLOTS, MOST_TESTS, MOST_UNITS};
 ghost use Rattle.toll_base.specs.declared.value.TheConstants.{LEAST_VALUE, MOST_VALUE};
 
-/// The limits of the office are those that the pages tell: how much it keeps of each kind, and how great
+/// The limits of the office are those that the pages state: how much it keeps of each kind, and how great
 /// an amount, a day, a segment's number, a batch's number and a test's value are.
 pub fn limits_are_those_defined()
     ensures plant { (MOST_OWNERS ≡ 64) × (MOST_UNITS ≡ 200) }

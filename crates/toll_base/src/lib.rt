@@ -18,13 +18,14 @@ mod moves;
 mod name;
 mod owner_key;
 mod refusal;
+mod request;
 mod role;
+mod row_tables;
 mod rows;
 mod slice;
 mod state;
 mod state_command;
 mod table;
-mod tables;
 mod text;
 mod unique_slice;
 mod value;
@@ -50,6 +51,7 @@ pub use movement::{Move, MoveRow};
 pub use name::Name;
 pub use owner_key::OwnerKey;
 pub use refusal::Refusal;
+pub use request::Request;
 pub use role::Role;
 pub use rows::{
     BatchRow, LotRow, MaterialRow, OrderRow, OwnerRow, RecipeRow, RequirementRow, ResultRow, Row,

@@ -7,7 +7,7 @@ use crate::bounded::BatchNo;
 use crate::name::Name;
 use std::cmp::Ordering;
 
-/// What may be done with a lot (the disposition of a material lot, IEC 62264-2).
+/// What may be done with a lot (the status of a material lot, IEC 62264-2).
 #[derive(Clone, Copy, PartialEq, Eq)]
 pub enum Disposition {
     /// The first disposition, and again after a result out of limits. The lot takes material, and

@@ -3,7 +3,7 @@ ghost use Rattle.std.specs.Prelude.{◌≡◌, ◌<◌, ◌≤◌, length, slice
 ghost use Rattle.std.specs.List.Sorted.{IsSearchInRange};
 ghost use Rattle.std.specs.Map.Iter.{ShowsInOrder, deref};
 ghost use Rattle.toll_base.specs.Bytes.{bytes_cmp};
-ghost use Rattle.toll_base.specs.MoveRows.{ArePlacesOf, HasPlacedKey, IsPlaceAmong, place_cmp};
+ghost use Rattle.toll_base.specs.MoveRows.{ArePlacesOf, HasPlacedKey, IsPlaceAmong, key_cmp_at};
 ghost use Rattle.toll_base.specs.Table.{row_at, put_row, has_room, IsInKeyOrder};
 ghost use Rattle.toll_base.specs.declared.movement.MoveRow.{MoveRow as Moved};
 
@@ -143,7 +143,7 @@ fn search(rows: &[MoveRow], places: &[u32], key: &Name) -> Result<usize, usize>
 
 // How the key of the row at a place compares with this one.
 fn compare_at(rows: &[MoveRow], key: &Name, place: u32) -> Ordering
-    ensures { result ≡ place_cmp rows.now key.now place }
+    ensures { result ≡ key_cmp_at rows.now key.now place }
 {
     match rows.get(place as usize) {
         Some(row) => row.key.cmp(key),

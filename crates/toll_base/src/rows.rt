@@ -49,7 +49,7 @@ pub struct RecipeRow {
     pub segments: Segment,
 }
 
-/// A segment requirement (IEC 62264-2): how much of which material of which owner a segment of a
+/// An operations material specification (IEC 62264-2): how much of which material of which owner a segment of a
 /// recipe consumes or produces.
 #[derive(Clone, Copy, PartialEq, Eq)]
 pub struct RequirementRow {

@@ -12,11 +12,11 @@ use crate::move_rows::MoveRows;
 use crate::movement::MoveRow;
 use crate::name::Name;
 use crate::role::Role;
+use crate::row_tables::RowTables;
 use crate::rows::{
     BatchRow, LotRow, MaterialRow, OrderRow, RecipeRow, RequirementRow, ResultRow, Row, SublotRow,
     TestRow, VoidRow,
 };
-use crate::tables::Tables;
 use crate::unique_slice::UniqueSlice;
 use std::alloc::{AllocError, Global};
 use std::marker::Model;
@@ -108,7 +108,7 @@ impl Slice {
     }
 
     // The rows in their tables.
-    fn rows(&self) -> &Tables
+    fn rows(&self) -> &RowTables
         ensures { result.now ≡ self.now }
     {
         &self.unique_slice().tables

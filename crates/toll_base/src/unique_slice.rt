@@ -4,15 +4,15 @@ ghost use Rattle.toll_base.specs.Slice.{empty_slice, with_row};
 ghost use Rattle.toll_base.specs.SliceRules.{KeepsRules};
 
 use crate::name::Name;
+use crate::row_tables::RowTables;
 use crate::rows::Row;
-use crate::tables::Tables;
 use std::alloc::{AllocError, Global};
 use std::marker::Model;
 
 /// All rows of one owner, each kind in the order of its keys. No copy shares them, so they can be
 /// changed in place.
 pub struct UniqueSlice {
-    pub(crate) tables: Tables,
+    pub(crate) tables: RowTables,
 }
 
 impl Model for UniqueSlice {
@@ -40,7 +40,7 @@ impl UniqueSlice {
         ensures { result ≡ empty_slice owner }
     {
         UniqueSlice {
-            tables: Tables::new(alloc, owner),
+            tables: RowTables::new(alloc, owner),
         }
     }
 

@@ -6,18 +6,19 @@ pub use Rattle.std.proofs.lemmas.List.Elements.{Contains-get_or, Contains-push_c
 pub use Rattle.std.proofs.lemmas.Result.{IfOk-weaker, on_ok_weaker}
 pub use Rattle.std.specs.Cmp.Lexicographic.{nat_list_cmp_total}
 pub use Rattle.std.specs.List.{list_any, position_or_len}
-pub use Rattle.std.specs.Option.{IfSome, is_some, option_map}
+pub use Rattle.std.specs.Option.{IfSome, is_some, option_map, option_map_or}
 pub use Rattle.std.specs.Ordering.{is_eq}
 pub use Rattle.toll_answers.proofs.KnownLots.{lots_known, lots_owned, some_mapped}
 pub use Rattle.toll_answers.specs.Edges.{IsOwnEdge, IsOwnJoined, IsPlantEdge, IsPlantJoined, WasDone}
-pub use Rattle.toll_answers.specs.PlantAnswers.{AreOrdersShown, AsksBatch, AsksOrders, AsksRecall, AsksStock, CannotRead, Does, IsBatchShownOr, IsCheckedOr, IsPlantAnswer, Judged, PlantRequest, PlantAnswer, Shows, after_plant, lot_checks, owner_checks}
-pub use Rattle.toll_answers.specs.Recall.{IsRecall, recall_line}
+pub use Rattle.toll_answers.specs.PlantAnswers.{AreOrdersShown, IsBatchShownOr, IsCheckedOr, IsPlantAnswer, IsQuestionAnswer, IsVerdictOr, Judged, PlantAnswer, Shows, after_plant, asked_about, command_of, concerned, lot_checks, owner_checks}
+pub use Rattle.toll_answers.specs.Recall.{IsRecall, recall_line_of}
 unfoldable pub use Rattle.toll_answers.specs.Replies.{IsReply, after_reply}
-pub use Rattle.toll_answers.specs.Replies.{AreOrdersTold, IsAnswer, IsBatchOr, IsLotOr, IsOrderOr, IsWritten, after_answer, has_key}
+pub use Rattle.toll_answers.specs.Replies.{IsOrdersReply, IsOwnerAnswer, IsBatchOr, IsLotOr, IsOrderOr, IsTraceOr, IsWritingReply, after_answer, has_owner_key}
 pub use Rattle.toll_answers.specs.Texts.{batch_text, orders_text, recall_text, trace_text}
-pub use Rattle.toll_answers.specs.OwnerRequests.{AskCancel, AskPlace, AskReject, AskRelease, OwnerRequest, TellBatch, TellForbidden, TellLot, TellOrder, TellOrders, TellRefused, TellTrace, OwnerReply}
+pub use Rattle.toll_answers.specs.OwnerReply.{ReplyBatch, ReplyForbidden, ReplyLot, ReplyOrder, ReplyOrders, ReplyRefused, ReplyTrace, OwnerReply}
 pub use Rattle.toll_answers.specs.Views.{IsLotViewOf, consumes_lot, has_consumed}
 pub use Rattle.toll_answers.specs.declared.genealogy.recall.RecallLine.{RecallLine}
+pub use Rattle.toll_answers.specs.declared.plant_cmd.PlantCmd.{PlantCmd}
 pub use Rattle.toll_answers.specs.declared.views.lot.LotView.{LotView}
 pub use Rattle.toll_base.proofs.Bools.{and_is, both}
 pub use Rattle.toll_base.proofs.KeyOrder.{put_row_ordered, row_at-put_row}
@@ -42,12 +43,13 @@ pub use Rattle.toll_base.specs.declared.lot.Edge.{Edge}
 pub use Rattle.toll_base.specs.declared.lot.LotId.{LotId}
 pub use Rattle.toll_base.specs.declared.refusal.Refusal.{Refusal}
 pub use Rattle.toll_base.specs.declared.refusal.Refusal.TheVariants.{LimitReached, OwnerExists, UnitExists, UnknownBatch, UnknownLot, UnknownOrder, UnknownOwner}
+pub use Rattle.toll_base.specs.declared.request.Request.{Request}
 pub use Rattle.toll_base.specs.declared.rows.BatchRow.{BatchRow}
 pub use Rattle.toll_base.specs.declared.rows.LotRow.{LotRow}
 pub use Rattle.toll_base.specs.declared.rows.OrderRow.{OrderRow}
 pub use Rattle.toll_base.specs.declared.rows.OwnerRow.{OwnerRow}
 pub use Rattle.toll_base.specs.declared.rows.UnitRow.{UnitRow}
-pub use Rattle.toll_desk.specs.Standing.{AreOwnersOf, AreUnitsOf, StandsFor}
+pub use Rattle.toll_desk.specs.Representing.{AreOwnersOf, AreUnitsOf, Represents}
 pub use Rattle.toll_history.proofs.Acts.{any_acts, first_acts}
 pub use Rattle.toll_history.proofs.Grown.{tables-others, tables-own}
 pub use Rattle.toll_history.proofs.Own.{acts-other, acts-own, acts-part, part-other, part-own}
@@ -63,18 +65,18 @@ pub use Rattle.toll_history.specs.Holders.{OpenedBatch, opened, opened_by}
 unfoldable pub use Rattle.toll_history.specs.Movements.{count_lots, count_sublots, lot_made, material_used, stock, sublot_known}
 pub use Rattle.toll_history.specs.Movements.{Made, movement_recorded, voided_in}
 pub use Rattle.toll_history.specs.OwnChanges.{EachChange, PutsOnly, PutsOnlyWith, is_put_in_house, is_put_of}
-pub use Rattle.toll_history.specs.Tables.{IsRowsOf, Tables, lot_row, sublot_row, tables_given, tables_of}
+pub use Rattle.toll_history.specs.OwnerFacts.{IsRowsOf, OwnerFacts, lot_row, sublot_row, facts_given, facts_of}
 unfoldable pub use Rattle.toll_history.specs.Verdict.{checks}
-pub use Rattle.toll_history.specs.Verdict.{Accepted, Checks, IsLawful, IsValid, Refused, Repeated, Verdict, first_of, grow, grown, is_quarantined, known_batch_checks, needs_owner, verdict}
-pub use Rattle.toll_history.specs.Work.{batch_of, cancels, closes, count_opened, found, is_closed, material_of, measure_of, opens, order_of, order_placed, state_of, unit_of, unit_opened}
+pub use Rattle.toll_history.specs.Verdict.{Accepted, Checks, IsLawful, IsValidAction, Refused, Repeated, Verdict, verdict_of_checks, grow, grown, is_quarantined, known_batch_checks, needs_owner, verdict}
+pub use Rattle.toll_history.specs.Work.{batch_of, cancels, closes, count_opened, added_row, is_closed, material_of, measure_of, opens, order_of, order_placed, state_of, unit_of, unit_opened}
 pub use Rattle.toll_keep.proofs.Calls.{goes_as, goes_fault, goes_then, read_fault, read_memory, read_ok, reads_then, settles, settles_still, spared}
 pub use Rattle.toll_keep.proofs.Outcomes.{of_ok}
 pub use Rattle.toll_keep.proofs.Slicing.{has_found, has_more, has_new, owner-with_row}
-pub use Rattle.toll_keep.specs.Content.{Content, ContentKeepsRules, Fits, PutsToKnown, after, after_owners, after_units, knows, nothing, slice_of}
-pub use Rattle.toll_keep.specs.Goes.{Goes, IsReading, Keeps}
+pub use Rattle.toll_keep.specs.Content.{Content, ContentKeepsRules, AllChangesFit, PutsToKnown, content_after, after_owners, after_units, knows, empty_content, slice_of}
+pub use Rattle.toll_keep.specs.CallEffects.{CallEffect, IsReading, Keeps}
 pub use Rattle.toll_keep.specs.Holding.{IsEdgeOfSome, IsHolder, is_on}
-pub use Rattle.toll_keep.specs.Meaning.{Meaning, OverHeld}
-pub use Rattle.toll_keep.specs.Slices.{has_slice, is_of}
+pub use Rattle.toll_keep.specs.Meaning.{Meaning, OverContent}
+pub use Rattle.toll_keep.specs.Slices.{has_slice, is_slice_of}
 pub use Rattle.toll_keep.specs.declared.fault.KeepFault.{KeepFault}
 pub use Rattle.toll_stock.specs.LotTotals.{totals_given}
 pub use Rattle.toll_trace.proofs.Members.{Contains-cases, Contains-here, Contains-later, Contains-none}
@@ -83,7 +85,7 @@ pub use Rattle.toll_trace.specs.Edges.{AreEdges}
 pub use Rattle.toll_trace.specs.Trace.{IsTrace}
 pub use Rattle.toll_trace.specs.declared.step.Step.{Step}
 pub use Rattle.toll_trace.specs.declared.way.Way.TheVariants.{Forward}
-unfoldable pub use Rattle.toll_work.specs.BatchView.{TellsOverHistories}
+unfoldable pub use Rattle.toll_work.specs.BatchView.{IsViewOfHistories}
 pub use Rattle.toll_work.specs.BatchView.{IsViewOver, line_key, line_of}
 pub use Rattle.toll_work.specs.declared.views.BatchView.{BatchView}
 pub use mathlib.Core.Bool.{false≢true}

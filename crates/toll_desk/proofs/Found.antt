@@ -25,7 +25,7 @@ put_found key rows row k found is =
 abbrev pub owner_at : List OwnerRow → Bytes → Option OwnerRow
 owner_at rows o = row_of (λ row. row.owner) rows o
 
--- ---- who is admitted
+-- ---- the admitted owner
 
 -- the owner that is found has the name
 found_named : (rows : List OwnerRow) (o : Bytes) (row : OwnerRow) → owner_at rows o ≡ Some row → row.owner ≡ o

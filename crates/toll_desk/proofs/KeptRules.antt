@@ -1,6 +1,6 @@
 -- The rows that a lawful history gives keep the rules of a slice.
 use Rattle.std.proofs.Common.{◌≡◌, ℕ, ◌≤◌, Bool, true, false, Option, Some, None, is_some, nat_le, refl, sym, subst, ◌∙◌, arith}
-use Rattle.toll_desk.proofs.Common.{option_map, nat_tests, Bytes, none_or, where_so, Slice, KeepsRules, History, acts, owner_known, material_of, lot_made, sublot_known, stock, Tables, lot_row, sublot_row, IsRowsOf, IsLawful, some_mapped, Content, ContentKeepsRules}
+use Rattle.toll_desk.proofs.Common.{option_map, nat_tests, Bytes, none_or, where_so, Slice, KeepsRules, History, acts, owner_known, material_of, lot_made, sublot_known, stock, OwnerFacts, lot_row, sublot_row, IsRowsOf, IsLawful, some_mapped, Content, ContentKeepsRules}
 use Rattle.toll_base.specs.Lots.{lot_id}
 use Rattle.toll_base.specs.declared.rows.LotRow.{LotRow}
 use Rattle.toll_base.specs.declared.rows.SublotRow.{SublotRow}
@@ -9,7 +9,7 @@ use Rattle.toll_history.proofs.LotMaterials.{lot_material}
 use Rattle.toll_history.proofs.Lots.{sublot_lot}
 use Rattle.toll_history.proofs.Stock.{stock_bounded}
 use Rattle.toll_base.proofs.SliceFits.{empty_keeps}
-use Rattle.toll_desk.specs.Standing.{StandsFor}
+use Rattle.toll_desk.specs.Representing.{Represents}
 use Rattle.toll_base.specs.declared.capacity.TheConstants.{MOST_ACTUALS, MOST_LOTS, MOST_MATERIALS, MOST_MOVEMENTS, MOST_ORDERS, MOST_RECIPES, MOST_REQUIREMENTS, MOST_RESULTS, MOST_STOCK, MOST_SUBLOTS, MOST_TESTS}
 
 le_true : (n most : ℕ) → n ≤ most → nat_le n most ≡ true
@@ -37,23 +37,23 @@ pub rows_keep_rules : (H : History) (s : Slice) → IsLawful H → IsRowsOf H s 
 rows_keep_rules H s lawful rows =
     let limits = limits_kept H s.owner lawful in
     record {
-      materials = subst (λ (t : Tables). t.materials ≤ MOST_MATERIALS) (sym rows) limits.materials;
-      tests = subst (λ (t : Tables). t.tests ≤ MOST_TESTS) (sym rows) limits.tests;
-      recipes = subst (λ (t : Tables). t.recipes ≤ MOST_RECIPES) (sym rows) limits.recipes;
-      requirements = subst (λ (t : Tables). t.requirements ≤ MOST_REQUIREMENTS) (sym rows) limits.requirements;
-      orders = subst (λ (t : Tables). t.orders ≤ MOST_ORDERS) (sym rows) limits.orders;
-      lots = subst (λ (t : Tables). t.lots ≤ MOST_LOTS) (sym rows) limits.lots;
-      sublots = subst (λ (t : Tables). t.sublots ≤ MOST_SUBLOTS) (sym rows) limits.sublots;
-      moves = subst (λ (t : Tables). t.movements ≤ MOST_MOVEMENTS) (sym rows) limits.movements;
-      results = subst (λ (t : Tables). t.results ≤ MOST_RESULTS) (sym rows) limits.results;
-      actuals = λ order number. subst (λ (t : Tables). t.actuals order number ≤ MOST_ACTUALS) (sym rows) (limits.actuals order number);
-      lot_materials = λ k. subst (λ (t : Tables). none_or (λ (row : LotRow). is_some (t.material row.material)) (t.lot k) ≡ true) (sym rows) (lot_materials_given H lawful s.owner k);
-      amounts = λ k. subst (λ (t : Tables). none_or (λ (row : SublotRow). nat_le row.amount MOST_STOCK) (t.sublot k) ≡ true) (sym rows) (amounts_given H lawful s.owner k);
-      sublot_lots = λ k. subst (λ (t : Tables). none_or (λ (row : SublotRow). is_some (t.lot row.lot)) (t.sublot k) ≡ true) (sym rows) (sublot_lots_given H lawful s.owner k);
+      materials = subst (λ (t : OwnerFacts). t.materials ≤ MOST_MATERIALS) (sym rows) limits.materials;
+      tests = subst (λ (t : OwnerFacts). t.tests ≤ MOST_TESTS) (sym rows) limits.tests;
+      recipes = subst (λ (t : OwnerFacts). t.recipes ≤ MOST_RECIPES) (sym rows) limits.recipes;
+      requirements = subst (λ (t : OwnerFacts). t.requirements ≤ MOST_REQUIREMENTS) (sym rows) limits.requirements;
+      orders = subst (λ (t : OwnerFacts). t.orders ≤ MOST_ORDERS) (sym rows) limits.orders;
+      lots = subst (λ (t : OwnerFacts). t.lots ≤ MOST_LOTS) (sym rows) limits.lots;
+      sublots = subst (λ (t : OwnerFacts). t.sublots ≤ MOST_SUBLOTS) (sym rows) limits.sublots;
+      moves = subst (λ (t : OwnerFacts). t.movements ≤ MOST_MOVEMENTS) (sym rows) limits.movements;
+      results = subst (λ (t : OwnerFacts). t.results ≤ MOST_RESULTS) (sym rows) limits.results;
+      actuals = λ order number. subst (λ (t : OwnerFacts). t.actuals order number ≤ MOST_ACTUALS) (sym rows) (limits.actuals order number);
+      lot_materials = λ k. subst (λ (t : OwnerFacts). none_or (λ (row : LotRow). is_some (t.material row.material)) (t.lot k) ≡ true) (sym rows) (lot_materials_given H lawful s.owner k);
+      amounts = λ k. subst (λ (t : OwnerFacts). none_or (λ (row : SublotRow). nat_le row.amount MOST_STOCK) (t.sublot k) ≡ true) (sym rows) (amounts_given H lawful s.owner k);
+      sublot_lots = λ k. subst (λ (t : OwnerFacts). none_or (λ (row : SublotRow). is_some (t.lot row.lot)) (t.sublot k) ≡ true) (sym rows) (sublot_lots_given H lawful s.owner k);
     }
 
-pub standing_keeps_rules : (H : History) (c : Content) → IsLawful H → StandsFor c H → ContentKeepsRules c
-standing_keeps_rules H c lawful stands o =
+pub represented_keeps_rules : (H : History) (c : Content) → IsLawful H → Represents c H → ContentKeepsRules c
+represented_keeps_rules H c lawful stands o =
     elim (owner_known H o) as (λ b. owner_known H o ≡ b → KeepsRules (c.rows o)) [
       | true ↦ λ known. rows_keep_rules H (c.rows o) lawful (stands.known o known)
       | false ↦ λ unknown. subst KeepsRules (sym (stands.unknown o unknown)) (empty_keeps o)

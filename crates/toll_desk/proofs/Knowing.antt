@@ -1,7 +1,7 @@
 -- A content that stands for a history knows the owners that the history knows.
 use Rattle.std.proofs.Common.{◌≡◌, ◌||◌, Option, Some, None, is_some, List, [], ◌∷◌, refl, ap, ◌∙◌}
 use Rattle.toll_desk.proofs.Common.{list_any, Bytes, same_bytes, house_name, or_else, Action, AddOwner, History, acts, key_added, adds_owner, owner_key, owner_known, some_mapped, Content, knows}
-use Rattle.toll_desk.specs.Standing.{StandsFor}
+use Rattle.toll_desk.specs.Representing.{Represents}
 
 some_else : {X : Type 0} (first second : Option X) → is_some (or_else first second) ≡ (is_some first || is_some second)
 some_else None second = refl
@@ -15,6 +15,6 @@ keys_where_added : (own : List Action) → is_some (owner_key own) ≡ list_any 
 keys_where_added [] = refl
 keys_where_added (a ∷ own) = some_else (key_added a) (owner_key own) ∙ ap (λ b. b || is_some (owner_key own)) (key_where_added a) ∙ ap (λ b. adds_owner a || b) (keys_where_added own)
 
-pub standing_knows : (H : History) (c : Content) → StandsFor c H → (o : Bytes) → knows c o ≡ owner_known H o
-standing_knows H c stands o =
+pub represented_knows : (H : History) (c : Content) → Represents c H → (o : Bytes) → knows c o ≡ owner_known H o
+represented_knows H c stands o =
     ap (λ b. same_bytes o house_name || b) (ap is_some (stands.owners.each o) ∙ some_mapped _ (owner_key (acts o H)) ∙ keys_where_added (acts o H))

@@ -7,20 +7,19 @@ pub mod Unknown
 pub mod StandingEdges
 pub mod OneHolder
 pub mod UnitHolders
-pub mod Lift
+pub mod SliceToContent
 pub mod Found
 pub mod OwnerAdded
 pub mod UnitAdded
-pub mod DeedPlans
-pub mod Carried
+pub mod CommandPlans
+pub mod CommitLemmas
 pub mod OwnerPlans
 pub mod ReadOver
 pub mod WriteOver
-pub mod OwnerForms
 pub mod OwnTraces
 pub mod PlantQuestions
 pub mod PlantShown
 pub mod PlantTraces
 pub mod RecallLines
 pub mod Going
-mod Held
+mod OccupiedLemmas

@@ -1,10 +1,10 @@
 -- Traces over the edges that a keep has.
-use Rattle.std.proofs.Common.{◌≡◌, ◌⊎◌, Bool, true, false, Some, ◌||◌, is_some, List, [], ◌∷◌, Contains, refl, sym, ap, subst, inl, inr, ◌∙◌}
-use Rattle.toll_desk.proofs.Common.{false≢true, list_any, Bytes, Slice, Edge, LotId, UnknownLot, History, acts, IsRowsOf, lot_row, IsLawful, IsTrace, Step, Contains-here, Contains-later, IsOwnEdge, IsOwnJoined, lots_known, IsAnswer, TellTrace, TellRefused, Content, slice_of, StandsFor}
-use Rattle.toll_desk.specs.Forms.{asked_to_trace, traced_from, traced_way}
-use Rattle.toll_desk.specs.Questions.{may_trace}
-use Rattle.toll_desk.specs.declared.form.TraceRequest.{TraceRequest}
-use Rattle.toll_desk.specs.declared.form.TraceRequest.TheVariants.{Back, Forward, HouseForward}
+use Rattle.std.specs.Prelude.{if◌then◌else◌}
+use Rattle.std.proofs.Common.{◌≡◌, ◌⊎◌, Bool, true, false, Some, ◌||◌, is_some, List, [], ◌∷◌, Contains, Result, IfOk, refl, sym, ap, subst, inl, inr, ◌∙◌}
+use Rattle.toll_desk.proofs.Common.{false≢true, list_any, Bytes, same_bytes, same_bytes-refl, same_bytes-symm, house_name, lot_id, Slice, Edge, LotId, History, acts, IsRowsOf, lot_row, IsLawful, Contains-here, Contains-later, IsOwnEdge, IsOwnJoined, lots_known, IsTraceOr, OwnerReply, KeepFault, Content, slice_of, Represents}
+use Rattle.toll_answers.specs.Views.{has_consumed}
+use Rattle.toll_trace.specs.declared.way.Way.{Way}
+use Rattle.toll_desk.specs.Clauses.{AnswersTrace}
 use Rattle.toll_desk.proofs.OwnerPlans.{slice_read, some_read}
 
 -- ---- members that pass a test
@@ -21,7 +21,7 @@ module _ {X : Type 0} (p : X → Bool) where
 -- ---- rows
 
 -- the rows of an owner that a keep has are those of the history
-pub rows_read : (c : Content) (H : History) (o : Bytes) (s : Slice) → StandsFor c H → Some s ≡ slice_of c o → IsRowsOf H s × (s.owner ≡ o)
+pub rows_read : (c : Content) (H : History) (o : Bytes) (s : Slice) → Represents c H → Some s ≡ slice_of c o → IsRowsOf H s × (s.owner ≡ o)
 rows_read c H o s stands there =
     let is = slice_read c o s there in
     (subst (IsRowsOf H) (sym is) (stands.known o (some_read c H o s stands there)), ap (λ t. t.owner) is ∙ stands.own o)
@@ -33,15 +33,13 @@ pub joined_known : (H : History) (o : Bytes) (lot : LotId) (e : Edge) → IsLawf
 joined_known H o lot e lawful is (inl from) = subst (λ (l : LotId). is_some (lot_row H l.owner l.lot) ≡ true) from (lots_known H lawful o e is).0
 joined_known H o lot e lawful is (inr to) = subst (λ (l : LotId). is_some (lot_row H l.owner l.lot) ≡ true) to (lots_known H lawful o e is).1
 
-pub traced : (H : History) (o : Bytes) (t : TraceRequest) (trace : List Step) → may_trace H o t ≡ true → IsTrace (IsOwnJoined (acts o H) (traced_way t)) (traced_from o t) trace → IsAnswer o H (asked_to_trace t) (TellTrace trace)
-traced H o t trace may is = told t may is
-  where
-    told : (t : TraceRequest) → may_trace H o t ≡ true → IsTrace (IsOwnJoined (acts o H) (traced_way t)) (traced_from o t) trace → IsAnswer o H (asked_to_trace t) (TellTrace trace)
-    told (Back lot) may is = rw may (record { trace = trace; traced = is; told = refl })
-    told (Forward lot) may is = rw may (record { trace = trace; traced = is; told = refl })
-    told (HouseForward lot) may is = rw may (record { trace = trace; traced = is; told = refl })
+module _ (H : History) (o lot : Bytes) (w : Way) (reported : Result OwnerReply KeepFault) where
+  abbrev AnswersFrom : LotId → Bool → Type 0
+  AnswersFrom from may = IfOk reported (IsTraceOr (IsOwnJoined (acts o H) w) from may)
 
-pub not_traced : (H : History) (o : Bytes) (t : TraceRequest) → may_trace H o t ≡ false → IsAnswer o H (asked_to_trace t) (TellRefused UnknownLot)
-not_traced H o (Back lot) may_not = rw may_not refl
-not_traced H o (Forward lot) may_not = rw may_not refl
-not_traced H o (HouseForward lot) may_not = rw may_not refl
+  -- a trace from a lot of the owner, and from one of HOUSE
+  pub traced_own : AnswersTrace H o (lot_id o lot) w reported → AnswersFrom (lot_id o lot) (is_some (lot_row H o lot))
+  traced_own = subst (λ b. AnswersFrom (lot_id o lot) (if b then is_some (lot_row H o lot) else has_consumed (acts o H) (lot_id o lot))) (same_bytes-refl o)
+
+  pub traced_house : same_bytes o house_name ≡ false → AnswersTrace H o (lot_id house_name lot) w reported → AnswersFrom (lot_id house_name lot) (has_consumed (acts o H) (lot_id house_name lot))
+  traced_house other = subst (λ b. AnswersFrom (lot_id house_name lot) (if b then is_some (lot_row H o lot) else has_consumed (acts o H) (lot_id house_name lot))) (same_bytes-symm house_name o ∙ other)

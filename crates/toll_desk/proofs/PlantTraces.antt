@@ -1,5 +1,5 @@
 -- The plant's traces, over the batches of those owners alone that can lead on.
-use Rattle.std.proofs.Common.{◌≡◌, ◌≢◌, ◌⊎◌, ℕ, zero, suc, Bool, true, false, ◌||◌, Some, None, is_some, List, [], ◌∷◌, map, Result, Ok, Err, refl, sym, ap, subst, ◌∙◌, inl, inr}
+use Rattle.std.proofs.Common.{◌≡◌, ◌⊎◌, ℕ, zero, suc, Bool, true, false, ◌||◌, Some, is_some, List, [], ◌∷◌, map, refl, sym, ap, subst, ◌∙◌, inl, inr}
 use Rattle.std.specs.Prelude.{Contains, if◌then◌else◌}
 use Rattle.std.proofs.lemmas.Map.Lookups.{exact_bytes}
 use Rattle.std.proofs.lemmas.Map.Views.{tells_apart}
@@ -13,10 +13,10 @@ use Rattle.toll_trace.specs.declared.way.Way.{Way}
 use Rattle.toll_trace.specs.declared.way.Way.TheVariants as way
 use Rattle.toll_trace.specs.Edges.{IsEdge}
 use Rattle.toll_trace.proofs.Unique.{trace_same}
-use Rattle.toll_desk.proofs.Common.{false≢true, Bytes, same_bytes, same_bytes-refl, house_name, Edge, LotId, History, acts, owner_known, IsLawful, IsTrace, Step, Contains-none, Contains-cases, Contains-here, Contains-later, IsOwnEdge, IsPlantJoined, lots_owned, Content, StandsFor}
+use Rattle.toll_desk.proofs.Common.{false≢true, Bytes, same_bytes, same_bytes-refl, house_name, LotId, History, acts, IsLawful, IsTrace, Step, Contains-none, Contains-cases, Contains-here, Contains-later, IsOwnEdge, IsPlantJoined, lots_owned, Content, Represents}
 use Rattle.toll_keep.specs.Content.{knows}
 use Rattle.toll_keep.specs.Holding.{IsEdgeOfOne}
-use Rattle.toll_desk.proofs.Knowing.{standing_knows}
+use Rattle.toll_desk.proofs.Knowing.{represented_knows}
 use Rattle.toll_desk.proofs.PlantShown.{edge_owner}
 use Rattle.toll_desk.proofs.StandingEdges.{edge_is_own, own_is_edge}
 
@@ -44,10 +44,10 @@ module _ (E F : LotId → LotId → Type 0) (P : LotId → Type 0) (more : (a b 
 
 -- ---- the owners that are named
 
-named_row : (rows : List OwnerRow) (o : Bytes) → is_some (row_at bytes_cmp (λ (row : OwnerRow). row.owner) rows o) ≡ true → Contains (map (λ (row : OwnerRow). row.owner) rows) o
+owner_is_named : (rows : List OwnerRow) (o : Bytes) → is_some (row_at bytes_cmp (λ (row : OwnerRow). row.owner) rows o) ≡ true → Contains (map (λ (row : OwnerRow). row.owner) rows) o
 unfolding row_at
-named_row [] o h = absurd (false≢true h)
-named_row (row ∷ rows) o h = go (is_eq (bytes_cmp o row.owner)) refl h (named_row rows o)
+owner_is_named [] o h = absurd (false≢true h)
+owner_is_named (row ∷ rows) o h = go (is_eq (bytes_cmp o row.owner)) refl h (owner_is_named rows o)
   where
     go : (b : Bool) → is_eq (bytes_cmp o row.owner) ≡ b → is_some (if b then Some row else row_at bytes_cmp (λ (row : OwnerRow). row.owner) rows o) ≡ true → (is_some (row_at bytes_cmp (λ (row : OwnerRow). row.owner) rows o) ≡ true → Contains (map (λ (row : OwnerRow). row.owner) rows) o) → Contains (map (λ (row : OwnerRow). row.owner) (row ∷ rows)) o
     go true e h later = subst (Contains (row.owner ∷ map (λ (row : OwnerRow). row.owner) rows)) (sym (tells_apart exact_bytes o row.owner e)) (Contains-here row.owner (map (λ (row : OwnerRow). row.owner) rows))
@@ -58,11 +58,11 @@ all_named rows o h = go (same_bytes o house_name) refl h
   where
     go : (b : Bool) → same_bytes o house_name ≡ b → (b || is_some (row_at bytes_cmp (λ (row : OwnerRow). row.owner) rows o)) ≡ true → Contains (house_name ∷ map (λ (row : OwnerRow). row.owner) rows) o
     go true e h = subst (Contains (house_name ∷ map (λ (row : OwnerRow). row.owner) rows)) (sym (same_bytes-exact o house_name e)) (Contains-here house_name (map (λ (row : OwnerRow). row.owner) rows))
-    go false e h = Contains-later house_name (map (λ (row : OwnerRow). row.owner) rows) o (named_row rows o h)
+    go false e h = Contains-later house_name (map (λ (row : OwnerRow). row.owner) rows) o (owner_is_named rows o h)
 
 -- ---- which owners lead on
 
-module _ (H : History) (c : Content) (lawful : IsLawful H) (stands : StandsFor c H) where
+module _ (H : History) (c : Content) (lawful : IsLawful H) (stands : Represents c H) where
   abbrev JoinedBy : List Bytes → Way → LotId → LotId → Type 0
   JoinedBy owners w a b = IsEdgeOfOne c owners (edge_of w a b)
 
@@ -109,7 +109,7 @@ module _ (H : History) (c : Content) (lawful : IsLawful H) (stands : StandsFor c
     where
       lead : (a b : LotId) → Unit {0} → IsPlantJoined H way.Forward a b → JoinedBy owners way.Forward a b × Unit {0}
       lead a b at edge =
-          let known : knows c edge.0 ≡ true = standing_knows H c stands edge.0 ∙ edge_owner H edge.0 (edge_of way.Forward a b) lawful edge.1 in
+          let known : knows c edge.0 ≡ true = represented_knows H c stands edge.0 ∙ edge_owner H edge.0 (edge_of way.Forward a b) lawful edge.1 in
           (of_one owners way.Forward a b edge.0 (subst (λ os. Contains os edge.0) (sym named) (all_named c.owners edge.0 known)) edge.1, tt)
 
   -- ---- an owner's own trace

@@ -1,11 +1,12 @@
 -- The lines of a recall, over the rows of the owners of its lots.
 use Rattle.std.specs.Prelude.{position, nat_lt}
-use Rattle.toll_desk.proofs.Common.{position_or_len, option_map, false≢true, take_more, map-append, Contains-push_cases, Contains-get_or, Bytes, Slice, LotId, LotRow, Disposition, lot_id, where_so, disposition_of, Made, lot_made, totals_given, same_bytes-exact, History, acts, owner_known, IsRowsOf, lot_row, IsLawful, IsChain, IsTrace, Step, Forward, Contains-none, IsPlantJoined, recall_line, IsRecall, RecallLine, is_of, has_slice, has_found, has_more, has_new}
+use Rattle.toll_desk.proofs.Common.{position_or_len, option_map, false≢true, take_more, map-append, Contains-push_cases, Contains-get_or, Bytes, Slice, LotId, LotRow, Disposition, lot_id, where_so, Made, lot_made, totals_given, same_bytes-exact, History, acts, owner_known, IsRowsOf, lot_row, IsLawful, IsChain, IsTrace, Step, Forward, Contains-none, IsPlantJoined, recall_line_of, IsRecall, RecallLine, is_slice_of, has_slice, has_found, has_more, has_new}
 use Rattle.std.proofs.Common.{Result, Ok, Err, IsErrAnd, ◌≡◌, ℕ, zero, suc, ◌<◌, ◌≤◌, ◌&&◌, Bool, true, false, cond, Option, Some, None, is_some, List, [], ◌∷◌, ◌++◌, length, map, get_or, take, ◌+◌, Contains, refl, sym, ap, subst, inl, inr, arith, ◌∙◌}
 use Rattle.std.proofs.lemmas.Bool.Decides.{nat_tests}
 use Rattle.std.proofs.lemmas.List.Quantifiers.{position-Some}
 use Rattle.std.proofs.lemmas.List.Sums.{fails_before_first}
 use Rattle.toll_base.proofs.Bools.{both}
+use Rattle.toll_history.specs.OwnerFacts.{lot_row_made}
 use Rattle.toll_history.specs.Amounts.{on_hand, shipped}
 use Rattle.toll_stock.specs.declared.stock.Totals.{Totals}
 use Rattle.toll_desk.specs.Questions.{AreSlicesFor, IsLineOf, is_known_lot}
@@ -29,7 +30,7 @@ step_there H before step slices are has = record {
   ];
 }
 
-pub step_found : (H : History) (before : List Step) (step : Step) (slices : List Slice) (at : Option ℕ) → AreSlicesFor H before slices → at ≡ position (is_of step.lot.owner) slices → is_some at ≡ true → AreSlicesFor H (before ++ step ∷ []) slices
+pub step_found : (H : History) (before : List Step) (step : Step) (slices : List Slice) (at : Option ℕ) → AreSlicesFor H before slices → at ≡ position (is_slice_of step.lot.owner) slices → is_some at ≡ true → AreSlicesFor H (before ++ step ∷ []) slices
 step_found H before step slices at are is there = step_there H before step slices are (λ known. has_found slices step.lot.owner at is there)
 
 pub step_unknown : (H : History) (before : List Step) (step : Step) (slices : List Slice) → AreSlicesFor H before slices → owner_known H step.lot.owner ≡ false → AreSlicesFor H (before ++ step ∷ []) slices
@@ -45,10 +46,10 @@ step_added H before step slices s are rows own = step_there H before step (slice
 
 -- ---- the slice of an owner
 
-pub slice_at : (slices : List Slice) (o : Bytes) (at : ℕ) (s : Slice) → Some at ≡ position (is_of o) slices → s ≡ get_or slices at s → Contains slices s × (s.owner ≡ o)
+pub slice_at : (slices : List Slice) (o : Bytes) (at : ℕ) (s : Slice) → Some at ≡ position (is_slice_of o) slices → s ≡ get_or slices at s → Contains slices s × (s.owner ≡ o)
 slice_at slices o at s found is =
-    let place = position-Some (is_of o) slices at s (sym found) in
-    (subst (Contains slices) (sym is) (Contains-get_or slices at s place.0), same_bytes-exact s.owner o (ap (is_of o) is ∙ place.1))
+    let place = position-Some (is_slice_of o) slices at s (sym found) in
+    (subst (Contains slices) (sym is) (Contains-get_or slices at s place.0), same_bytes-exact s.owner o (ap (is_slice_of o) is ∙ place.1))
 
 not_within : (a b : ℕ) → cond (nat_lt a b) (Some a) None ≡ None → b ≤ a
 not_within a b none = elim (nat_lt a b) as (λ t. nat_lt a b ≡ t → cond t (Some a) None ≡ None → b ≤ a) [
@@ -56,14 +57,14 @@ not_within a b none = elim (nat_lt a b) as (λ t. nat_lt a b ≡ t → cond t (S
   | false ↦ λ e none. grind (arith, nat_tests)
 ] refl none
 
-pub no_slice : (slices : List Slice) (o : Bytes) → None ≡ position (is_of o) slices → has_slice slices o ≡ true → ⊥
-no_slice slices o none has =
-    let found = any_member (is_of o) slices has in
+pub slice_is_there : (slices : List Slice) (o : Bytes) → None ≡ position (is_slice_of o) slices → has_slice slices o ≡ true → ⊥
+slice_is_there slices o none has =
+    let found = any_member (is_slice_of o) slices has in
     let s = found.0 in
     let k = found.1.0 in
-    let past = not_within (position_or_len (is_of o) slices) (length slices) (sym none) in
+    let past = not_within (position_or_len (is_slice_of o) slices) (length slices) (sym none) in
     let inside = found.1.1 in
-    false≢true (sym (fails_before_first (is_of o) slices k s (omega arith)) ∙ ap (is_of o) found.1.2 ∙ found.2)
+    false≢true (sym (fails_before_first (is_slice_of o) slices k s (omega arith)) ∙ ap (is_slice_of o) found.1.2 ∙ found.2)
 
 -- ---- lines
 
@@ -71,13 +72,13 @@ line_step : (step : Step) (f : LotRow → RecallLine) (row : Option LotRow) (lin
 line_step step f None line same is = (cc)
 line_step step f (Some row) line same is = let e : f row ≡ line = (cc) in sym (ap (λ (l : RecallLine). l.step) e) ∙ same row
 
-lines_steps : (H : History) (lines : List RecallLine) (steps : List Step) → map (λ line. Some line) lines ≡ map (recall_line H) steps → map (λ (line : RecallLine). line.step) lines ≡ steps
+lines_steps : (H : History) (lines : List RecallLine) (steps : List Step) → map (λ line. Some line) lines ≡ map (recall_line_of H) steps → map (λ (line : RecallLine). line.step) lines ≡ steps
 lines_steps H [] [] are = refl
 lines_steps H [] (step ∷ steps) are = (cc)
 lines_steps H (line ∷ lines) [] are = (cc)
 lines_steps H (line ∷ lines) (step ∷ steps) are =
-    let head : recall_line H step ≡ Some line = (cc) in
-    let tail : map (λ line. Some line) lines ≡ map (recall_line H) steps = (cc) in
+    let head : recall_line_of H step ≡ Some line = (cc) in
+    let tail : map (λ line. Some line) lines ≡ map (recall_line_of H) steps = (cc) in
     let first : line.step ≡ step = line_step step _ (lot_row H step.lot.owner step.lot.lot) line (λ r. refl) head in
     let more = lines_steps H lines steps tail in
     (λ i. first i ∷ more i)
@@ -86,12 +87,12 @@ each_line : (f : Step → Option RecallLine) (lines : List RecallLine) → map f
 each_line f [] = refl
 each_line f (line ∷ lines) = ap (λ more. f line.step ∷ more) (each_line f lines)
 
-pub lines_recall : (H : History) (lot : LotId) (steps : List Step) (lines : List RecallLine) → map (λ line. Some line) lines ≡ map (recall_line H) steps → IsTrace (IsPlantJoined H Forward) lot steps → IsRecall H lot lines
+pub lines_recall : (H : History) (lot : LotId) (steps : List Step) (lines : List RecallLine) → map (λ line. Some line) lines ≡ map (recall_line_of H) steps → IsTrace (IsPlantJoined H Forward) lot steps → IsRecall H lot lines
 lines_recall H lot steps lines are traced =
     let is = lines_steps H lines steps are in
     record {
       traced = subst (IsTrace (IsPlantJoined H Forward) lot) (sym is) traced;
-      each = are ∙ ap (map (recall_line H)) (sym is) ∙ each_line (recall_line H) lines;
+      each = are ∙ ap (map (recall_line_of H)) (sym is) ∙ each_line (recall_line_of H) lines;
     }
 
 -- ---- lots of a trace are known
@@ -107,22 +108,22 @@ some_not_none f None some none = false≢true some
 some_not_none f (Some x) some none = (cc)
 
 -- each lot of a forward trace from a known lot has a line
-pub traced_has_line : (H : History) (lot : LotId) (steps : List Step) (step : Step) → IsLawful H → is_known_lot H lot ≡ true → IsTrace (IsPlantJoined H Forward) lot steps → Contains steps step → (owner_known H step.lot.owner ≡ true → recall_line H step ≡ None) → ⊥
+pub traced_has_line : (H : History) (lot : LotId) (steps : List Step) (step : Step) → IsLawful H → is_known_lot H lot ≡ true → IsTrace (IsPlantJoined H Forward) lot steps → Contains steps step → (owner_known H step.lot.owner ≡ true → recall_line_of H step ≡ None) → ⊥
 traced_has_line H lot steps step lawful known traced there none =
     let is = chain_known H lot step.steps step.lot lawful known (traced.only step there) in
     some_not_none _ (lot_row H step.lot.owner step.lot.lot) is.1 (none is.0)
 
 -- ---- the line of a step
 
-pub line_given : (H : History) (step : Step) (line : Option RecallLine) → line ≡ recall_line H step → IsLineOf H step line
+pub line_given : (H : History) (step : Step) (line : Option RecallLine) → line ≡ recall_line_of H step → IsLineOf H step line
 line_given H step None is = λ known. sym is
 line_given H step (Some line) is = sym is
 
-pub line_is : (H : History) (step : Step) (disposition : Disposition) (totals : Totals) → Some disposition ≡ option_map (λ (r : LotRow). r.disposition) (lot_row H step.lot.owner step.lot.lot) → Some totals ≡ totals_given H step.lot → Some (record { step = step; disposition = disposition; totals = totals }) ≡ recall_line H step
+pub line_is : (H : History) (step : Step) (disposition : Disposition) (totals : Totals) → Some disposition ≡ option_map (λ (r : LotRow). r.disposition) (lot_row H step.lot.owner step.lot.lot) → Some totals ≡ totals_given H step.lot → Some (record { step = step; disposition = disposition; totals = totals }) ≡ recall_line_of H step
 line_is H step disposition totals first second = of_made (lot_made H (lot_id step.lot.owner step.lot.lot)) first second
   where
     row_of : Made → LotRow
-    row_of made = record { lot = step.lot.lot; material = made.material; origin = made.origin; disposition = disposition_of (acts step.lot.owner H) made.material step.lot.lot }
+    row_of made = lot_row_made (acts step.lot.owner H) step.lot.lot made
 
     given : Totals
     given = record { on_hand = on_hand H step.lot; shipped = shipped H step.lot }
@@ -134,7 +135,7 @@ line_is H step disposition totals first second = of_made (lot_made H (lot_id ste
         let t : totals ≡ given = (cc) in
         (λ i. Some (record { step = step; disposition = d i; totals = t i }))
 
-pub line_none : (H : History) (step : Step) → None ≡ option_map (λ (r : LotRow). r.disposition) (lot_row H step.lot.owner step.lot.lot) → None ≡ recall_line H step
+pub line_none : (H : History) (step : Step) → None ≡ option_map (λ (r : LotRow). r.disposition) (lot_row H step.lot.owner step.lot.lot) → None ≡ recall_line_of H step
 line_none H step none = of_row (lot_row H step.lot.owner step.lot.lot) none
   where
     of_row : (row : Option LotRow) → None ≡ option_map (λ (r : LotRow). r.disposition) row → None ≡ option_map {T = LotRow} {U = RecallLine} (λ row. record { step = step; disposition = row.disposition; totals = record { on_hand = on_hand H step.lot; shipped = shipped H step.lot } }) row

@@ -7,11 +7,11 @@ use Rattle.toll_trace.specs.Edges.{IsEdge, AreEdges}
 use Rattle.toll_trace.proofs.Unique.{edges_same}
 use Rattle.toll_answers.specs.Edges.{IsOwnEdge, IsPlantEdge}
 use Rattle.toll_answers.proofs.SliceEdges.{slice_edge_is_own, own_edge_is_slices}
-use Rattle.toll_desk.specs.Standing.{StandsFor}
+use Rattle.toll_desk.specs.Representing.{Represents}
 use Rattle.toll_keep.proofs.AllOwners.{no_edges}
 use Rattle.toll_desk.proofs.Unknown.{acts_of_unknown}
 
-module _ (H : History) (c : Content) (lawful : IsLawful H) (stands : StandsFor c H) where
+module _ (H : History) (c : Content) (lawful : IsLawful H) (stands : Represents c H) where
   pub edge_is_own : (o : Bytes) (e : Edge) → IsEdge (c.rows o) e → IsOwnEdge (acts o H) e
   edge_is_own o e is =
       elim (owner_known H o) as (λ b. owner_known H o ≡ b → IsOwnEdge (acts o H) e) [

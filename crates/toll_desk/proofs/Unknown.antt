@@ -14,16 +14,16 @@ needed a true adds unknown passes = false≢true (sym unknown)
 needed a false adds unknown passes = false≢true (sym passes)
 
 -- where not one or the other is so, neither is
-pub neither : (b c : Bool) → (b || c) ≡ false → (b ≡ false) × (c ≡ false)
-neither true c h = absurd (false≢true (sym h))
-neither false c h = (refl, h)
+pub or_false_parts : (b c : Bool) → (b || c) ≡ false → (b ≡ false) × (c ≡ false)
+or_false_parts true c h = absurd (false≢true (sym h))
+or_false_parts false c h = (refl, h)
 
 pub nothing_of_unknown : (o : Bytes) (H : History) → IsLawful H → owner_known H o ≡ false → part o H ≡ []
 unfolding part
 nothing_of_unknown o [] lawful unknown = refl
 nothing_of_unknown o (c ∷ H) lawful unknown =
-    let house = neither (same_bytes o house_name) (list_any adds_owner (acts o (c ∷ H))) unknown in
-    let added = neither (same_bytes c.owner o && adds_owner c.action) (list_any adds_owner (acts o H)) (sym (any_acts adds_owner o c H) ∙ house.1) in
+    let house = or_false_parts (same_bytes o house_name) (list_any adds_owner (acts o (c ∷ H))) unknown in
+    let added = or_false_parts (same_bytes c.owner o && adds_owner c.action) (list_any adds_owner (acts o H)) (sym (any_acts adds_owner o c H) ∙ house.1) in
     let before : owner_known H o ≡ false = ap (λ b. b || list_any adds_owner (acts o H)) house.0 ∙ added.1 in
     elim (same_bytes c.owner o) as (λ b. same_bytes c.owner o ≡ b → part o (c ∷ H) ≡ []) [
       | true ↦ λ own. absurd (needed c.action (owner_known H c.owner) (sym (ap (λ b. b && adds_owner c.action) own) ∙ added.0) (ap (owner_known H) (same_bytes-exact c.owner o own) ∙ before) (owner_of_accepted H c lawful.2))

@@ -1,35 +1,35 @@
 -- What the desk's functions say of what they answer, where several say the same.
 use Rattle.std.specs.Prelude.{◌≡◌, ◌≢◌, ◌++◌, [], ◌∷◌, List, OnOk, Bool, true, false, not, is_some, ℕ, Option, Result, IfOk, IfErr, Vec, Err}
-use Rattle.toll_desk.specs.Common.{Global, Bytes, same_bytes, Slice, order_at, house_name, where_so, Decision, LotId, IsRowsOf, lot_row, acts, Step, IsRecall, RecallLine, HaveRead, Damaged, Disposition, Refusal, Action, History, owner_known, Refused, IsPlantAnswer, Judged, PlantRequest, PlantAnswer, Shows, after_plant, IsAnswer, IsLotOr, IsOrderOr, IsReply, after_reply, has_key, AskPlace, OwnerRequest, OwnerReply, Content, Meaning, OverHeld, KeepFault}
-use Rattle.toll_desk.specs.Standing.{StandsFor}
+use Rattle.toll_desk.specs.Common.{Global, Bytes, same_bytes, Slice, order_at, house_name, where_so, Decision, LotId, IsRowsOf, lot_row, acts, Step, IsRecall, RecallLine, HaveRead, Damaged, Disposition, Refusal, Action, Command, History, owner_known, Refused, IsPlantAnswer, Judged, PlantCmd, PlantAnswer, Shows, after_plant, IsOwnerAnswer, IsLotOr, IsOrderOr, IsReply, after_reply, has_owner_key, IsTraceOr, Request, Way, OwnerReply, Content, Meaning, OverContent, KeepFault}
+use Rattle.toll_desk.specs.Representing.{Represents}
 use Rattle.std.specs.declared.alloc.AllocError.{AllocError}
 use Rattle.toll_trace.specs.declared.way.Way.TheVariants.{Forward}
 use Rattle.toll_answers.specs.Agreement.{IsPlantTrace}
+use Rattle.toll_answers.specs.Edges.{IsOwnJoined}
+use Rattle.toll_base.specs.declared.request.Request.TheVariants.{Place}
 use Rattle.toll_history.specs.Command.{by}
 use Rattle.toll_history.specs.Decision.{Decides}
 use Rattle.toll_history.specs.Holders.{holder}
 use Rattle.toll_history.specs.Work.{order_of}
-use Rattle.toll_desk.specs.Translations.{is_accepted, may_change, plant_told, told_of}
+use Rattle.toll_desk.specs.Translations.{is_answer_accepted, may_change, meaning_of_plant_reply, meaning_of_reply, writes}
 use Rattle.toll_desk.specs.Outcome.{IsDone}
-use Rattle.toll_desk.specs.Plans.{Disposes, IsOwnDecision, IsPlan, IsPlanFor, IsPlanOver, IsPlantDecision, LeadsTo}
-use Rattle.toll_desk.specs.Forms.{asked_to_trace}
+use Rattle.toll_desk.specs.Plans.{Disposes, IsOwnDecision, IsPlan, IsPlanFor, IsPlanOver, IsPlantDecision, ChangesLeadTo}
 use Rattle.toll_desk.specs.Questions.{AreSlicesFor, is_known_lot, may_trace}
 use Rattle.toll_desk.specs.Reads.{Over}
 use Rattle.toll_desk.specs.Subjects.{IsCommandSuchThat}
-use Rattle.toll_desk.specs.declared.plant_cmd.PlantPlan.{PlantPlan}
-use Rattle.toll_desk.specs.declared.form.TraceRequest.{TraceRequest}
-use Rattle.toll_desk.specs.declared.request.Planned.{Planned}
 use Rattle.toll_desk.specs.declared.request.Reply.{Reply}
+use Rattle.toll_desk.specs.declared.plan.Plan.{Plan}
+use Rattle.toll_desk.specs.declared.plant_cmd.PlantReply.{PlantReply}
 
 -- ---- over the histories that know an owner
 
-module _ {K : Type 0} (meaning : Meaning K) (old new : K) (o : Bytes) where
-  abbrev pub OverKnown : (Content → History → Type 0) → Type 0
-  OverKnown P = Over meaning old new (λ c H. owner_known H o ≡ true → P c H)
+-- over the histories that know this owner, which isn't HOUSE
+abbrev pub OverOwner : {K : Type 0} → Meaning K → (old new : K) → (o : Bytes) → (Content → History → Type 0) → Type 0
+OverOwner meaning old new o P = Over meaning old new (λ c H. owner_known H o ≡ true → same_bytes o house_name ≡ false → P c H)
 
-  -- the same of an owner besides HOUSE
-  abbrev pub OverOwner : (Content → History → Type 0) → Type 0
-  OverOwner P = Over meaning old new (λ c H. owner_known H o ≡ true → same_bytes o house_name ≡ false → P c H)
+-- over these rows of an owner besides HOUSE that the history knows
+abbrev pub IfRowsOf : History → Slice → Type 0 → Type 0
+IfRowsOf H s P = IsRowsOf H s → owner_known H s.owner ≡ true → same_bytes s.owner house_name ≡ false → P
 
 -- since the first of the keeps between which calls were answered
 abbrev pub OverFirst : {K : Type 0} → Meaning K → (old new : K) → (Content → History → Type 0) → Type 0
@@ -52,112 +52,116 @@ AreMoreSlices H step old new result = (before : List Step) → AreSlicesFor H be
 -- ---- what is read
 
 -- where rows are shown, they are the answer to what is asked
-abbrev pub IsReadAs : History → (o : Bytes) → OwnerRequest → Result Reply AllocError → Type 0
-IsReadAs H o q result = IfOk result (λ reply. IfOk (told_of reply) (IsAnswer o H q))
+abbrev pub RowsAnswerOwner : History → (o : Bytes) → Request → Result Reply AllocError → Type 0
+RowsAnswerOwner H o q result = IfOk result (λ reply. IfOk (meaning_of_reply reply) (IsOwnerAnswer o H q))
 
 -- where a text is shown, it is the answer to what the plant asks
-abbrev pub IsTextAs : History → PlantRequest → Result (Result (Vec ℕ Global) Refusal) AllocError → Type 0
-IsTextAs H q result = IfOk result (λ told. IfOk told (λ text. IsPlantAnswer H q (Shows text.items)))
+abbrev pub IsTextAs : History → PlantCmd → Result (Result (Vec ℕ Global) Refusal) AllocError → Type 0
+IsTextAs H q result = IfOk result (λ reported. IfOk reported (λ text. IsPlantAnswer H q (Shows text.items)))
 
 -- where a question of the plant is refused, that is the answer to it
-abbrev pub IsRefusedAs : History → PlantRequest → Result (Result (Vec ℕ Global) Refusal) AllocError → Type 0
-IsRefusedAs H q result = IfOk result (λ told. IfErr told (λ why. IsPlantAnswer H q (Judged (Refused why))))
+abbrev pub IsRefusedAs : History → PlantCmd → Result (Result (Vec ℕ Global) Refusal) AllocError → Type 0
+IsRefusedAs H q result = IfOk result (λ reported. IfErr reported (λ why. IsPlantAnswer H q (Judged (Refused why))))
 
 -- where an order is shown, it is the order as it stands, and a refusal where there is none
 abbrev pub IsOrderShown : History → (o order : Bytes) → Reply → Type 0
-IsOrderShown H o order reply = IfOk (told_of reply) (IsOrderOr (order_of (acts o H) order))
+IsOrderShown H o order reply = IfOk (meaning_of_reply reply) (IsOrderOr (order_of (acts o H) order))
 
 -- where a lot is shown, it is the lot as it stands, and a refusal where there is none
 abbrev pub IsLotShown : History → (o lot : Bytes) → Result Reply AllocError → Type 0
-IsLotShown H o lot result = IfOk result (λ reply. IfOk (told_of reply) (IsLotOr H o (lot_row H o lot)))
+IsLotShown H o lot result = IfOk result (λ reply. IfOk (meaning_of_reply reply) (IsLotOr H o (lot_row H o lot)))
 
 -- ---- what is decided
 
 -- where it was decided over these rows, the decision is right for the command
-abbrev pub DecidesCommand : Slice → PlantRequest → Result Decision AllocError → Type 0
-DecidesCommand s q result = IsCommandSuchThat (λ a. IfOk result (Decides (by s.owner a) s)) q
+abbrev pub DecidesCommand : Slice → Option Command → Result Decision AllocError → Type 0
+DecidesCommand s done result = IsCommandSuchThat (λ a. IfOk result (Decides (by s.owner a) s)) done
 
--- where it was told, the decision over what was held is the one on what the plant asks
-abbrev pub IsDecidedOver : {K : Type 0} → Meaning K → (old new : K) → PlantRequest → Result Decision KeepFault → Type 0
-IsDecidedOver meaning old new q result = Over meaning old new (λ c H. IfOk result (IsPlantDecision c H q))
+-- Unless it is a fault, the result is the decision on the command over the content.
+abbrev pub IsDecidedOver : {K : Type 0} → Meaning K → (old new : K) → Option Command → Result Decision KeepFault → Type 0
+IsDecidedOver meaning old new done result = Over meaning old new (λ c H. IfOk result (IsPlantDecision c H done))
 
--- this tells whether no batch holds the unit in the history
+-- whether no batch holds the unit in the history
 abbrev pub IsFreeIn : History → (unit : Bytes) → Bool → Type 0
 IsFreeIn H unit free = free ≡ not (is_some (holder H unit))
 
 -- ---- what is planned
 
 -- where a plan is made, it is the one for what is asked over the slice
-abbrev pub IsPlannedOver : History → Slice → OwnerRequest → Result Planned AllocError → Type 0
-IsPlannedOver H s q result = IfOk result (λ planned. IfOk (told_of planned.reply) (λ told. IsPlanOver H s q told planned.changes.items))
+abbrev pub IsPlannedOver : History → Slice → Request → Result (Plan Reply) AllocError → Type 0
+IsPlannedOver H s q result = IfOk result (λ planned. IfOk (meaning_of_reply planned.reply) (λ reported. IsPlanOver H s q reported planned.changes.items))
+
+-- where a reply is the answer to a request that changes nothing, so is the plan to change nothing
+abbrev pub IsShowing : History → Slice → Request → Result Reply AllocError → Result (Plan Reply) AllocError → Type 0
+IsShowing H s q reply result = writes q ≡ false → RowsAnswerOwner H s.owner q reply → IsPlannedOver H s q result
 
 -- where a decision on the disposition of a lot is right, so is the plan for what asks for it
-abbrev pub IsDisposedOver : History → Slice → (lot : Bytes) → Disposition → Decision → Result Planned AllocError → Type 0
+abbrev pub IsDisposedOver : History → Slice → (lot : Bytes) → Disposition → Decision → Result (Plan Reply) AllocError → Type 0
 IsDisposedOver H s lot disposition decision result =
-    (q : OwnerRequest) (a : Action) → Disposes H s.owner lot disposition q a → IsOwnDecision H s a decision → IsPlannedOver H s q result
+    (q : Request) (a : Action) → Disposes H s.owner lot disposition q a → IsOwnDecision H s a decision → IsPlannedOver H s q result
 
--- where it is told, the plan is the one for what the owner asks
-abbrev pub IsPlannedFor : Content → History → (o : Bytes) → OwnerRequest → Planned → Type 0
-IsPlannedFor c H o q planned = IfOk (told_of planned.reply) (λ told. IsPlanFor c H o q told planned.changes.items)
+-- Unless its reply is a fault, the plan is the one for the owner's request.
+abbrev pub IsPlannedFor : Content → History → (o : Bytes) → Request → Plan Reply → Type 0
+IsPlannedFor c H o q planned = IfOk (meaning_of_reply planned.reply) (λ reported. IsPlanFor c H o q reported planned.changes.items)
 
--- where it is told, the plan is the one for what is asked with this key
-abbrev pub IsPlannedBy : Content → History → (o key : Bytes) → OwnerRequest → Planned → Type 0
-IsPlannedBy c H o key q planned = IfOk (told_of planned.reply) (λ told. IsPlan c H o key q told planned.changes.items)
+-- Unless its reply is a fault, the plan is the one for the request with this key.
+abbrev pub IsPlannedBy : Content → History → (o key : Bytes) → Request → Plan Reply → Type 0
+IsPlannedBy c H o key q planned = IfOk (meaning_of_reply planned.reply) (λ reported. IsPlan c H o key q reported planned.changes.items)
 
--- where it is told, the plan of a command is the answer to it, and its changes lead to the content after it
-abbrev pub IsPlantPlanned : Content → History → PlantRequest → PlantPlan → Type 0
-IsPlantPlanned c H q plan = IfOk (plant_told plan.reply) (λ told. IsPlantAnswer H q told × LeadsTo c plan.changes.items (after_plant H q))
+-- Unless its reply is a fault, the plan answers the command, and its changes lead to the content after the command.
+abbrev pub IsPlantPlanned : Content → History → PlantCmd → Plan PlantReply → Type 0
+IsPlantPlanned c H q plan = IfOk (meaning_of_plant_reply plan.reply) (λ reported. IsPlantAnswer H q reported × ChangesLeadTo c plan.changes.items (after_plant H q))
 
 -- this is so where an order is placed that is there already
-abbrev pub IfPlacedAgain : Slice → OwnerRequest → Type 0 → Type 0
-IfPlacedAgain s q P = (order recipe : Bytes) (batches : ℕ) → q ≡ AskPlace order recipe batches → is_some (order_at s order) ≡ true → P
+abbrev pub IfPlacedAgain : Slice → Request → Type 0 → Type 0
+IfPlacedAgain s q P = (order recipe : Bytes) (batches : ℕ) → q ≡ Place order recipe batches → is_some (order_at s order) ≡ true → P
 
 -- a plan that is not accepted makes no change
-abbrev pub ChangesIfAccepted : PlantPlan → Type 0
-ChangesIfAccepted plan = is_accepted (plant_told plan.reply) ≡ false → plan.changes.items ≡ []
+abbrev pub ChangesIfAccepted : Plan PlantReply → Type 0
+ChangesIfAccepted plan = is_answer_accepted (meaning_of_plant_reply plan.reply) ≡ false → plan.changes.items ≡ []
 
 -- so it is of these rows
 abbrev pub OverSlice : Slice → (Slice → Type 0) → Type 0
 OverSlice s P = P s
 
 -- so it is of the rows that were held of the owner
-abbrev pub OverHeldRows : {K : Type 0} → Meaning K → (old new : K) → (o : Bytes) → (Slice → Type 0) → Type 0
-OverHeldRows meaning old new o P = OverHeld meaning old new (λ c. P (c.rows o))
+abbrev pub OverContentRows : {K : Type 0} → Meaning K → (old new : K) → (o : Bytes) → (Slice → Type 0) → Type 0
+OverContentRows meaning old new o P = OverContent meaning old new (λ c. P (c.rows o))
 
 -- this is so where what was asked is to change nothing: it only asks, or isn't granted, or, over these rows, places an order that is there
-pub record IfUnchanging (OverRows : (Slice → Type 0) → Type 0) (q : OwnerRequest) (told : Result OwnerReply KeepFault) (P : Type 0) : Type 0 where
-  pub quiet : may_change q told ≡ false → P
+pub record IfUnchanging (OverRows : (Slice → Type 0) → Type 0) (q : Request) (reported : Result OwnerReply KeepFault) (P : Type 0) : Type 0 where
+  pub quiet : may_change q reported ≡ false → P
   pub once : OverRows (λ s. IfPlacedAgain s q P)
 
 -- the plan makes no change where what was asked is to change nothing
-abbrev pub ChangesIfAsked : ((Slice → Type 0) → Type 0) → OwnerRequest → Planned → Type 0
-ChangesIfAsked OverRows q planned = IfUnchanging OverRows q (told_of planned.reply) (planned.changes.items ≡ [])
+abbrev pub ChangesIfMayWrite : ((Slice → Type 0) → Type 0) → Request → Plan Reply → Type 0
+ChangesIfMayWrite OverRows q planned = IfUnchanging OverRows q (meaning_of_reply planned.reply) (planned.changes.items ≡ [])
 
 -- ---- what is done
 
 -- what was held is held where what was asked is to change nothing
-abbrev pub StaysIfUnasked : {K : Type 0} → Meaning K → (old new : K) → (o : Bytes) → OwnerRequest → Result OwnerReply KeepFault → Type 0
-StaysIfUnasked meaning old new o q told = OverHeld meaning old new (λ c. IfUnchanging (OverSlice (c.rows o)) q told (meaning.holds new c))
+abbrev pub StaysIfUnasked : {K : Type 0} → Meaning K → (old new : K) → (o : Bytes) → Request → Result OwnerReply KeepFault → Type 0
+StaysIfUnasked meaning old new o q reported = OverContent meaning old new (λ c. IfUnchanging (OverSlice (c.rows o)) q reported (meaning.holds new c))
 
 module _ {K : Type 0} (meaning : Meaning K) (old new : K) where
-  -- who asks as the owner with this key is answered over what was held, and what that makes of it is held
-  abbrev pub IsOwnerDone : (o key : Bytes) → OwnerRequest → Result OwnerReply KeepFault → Type 0
-  IsOwnerDone o key q told =
-      Over meaning old new (λ c H. IsDone (meaning.holds new) (meaning.is_live old) (meaning.leaves new) c (after_reply o key H q) told (IsReply o key H q))
+  -- The reply to a client that claims the owner with this key is right over the content, and the keep then holds the content after the request.
+  abbrev pub IsOwnerDone : (o key : Bytes) → Request → Result OwnerReply KeepFault → Type 0
+  IsOwnerDone o key q reported =
+      Over meaning old new (λ c H. IsDone (meaning.holds new) (meaning.is_live old) (meaning.leaves new) c (after_reply o key H q) reported (IsReply o key H q))
 
   -- what the plant asks is answered over what was held, and what that makes of it is held
-  abbrev pub IsPlantDone : PlantRequest → Result PlantAnswer KeepFault → Type 0
-  IsPlantDone q told =
-      Over meaning old new (λ c H. IsDone (meaning.holds new) (meaning.is_live old) (meaning.leaves new) c (after_plant H q) told (IsPlantAnswer H q))
+  abbrev pub IsPlantDone : PlantCmd → Result PlantAnswer KeepFault → Type 0
+  IsPlantDone q reported =
+      Over meaning old new (λ c H. IsDone (meaning.holds new) (meaning.is_live old) (meaning.leaves new) c (after_plant H q) reported (IsPlantAnswer H q))
 
 -- whatever history the content stands for, the name is found where the owner has this key
 abbrev pub IsFoundBy : Content → (o key : Bytes) → Result (Option Bytes) KeepFault → Type 0
-IsFoundBy c o key result = (H : History) → StandsFor c H → IfOk result (λ found. found ≡ where_so (has_key o key H) o)
+IsFoundBy c o key result = (H : History) → Represents c H → IfOk result (λ found. found ≡ where_so (has_owner_key o key H) o)
 
--- where it is told, it is the answer to the owner
-abbrev pub IsToldAs : History → (o : Bytes) → OwnerRequest → Result OwnerReply KeepFault → Type 0
-IsToldAs H o q told = IfOk told (IsAnswer o H q)
+-- Unless it is a fault, the reply is the trace of this lot over the edges of the owner's batches.
+abbrev pub AnswersTrace : History → (o : Bytes) → LotId → Way → Result OwnerReply KeepFault → Type 0
+AnswersTrace H o lot way reported = IfOk reported (IsTraceOr (IsOwnJoined (acts o H) way) lot (may_trace H o lot))
 
--- where the owner may ask for this trace, it is told
-abbrev pub IsTraceTold : History → (o : Bytes) → TraceRequest → Result OwnerReply KeepFault → Type 0
-IsTraceTold H o tracing told = may_trace H o tracing ≡ true → IsToldAs H o (asked_to_trace tracing) told
+-- the same over a slice with the owner's rows
+abbrev pub RowsAnswerTrace : History → Slice → LotId → Way → Result OwnerReply KeepFault → Type 0
+RowsAnswerTrace H s lot way reported = IsRowsOf H s → AnswersTrace H s.owner lot way reported

@@ -1,6 +1,6 @@
 pub mod Common
-pub mod Standing
-pub mod Held
+pub mod Representing
+pub mod Occupied
 pub mod Reads
 pub mod Translations
 pub mod Admission
@@ -9,6 +9,5 @@ pub mod Outcome
 pub mod Clauses
 pub mod PlantStaged
 pub mod PlantServed
-pub mod Forms
 pub mod Subjects
 pub mod Questions

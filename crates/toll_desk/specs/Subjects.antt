@@ -1,21 +1,11 @@
 -- What the plant's commands and questions are about, and so whose rows they look at.
-use Rattle.std.specs.Prelude.{◌≡◌, Bool, true, false}
-use Rattle.toll_desk.specs.Common.{Bytes, house_name, Action, AddOwner, AddUnit, Require, OpenBatch, Record, Release, Reject, Void, is_actual, PlantRequest, Does, AsksOrders, AsksStock, AsksBatch, AsksTrace, AsksRecall, CannotRead}
+use Rattle.std.specs.Prelude.{◌≡◌, Bool, true, false, Option, IsSomeAnd}
+use Rattle.toll_desk.specs.Common.{Bytes, Action, AddOwner, AddUnit, Require, OpenBatch, Record, Release, Reject, Void, Command, is_actual, PlantCmd}
+use Rattle.toll_answers.specs.declared.plant_cmd.PlantCmd.TheVariants as cmd
 
--- whom it concerns: HOUSE, where it names nobody
-abbrev pub concerned : PlantRequest → Bytes
-concerned (Does c) = c.owner
-concerned (AsksOrders owner) = owner
-concerned (AsksStock owner) = owner
-concerned (AsksBatch owner order number) = owner
-concerned (AsksTrace lot way) = lot.owner
-concerned (AsksRecall lot) = lot.owner
-concerned (CannotRead why) = house_name
-
--- something is to be done, and this is so of it
-abbrev pub IsCommandSuchThat : (Action → Type 0) → PlantRequest → Type 0
-IsCommandSuchThat P (Does c) = P c.action
-IsCommandSuchThat P _ = ⊥
+-- a command is recorded, and this is so of it
+abbrev pub IsCommandSuchThat : (Action → Type 0) → Option Command → Type 0
+IsCommandSuchThat P done = IsSomeAnd done (λ c. P c.action)
 
 -- it is decided over HOUSE's rows too
 abbrev pub is_shared : Action → Bool
@@ -25,11 +15,11 @@ is_shared (Void key) = true
 is_shared _ = false
 
 -- it is decided over its owner's rows alone
-abbrev pub IsOwn : Action → Type 0
-IsOwn (AddOwner key) = ⊥
-IsOwn (AddUnit unit) = ⊥
-IsOwn (OpenBatch order unit) = ⊥
-IsOwn a = is_shared a ≡ false
+abbrev pub ConcernsOwnRows : Action → Type 0
+ConcernsOwnRows (AddOwner key) = ⊥
+ConcernsOwnRows (AddUnit unit) = ⊥
+ConcernsOwnRows (OpenBatch order unit) = ⊥
+ConcernsOwnRows a = is_shared a ≡ false
 
 -- and is of a lot: a movement, or a disposition
 abbrev pub IsOfLot : Action → Type 0
@@ -38,22 +28,22 @@ IsOfLot (Release lot) = Unit {0}
 IsOfLot (Reject lot) = Unit {0}
 IsOfLot _ = ⊥
 
--- something is asked
-abbrev pub IsQuestion : PlantRequest → Type 0
-IsQuestion (Does c) = ⊥
-IsQuestion (CannotRead why) = ⊥
-IsQuestion _ = Unit {0}
-
 -- the rows of an owner are asked about
-abbrev pub AsksRows : PlantRequest → Type 0
-AsksRows (AsksOrders owner) = Unit {0}
-AsksRows (AsksStock owner) = Unit {0}
-AsksRows (AsksBatch owner order number) = Unit {0}
-AsksRows _ = ⊥
+abbrev pub ConcernsRows : PlantCmd → Type 0
+ConcernsRows (cmd.Orders owner) = Unit {0}
+ConcernsRows (cmd.Stock owner) = Unit {0}
+ConcernsRows (cmd.Batch owner order number) = Unit {0}
+ConcernsRows _ = ⊥
 
--- the same about this owner's
-abbrev pub asked_of_rows : Bytes → PlantRequest → PlantRequest
-asked_of_rows o (AsksOrders owner) = AsksOrders o
-asked_of_rows o (AsksStock owner) = AsksStock o
-asked_of_rows o (AsksBatch owner order number) = AsksBatch o order number
-asked_of_rows o q = q
+-- something is asked
+abbrev pub IsQuestion : PlantCmd → Type 0
+IsQuestion (cmd.Trace lot way) = Unit {0}
+IsQuestion (cmd.Recall lot) = Unit {0}
+IsQuestion q = ConcernsRows q
+
+-- the same about this owner's rows
+abbrev pub question_for_owner : Bytes → PlantCmd → PlantCmd
+question_for_owner o (cmd.Orders owner) = cmd.Orders o
+question_for_owner o (cmd.Stock owner) = cmd.Stock o
+question_for_owner o (cmd.Batch owner order number) = cmd.Batch o order number
+question_for_owner o q = q

@@ -4,8 +4,8 @@ ghost use Rattle.toll_base.specs.Bytes.{bytes_cmp, same_bytes};
 ghost use Rattle.toll_base.specs.Table.{row_at};
 ghost use Rattle.toll_base.specs.Values.{house_name};
 ghost use Rattle.toll_base.specs.Words.{where_so};
-ghost use Rattle.toll_keep.specs.Goes.{IsReading};
-ghost use Rattle.toll_keep.specs.Meaning.{OverHeld};
+ghost use Rattle.toll_keep.specs.CallEffects.{IsReading};
+ghost use Rattle.toll_keep.specs.Meaning.{OverContent};
 ghost use Rattle.toll_desk.specs.Clauses.{IsFoundBy};
 ghost use Rattle.toll_desk.specs.Admission.{is_admitted};
 
@@ -61,7 +61,7 @@ pub fn admit<K: Keep>(
 ) -> Result<Option<Name>, KeepFault>
     ensures reads { IsReading K.meaning keep.old keep.new result }
     ensures named { IfOk result (λ found. IfSome found (λ name. name ≡ owner.now)) }
-    ensures found { OverHeld K.meaning keep.old keep.new (λ c. IsFoundBy c owner.now key.now result) }
+    ensures found { OverContent K.meaning keep.old keep.new (λ c. IsFoundBy c owner.now key.now result) }
 {
     match keep.owners(alloc) {
         Ok(rows) => Ok(admitted(&rows, owner, key)),

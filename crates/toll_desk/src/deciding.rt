@@ -1,24 +1,23 @@
 //! Decisions over the rows of a keep.
 ghost use Rattle.std.specs.Prelude.{◌≡◌, true, Some, IfOk};
 ghost use Rattle.toll_history.specs.Command.{OpenBatch, by};
-ghost use Rattle.toll_history.specs.Verdict.{IsValid};
-ghost use Rattle.toll_answers.specs.PlantAnswers.{Does};
-ghost use Rattle.toll_work.specs.Opening.{IsToldOfUnit};
-ghost use Rattle.toll_keep.specs.Goes.{IsReading};
-ghost use Rattle.toll_keep.specs.Meaning.{OverHeld};
-ghost use Rattle.toll_keep.specs.PendingChanges.{IsOver, OverLaid, ReadsThrough};
-ghost use Rattle.toll_desk.specs.Translations.{asked_by};
+ghost use Rattle.toll_history.specs.Verdict.{IsValidAction};
+ghost use Rattle.toll_answers.specs.PlantAnswers.{command_of};
+ghost use Rattle.toll_work.specs.Opening.{AreUnitFacts};
+ghost use Rattle.toll_keep.specs.CallEffects.{IsReading};
+ghost use Rattle.toll_keep.specs.Meaning.{OverContent};
+ghost use Rattle.toll_keep.specs.StagedChanges.{IsOver, OverLaid, ReadsThrough};
 ghost use Rattle.toll_desk.specs.Clauses.{IsDecidedOver, IsFreeIn};
 ghost use Rattle.toll_desk.specs.Plans.{IsOwnDecision};
 ghost use Rattle.toll_desk.specs.Reads.{AreBoth, Over, both_with};
-ghost use Rattle.toll_desk.specs.Subjects.{IsCommandSuchThat, IsOwn, is_shared};
+ghost use Rattle.toll_desk.specs.Subjects.{IsCommandSuchThat, ConcernsOwnRows, is_shared};
 
 use crate::decisions::{decide_own, decide_shared};
-use crate::plant_cmd::PlantCmd;
 use crate::units::{decide_owner, decide_unit, find_unit};
 use std::alloc::Global;
+use toll_answers::PlantCmd;
 use toll_base::{Decision, Name, Refusal, Slice};
-use toll_keep::{Keep, KeepFault, PendingChanges};
+use toll_keep::{Keep, KeepFault, StagedChanges};
 use toll_work::open_batch;
 
 /// The decision on a command. [`Refusal::UnknownOwner`] comes before all other checks, except for
@@ -28,9 +27,9 @@ pub fn decide<K: Keep>(
     keep: &mut K,
     command: &PlantCmd,
 ) -> Result<Decision, KeepFault>
-    requires { IsCommandSuchThat IsValid (asked_by command.now) }
+    requires { IsCommandSuchThat IsValidAction (command_of command.now) }
     ensures reads { IsReading K.meaning keep.old keep.new result }
-    ensures over { IsDecidedOver K.meaning keep.old keep.new (asked_by command.now) result }
+    ensures over { IsDecidedOver K.meaning keep.old keep.new (command_of command.now) result }
 {
     match *command {
         PlantCmd::OwnerAdd { owner, key } => decide_owner(alloc, keep, owner, key),
@@ -49,10 +48,10 @@ fn decide_over<K: Keep>(
     keep: &mut K,
     command: &PlantCmd,
 ) -> Result<Decision, KeepFault>
-    requires own { IsCommandSuchThat IsOwn (asked_by command.now) }
-    requires valid { IsCommandSuchThat IsValid (asked_by command.now) }
+    requires own { IsCommandSuchThat ConcernsOwnRows (command_of command.now) }
+    requires valid { IsCommandSuchThat IsValidAction (command_of command.now) }
     ensures reads { IsReading K.meaning keep.old keep.new result }
-    ensures over { IsDecidedOver K.meaning keep.old keep.new (asked_by command.now) result }
+    ensures over { IsDecidedOver K.meaning keep.old keep.new (command_of command.now) result }
 {
     match keep.slice(alloc, &command.owner()) {
         Ok(Some(slice)) => match decide_own(alloc, &slice, command) {
@@ -85,10 +84,10 @@ fn decide_both<K: Keep>(
     keep: &mut K,
     command: &PlantCmd,
 ) -> Result<Decision, KeepFault>
-    requires shared { IsCommandSuchThat (λ a. is_shared a ≡ true) (asked_by command.now) }
-    requires valid { IsCommandSuchThat IsValid (asked_by command.now) }
+    requires shared { IsCommandSuchThat (λ a. is_shared a ≡ true) (command_of command.now) }
+    requires valid { IsCommandSuchThat IsValidAction (command_of command.now) }
     ensures reads { IsReading K.meaning keep.old keep.new result }
-    ensures over { IsDecidedOver K.meaning keep.old keep.new (asked_by command.now) result }
+    ensures over { IsDecidedOver K.meaning keep.old keep.new (command_of command.now) result }
 {
     match both_of(alloc, keep, &command.owner()) {
         Ok(Some(both)) => match decide_shared(alloc, &both.own, &both.house, command) {
@@ -104,12 +103,12 @@ fn decide_both<K: Keep>(
 pub fn both_over<K: Keep>(
     alloc: Global,
     keep: &mut K,
-    pending: &mut PendingChanges,
+    pending: &mut StagedChanges,
     owner: &Name,
 ) -> Result<Option<Both>, KeepFault>
     ensures reading { ReadsThrough K.meaning keep.old keep.new pending.old result }
     ensures both { OverLaid K.meaning keep.old keep.new pending.old (λ c. IfOk result (AreBoth c owner.now)) }
-    ensures over { OverHeld K.meaning keep.old keep.new (λ c. IsOver c pending.old → IsOver c pending.new) }
+    ensures over { OverContent K.meaning keep.old keep.new (λ c. IsOver c pending.old → IsOver c pending.new) }
     ensures changes { pending.new.changes.items ≡ pending.old.changes.items }
 {
     match pending.slice(alloc, keep, owner) {
@@ -123,12 +122,12 @@ pub fn both_over<K: Keep>(
 fn house_over<K: Keep>(
     alloc: Global,
     keep: &mut K,
-    pending: &mut PendingChanges,
+    pending: &mut StagedChanges,
     own: Slice,
 ) -> Result<Option<Both>, KeepFault>
     ensures reading { ReadsThrough K.meaning keep.old keep.new pending.old result }
     ensures both { OverLaid K.meaning keep.old keep.new pending.old (λ c. IfOk result (λ both. both ≡ Some (both_with c own))) }
-    ensures over { OverHeld K.meaning keep.old keep.new (λ c. IsOver c pending.old → IsOver c pending.new) }
+    ensures over { OverContent K.meaning keep.old keep.new (λ c. IsOver c pending.old → IsOver c pending.new) }
     ensures changes { pending.new.changes.items ≡ pending.old.changes.items }
 {
     match pending.slice(alloc, keep, &Name::house()) {
@@ -141,9 +140,9 @@ fn house_over<K: Keep>(
 // The same without pending changes.
 fn both_of<K: Keep>(alloc: Global, keep: &mut K, owner: &Name) -> Result<Option<Both>, KeepFault>
     ensures reads { IsReading K.meaning keep.old keep.new result }
-    ensures both { OverHeld K.meaning keep.old keep.new (λ c. IfOk result (AreBoth c owner.now)) }
+    ensures both { OverContent K.meaning keep.old keep.new (λ c. IfOk result (AreBoth c owner.now)) }
 {
-    both_over(alloc, keep, &mut PendingChanges::new(alloc), owner)
+    both_over(alloc, keep, &mut StagedChanges::new(alloc), owner)
 }
 
 // ---- the opening of a batch
@@ -164,7 +163,7 @@ fn decide_opening<K: Keep>(
     unit: Name,
 ) -> Result<Decision, KeepFault>
     ensures reads { IsReading K.meaning keep.old keep.new result }
-    ensures over { IsDecidedOver K.meaning keep.old keep.new (Does (by owner.now (OpenBatch order unit))) result }
+    ensures over { IsDecidedOver K.meaning keep.old keep.new (Some (by owner.now (OpenBatch order unit))) result }
 {
     match keep.slice(alloc, owner) {
         Ok(Some(slice)) => open_on(alloc, keep, &slice, order, unit),
@@ -195,7 +194,7 @@ fn open_on<K: Keep>(
 
 fn unit_state<K: Keep>(alloc: Global, keep: &mut K, unit: &Name) -> Result<UnitState, KeepFault>
     ensures reads { IsReading K.meaning keep.old keep.new result }
-    ensures over { Over K.meaning keep.old keep.new (λ c H. IfOk result (λ state. IsToldOfUnit H unit.now state.known state.free)) }
+    ensures over { Over K.meaning keep.old keep.new (λ c H. IfOk result (λ state. AreUnitFacts H unit.now state.known state.free)) }
 {
     match keep.units(alloc) {
         Ok(rows) => holding(

@@ -1,19 +1,17 @@
 //! Owners' requests over a keep.
 ghost use Rattle.std.specs.Prelude.{◌≡◌, Err};
-ghost use Rattle.toll_keep.specs.Goes.{FindsNoDamage, Goes, IsReading, IsSpared, Settles};
-ghost use Rattle.toll_desk.specs.Clauses.{ChangesIfAsked, IsOwnerDone, IsPlannedBy, IsPlannedFor, OverHeldRows, OverOwner, StaysIfUnasked};
-ghost use Rattle.toll_desk.specs.Translations.{asked_of, told_of};
+ghost use Rattle.toll_keep.specs.CallEffects.{FindsNoDamage, CallEffect, IsReading, IsSpared, Settles};
+ghost use Rattle.toll_desk.specs.Clauses.{ChangesIfMayWrite, IsOwnerDone, IsPlannedBy, OverContentRows, StaysIfUnasked};
+ghost use Rattle.toll_desk.specs.Translations.{meaning_of_reply};
 ghost use Rattle.toll_desk.specs.Reads.{Over};
 
 use crate::admission::admit;
 use crate::committing::commit;
-use crate::form::{Form, form_of};
-use crate::reading::read_rows;
-use crate::request::{Planned, Reply, Request};
-use crate::tracing::trace_own;
-use crate::writing::plan_write;
+use crate::plan::Plan;
+use crate::planning::plan_for;
+use crate::request::Reply;
 use std::alloc::Global;
-use toll_base::Name;
+use toll_base::Request;
 use toll_keep::{Keep, KeepFault};
 
 /// The reply to an owner's request if its changes succeed, and these changes. Nothing is changed
@@ -25,36 +23,20 @@ pub fn owner_plan<K: Keep>(
     owner: &[u8],
     key: &[u8],
     request: &Request,
-) -> Planned
-    ensures reads { IsReading K.meaning keep.old keep.new (told_of result.reply) }
-    ensures idle { ChangesIfAsked (OverHeldRows K.meaning keep.old keep.new owner.now) (asked_of request.now) result }
-    ensures plan { Over K.meaning keep.old keep.new (λ c H. IsPlannedBy c H owner.now key.now (asked_of request.now) result) }
+) -> Plan<Reply>
+    ensures reads { IsReading K.meaning keep.old keep.new (meaning_of_reply result.reply) }
+    ensures idle { ChangesIfMayWrite (OverContentRows K.meaning keep.old keep.new owner.now) request.now result }
+    ensures plan { Over K.meaning keep.old keep.new (λ c H. IsPlannedBy c H owner.now key.now request.now result) }
 {
     match admit(alloc, keep, owner, key) {
         Ok(Some(owner)) => plan_for(alloc, keep, &owner, request),
-        Ok(None) => Planned::unchanged(alloc, Reply::Forbidden),
-        Err(fault) => Planned::unchanged(alloc, Reply::Fault(fault)),
-    }
-}
-
-// The same for an admitted owner.
-fn plan_for<K: Keep>(alloc: Global, keep: &mut K, owner: &Name, request: &Request) -> Planned
-    ensures reads { IsReading K.meaning keep.old keep.new (told_of result.reply) }
-    ensures idle { ChangesIfAsked (OverHeldRows K.meaning keep.old keep.new owner.now) (asked_of request.now) result }
-    ensures plan { OverOwner K.meaning keep.old keep.new owner.now (λ c H. IsPlannedFor c H owner.now (asked_of request.now) result) }
-{
-    match form_of(request) {
-        Form::Read(reading) => {
-            Planned::unchanged(alloc, read_rows(alloc, keep, owner, &reading))
-        }
-        Form::Trace(tracing) => {
-            Planned::unchanged(alloc, trace_own(alloc, keep, owner, &tracing))
-        }
-        Form::Write(writing) => plan_write(alloc, keep, owner, &writing),
+        Ok(None) => Plan::unchanged(alloc, Reply::Forbidden),
+        Err(fault) => Plan::unchanged(alloc, Reply::Fault(fault)),
     }
 }
 
 /// Does an owner's request, and returns the reply. After [`KeepFault::Memory`] nothing has changed.
+/// Only tests call it: programs call [`owner_plan`], and make the changes once the reply's text is there.
 pub fn owner_do<K: Keep>(
     alloc: Global,
     keep: &mut K,
@@ -62,12 +44,12 @@ pub fn owner_do<K: Keep>(
     key: &[u8],
     request: &Request,
 ) -> Reply
-    ensures goes { Goes K.meaning keep.old keep.new (told_of result) }
+    ensures goes { CallEffect K.meaning keep.old keep.new (meaning_of_reply result) }
     ensures settles { Settles K.meaning keep.old keep.new }
-    ensures spared { told_of result ≡ Err KeepFault.Memory → IsSpared K.meaning keep.old keep.new }
-    ensures whole { FindsNoDamage K.meaning keep.old keep.new (told_of result) }
-    ensures idle { StaysIfUnasked K.meaning keep.old keep.new owner.now (asked_of request.now) (told_of result) }
-    ensures done { IsOwnerDone K.meaning keep.old keep.new owner.now key.now (asked_of request.now) (told_of result) }
+    ensures spared { meaning_of_reply result ≡ Err KeepFault.Memory → IsSpared K.meaning keep.old keep.new }
+    ensures whole { FindsNoDamage K.meaning keep.old keep.new (meaning_of_reply result) }
+    ensures idle { StaysIfUnasked K.meaning keep.old keep.new owner.now request.now (meaning_of_reply result) }
+    ensures done { IsOwnerDone K.meaning keep.old keep.new owner.now key.now request.now (meaning_of_reply result) }
 {
     let planned = owner_plan(alloc, keep, owner, key, request);
     let made = commit(alloc, keep, &planned.changes);

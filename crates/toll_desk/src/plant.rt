@@ -2,9 +2,10 @@
 ghost use Rattle.toll_desk.specs.PlantServed.{IsPlantServed};
 
 use crate::commands::run_command;
-use crate::plant_cmd::{PlantCmd, PlantReply};
-use crate::questions::ask;
+use crate::plant_cmd::PlantReply;
+use crate::questions::answer_question;
 use std::alloc::Global;
+use toll_answers::PlantCmd;
 use toll_keep::{Keep, KeepFault};
 
 /// Does a command of the plant, or answers a question.
@@ -23,7 +24,7 @@ pub fn plant_do<K: Keep>(alloc: Global, keep: &mut K, command: &PlantCmd) -> Pla
         | PlantCmd::Stock { .. }
         | PlantCmd::Batch { .. }
         | PlantCmd::Trace { .. }
-        | PlantCmd::Recall { .. } => ask(alloc, keep, command),
+        | PlantCmd::Recall { .. } => answer_question(alloc, keep, command),
         _ => run_command(alloc, keep, command),
     }
 }

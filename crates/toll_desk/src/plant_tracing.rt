@@ -3,7 +3,7 @@ ghost use Rattle.std.specs.Prelude.{◌≡◌, ◌∷◌, map, IfOk};
 ghost use Rattle.toll_base.specs.Values.{house_name};
 ghost use Rattle.toll_trace.specs.declared.way.Way.TheVariants.{Forward};
 ghost use Rattle.toll_answers.specs.Agreement.{IsPlantTrace};
-ghost use Rattle.toll_keep.specs.Goes.{IsReading};
+ghost use Rattle.toll_keep.specs.CallEffects.{IsReading};
 ghost use Rattle.toll_desk.specs.Reads.{Over};
 
 use std::alloc::{AllocError, Global};

@@ -2,21 +2,21 @@
 ghost use Rattle.std.specs.Prelude.{◌≡◌, ◌≢◌, true, false, Err, IfOk};
 ghost use Rattle.toll_history.specs.History.{History};
 ghost use Rattle.toll_history.specs.OverRows.{OverOwnRows};
-ghost use Rattle.toll_history.specs.Tables.{IsRowsOf};
+ghost use Rattle.toll_history.specs.OwnerFacts.{IsRowsOf};
 ghost use Rattle.toll_history.specs.Verdict.{IsLawful, Refused};
-ghost use Rattle.toll_answers.specs.PlantAnswers.{IsPlantAnswer, AreOrdersShown, AsksTrace, AsksRecall, AsksBatch, Shows, after_plant};
-ghost use Rattle.toll_keep.specs.Goes.{IsReading, Keeps};
+ghost use Rattle.toll_answers.specs.PlantAnswers.{IsPlantAnswer, AreOrdersShown, Shows, after_plant};
+ghost use Rattle.toll_keep.specs.CallEffects.{IsReading, Keeps};
 ghost use Rattle.toll_desk.specs.Clauses.{IsRefusedAs, IsTextAs};
-ghost use Rattle.toll_desk.specs.Translations.{asked_by, asks_recall, is_accepted, plant_told};
-ghost use Rattle.toll_desk.specs.Questions.{IsGoing, is_known_lot};
+ghost use Rattle.toll_desk.specs.Translations.{asks_recall, is_answer_accepted, meaning_of_plant_reply};
+ghost use Rattle.toll_desk.specs.Questions.{IsRecallEffect, is_known_lot};
 ghost use Rattle.toll_desk.specs.Reads.{Over};
-ghost use Rattle.toll_desk.specs.Subjects.{AsksRows, IsQuestion, asked_of_rows};
+ghost use Rattle.toll_desk.specs.Subjects.{ConcernsRows, IsQuestion, question_for_owner};
 
-use crate::plant_cmd::{PlantCmd, PlantReply};
+use crate::plant_cmd::PlantReply;
 use crate::plant_tracing::trace_plant;
 use crate::recalls::recall;
 use std::alloc::{AllocError, Global};
-use toll_answers::{batch_text, orders_text, recall_text, stock_text, trace_text};
+use toll_answers::{PlantCmd, batch_text, orders_text, recall_text, stock_text, trace_text};
 use toll_base::{BatchNo, LotId, Name, Refusal, Slice};
 use toll_keep::{Keep, KeepFault};
 use toll_trace::Way;
@@ -26,20 +26,20 @@ use toll_work::batch_view;
 /// [`Refusal::UnknownOrder`] and [`Refusal::UnknownBatch`]. A trace and a recall have
 /// [`Refusal::UnknownLot`]. A recall answers [`KeepFault::Damaged`] if one of its lots has no row. The
 /// keep goes on after this fault.
-pub fn ask<K: Keep>(alloc: Global, keep: &mut K, command: &PlantCmd) -> PlantReply
-    requires { IsQuestion (asked_by command.now) }
-    ensures stays { (H : History) → after_plant H (asked_by command.now) ≡ H }
-    ensures going { IsGoing K.meaning keep.old keep.new (plant_told result) }
-    ensures reads { asks_recall (asked_by command.now) ≡ false → IsReading K.meaning keep.old keep.new (plant_told result) }
-    ensures whole { Over K.meaning keep.old keep.new (λ c H. plant_told result ≢ Err KeepFault.Damaged) }
+pub fn answer_question<K: Keep>(alloc: Global, keep: &mut K, command: &PlantCmd) -> PlantReply
+    requires { IsQuestion command.now }
+    ensures stays { (H : History) → after_plant H command.now ≡ H }
+    ensures going { IsRecallEffect K.meaning keep.old keep.new (meaning_of_plant_reply result) }
+    ensures reads { asks_recall command.now ≡ false → IsReading K.meaning keep.old keep.new (meaning_of_plant_reply result) }
+    ensures whole { Over K.meaning keep.old keep.new (λ c H. meaning_of_plant_reply result ≢ Err KeepFault.Damaged) }
     ensures keeps { K.meaning.is_honest keep.new → Keeps K.meaning keep.old keep.new }
-    ensures shown { is_accepted (plant_told result) ≡ false }
-    ensures over { Over K.meaning keep.old keep.new (λ c H. IfOk (plant_told result) (IsPlantAnswer H (asked_by command.now))) }
+    ensures shown { is_answer_accepted (meaning_of_plant_reply result) ≡ false }
+    ensures over { Over K.meaning keep.old keep.new (λ c H. IfOk (meaning_of_plant_reply result) (IsPlantAnswer H command.now)) }
 {
     match *command {
-        PlantCmd::Trace { lot, way } => ask_trace(alloc, keep, &lot, way),
-        PlantCmd::Recall { lot } => ask_recall(alloc, keep, &lot),
-        _ => ask_rows(alloc, keep, command),
+        PlantCmd::Trace { lot, way } => answer_trace(alloc, keep, &lot, way),
+        PlantCmd::Recall { lot } => answer_recall(alloc, keep, &lot),
+        _ => answer_from_rows(alloc, keep, command),
     }
 }
 
@@ -47,11 +47,11 @@ pub fn ask<K: Keep>(alloc: Global, keep: &mut K, command: &PlantCmd) -> PlantRep
 
 // The text of an owner's rows: [`Refusal::UnknownOwner`]. For a batch then [`Refusal::UnknownOrder`]
 // and [`Refusal::UnknownBatch`].
-fn ask_rows<K: Keep>(alloc: Global, keep: &mut K, command: &PlantCmd) -> PlantReply
-    requires { AsksRows (asked_by command.now) }
-    ensures reads { IsReading K.meaning keep.old keep.new (plant_told result) }
-    ensures shown { is_accepted (plant_told result) ≡ false }
-    ensures over { Over K.meaning keep.old keep.new (λ c H. IfOk (plant_told result) (IsPlantAnswer H (asked_by command.now))) }
+fn answer_from_rows<K: Keep>(alloc: Global, keep: &mut K, command: &PlantCmd) -> PlantReply
+    requires { ConcernsRows command.now }
+    ensures reads { IsReading K.meaning keep.old keep.new (meaning_of_plant_reply result) }
+    ensures shown { is_answer_accepted (meaning_of_plant_reply result) ≡ false }
+    ensures over { Over K.meaning keep.old keep.new (λ c H. IfOk (meaning_of_plant_reply result) (IsPlantAnswer H command.now)) }
 {
     match keep.slice(alloc, &command.owner()) {
         Ok(Some(slice)) => match show(alloc, &slice, command) {
@@ -70,9 +70,9 @@ fn show(
     slice: &Slice,
     command: &PlantCmd,
 ) -> Result<Result<Vec<u8>, Refusal>, AllocError>
-    requires { AsksRows (asked_by command.now) }
-    ensures text { OverOwnRows slice.now (λ H. IsTextAs H (asked_of_rows slice.now.owner (asked_by command.now)) result) }
-    ensures refused { OverOwnRows slice.now (λ H. IsRefusedAs H (asked_of_rows slice.now.owner (asked_by command.now)) result) }
+    requires { ConcernsRows command.now }
+    ensures text { OverOwnRows slice.now (λ H. IsTextAs H (question_for_owner slice.now.owner command.now) result) }
+    ensures refused { OverOwnRows slice.now (λ H. IsRefusedAs H (question_for_owner slice.now.owner command.now) result) }
 {
     match *command {
         PlantCmd::Orders { .. } => Ok(Ok(orders_in(alloc, slice)?)),
@@ -95,8 +95,8 @@ fn show_batch(
     order: &Name,
     number: BatchNo,
 ) -> Result<Result<Vec<u8>, Refusal>, AllocError>
-    ensures text { OverOwnRows slice.now (λ H. IsTextAs H (AsksBatch slice.now.owner order.now number) result) }
-    ensures refused { OverOwnRows slice.now (λ H. IsRefusedAs H (AsksBatch slice.now.owner order.now number) result) }
+    ensures text { OverOwnRows slice.now (λ H. IsTextAs H (PlantCmd.Batch slice.now.owner order.now number) result) }
+    ensures refused { OverOwnRows slice.now (λ H. IsRefusedAs H (PlantCmd.Batch slice.now.owner order.now number) result) }
 {
     match batch_view(alloc, slice, order, number)? {
         Some(view) => Ok(Ok(batch_text(alloc, &view)?)),
@@ -113,10 +113,10 @@ fn show_batch(
 // ---- traces over all batches
 
 // The text of a trace: [`Refusal::UnknownOwner`], then [`Refusal::UnknownLot`].
-fn ask_trace<K: Keep>(alloc: Global, keep: &mut K, lot: &LotId, way: Way) -> PlantReply
-    ensures reads { IsReading K.meaning keep.old keep.new (plant_told result) }
-    ensures shown { is_accepted (plant_told result) ≡ false }
-    ensures over { Over K.meaning keep.old keep.new (λ c H. IfOk (plant_told result) (IsPlantAnswer H (AsksTrace lot.now way))) }
+fn answer_trace<K: Keep>(alloc: Global, keep: &mut K, lot: &LotId, way: Way) -> PlantReply
+    ensures reads { IsReading K.meaning keep.old keep.new (meaning_of_plant_reply result) }
+    ensures shown { is_answer_accepted (meaning_of_plant_reply result) ≡ false }
+    ensures over { Over K.meaning keep.old keep.new (λ c H. IfOk (meaning_of_plant_reply result) (IsPlantAnswer H (PlantCmd.Trace lot.now way))) }
 {
     match keep.slice(alloc, &lot.owner) {
         Ok(Some(slice)) => {
@@ -132,9 +132,9 @@ fn ask_trace<K: Keep>(alloc: Global, keep: &mut K, lot: &LotId, way: Way) -> Pla
 
 // The same for a known lot.
 fn show_trace<K: Keep>(alloc: Global, keep: &mut K, lot: &LotId, way: Way) -> PlantReply
-    ensures reads { IsReading K.meaning keep.old keep.new (plant_told result) }
-    ensures shown { is_accepted (plant_told result) ≡ false }
-    ensures over { Over K.meaning keep.old keep.new (λ c H. is_known_lot H lot.now ≡ true → IfOk (plant_told result) (IsPlantAnswer H (AsksTrace lot.now way))) }
+    ensures reads { IsReading K.meaning keep.old keep.new (meaning_of_plant_reply result) }
+    ensures shown { is_answer_accepted (meaning_of_plant_reply result) ≡ false }
+    ensures over { Over K.meaning keep.old keep.new (λ c H. is_known_lot H lot.now ≡ true → IfOk (meaning_of_plant_reply result) (IsPlantAnswer H (PlantCmd.Trace lot.now way))) }
 {
     match trace_plant(alloc, keep, lot, way) {
         Ok(steps) => match trace_text(alloc, &steps) {
@@ -148,11 +148,11 @@ fn show_trace<K: Keep>(alloc: Global, keep: &mut K, lot: &LotId, way: Way) -> Pl
 // ---- recalls
 
 // The text of a recall: [`Refusal::UnknownOwner`], then [`Refusal::UnknownLot`].
-fn ask_recall<K: Keep>(alloc: Global, keep: &mut K, lot: &LotId) -> PlantReply
-    ensures going { IsGoing K.meaning keep.old keep.new (plant_told result) }
-    ensures whole { Over K.meaning keep.old keep.new (λ c H. plant_told result ≢ Err KeepFault.Damaged) }
-    ensures shown { is_accepted (plant_told result) ≡ false }
-    ensures over { Over K.meaning keep.old keep.new (λ c H. IfOk (plant_told result) (IsPlantAnswer H (AsksRecall lot.now))) }
+fn answer_recall<K: Keep>(alloc: Global, keep: &mut K, lot: &LotId) -> PlantReply
+    ensures going { IsRecallEffect K.meaning keep.old keep.new (meaning_of_plant_reply result) }
+    ensures whole { Over K.meaning keep.old keep.new (λ c H. meaning_of_plant_reply result ≢ Err KeepFault.Damaged) }
+    ensures shown { is_answer_accepted (meaning_of_plant_reply result) ≡ false }
+    ensures over { Over K.meaning keep.old keep.new (λ c H. IfOk (meaning_of_plant_reply result) (IsPlantAnswer H (PlantCmd.Recall lot.now))) }
 {
     match recall(alloc, keep, lot) {
         Ok(Some(lines)) => match recall_text(alloc, &lines) {
@@ -166,9 +166,9 @@ fn ask_recall<K: Keep>(alloc: Global, keep: &mut K, lot: &LotId) -> PlantReply
 
 // The refusal of an unknown lot.
 fn refuse_lot<K: Keep>(alloc: Global, keep: &mut K, lot: &LotId) -> PlantReply
-    ensures reads { IsReading K.meaning keep.old keep.new (plant_told result) }
-    ensures shown { is_accepted (plant_told result) ≡ false }
-    ensures over { Over K.meaning keep.old keep.new (λ c H. is_known_lot H lot.now ≡ false → IfOk (plant_told result) (IsPlantAnswer H (AsksRecall lot.now))) }
+    ensures reads { IsReading K.meaning keep.old keep.new (meaning_of_plant_reply result) }
+    ensures shown { is_answer_accepted (meaning_of_plant_reply result) ≡ false }
+    ensures over { Over K.meaning keep.old keep.new (λ c H. is_known_lot H lot.now ≡ false → IfOk (meaning_of_plant_reply result) (IsPlantAnswer H (PlantCmd.Recall lot.now))) }
 {
     match keep.slice(alloc, &lot.owner) {
         Ok(Some(_)) => PlantReply::Refused(Refusal::UnknownLot),

@@ -4,16 +4,16 @@ ghost use Rattle.std.specs.Prelude.{◌≡◌, ◌≢◌, [], ◌∷◌, ◌++�
 ghost use Rattle.toll_base.specs.Slice.{lot_at};
 ghost use Rattle.toll_base.specs.declared.lot.LotId.{LotId};
 ghost use Rattle.toll_history.specs.History.{History};
-ghost use Rattle.toll_history.specs.Tables.{IsRowsOf};
+ghost use Rattle.toll_history.specs.OwnerFacts.{IsRowsOf};
 ghost use Rattle.toll_history.specs.Verdict.{IsLawful};
 ghost use Rattle.toll_trace.specs.declared.step.Step.{Step};
 ghost use Rattle.toll_trace.specs.declared.way.Way.TheVariants.{Forward};
-ghost use Rattle.toll_answers.specs.Recall.{IsRecall, recall_line};
-ghost use Rattle.toll_keep.specs.Goes.{IsReading};
-ghost use Rattle.toll_keep.specs.Reads.{HaveRead, IsKept};
-ghost use Rattle.toll_keep.specs.Slices.{is_of};
+ghost use Rattle.toll_answers.specs.Recall.{IsRecall, recall_line_of};
+ghost use Rattle.toll_keep.specs.CallEffects.{IsReading};
+ghost use Rattle.toll_keep.specs.Reads.{HaveRead, IsContentKept};
+ghost use Rattle.toll_keep.specs.Slices.{is_slice_of};
 ghost use Rattle.toll_desk.specs.Clauses.{AreMoreSlices, IsRecallOver, IsUndamagedRecall, OverFirst};
-ghost use Rattle.toll_desk.specs.Questions.{IsGoing, AreSlicesFor, AreLinesOf, IsLineOf, IsRecallOf, is_known_lot};
+ghost use Rattle.toll_desk.specs.Questions.{IsRecallEffect, AreSlicesFor, AreLinesOf, IsLineOf, IsRecallOf, is_known_lot};
 ghost use Rattle.toll_desk.specs.Reads.{Over};
 
 use crate::plant_tracing::trace_plant;
@@ -32,7 +32,7 @@ pub fn recall<K: Keep>(
     keep: &mut K,
     lot: &LotId,
 ) -> Result<Option<Vec<RecallLine>>, KeepFault>
-    ensures going { IsGoing K.meaning keep.old keep.new result }
+    ensures going { IsRecallEffect K.meaning keep.old keep.new result }
     ensures whole { Over K.meaning keep.old keep.new (λ c H. result ≢ Err KeepFault.Damaged) }
     ensures over { Over K.meaning keep.old keep.new (λ c H. IfOk result (IsRecallOf H lot.now)) }
 {
@@ -58,7 +58,7 @@ fn recall_known<K: Keep>(
     lot: &LotId,
     own: Slice,
 ) -> Result<Vec<RecallLine>, KeepFault>
-    ensures going { IsGoing K.meaning keep.old keep.new result }
+    ensures going { IsRecallEffect K.meaning keep.old keep.new result }
     ensures whole { Over K.meaning keep.old keep.new (λ c H. IsRowsOf H own → is_known_lot H lot.now ≡ true → result ≢ Err KeepFault.Damaged) }
     ensures over { Over K.meaning keep.old keep.new (λ c H. IsRowsOf H own → IfOk result (λ lines. IsRecall H lot.now lines.items)) }
 {
@@ -75,8 +75,8 @@ fn recall_steps<K: Keep>(
     steps: &[Step],
     own: Slice,
 ) -> Result<Vec<RecallLine>, KeepFault>
-    ensures going { (first : K) → HaveRead K.meaning first keep.old → IsGoing K.meaning first keep.new result }
-    ensures kept { IsKept K.meaning keep.old keep.new }
+    ensures going { (first : K) → HaveRead K.meaning first keep.old → IsRecallEffect K.meaning first keep.new result }
+    ensures kept { IsContentKept K.meaning keep.old keep.new }
     ensures whole { OverFirst K.meaning keep.old keep.new (λ c H. IsUndamagedRecall H own steps.now result) }
     ensures over { OverFirst K.meaning keep.old keep.new (λ c H. IsRecallOver H own steps.now result) }
 {
@@ -100,7 +100,7 @@ fn slices_of<K: Keep>(
     own: Slice,
 ) -> Result<Vec<LotTotals>, KeepFault>
     ensures reads { (first : K) → HaveRead K.meaning first keep.old → IsReading K.meaning first keep.new result }
-    ensures kept { IsKept K.meaning keep.old keep.new }
+    ensures kept { IsContentKept K.meaning keep.old keep.new }
     ensures over { Over K.meaning keep.old keep.new (λ c H. IsRowsOf H own → IfOk result (λ slices. AreSlicesFor H steps.now slices.items)) }
 {
     let mut slices = Vec::new(alloc);
@@ -121,7 +121,7 @@ fn add_slice<K: Keep>(
     step: &Step,
 ) -> Result<(), KeepFault>
     ensures reads { (first : K) → HaveRead K.meaning first keep.old → IsReading K.meaning first keep.new result }
-    ensures kept { IsKept K.meaning keep.old keep.new }
+    ensures kept { IsContentKept K.meaning keep.old keep.new }
     ensures over { Over K.meaning keep.old keep.new (λ c H. AreMoreSlices H step.now slices.old.items slices.new.items result) }
 {
     if index_of_owner(slices, &step.lot.owner).is_some() {
@@ -149,7 +149,7 @@ fn add_totals(alloc: Global, slices: &mut Vec<LotTotals>, slice: Slice) -> Resul
 
 // The place of the rows of this owner.
 fn index_of_owner(slices: &[LotTotals], owner: &Name) -> Option<usize>
-    ensures { result ≡ position (is_of owner.now) slices.now }
+    ensures { result ≡ position (is_slice_of owner.now) slices.now }
 {
     slices
         .iter()
@@ -187,7 +187,7 @@ fn line_of(slices: &[LotTotals], step: &Step) -> Option<RecallLine>
 
 // The line of a step. Its lot belongs to the owner of these rows.
 fn line_in(totals: &LotTotals, step: &Step) -> Option<RecallLine>
-    ensures { (H : History) → IsLawful H → IsRowsOf H totals.now → totals.now.owner ≡ step.now.lot.owner → result ≡ recall_line H step.now }
+    ensures { (H : History) → IsLawful H → IsRowsOf H totals.now → totals.now.owner ≡ step.now.lot.owner → result ≡ recall_line_of H step.now }
 {
     let disposition = disposition_of(totals.slice(), &step.lot.lot)?;
     let totals = totals.of_lot(&step.lot.lot)?;

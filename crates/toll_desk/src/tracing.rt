@@ -1,15 +1,16 @@
 //! Owners' traces.
-ghost use Rattle.std.specs.Prelude.{◌≡◌, true};
+ghost use Rattle.std.specs.Prelude.{◌≡◌, []};
+ghost use Rattle.toll_base.specs.Lots.{lot_id};
 ghost use Rattle.toll_history.specs.History.{History};
-ghost use Rattle.toll_history.specs.Tables.{IsRowsOf};
+ghost use Rattle.toll_history.specs.OwnerFacts.{IsRowsOf};
 ghost use Rattle.toll_history.specs.Verdict.{IsLawful};
-ghost use Rattle.toll_keep.specs.Goes.{IsReading};
-ghost use Rattle.toll_desk.specs.Clauses.{IsToldAs, IsTraceTold, OverKnown, OverOwner};
-ghost use Rattle.toll_desk.specs.Forms.{asked_to_trace, traced_from, traced_way};
-ghost use Rattle.toll_desk.specs.Translations.{told_of};
+ghost use Rattle.toll_keep.specs.Reads.{IsContentKept, ReadsOneMore};
+ghost use Rattle.toll_desk.specs.Clauses.{RowsAnswerTrace};
+ghost use Rattle.toll_desk.specs.Translations.{meaning_of_reply};
 ghost use Rattle.toll_desk.specs.Questions.{may_trace};
+ghost use Rattle.toll_desk.specs.Reads.{Over};
 
-use crate::form::TraceRequest;
+use crate::plan::Plan;
 use crate::request::Reply;
 use std::alloc::Global;
 use toll_answers::has_consumed;
@@ -17,74 +18,47 @@ use toll_base::{LotId, Name, Refusal, Slice};
 use toll_keep::Keep;
 use toll_trace::Way;
 
-/// The trace of an admitted owner, over the edges of its own batches. [`Refusal::UnknownLot`] if the
-/// owner has no such lot, or, for a lot of HOUSE, if no batch of the owner consumed it.
-pub fn trace_own<K: Keep>(
+/// The plan of a trace of the slice's owner, from the lot of this owner, which is its own or HOUSE's.
+pub fn plan_trace<K: Keep>(
     alloc: Global,
     keep: &mut K,
-    owner: &Name,
-    tracing: &TraceRequest,
-) -> Reply
-    ensures reads { IsReading K.meaning keep.old keep.new (told_of result) }
-    ensures over { OverOwner K.meaning keep.old keep.new owner.now (λ c H. IsToldAs H owner.now (asked_to_trace tracing.now) (told_of result)) }
+    slice: &Slice,
+    owner: Name,
+    lot: Name,
+    way: Way,
+) -> Plan<Reply>
+    ensures reads { ReadsOneMore K.meaning keep.old keep.new (meaning_of_reply result.reply) }
+    ensures kept { IsContentKept K.meaning keep.old keep.new }
+    ensures none { result.changes.items ≡ [] }
+    ensures over { Over K.meaning keep.old keep.new (λ c H. RowsAnswerTrace H slice.now (lot_id owner lot) way (meaning_of_reply result.reply)) }
 {
-    match keep.slice(alloc, owner) {
-        Ok(Some(slice)) => {
-            if !may_trace(&slice, tracing) {
-                return Reply::Refused(Refusal::UnknownLot);
-            }
-            trace_known(alloc, keep, owner, tracing)
-        }
-        Ok(None) => Reply::Refused(Refusal::UnknownLot),
-        Err(fault) => Reply::Fault(fault),
-    }
+    let reply = trace_own(alloc, keep, slice, &LotId { owner, lot }, way);
+    Plan::unchanged(alloc, reply)
 }
 
-// The same for a lot that the owner may trace.
-fn trace_known<K: Keep>(alloc: Global, keep: &mut K, owner: &Name, tracing: &TraceRequest) -> Reply
-    ensures reads { IsReading K.meaning keep.old keep.new (told_of result) }
-    ensures over { OverKnown K.meaning keep.old keep.new owner.now (λ c H. IsTraceTold H owner.now tracing.now (told_of result)) }
+/// The trace over the edges of the owner's own batches. [`Refusal::UnknownLot`] if the owner has no
+/// such lot, or, for a lot of HOUSE, if no batch of the owner consumed it.
+fn trace_own<K: Keep>(alloc: Global, keep: &mut K, slice: &Slice, lot: &LotId, way: Way) -> Reply
+    ensures reads { ReadsOneMore K.meaning keep.old keep.new (meaning_of_reply result) }
+    ensures kept { IsContentKept K.meaning keep.old keep.new }
+    ensures over { Over K.meaning keep.old keep.new (λ c H. RowsAnswerTrace H slice.now lot.now way (meaning_of_reply result)) }
 {
-    let lot = traced_from(owner, tracing);
-    match keep.trace(alloc, &[*owner], &lot, traced_way(tracing)) {
+    if !may_trace(slice, lot) {
+        return Reply::Refused(Refusal::UnknownLot);
+    }
+    match keep.trace(alloc, &[*slice.owner()], lot, way) {
         Ok(steps) => Reply::Trace(steps),
         Err(fault) => Reply::Fault(fault),
     }
 }
 
 // Whether the slice's owner has the lot, or, for a lot of HOUSE, whether a batch of the owner consumed it.
-fn may_trace(slice: &Slice, tracing: &TraceRequest) -> bool
-    ensures { (H : History) → IsLawful H → IsRowsOf H slice.now → result ≡ may_trace H slice.now.owner tracing.now }
+fn may_trace(slice: &Slice, lot: &LotId) -> bool
+    ensures { (H : History) → IsLawful H → IsRowsOf H slice.now → result ≡ may_trace H slice.now.owner lot.now }
 {
-    match tracing {
-        TraceRequest::Back(lot) | TraceRequest::Forward(lot) => slice.lot(lot).is_some(),
-        TraceRequest::HouseForward(lot) => has_consumed(
-            slice,
-            &LotId {
-                owner: Name::house(),
-                lot: *lot,
-            },
-        ),
-    }
-}
-
-fn traced_from(owner: &Name, tracing: &TraceRequest) -> LotId
-    ensures { result ≡ traced_from owner.now tracing.now }
-{
-    match *tracing {
-        TraceRequest::Back(lot) | TraceRequest::Forward(lot) => LotId { owner: *owner, lot },
-        TraceRequest::HouseForward(lot) => LotId {
-            owner: Name::house(),
-            lot,
-        },
-    }
-}
-
-fn traced_way(tracing: &TraceRequest) -> Way
-    ensures { result ≡ traced_way tracing.now }
-{
-    match tracing {
-        TraceRequest::Back(_) => Way::Back,
-        TraceRequest::Forward(_) | TraceRequest::HouseForward(_) => Way::Forward,
+    if lot.owner == *slice.owner() {
+        slice.lot(&lot.lot).is_some()
+    } else {
+        has_consumed(slice, lot)
     }
 }

@@ -1,13 +1,12 @@
 //! Decisions on adding owners and units.
-ghost use Rattle.std.specs.Prelude.{◌≡◌, [], ◌∷◌, IfOk};
+ghost use Rattle.std.specs.Prelude.{◌≡◌, [], ◌∷◌, Some, IfOk};
 ghost use Rattle.toll_base.specs.Bytes.{bytes_cmp};
 ghost use Rattle.toll_base.specs.Table.{row_at};
 ghost use Rattle.toll_base.specs.Values.{house_name};
 ghost use Rattle.toll_base.specs.declared.decision.Change.TheVariants as Change;
 ghost use Rattle.toll_history.specs.Command.{AddOwner, AddUnit, by};
 ghost use Rattle.toll_history.specs.Decision.{IsDecided};
-ghost use Rattle.toll_answers.specs.PlantAnswers.{Does};
-ghost use Rattle.toll_keep.specs.Goes.{IsReading};
+ghost use Rattle.toll_keep.specs.CallEffects.{IsReading};
 ghost use Rattle.toll_desk.specs.Admission.{owner_row_checks, unit_row_checks};
 ghost use Rattle.toll_desk.specs.Clauses.{IsDecidedOver};
 
@@ -26,7 +25,7 @@ pub fn decide_owner<K: Keep>(
     key: OwnerKey,
 ) -> Result<Decision, KeepFault>
     ensures reads { IsReading K.meaning keep.old keep.new result }
-    ensures over { IsDecidedOver K.meaning keep.old keep.new (Does (by owner (AddOwner key))) result }
+    ensures over { IsDecidedOver K.meaning keep.old keep.new (Some (by owner (AddOwner key))) result }
 {
     match keep.owners(alloc) {
         Ok(rows) => match judge_owner(alloc, &rows, OwnerRow { owner, key }) {
@@ -55,7 +54,7 @@ fn judge_owner(alloc: Global, rows: &[OwnerRow], row: OwnerRow) -> Result<Decisi
 /// The decision on adding a unit.
 pub fn decide_unit<K: Keep>(alloc: Global, keep: &mut K, unit: Name) -> Result<Decision, KeepFault>
     ensures reads { IsReading K.meaning keep.old keep.new result }
-    ensures over { IsDecidedOver K.meaning keep.old keep.new (Does (by house_name (AddUnit unit))) result }
+    ensures over { IsDecidedOver K.meaning keep.old keep.new (Some (by house_name (AddUnit unit))) result }
 {
     match keep.units(alloc) {
         Ok(rows) => match judge_unit(alloc, &rows, UnitRow { unit }) {

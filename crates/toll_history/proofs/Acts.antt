@@ -3,7 +3,7 @@ use Rattle.std.proofs.Common.{◌≡◌, ◌+◌, Bool, true, false, ◌&&◌, �
 use Rattle.toll_history.proofs.Common.{list_any, Bytes, same_bytes, first_some, or_else, count, same_bytes-exact}
 use Rattle.toll_history.specs.Command.{Action, Command, by}
 use Rattle.toll_history.specs.History.{History, acts}
-use Rattle.toll_history.specs.Verdict.{Accepted, verdict, IsValid, IsLawful}
+use Rattle.toll_history.specs.Verdict.{Accepted, verdict, IsValidAction, IsLawful}
 
 map-cond : {X Y : Type 0} (f : X → Y) (b : Bool) (x : X) (xs : List X) → map f (cond b (x ∷ xs) xs) ≡ cond b (f x ∷ map f xs) (map f xs)
 map-cond f true x xs = refl
@@ -35,7 +35,7 @@ pub count_acts : (p : Action → Bool) (o : Bytes) (c : Command) (H : History) �
 count_acts p o c H = ap (count p) (acts-cons o c H) ∙ count_cond p (same_bytes c.owner o) c.action (acts o H)
 
 -- a law of the owner's own actions, by induction over the commands that concern the owner
-module _ (P : List Action → Type 0) (o : Bytes) (first : P []) (step : (H : History) (a : Action) → IsLawful H → IsValid a → verdict H (by o a) ≡ Accepted → P (acts o H) → P (a ∷ acts o H)) where
+module _ (P : List Action → Type 0) (o : Bytes) (first : P []) (step : (H : History) (a : Action) → IsLawful H → IsValidAction a → verdict H (by o a) ≡ Accepted → P (acts o H) → P (a ∷ acts o H)) where
   pub along_acts : (H : History) → IsLawful H → P (acts o H)
   unfolding acts
   along_acts [] lawful = first

@@ -1,4 +1,4 @@
--- Words that several proofs here use.
+-- Definitions and lemmas that several proofs here use.
 pub use Rattle.std.proofs.lemmas.Bool.{and_from, and_right, false_from_ne_true, not-false, not-true, or_cases, or_from, or_left, or_parts, or_right}
 pub use Rattle.std.proofs.lemmas.Bool.Decides.{nat_tests}
 pub use Rattle.std.proofs.lemmas.Option.{cond_some}
@@ -16,6 +16,7 @@ pub use Rattle.toll_base.specs.Changes.{after_changes, changes_of}
 pub use Rattle.toll_base.specs.Keys.{RequirementKey, pair_cmp}
 pub use Rattle.toll_base.specs.Lots.{lot_id, same_lot}
 pub use Rattle.toll_base.specs.Roles.{role_cmp, same_role}
+pub use Rattle.toll_base.specs.Rows.{lot_row_of, sublot_row_of}
 pub use Rattle.toll_base.specs.Slice.{Slice, lot_at, material_at, move_at, sublot_at, with_row}
 pub use Rattle.toll_base.specs.SliceRules.{KeepsRules, batch_has_room, is_actual_of, row_fits}
 unfoldable pub use Rattle.toll_base.specs.Table.{row_at}

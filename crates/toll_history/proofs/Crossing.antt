@@ -1,47 +1,47 @@
--- In a lawful history nothing is brought into another owner's lot, and nothing is taken from one but from HOUSE's.
+-- In a lawful history nothing is brought into another owner's lot, and nothing is taken from another owner's lot except HOUSE's.
 use Rattle.std.proofs.Common.{◌≡◌, Bool, true, false, not, ◌&&◌, ◌||◌, cond, Some, None, List, [], ◌∷◌, ◌++◌, filter, refl, sym, ap, subst}
 use Rattle.toll_history.proofs.Common.{false≢true, AllByRecursion, Bytes, same_bytes, house_name, lot_id, same_lot, UnknownOwner, MoveRow, where_so, LotId, Receipts, Batch, Consumed, Produced, Move, Receive, Split, Ship, Scrap, Actual, same_bytes-exact}
 use Rattle.toll_history.specs.Command.{Action, Record, Void, Command}
 use Rattle.toll_history.specs.History.{History, owner_known}
-use Rattle.toll_history.specs.Movements.{Movement, moved_by, movements, standing_after, standing, has_key, brings_into, takes_from, made_by}
-use Rattle.toll_history.specs.Tables.{Tables}
-use Rattle.toll_history.specs.Tables.{tables_given}
-use Rattle.toll_history.specs.Verdict.{Accepted, Plant, plant_given, first_of, checks, verdict, crosses, action_checks, movement_checks, key_checks, needs_owner, IsLawful}
+use Rattle.toll_history.specs.Movements.{Movement, moved_by, movements, standing_after, standing, has_move_key, brings_into, takes_from, made_by}
+use Rattle.toll_history.specs.OwnerFacts.{OwnerFacts}
+use Rattle.toll_history.specs.OwnerFacts.{facts_given}
+use Rattle.toll_history.specs.Verdict.{Accepted, PlantFacts, plant_facts_given, verdict_of_checks, checks, verdict, crosses, action_checks, movement_checks, key_checks, needs_owner, IsLawful}
 use Rattle.toll_history.proofs.Accepted.{none_applies, rest_accepts}
 
--- an actual of a lot that its owner may not touch so
+-- whether the actual is of a lot that its owner may not use in this role
 abbrev pub crosses_by : Bytes → Move → Bool
 crosses_by p (Actual order number segment role material lot sublot) = crosses p role lot.owner
 crosses_by p _ = false
 
--- an action that its owner may not do with the lot
+-- whether the action's owner may not use the lot in it
 abbrev pub is_crossing : Bytes → Action → Bool
 is_crossing p (Record row) = crosses_by p row.what
 is_crossing p _ = false
 
-move_not_crossing : (plant : Plant) (p : Bytes) (t house : Tables) (row : MoveRow) (what : Move) → row.what ≡ what → first_of (action_checks plant p t house (Record row)) ≡ Accepted → crosses_by p what ≡ false
+move_not_crossing : (plant : PlantFacts) (p : Bytes) (t house : OwnerFacts) (row : MoveRow) (what : Move) → row.what ≡ what → verdict_of_checks (action_checks plant p t house (Record row)) ≡ Accepted → crosses_by p what ≡ false
 move_not_crossing plant p t house row (Actual order number segment Consumed material lot sublot) is h =
-    let h' : first_of (key_checks t row ++ movement_checks p t house (Actual order number segment Consumed material lot sublot) row.amount) ≡ Accepted = subst (λ w. first_of (key_checks t row ++ movement_checks p t house w row.amount) ≡ Accepted) is h in
+    let h' : verdict_of_checks (key_checks t row ++ movement_checks p t house (Actual order number segment Consumed material lot sublot) row.amount) ≡ Accepted = subst (λ w. verdict_of_checks (key_checks t row ++ movement_checks p t house w row.amount) ≡ Accepted) is h in
     none_applies (key_checks t row ++ movement_checks p t house (Actual order number segment Consumed material lot sublot) row.amount) h' 8
 move_not_crossing plant p t house row (Actual order number segment Produced material lot sublot) is h =
-    let h' : first_of (key_checks t row ++ movement_checks p t house (Actual order number segment Produced material lot sublot) row.amount) ≡ Accepted = subst (λ w. first_of (key_checks t row ++ movement_checks p t house w row.amount) ≡ Accepted) is h in
+    let h' : verdict_of_checks (key_checks t row ++ movement_checks p t house (Actual order number segment Produced material lot sublot) row.amount) ≡ Accepted = subst (λ w. verdict_of_checks (key_checks t row ++ movement_checks p t house w row.amount) ≡ Accepted) is h in
     none_applies (key_checks t row ++ movement_checks p t house (Actual order number segment Produced material lot sublot) row.amount) h' 8
 move_not_crossing plant p t house row _ is h = refl
 
--- the checks of the action itself accept
-pub action_accepted : (H : History) (c : Command) → verdict H c ≡ Accepted → first_of (action_checks (plant_given H) c.owner (tables_given H c.owner) (tables_given H house_name) c.action) ≡ Accepted
+-- The checks of the action itself accept.
+pub action_accepted : (H : History) (c : Command) → verdict H c ≡ Accepted → verdict_of_checks (action_checks (plant_facts_given H) c.owner (facts_given H c.owner) (facts_given H house_name) c.action) ≡ Accepted
 unfolding checks
-action_accepted H c h = rest_accepts (needs_owner c.action && not (owner_known H c.owner)) (Some UnknownOwner) (action_checks (plant_given H) c.owner (tables_given H c.owner) (tables_given H house_name) c.action) h
+action_accepted H c h = rest_accepts (needs_owner c.action && not (owner_known H c.owner)) (Some UnknownOwner) (action_checks (plant_facts_given H) c.owner (facts_given H c.owner) (facts_given H house_name) c.action) h
 
-action_not_crossing : (plant : Plant) (p : Bytes) (t house : Tables) (a : Action) → first_of (action_checks plant p t house a) ≡ Accepted → is_crossing p a ≡ false
+action_not_crossing : (plant : PlantFacts) (p : Bytes) (t house : OwnerFacts) (a : Action) → verdict_of_checks (action_checks plant p t house a) ≡ Accepted → is_crossing p a ≡ false
 action_not_crossing plant p t house (Record row) h = move_not_crossing plant p t house row row.what refl h
 action_not_crossing plant p t house _ h = refl
 
--- an accepted action does not cross
+-- An accepted action does not cross.
 pub accepted_not_crossing : (H : History) (c : Command) → verdict H c ≡ Accepted → is_crossing c.owner c.action ≡ false
-accepted_not_crossing H c h = action_not_crossing (plant_given H) c.owner (tables_given H c.owner) (tables_given H house_name) c.action (action_accepted H c h)
+accepted_not_crossing H c h = action_not_crossing (plant_facts_given H) c.owner (facts_given H c.owner) (facts_given H house_name) c.action (action_accepted H c h)
 
--- ---- so no movement of a lawful history crosses
+-- ---- no movement of a lawful history crosses
 
 abbrev pub NoneCrosses : List Movement → Type 0
 NoneCrosses ms = AllByRecursion (λ m. crosses_by m.0 m.1.what ≡ false) ms
@@ -54,7 +54,7 @@ pub movements_not_crossing : (H : History) → IsLawful H → NoneCrosses (movem
 movements_not_crossing [] lawful = tt
 movements_not_crossing (c ∷ H) lawful = moved_not_crossing c.owner c.action (movements H) (accepted_not_crossing H c lawful.2) (movements_not_crossing H lawful.0)
 
--- what holds of each holds of those that a filter keeps
+-- A fact of each item holds of those that a filter keeps.
 pub all_filtered : {X : Type 0} (P : X → Type 0) (q : X → Bool) (xs : List X) → AllByRecursion P xs → AllByRecursion P (filter q xs)
 all_filtered P q [] all = tt
 all_filtered P q (x ∷ xs) all =
@@ -65,14 +65,14 @@ all_filtered P q (x ∷ xs) all =
 
 stands_not_crossing : (p : Bytes) (a : Action) (ms : List Movement) → is_crossing p a ≡ false → NoneCrosses ms → NoneCrosses (standing_after p a ms)
 stands_not_crossing p (Record row) ms h all = (h, all)
-stands_not_crossing p (Void key) ms h all = all_filtered (λ m. crosses_by m.0 m.1.what ≡ false) (λ m. not (has_key p key m)) ms all
+stands_not_crossing p (Void key) ms h all = all_filtered (λ m. crosses_by m.0 m.1.what ≡ false) (λ m. not (has_move_key p key m)) ms all
 stands_not_crossing p _ ms h all = all
 
 pub standing_not_crossing : (H : History) → IsLawful H → NoneCrosses (standing H)
 standing_not_crossing [] lawful = tt
 standing_not_crossing (c ∷ H) lawful = stands_not_crossing c.owner c.action (standing H) (accepted_not_crossing H c lawful.2) (standing_not_crossing H lawful.0)
 
--- ---- what a movement of another owner does to a lot
+-- ---- the effect of another owner's movement on a lot
 
 pub is_the_owner : (a b : Bytes) → not (same_bytes a b) ≡ false → a ≡ b
 is_the_owner a b h = same_bytes-exact a b (not_false (same_bytes a b) h)
@@ -81,15 +81,15 @@ is_the_owner a b h = same_bytes-exact a b (not_false (same_bytes a b) h)
     not_false true h = refl
     not_false false h = absurd (false≢true (sym h))
 
-and_false : (a b c : Bool) → a ≡ false → (a && b && c) ≡ false
-and_false true b c h = absurd (false≢true (sym h))
-and_false false b c h = refl
+and_false_first : (a b c : Bool) → a ≡ false → (a && b && c) ≡ false
+and_false_first true b c h = absurd (false≢true (sym h))
+and_false_first false b c h = refl
 
 pub and_false_two : (a b : Bool) → a ≡ false → (a && b) ≡ false
 and_false_two true b h = absurd (false≢true (sym h))
 and_false_two false b h = refl
 
--- a lot of another owner is not the same
+-- A lot of another owner is not the same lot.
 pub not_same_lot : (id : LotId) (o l : Bytes) → same_bytes id.owner o ≡ false → same_lot id (lot_id o l) ≡ false
 not_same_lot id o l other = and_false_two (same_bytes id.owner o) (same_bytes id.lot l) other
 
@@ -102,9 +102,9 @@ brings_not id sub p (Actual order number segment Consumed material lot sublot) h
 brings_not id sub p (Ship lot sublot) h other = refl
 brings_not id sub p (Scrap lot sublot) h other = refl
 
--- a name that is neither of two is not one that is one of them
-pub neither : (a b c x : Bytes) → not (same_bytes x b || same_bytes x c) ≡ false → same_bytes a b ≡ false → same_bytes a c ≡ false → same_bytes a x ≡ false
-neither a b c x h not_b not_c =
+-- If a name is neither of two, and another name is one of them, the two names differ.
+pub neither_name : (a b c x : Bytes) → not (same_bytes x b || same_bytes x c) ≡ false → same_bytes a b ≡ false → same_bytes a c ≡ false → same_bytes a x ≡ false
+neither_name a b c x h not_b not_c =
     elim (same_bytes x b) as (λ r. same_bytes x b ≡ r → not (r || same_bytes x c) ≡ false → same_bytes a x ≡ false) [
       | true ↦ λ is h. subst (λ q. same_bytes a q ≡ false) (sym (same_bytes-exact x b is)) not_b
       | false ↦ λ is h. subst (λ q. same_bytes a q ≡ false) (sym (is_the_owner_by (same_bytes x c) x c refl h)) not_c
@@ -114,14 +114,14 @@ neither a b c x h not_b not_c =
     is_the_owner_by true x c is h = same_bytes-exact x c (sym is)
     is_the_owner_by false x c is h = absurd (false≢true (sym h))
 
-pub takes_not : (id : LotId) (sub p : Bytes) (what : Move) → crosses_by p what ≡ false → same_bytes id.owner p ≡ false → same_bytes id.owner house_name ≡ false → takes_from id sub p what ≡ false
-takes_not id sub p (Split lot sublot target) h other not_house = and_false_two _ _ (not_same_lot id p lot other)
-takes_not id sub p (Ship lot sublot) h other not_house = and_false_two _ _ (not_same_lot id p lot other)
-takes_not id sub p (Scrap lot sublot) h other not_house = and_false_two _ _ (not_same_lot id p lot other)
-takes_not id sub p (Actual order number segment Consumed material lot sublot) h other not_house =
-    and_false_two _ _ (and_false_two (same_bytes id.owner lot.owner) (same_bytes id.lot lot.lot) (neither id.owner p house_name lot.owner h other not_house))
-takes_not id sub p (Actual order number segment Produced material lot sublot) h other not_house = refl
-takes_not id sub p (Receive material lot sublot) h other not_house = refl
+pub takes_none_of : (id : LotId) (sub p : Bytes) (what : Move) → crosses_by p what ≡ false → same_bytes id.owner p ≡ false → same_bytes id.owner house_name ≡ false → takes_from id sub p what ≡ false
+takes_none_of id sub p (Split lot sublot target) h other not_house = and_false_two _ _ (not_same_lot id p lot other)
+takes_none_of id sub p (Ship lot sublot) h other not_house = and_false_two _ _ (not_same_lot id p lot other)
+takes_none_of id sub p (Scrap lot sublot) h other not_house = and_false_two _ _ (not_same_lot id p lot other)
+takes_none_of id sub p (Actual order number segment Consumed material lot sublot) h other not_house =
+    and_false_two _ _ (and_false_two (same_bytes id.owner lot.owner) (same_bytes id.lot lot.lot) (neither_name id.owner p house_name lot.owner h other not_house))
+takes_none_of id sub p (Actual order number segment Produced material lot sublot) h other not_house = refl
+takes_none_of id sub p (Receive material lot sublot) h other not_house = refl
 
 pub makes_not : (id : LotId) (p : Bytes) (what : Move) → crosses_by p what ≡ false → same_bytes id.owner p ≡ false → made_by id p what ≡ None
 makes_not id p (Receive material lot sublot) h other = ap (λ b. where_so b (record { material = material; origin = Receipts })) (not_same_lot id p lot other)
@@ -132,6 +132,6 @@ makes_not id p (Split lot sublot target) h other = refl
 makes_not id p (Ship lot sublot) h other = refl
 makes_not id p (Scrap lot sublot) h other = refl
 
--- what is produced is of the one whose batch it is
+-- A produced lot belongs to the owner of the batch.
 pub produced_by : (p o : Bytes) (lot : LotId) → not (same_bytes lot.owner p) ≡ false → same_bytes p o ≡ true → same_bytes lot.owner o ≡ true
 produced_by p o lot h own = subst (λ q. same_bytes q o ≡ true) (sym (is_the_owner lot.owner p h)) own

@@ -1,32 +1,32 @@
--- What holds of each movement of a lawful history: of a new one where it was accepted, and of an earlier one still.
+-- A fact of each movement of a lawful history, proved for a new movement when it is accepted, and kept for earlier ones.
 use Rattle.std.proofs.Common.{◌≡◌, true, false, cond, Some, List, [], ◌∷◌, refl, sym, subst, ◌∙◌}
 use Rattle.toll_history.proofs.Common.{AllByRecursion, Bytes, same_bytes, MoveRow, both, same_bytes-exact}
 use Rattle.toll_history.specs.Command.{Action, Record, by}
 use Rattle.toll_history.specs.History.{History, acts}
-use Rattle.toll_history.specs.Movements.{Movement, has_key, movement_of, movements}
-use Rattle.toll_history.specs.Verdict.{Accepted, IsLawful, IsValid, verdict}
+use Rattle.toll_history.specs.Movements.{Movement, has_move_key, movement_of, movements}
+use Rattle.toll_history.specs.Verdict.{Accepted, IsLawful, IsValidAction, verdict}
 use Rattle.toll_history.proofs.Found.{movement_of-recorded, movement_of-kept}
 
-weaker : {X : Type 0} (P R : X → Type 0) → ((x : X) → P x → R x) → (xs : List X) → AllByRecursion P xs → AllByRecursion R xs
-weaker P R f [] h = tt
-weaker P R f (x ∷ xs) h = (f x h.0, weaker P R f xs h.1)
+all_weaker : {X : Type 0} (P R : X → Type 0) → ((x : X) → P x → R x) → (xs : List X) → AllByRecursion P xs → AllByRecursion R xs
+all_weaker P R f [] h = tt
+all_weaker P R f (x ∷ xs) h = (f x h.0, all_weaker P R f xs h.1)
 
 module _ (Q : History → Movement → Type 0)
-    (new : (H : History) (o : Bytes) (row : MoveRow) → IsLawful H → IsValid (Record row) → verdict H (by o (Record row)) ≡ Accepted → Q (by o (Record row) ∷ H) (o, row))
+    (new : (H : History) (o : Bytes) (row : MoveRow) → IsLawful H → IsValidAction (Record row) → verdict H (by o (Record row)) ≡ Accepted → Q (by o (Record row) ∷ H) (o, row))
     (still : (H : History) (o : Bytes) (a : Action) → verdict H (by o a) ≡ Accepted → (m : Movement) → Q H m → Q (by o a ∷ H) m) where
-  each_step : (H : History) (o : Bytes) (a : Action) → IsLawful H → IsValid a → verdict H (by o a) ≡ Accepted → AllByRecursion (Q H) (movements H) → AllByRecursion (Q (by o a ∷ H)) (movements (by o a ∷ H))
-  each_step H o (Record row) lawful valid accepted each = (new H o row lawful valid accepted, weaker _ _ (still H o (Record row) accepted) (movements H) each)
-  each_step H o a lawful valid accepted each = weaker _ _ (still H o a accepted) (movements H) each
+  each_step : (H : History) (o : Bytes) (a : Action) → IsLawful H → IsValidAction a → verdict H (by o a) ≡ Accepted → AllByRecursion (Q H) (movements H) → AllByRecursion (Q (by o a ∷ H)) (movements (by o a ∷ H))
+  each_step H o (Record row) lawful valid accepted each = (new H o row lawful valid accepted, all_weaker _ _ (still H o (Record row) accepted) (movements H) each)
+  each_step H o a lawful valid accepted each = all_weaker _ _ (still H o a accepted) (movements H) each
 
   pub each_move : (H : History) → IsLawful H → AllByRecursion (Q H) (movements H)
   each_move [] lawful = tt
   each_move (c ∷ H) lawful = each_step H c.owner c.action lawful.0 lawful.1 lawful.2 (each_move H lawful.0)
 
--- what holds of each movement holds of one that a key finds
+-- A fact of each movement holds of the one with a key.
 module _ (P : Movement → Type 0) (o key : Bytes) (row : MoveRow) where
   found_step : (H : History) (w : Bytes) (a : Action) → (AllByRecursion P (movements H) → movement_of (acts o H) key ≡ Some row → P (o, row)) → AllByRecursion P (movements (by w a ∷ H)) → movement_of (acts o (by w a ∷ H)) key ≡ Some row → P (o, row)
   found_step H w (Record other) before each is =
-      elim (has_key o key (w, other)) as (λ b. has_key o key (w, other) ≡ b → cond b (Some other) (movement_of (acts o H) key) ≡ Some row → P (o, row)) [
+      elim (has_move_key o key (w, other)) as (λ b. has_move_key o key (w, other) ≡ b → cond b (Some other) (movement_of (acts o H) key) ≡ Some row → P (o, row)) [
         | true ↦ λ hit is.
             let e = same_bytes-exact o w (both (same_bytes o w) _ hit).0 in
             let r : other ≡ row = (cc) in

@@ -1,29 +1,29 @@
 -- The tables that a history gives after one action more.
 use Rattle.std.proofs.Common.{◌≡◌, ℕ, suc, ◌+◌, Bool, true, false, cond, Option, Some, is_some, List, ◌∷◌, refl, ap, ◌∙◌, arith}
-use Rattle.toll_history.proofs.Common.{list_any, option_map, Bytes, same_bytes, count, or_else, where_so, is_some_where, is_actual_of, lot_id, LotRow, same_bytes-refl}
+use Rattle.toll_history.proofs.Common.{sublot_row_of, list_any, option_map, Bytes, same_bytes, count, or_else, where_so, is_some_where, is_actual_of, lot_id, same_bytes-refl}
 use Rattle.toll_history.specs.Command.{Action, by}
 use Rattle.toll_history.specs.History.{History, acts}
 use Rattle.toll_history.specs.Work.{material_added, material_of, count_materials, test_added, test_of, count_tests, recipe_added, recipe_of, count_recipes, recipe_used, required, requirement_of, count_requirements, order_placed, order_of, count_orders, batch_of, opens, count_opened}
-use Rattle.toll_history.specs.Movements.{lot_made, movement_recorded, movement_of, count_movements, voided_in, count_actuals_of, count_lots, count_sublots, material_used, Made}
-use Rattle.toll_history.specs.Dispositions.{disposition_of, value_recorded, is_result_of, result_of, latest_value, count_results, count_results_of}
-use Rattle.toll_history.specs.Tables.{Tables, tables_given, sublot_row}
+use Rattle.toll_history.specs.Movements.{lot_made, movement_recorded, movement_of, count_movements, voided_in, count_actuals_of, count_lots, count_sublots, material_used}
+use Rattle.toll_history.specs.Dispositions.{value_recorded, is_result_of, result_of, latest_value, count_results, count_results_of}
+use Rattle.toll_history.specs.OwnerFacts.{OwnerFacts, facts_given, sublot_row, lot_row_made}
 use Rattle.toll_history.specs.Laws.{records_or_voids, IsUnmoved}
 use Rattle.toll_history.proofs.Own.{acts-own, acts-other}
 use Rattle.toll_history.proofs.Unmoved.{unmoved}
 
--- one more where it is so
+-- one more if the test holds
 abbrev pub more : Bool → ℕ → ℕ
 more so n = cond so (suc n) n
 
-more_by : (so : Bool) (n : ℕ) → cond so 1 0 + n ≡ more so n
-more_by true n = omega arith
-more_by false n = omega arith
+more_is_sum : (so : Bool) (n : ℕ) → cond so 1 0 + n ≡ more so n
+more_is_sum true n = omega arith
+more_is_sum false n = omega arith
 
-counted : (p : Action → Bool) (a : Action) (own : List Action) → count p (a ∷ own) ≡ more (p a) (count p own)
-counted p a own = more_by (p a) (count p own)
+count_of_more : (p : Action → Bool) (a : Action) (own : List Action) → count p (a ∷ own) ≡ more (p a) (count p own)
+count_of_more p a own = more_is_sum (p a) (count p own)
 
--- an owner's tables, its actions being these, and lots and stock as the history says
-abbrev pub tables_from : List Action → Bytes → History → Tables
+-- an owner's tables, with these as its actions, and with lots and stock as the history has them
+abbrev pub tables_from : List Action → Bytes → History → OwnerFacts
 tables_from own o H = record {
   material = material_of own;
   materials = count_materials own;
@@ -36,7 +36,7 @@ tables_from own o H = record {
   order = order_of own;
   orders = count_orders own;
   batch = batch_of own;
-  lot = λ l. option_map (λ (made : Made). let r : LotRow = record { lot = l; material = made.material; origin = made.origin; disposition = disposition_of own made.material l } in r) (lot_made H (lot_id o l));
+  lot = λ l. option_map (lot_row_made own l) (lot_made H (lot_id o l));
   lots = count_lots H o;
   sublot = sublot_row H o;
   sublots = count_sublots H o;
@@ -54,8 +54,8 @@ tables_from own o H = record {
   any_test = λ such. list_any (λ a. is_some_where such (test_added a)) own;
 }
 
--- the same, the action being the newest: each count is what it was, or one more
-abbrev pub tables_after : Action → List Action → Bytes → History → Tables
+-- the same after one more action: each count is what it was, or one more
+abbrev pub tables_after : Action → List Action → Bytes → History → OwnerFacts
 tables_after a own o H = record (tables_from (a ∷ own) o H) {
   materials = more (is_some (material_added a)) (count_materials own);
   tests = more (is_some (test_added a)) (count_tests own);
@@ -71,42 +71,42 @@ tables_after a own o H = record (tables_from (a ∷ own) o H) {
 
 pub after_is : (a : Action) (own : List Action) (o : Bytes) (H : History) → tables_from (a ∷ own) o H ≡ tables_after a own o H
 after_is a own o H i = record (tables_from (a ∷ own) o H) {
-  materials = counted (λ a. is_some (material_added a)) a own i;
-  tests = counted (λ a. is_some (test_added a)) a own i;
-  recipes = counted (λ a. is_some (recipe_added a)) a own i;
-  requirements = counted (λ a. is_some (required a)) a own i;
-  orders = counted (λ a. is_some (order_placed a)) a own i;
-  movements = counted (λ a. is_some (movement_recorded a)) a own i;
-  results = counted (λ a. is_some (value_recorded a)) a own i;
-  opened = λ order. counted (opens order) a own i;
-  actuals = λ order number. counted (λ a. is_some_where (λ row. is_actual_of order number row.what) (movement_recorded a)) a own i;
-  results_of = λ lot test. counted (is_result_of lot test) a own i;
+  materials = count_of_more (λ a. is_some (material_added a)) a own i;
+  tests = count_of_more (λ a. is_some (test_added a)) a own i;
+  recipes = count_of_more (λ a. is_some (recipe_added a)) a own i;
+  requirements = count_of_more (λ a. is_some (required a)) a own i;
+  orders = count_of_more (λ a. is_some (order_placed a)) a own i;
+  movements = count_of_more (λ a. is_some (movement_recorded a)) a own i;
+  results = count_of_more (λ a. is_some (value_recorded a)) a own i;
+  opened = λ order. count_of_more (opens order) a own i;
+  actuals = λ order number. count_of_more (λ a. is_some_where (λ row. is_actual_of order number row.what) (movement_recorded a)) a own i;
+  results_of = λ lot test. count_of_more (is_result_of lot test) a own i;
 }
 
 -- ---- actions that record and void nothing
 
 module _ (H : History) (w : Bytes) (a : Action) (none : records_or_voids a ≡ false) where
-  still : IsUnmoved H (by w a)
-  still = unmoved H w a none
+  grown_still : IsUnmoved H (by w a)
+  grown_still = unmoved H w a none
 
-  pub tables-unmoved : (o : Bytes) → tables_given (by w a ∷ H) o ≡ tables_from (acts o (by w a ∷ H)) o H
+  pub tables-unmoved : (o : Bytes) → facts_given (by w a ∷ H) o ≡ tables_from (acts o (by w a ∷ H)) o H
   tables-unmoved o i = record (tables_from (acts o (by w a ∷ H)) o H) {
-    lot = λ l. option_map (λ (made : Made). let r : LotRow = record { lot = l; material = made.material; origin = made.origin; disposition = disposition_of (acts o (by w a ∷ H)) made.material l } in r) (still.made i (lot_id o l));
-    lots = still.lots i o;
-    sublot = λ k. where_so (still.known i (lot_id o k.0) k.1) (record { lot = k.0; sublot = k.1; amount = still.stock i (lot_id o k.0) k.1 });
-    sublots = still.sublots i o;
-    material_used = still.used i o;
+    lot = λ l. option_map (lot_row_made (acts o (by w a ∷ H)) l) (grown_still.made i (lot_id o l));
+    lots = grown_still.lots i o;
+    sublot = λ k. where_so (grown_still.known i (lot_id o k.0) k.1) (sublot_row_of k.0 k.1 (grown_still.stock i (lot_id o k.0) k.1));
+    sublots = grown_still.sublots i o;
+    material_used = grown_still.used i o;
   }
 
   -- the owner's tables after its own action
-  pub tables-own : tables_given (by w a ∷ H) w ≡ tables_after a (acts w H) w H
+  pub tables-own : facts_given (by w a ∷ H) w ≡ tables_after a (acts w H) w H
   tables-own = tables-unmoved w ∙ ap (λ own. tables_from own w H) (acts-own w (by w a) H (same_bytes-refl w)) ∙ after_is a (acts w H) w H
 
-  -- and those of others
-  pub tables-others : (p : Bytes) → same_bytes w p ≡ false → tables_given (by w a ∷ H) p ≡ tables_given H p
+  -- The tables of other owners stay unchanged.
+  pub tables-others : (p : Bytes) → same_bytes w p ≡ false → facts_given (by w a ∷ H) p ≡ facts_given H p
   tables-others p other = tables-unmoved p ∙ ap (λ own. tables_from own p H) (acts-other p (by w a) H other)
 
--- the first answer of two, where the first is given under a test
+-- The first of two options, if its test holds.
 pub put_first : {X : Type 0} (b : Bool) (x : X) (rest : Option X) → or_else (where_so b x) rest ≡ cond b (Some x) rest
 put_first true x rest = refl
 put_first false x rest = refl

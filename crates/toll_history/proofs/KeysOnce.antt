@@ -3,8 +3,8 @@ use Rattle.std.proofs.Common.{◌≡◌, ◌+◌, Bool, true, false, ◌||◌, c
 use Rattle.toll_history.proofs.Common.{false≢true, AllByRecursion, not-false, Bytes, same_bytes, count, or_else, is_some_where, MoveRow, both, and_is, same_bytes-exact, same_bytes-refl}
 use Rattle.toll_history.specs.Command.{Action, Record, Void, by}
 use Rattle.toll_history.specs.History.{History, acts}
-use Rattle.toll_history.specs.Movements.{Movement, has_key, movement_of, movements, voided_in}
-use Rattle.toll_history.specs.Verdict.{Accepted, IsLawful, IsValid, verdict, is_actual}
+use Rattle.toll_history.specs.Movements.{Movement, has_move_key, movement_of, movements, voided_in}
+use Rattle.toll_history.specs.Verdict.{Accepted, IsLawful, IsValidAction, verdict, is_actual}
 use Rattle.toll_history.specs.Laws.{has_this_key}
 use Rattle.toll_history.proofs.Options.{not_both}
 use Rattle.toll_history.proofs.Passed.{accepted_passes}
@@ -19,7 +19,7 @@ finds_itself H o row = movement_of-recorded H o row o row.key ∙ ap (λ b. cond
 
 still_found : (H : History) (o : Bytes) (a : Action) → verdict H (by o a) ≡ Accepted → (m : Movement) → movement_of (acts m.0 H) m.1.key ≡ Some m.1 → movement_of (acts m.0 (by o a ∷ H)) m.1.key ≡ Some m.1
 still_found H o (Record row) accepted m is = movement_of-recorded H o row m.0 m.1.key ∙
-    elim (has_key m.0 m.1.key (o, row)) as (λ b. has_key m.0 m.1.key (o, row) ≡ b → cond b (Some row) (movement_of (acts m.0 H) m.1.key) ≡ Some m.1) [
+    elim (has_move_key m.0 m.1.key (o, row)) as (λ b. has_move_key m.0 m.1.key (o, row) ≡ b → cond b (Some row) (movement_of (acts m.0 H) m.1.key) ≡ Some m.1) [
       | true ↦ λ hit.
           let parts = both (same_bytes m.0 o) (same_bytes m.1.key row.key) hit in
           not_both (movement_of (acts m.0 H) m.1.key) m.1 ((λ i. movement_of (acts (same_bytes-exact m.0 o parts.0 i) H) (same_bytes-exact m.1.key row.key parts.1 i)) ∙ key_is_new H o row accepted) is
@@ -27,18 +27,18 @@ still_found H o (Record row) accepted m is = movement_of-recorded H o row m.0 m.
     ] refl
 still_found H o a accepted m is = movement_of-kept H o a m.0 m.1.key refl ∙ is
 
-pub all_found : (H : History) → IsLawful H → AllByRecursion (λ m. movement_of (acts m.0 H) m.1.key ≡ Some m.1) (movements H)
-all_found = each_move (λ H m. movement_of (acts m.0 H) m.1.key ≡ Some m.1) (λ H o row lawful valid accepted. finds_itself H o row) still_found
+pub every_key_found : (H : History) → IsLawful H → AllByRecursion (λ m. movement_of (acts m.0 H) m.1.key ≡ Some m.1) (movements H)
+every_key_found = each_move (λ H m. movement_of (acts m.0 H) m.1.key ≡ Some m.1) (λ H o row lawful valid accepted. finds_itself H o row) still_found
 
 -- ---- no other has its key
 
 module _ (o key : Bytes) where
-  -- as many movements have the key as the key finds
+  -- As many movements have the key as a search for it finds.
   abbrev IsFoundOnce : List Action → Type 0
   IsFoundOnce own = count (has_this_key key) own ≡ cond (is_some (movement_of own key)) 1 0
 
-  once_step : (H : History) (a : Action) → IsLawful H → IsValid a → verdict H (by o a) ≡ Accepted → IsFoundOnce (acts o H) → IsFoundOnce (a ∷ acts o H)
-  once_step H (Record row) lawful valid accepted once =
+  key_once_step : (H : History) (a : Action) → IsLawful H → IsValidAction a → verdict H (by o a) ≡ Accepted → IsFoundOnce (acts o H) → IsFoundOnce (a ∷ acts o H)
+  key_once_step H (Record row) lawful valid accepted once =
       elim (same_bytes key row.key) as (λ b. same_bytes key row.key ≡ b → cond b 1 0 + count (has_this_key key) (acts o H) ≡ cond (is_some (or_else (cond b (Some row) None) (movement_of (acts o H) key))) 1 0) [
         | true ↦ λ hit.
             let none : movement_of (acts o H) key ≡ None = ap (movement_of (acts o H)) (same_bytes-exact key row.key hit) ∙ key_is_new H o row accepted in
@@ -46,10 +46,10 @@ module _ (o key : Bytes) where
             omega arith
         | false ↦ λ miss. omega arith
       ] refl
-  once_step H a lawful valid accepted once = omega arith
+  key_once_step H a lawful valid accepted once = omega arith
 
   pub found_once : (H : History) → IsLawful H → IsFoundOnce (acts o H)
-  found_once = along_acts IsFoundOnce o refl once_step
+  found_once = along_acts IsFoundOnce o refl key_once_step
 
   -- ---- a voided key has a movement, which is an actual
 
@@ -59,7 +59,7 @@ module _ (o key : Bytes) where
   some_where_none : {X Y : Type 0} (p : X → Bool) (x : Option X) → x ≡ None → is_some_where p x ≡ true → Y
   some_where_none p x none h = absurd (false≢true (ap (is_some_where p) (sym none) ∙ h))
 
-  void_step : (H : History) (a : Action) → IsLawful H → IsValid a → verdict H (by o a) ≡ Accepted → IsVoidOfActual (acts o H) → IsVoidOfActual (a ∷ acts o H)
+  void_step : (H : History) (a : Action) → IsLawful H → IsValidAction a → verdict H (by o a) ≡ Accepted → IsVoidOfActual (acts o H) → IsVoidOfActual (a ∷ acts o H)
   void_step H (Record row) lawful valid accepted before voided =
       elim (same_bytes key row.key) as (λ b. same_bytes key row.key ≡ b → is_some_where (λ (r : MoveRow). is_actual r.what) (or_else (cond b (Some row) None) (movement_of (acts o H) key)) ≡ true) [
         | true ↦ λ hit. some_where_none _ (movement_of (acts o H) key) (ap (movement_of (acts o H)) (same_bytes-exact key row.key hit) ∙ key_is_new H o row accepted) (before voided)

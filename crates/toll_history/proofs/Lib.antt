@@ -2,7 +2,7 @@ pub mod Common
 pub mod Accepted
 pub mod Own
 pub mod Crossing
-pub mod OwnTables
+pub mod OwnFacts
 pub mod Options
 pub mod Passed
 pub mod Acts

@@ -6,7 +6,7 @@ use Rattle.toll_history.specs.History.{History, acts, adds_owner, count_owners, 
 use Rattle.toll_history.specs.Work.{material_added, test_added, recipe_added, required, order_placed}
 use Rattle.toll_history.specs.Movements.{movement_recorded, movements, count_movements, count_actuals_of, first_made, lot_made, makes_lot, makes_sublot, count_lots, count_sublots}
 use Rattle.toll_history.specs.Dispositions.{value_recorded}
-use Rattle.toll_history.specs.Tables.{lot_row}
+use Rattle.toll_history.specs.OwnerFacts.{lot_row}
 use Rattle.toll_history.specs.Verdict.{Accepted, IsLawful, verdict}
 use Rattle.toll_history.specs.Laws.{IsWithinLimits}
 use Rattle.toll_history.proofs.Passed.{accepted_passes, MoveFits, move_fits}
@@ -14,16 +14,16 @@ use Rattle.toll_history.proofs.Acts.{along_acts, count_acts}
 use Rattle.toll_history.proofs.Moving.{crosses_not, lot_row_none}
 use Rattle.toll_base.specs.declared.capacity.TheConstants.{MOST_ACTUALS, MOST_LOTS, MOST_MATERIALS, MOST_MOVEMENTS, MOST_ORDERS, MOST_OWNERS, MOST_RECIPES, MOST_REQUIREMENTS, MOST_RESULTS, MOST_TESTS, MOST_UNITS}
 
-one_more : (is : Bool) (limit n : ℕ) → n ≤ limit → (is ≡ true → nat_le limit n ≡ false) → cond is 1 0 + n ≤ limit
-one_more true limit n le room = let h = room refl in grind (arith, nat_tests)
-one_more false limit n le room = omega arith
+within_with_one : (is : Bool) (limit n : ℕ) → n ≤ limit → (is ≡ true → nat_le limit n ≡ false) → cond is 1 0 + n ≤ limit
+within_with_one true limit n le room = let h = room refl in grind (arith, nat_tests)
+within_with_one false limit n le room = omega arith
 
 -- ---- kinds of actions
 
 -- a kind of an owner's actions, each of which was accepted while there was room
 module _ (is_kind : Action → Bool) (limit : ℕ) (o : Bytes) (room : (H : History) (a : Action) → verdict H (by o a) ≡ Accepted → is_kind a ≡ true → nat_le limit (count is_kind (acts o H)) ≡ false) where
   pub limited : (H : History) → IsLawful H → count is_kind (acts o H) ≤ limit
-  limited H lawful = along_acts (λ own. count is_kind own ≤ limit) o (omega arith) (λ H a lawful valid accepted le. one_more (is_kind a) limit (count is_kind (acts o H)) le (room H a accepted)) H lawful
+  limited H lawful = along_acts (λ own. count is_kind own ≤ limit) o (omega arith) (λ H a lawful valid accepted le. within_with_one (is_kind a) limit (count is_kind (acts o H)) le (room H a accepted)) H lawful
 
 module _ (o : Bytes) where
   material_room : (H : History) (a : Action) → verdict H (by o a) ≡ Accepted → is_some (material_added a) ≡ true → nat_le MOST_MATERIALS (count (λ a. is_some (material_added a)) (acts o H)) ≡ false
@@ -52,16 +52,16 @@ module _ (o : Bytes) where
 
   -- ---- movements
 
-  move_room : (H : History) (what : Move) (amount : ℕ) → MoveFits H o what amount → nat_le MOST_MOVEMENTS (count_movements (acts o H)) ≡ false
-  move_room H (Receive material lot sublot) amount fits = (or_parts (nat_le MOST_MOVEMENTS (count_movements (acts o H))) _ (fits 4)).0
-  move_room H (Split lot sublot target) amount fits = fits 4
-  move_room H (Ship lot sublot) amount fits = fits 4
-  move_room H (Scrap lot sublot) amount fits = fits 3
-  move_room H (Actual order number segment Consumed material lot sublot) amount fits = (or_parts (nat_le MOST_MOVEMENTS (count_movements (acts o H))) _ (fits 12)).0
-  move_room H (Actual order number segment Produced material lot sublot) amount fits = (or_parts (nat_le MOST_MOVEMENTS (count_movements (acts o H))) _ (or_parts (nat_le MOST_MOVEMENTS (count_movements (acts o H)) || nat_le MOST_ACTUALS (count_actuals_of (acts o H) order number)) _ (fits 10)).0).0
+  limit_move_room : (H : History) (what : Move) (amount : ℕ) → MoveFits H o what amount → nat_le MOST_MOVEMENTS (count_movements (acts o H)) ≡ false
+  limit_move_room H (Receive material lot sublot) amount fits = (or_parts (nat_le MOST_MOVEMENTS (count_movements (acts o H))) _ (fits 4)).0
+  limit_move_room H (Split lot sublot target) amount fits = fits 4
+  limit_move_room H (Ship lot sublot) amount fits = fits 4
+  limit_move_room H (Scrap lot sublot) amount fits = fits 3
+  limit_move_room H (Actual order number segment Consumed material lot sublot) amount fits = (or_parts (nat_le MOST_MOVEMENTS (count_movements (acts o H))) _ (fits 12)).0
+  limit_move_room H (Actual order number segment Produced material lot sublot) amount fits = (or_parts (nat_le MOST_MOVEMENTS (count_movements (acts o H))) _ (or_parts (nat_le MOST_MOVEMENTS (count_movements (acts o H)) || nat_le MOST_ACTUALS (count_actuals_of (acts o H) order number)) _ (fits 10)).0).0
 
   movement_room : (H : History) (a : Action) → verdict H (by o a) ≡ Accepted → is_some (movement_recorded a) ≡ true → nat_le MOST_MOVEMENTS (count (λ a. is_some (movement_recorded a)) (acts o H)) ≡ false
-  movement_room H (Record row) accepted is = move_room H row.what row.amount (move_fits H o row accepted)
+  movement_room H (Record row) accepted is = limit_move_room H row.what row.amount (move_fits H o row accepted)
   movement_room H _ accepted is = absurd (false≢true is)
 
   pub movements_kept : (H : History) → IsLawful H → count_movements (acts o H) ≤ MOST_MOVEMENTS
@@ -84,11 +84,11 @@ module _ (o : Bytes) where
 
 -- ---- owners and units
 
--- a kind of everybody's actions, each of which was accepted while there was room
+-- A kind of actions of all owners, each of which was accepted while there was room.
 module _ (is_kind : Action → Bool) (limit : ℕ) (room : (H : History) (o : Bytes) (a : Action) → verdict H (by o a) ≡ Accepted → is_kind a ≡ true → nat_le limit (count (λ c. is_kind c.action) H) ≡ false) where
   limited_for_all : (H : History) → IsLawful H → count (λ c. is_kind c.action) H ≤ limit
   limited_for_all [] lawful = omega arith
-  limited_for_all (c ∷ H) lawful = one_more (is_kind c.action) limit (count (λ c. is_kind c.action) H) (limited_for_all H lawful.0) (room H c.owner c.action lawful.2)
+  limited_for_all (c ∷ H) lawful = within_with_one (is_kind c.action) limit (count (λ c. is_kind c.action) H) (limited_for_all H lawful.0) (room H c.owner c.action lawful.2)
 
 owner_room : (H : History) (o : Bytes) (a : Action) → verdict H (by o a) ≡ Accepted → adds_owner a ≡ true → nat_le MOST_OWNERS (count_owners H) ≡ false
 owner_room H o (AddOwner key) accepted is = accepted_passes H o (AddOwner key) accepted 1
@@ -106,44 +106,44 @@ units_kept = limited_for_all adds_some_unit MOST_UNITS unit_room
 
 -- ---- lots and sublots
 
--- none of a first answer with others, and none of that answer alone
+-- If the second is true, and neither the first nor the second with the third is, then the third is false.
 full_of : (moves none full : Bool) → none ≡ true → (moves || none && full) ≡ false → full ≡ false
 full_of true none full is h = absurd (false≢true (sym h))
 full_of false true full is h = h
 full_of false false full is h = absurd (false≢true is)
 
-lot_room : (H : History) (o : Bytes) (what : Move) (amount : ℕ) → MoveFits H o what amount → makes_lot o what (movements H) ≡ true → nat_le MOST_LOTS (count_lots H o) ≡ false
+limit_lot_room : (H : History) (o : Bytes) (what : Move) (amount : ℕ) → MoveFits H o what amount → makes_lot o what (movements H) ≡ true → nat_le MOST_LOTS (count_lots H o) ≡ false
 unfolding lot_made
-lot_room H o (Receive material lot sublot) amount fits makes = full_of _ (is_none (lot_row H o lot)) _ (lot_row_none H o lot ∙ makes) (fits 4)
-lot_room H o (Actual order number segment Produced material lot sublot) amount fits makes =
+limit_lot_room H o (Receive material lot sublot) amount fits makes = full_of _ (is_none (lot_row H o lot)) _ (lot_row_none H o lot ∙ makes) (fits 4)
+limit_lot_room H o (Actual order number segment Produced material lot sublot) amount fits makes =
     let mine = same_bytes-exact lot.owner o (not-false _ (crosses_not H o order number segment Produced material lot sublot amount fits)) in
     full_of _ (is_none (lot_row H o lot.lot)) _ (lot_row_none H o lot.lot ∙ ap (λ w. is_none (first_made (lot_id w lot.lot) (movements H))) (sym mine) ∙ makes) (fits 10)
-lot_room H o _ amount fits makes = absurd (false≢true makes)
+limit_lot_room H o _ amount fits makes = absurd (false≢true makes)
 
-lot_step : (H : History) (w o : Bytes) (a : Action) → verdict H (by w a) ≡ Accepted → count_lots H o ≤ MOST_LOTS → count_lots (by w a ∷ H) o ≤ MOST_LOTS
+limit_lot_step : (H : History) (w o : Bytes) (a : Action) → verdict H (by w a) ≡ Accepted → count_lots H o ≤ MOST_LOTS → count_lots (by w a ∷ H) o ≤ MOST_LOTS
 unfolding count_lots
-lot_step H w o (Record row) accepted le =
-    one_more (same_bytes o w && makes_lot w row.what (movements H)) MOST_LOTS (count_lots H o) le
-    (λ is. let parts = both (same_bytes o w) _ is in ap (λ x. nat_le MOST_LOTS (count_lots H x)) (same_bytes-exact o w parts.0) ∙ lot_room H w row.what row.amount (move_fits H w row accepted) parts.1)
-lot_step H w o a accepted le = le
+limit_lot_step H w o (Record row) accepted le =
+    within_with_one (same_bytes o w && makes_lot w row.what (movements H)) MOST_LOTS (count_lots H o) le
+    (λ is. let parts = both (same_bytes o w) _ is in ap (λ x. nat_le MOST_LOTS (count_lots H x)) (same_bytes-exact o w parts.0) ∙ limit_lot_room H w row.what row.amount (move_fits H w row accepted) parts.1)
+limit_lot_step H w o a accepted le = le
 
 pub lots_kept : (H : History) (o : Bytes) → IsLawful H → count_lots H o ≤ MOST_LOTS
 unfolding count_lots
 lots_kept [] o lawful = omega arith
-lots_kept (c ∷ H) o lawful = lot_step H c.owner o c.action lawful.2 (lots_kept H o lawful.0)
+lots_kept (c ∷ H) o lawful = limit_lot_step H c.owner o c.action lawful.2 (lots_kept H o lawful.0)
 
-fewer : (own makes : Bool) (n moves : ℕ) → n ≤ moves → cond (own && makes) 1 0 + n ≤ cond (own && true) 1 0 + moves
-fewer true true n moves le = omega arith
-fewer true false n moves le = omega arith
-fewer false makes n moves le = omega arith
+fewer_than_moves : (own makes : Bool) (n moves : ℕ) → n ≤ moves → cond (own && makes) 1 0 + n ≤ cond (own && true) 1 0 + moves
+fewer_than_moves true true n moves le = omega arith
+fewer_than_moves true false n moves le = omega arith
+fewer_than_moves false makes n moves le = omega arith
 
--- a movement makes at most one sublot
+-- A movement makes at most one sublot.
 sublot_step : (H : History) (w o : Bytes) (a : Action) → count_sublots H o ≤ count_movements (acts o H) → count_sublots (by w a ∷ H) o ≤ count_movements (acts o (by w a ∷ H))
 unfolding count_sublots
 sublot_step H w o (Record row) le =
     subst (λ n. cond (same_bytes o w && makes_sublot w row.what (movements H)) 1 0 + count_sublots H o ≤ n)
     (ap (λ b. cond (b && true) 1 0 + count_movements (acts o H)) (same_bytes-symm o w) ∙ sym (count_acts (λ a. is_some (movement_recorded a)) o (by w (Record row)) H))
-    (fewer (same_bytes o w) (makes_sublot w row.what (movements H)) (count_sublots H o) (count_movements (acts o H)) le)
+    (fewer_than_moves (same_bytes o w) (makes_sublot w row.what (movements H)) (count_sublots H o) (count_movements (acts o H)) le)
 sublot_step H w o a le = omega (arith, count_acts (λ a. is_some (movement_recorded a)) o (by w a) H)
 
 pub sublots_of_moves : (H : History) (o : Bytes) → count_sublots H o ≤ count_movements (acts o H)

@@ -5,9 +5,9 @@ use Rattle.toll_history.specs.Command.{Action, Require, Record, Command, by}
 use Rattle.toll_history.specs.History.{History, acts}
 use Rattle.toll_history.specs.Work.{material_of, requirement_of, required, same_requirement}
 use Rattle.toll_history.specs.Movements.{Made, made_by, lot_made}
-use Rattle.toll_history.specs.Tables.{Tables, tables_given}
+use Rattle.toll_history.specs.OwnerFacts.{OwnerFacts, facts_given}
 use Rattle.toll_history.specs.Verdict.{Accepted, IsLawful, verdict, crosses, recipe_of_order, requirement_key}
-use Rattle.toll_history.proofs.Options.{some_of, some_second, or_none}
+use Rattle.toll_history.proofs.Options.{some_if_not_none, some_second, or_none}
 use Rattle.toll_history.proofs.Passed.{accepted_passes, MoveFits, move_fits}
 use Rattle.toll_history.proofs.Acts.{first_acts}
 use Rattle.toll_history.proofs.Moving.{same_lot-exact, tables_for_are}
@@ -15,11 +15,11 @@ use Rattle.toll_history.proofs.Lots.{made_in, lot_made-cons}
 
 -- ---- requirements
 
--- a material stays known
+-- A material stays known.
 pub material_stays : (H : History) (c : Command) (o m : Bytes) → is_some (material_of (acts o H) m) ≡ true → is_some (material_of (acts o (c ∷ H)) m) ≡ true
 material_stays H c o m known = ap is_some (first_acts _ o c H) ∙ some_second _ _ known
 
--- requirements with one key have one source and one material
+-- Requirements with the same key have the same source and material.
 same_source : (k l : RequirementKey) → same_requirement k l ≡ true → (k.3 ≡ l.3) × (k.4 ≡ l.4)
 same_source k l h =
     let front = ordering_then (ordering_then (bytes_cmp k.0 l.0) (nat_cmp k.1 l.1)) (role_cmp k.2 l.2) in
@@ -35,11 +35,11 @@ consumes : (o : Bytes) (role : Role) (source : Bytes) → crosses o role source 
 consumes o Consumed source h = h
 consumes o Produced source h = or_of (same_bytes source o) _ h
 
--- the material of an accepted requirement is its source's
+-- The material of an accepted requirement is its source's.
 required_material : (H : History) (o : Bytes) (row : RequirementRow) → verdict H (by o (Require row)) ≡ Accepted → is_some (material_of (acts row.source H) row.material) ≡ true
 required_material H o row accepted =
     let pass = accepted_passes H o (Require row) accepted in
-    some_of _ (ap (λ (t : Tables). is_none (t.material row.material)) (sym (tables_for_are H o row.source (consumes o row.role row.source (pass 3)))) ∙ (pass 4))
+    some_if_not_none _ (ap (λ (t : OwnerFacts). is_none (t.material row.material)) (sym (tables_for_are H o row.source (consumes o row.role row.source (pass 3)))) ∙ (pass 4))
 
 -- the requirement with this key that an action adds
 abbrev added_at : RequirementKey → Action → Option RequirementRow
@@ -69,8 +69,8 @@ module _ (Q : History → LotId → Made → Type 0)
   new_of H o (Record row) lawful accepted id made is = new H o row lawful accepted id made is
   new_of H o _ lawful accepted id made is = (cc)
 
-  lot_step : (H : History) (o : Bytes) (a : Action) → IsLawful H → verdict H (by o a) ≡ Accepted → (id : LotId) (made : Made) → (lot_made H id ≡ Some made → Q H id made) → or_else (lot_made H id) (made_in id o a) ≡ Some made → Q (by o a ∷ H) id made
-  lot_step H o a lawful accepted id made before is =
+  material_lot_step : (H : History) (o : Bytes) (a : Action) → IsLawful H → verdict H (by o a) ≡ Accepted → (id : LotId) (made : Made) → (lot_made H id ≡ Some made → Q H id made) → or_else (lot_made H id) (made_in id o a) ≡ Some made → Q (by o a ∷ H) id made
+  material_lot_step H o a lawful accepted id made before is =
       elim (lot_made H id) as (λ x. lot_made H id ≡ x → or_else x (made_in id o a) ≡ Some made → Q (by o a ∷ H) id made) [
         | Some old ↦ λ there is. still H o a accepted id made (there ∙ is) (before (there ∙ is))
         | None ↦ λ none is. new_of H o a lawful accepted id made is
@@ -79,19 +79,19 @@ module _ (Q : History → LotId → Made → Type 0)
   pub each_lot : (H : History) → IsLawful H → (id : LotId) (made : Made) → lot_made H id ≡ Some made → Q H id made
   unfolding lot_made
   each_lot [] lawful id made is = (cc)
-  each_lot (c ∷ H) lawful id made is = lot_step H c.owner c.action lawful.0 lawful.2 id made (each_lot H lawful.0 id made) (sym (lot_made-cons H c.owner c.action id) ∙ is)
+  each_lot (c ∷ H) lawful id made is = material_lot_step H c.owner c.action lawful.0 lawful.2 id made (each_lot H lawful.0 id made) (sym (lot_made-cons H c.owner c.action id) ∙ is)
 
--- a lot is made of a material that is there
+-- A lot is made of a material that is there.
 made_material : (H : History) (o : Bytes) (what : Move) (amount : ℕ) → IsLawful H → MoveFits H o what amount → (id : LotId) (made : Made) → made_by id o what ≡ Some made → is_some (material_of (acts id.owner H) made.material) ≡ true
 made_material H o (Receive material lot sublot) amount lawful fits id made is =
     let parts = cond_some (same_lot id (lot_id o lot)) _ made is in
     let e = same_lot-exact id (lot_id o lot) parts.0 in
-    ap (λ (x : LotId × Made). is_some (material_of (acts x.0.owner H) x.1.material)) (λ i. (e i, sym parts.1 i)) ∙ some_of _ (fits 0)
+    ap (λ (x : LotId × Made). is_some (material_of (acts x.0.owner H) x.1.material)) (λ i. (e i, sym parts.1 i)) ∙ some_if_not_none _ (fits 0)
 made_material H o (Actual order number segment Produced material lot sublot) amount lawful fits id made is =
     let parts = cond_some (same_lot id lot) _ made is in
     let e = same_lot-exact id lot parts.0 in
     ap (λ (x : LotId × Made). is_some (material_of (acts x.0.owner H) x.1.material)) (λ i. (e i, sym parts.1 i))
-    ∙ source_material H o (recipe_of_order (tables_given H o) order, segment, Produced, lot.owner, material) lawful (some_of _ (fits 6))
+    ∙ source_material H o (recipe_of_order (facts_given H o) order, segment, Produced, lot.owner, material) lawful (some_if_not_none _ (fits 6))
 made_material H o _ amount lawful fits id made is = (cc)
 
 pub lot_material : (H : History) → IsLawful H → (id : LotId) (made : Made) → lot_made H id ≡ Some made → is_some (material_of (acts id.owner H) made.material) ≡ true

@@ -4,15 +4,15 @@ use Rattle.toll_history.proofs.Common.{false≢true, or_cases, or_right, Bytes, 
 use Rattle.toll_history.specs.Command.{Action, Record, by}
 use Rattle.toll_history.specs.History.{History}
 use Rattle.toll_history.specs.Movements.{movement_recorded, brings_into, sublot_known, Made, made_by, lot_made}
-use Rattle.toll_history.specs.Tables.{lot_row}
+use Rattle.toll_history.specs.OwnerFacts.{lot_row}
 use Rattle.toll_history.specs.Verdict.{Accepted, IsLawful, verdict}
-use Rattle.toll_history.proofs.Options.{some_of, some_first, some_second, some_where, or_else_none}
+use Rattle.toll_history.proofs.Options.{some_if_not_none, some_first, some_second, some_where, or_else_none}
 use Rattle.toll_history.proofs.Passed.{MoveFits, move_fits}
 use Rattle.toll_history.proofs.Moving.{same_lot-exact, lot_row_none}
 
 -- ---- one command more
 
--- what an action makes of a lot
+-- the material and origin that an action gives to a lot
 abbrev pub made_in : LotId → Bytes → Action → Option Made
 made_in id o a = elim (movement_recorded a) [ Some row ↦ made_by id o row.what | None ↦ None ]
 
@@ -21,7 +21,7 @@ unfolding lot_made
 lot_made-cons H o (Record row) id = refl
 lot_made-cons H o a id = sym (or_else_none _)
 
--- a lot stays what its first movement made it
+-- A lot keeps the material and origin of its first movement.
 pub made_stays : (H : History) (o : Bytes) (a : Action) (id : LotId) (made : Made) → lot_made H id ≡ Some made → lot_made (by o a ∷ H) id ≡ Some made
 made_stays H o a id made is = lot_made-cons H o a id ∙ ap (λ x. or_else x (made_in id o a)) is
 
@@ -36,9 +36,9 @@ sublot_stays H o a id sub known = known
 -- ---- a known sublot is of a known lot
 
 lot_known : (H : History) (id : LotId) (o lot : Bytes) → is_none (lot_row H o lot) ≡ false → same_lot id (lot_id o lot) ≡ true → is_some (lot_made H id) ≡ true
-lot_known H id o lot known same = ap (λ x. is_some (lot_made H x)) (same_lot-exact id (lot_id o lot) same) ∙ some_of (lot_made H (lot_id o lot)) (sym (lot_row_none H o lot) ∙ known)
+lot_known H id o lot known same = ap (λ x. is_some (lot_made H x)) (same_lot-exact id (lot_id o lot) same) ∙ some_if_not_none (lot_made H (lot_id o lot)) (sym (lot_row_none H o lot) ∙ known)
 
--- a movement that brings into a sublot makes its lot, or knows it
+-- A movement that brings into a sublot makes its lot, or knows it.
 brings_known : (H : History) (o : Bytes) (what : Move) (amount : ℕ) → MoveFits H o what amount → (id : LotId) (sub : Bytes) → brings_into id sub o what ≡ true → is_some (or_else (lot_made H id) (made_by id o what)) ≡ true
 brings_known H o (Receive material lot sublot) amount fits id sub brings = some_second (lot_made H id) _ (some_where (same_lot id (lot_id o lot)) _ (both (same_lot id (lot_id o lot)) _ brings).0)
 brings_known H o (Split lot sublot target) amount fits id sub brings = some_first (lot_made H id) _ (lot_known H id o lot (fits 1) (both (same_lot id (lot_id o lot)) _ brings).0)

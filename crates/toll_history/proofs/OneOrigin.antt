@@ -4,8 +4,7 @@ use Rattle.toll_history.proofs.Common.{false≢true, AllByRecursion, option_map,
 use Rattle.toll_history.specs.Command.{Record, by}
 use Rattle.toll_history.specs.History.{History, acts}
 use Rattle.toll_history.specs.Movements.{movements, Made, made_by, lot_made}
-use Rattle.toll_history.specs.Dispositions.{disposition_of}
-use Rattle.toll_history.specs.Tables.{lot_row}
+use Rattle.toll_history.specs.OwnerFacts.{lot_row, lot_row_made}
 use Rattle.toll_history.specs.Verdict.{Accepted, IsLawful, verdict, is_receipts, is_made_by}
 use Rattle.toll_history.specs.Laws.{Agrees}
 use Rattle.toll_history.proofs.Passed.{MoveFits, move_fits}
@@ -17,19 +16,15 @@ receipts_exact : (origin : Origin) → is_receipts origin ≡ true → origin �
 receipts_exact Receipts h = refl
 receipts_exact (Batch order number) h = absurd (false≢true h)
 
-batch_exact : (order : Bytes) (number : ℕ) (origin : Origin) → is_made_by order number origin ≡ true → origin ≡ Batch order number
-batch_exact order number Receipts h = absurd (false≢true h)
-batch_exact order number (Batch o n) h = let parts = both (same_bytes o order) (n == number) h in λ i. Batch (same_bytes-exact o order parts.0 i) (nat_eq-exact n number parts.1 i)
+origin_exact : (order : Bytes) (number : ℕ) (origin : Origin) → is_made_by order number origin ≡ true → origin ≡ Batch order number
+origin_exact order number Receipts h = absurd (false≢true h)
+origin_exact order number (Batch o n) h = let parts = both (same_bytes o order) (n == number) h in λ i. Batch (same_bytes-exact o order parts.0 i) (nat_eq-exact n number parts.1 i)
 
--- the row of a lot that was made so
-abbrev row_made : History → Bytes → Bytes → Made → LotRow
-row_made H o l made = record { lot = l; material = made.material; origin = made.origin; disposition = disposition_of (acts o H) made.material l }
+-- The row of a lot that was made passes the test of its check.
+pub at_made : (H : History) (o l : Bytes) (made : Made) → lot_made H (lot_id o l) ≡ Some made → (p : LotRow → Bool) → is_some_where (λ row. not (p row)) (lot_row H o l) ≡ false → p (lot_row_made (acts o H) l made) ≡ true
+at_made H o l made is p h = not-false _ (ap (λ x. is_some_where (λ row. not (p row)) (option_map (lot_row_made (acts o H) l) x)) (sym is) ∙ h)
 
--- what a check of a lot that is there says of it
-pub at_made : (H : History) (o l : Bytes) (made : Made) → lot_made H (lot_id o l) ≡ Some made → (p : LotRow → Bool) → is_some_where (λ row. not (p row)) (lot_row H o l) ≡ false → p (row_made H o l made) ≡ true
-at_made H o l made is p h = not-false _ (ap (λ x. is_some_where (λ row. not (p row)) (option_map (row_made H o l) x)) (sym is) ∙ h)
-
--- a movement that fits agrees with what the lot is
+-- A movement that fits agrees with the lot's material and origin.
 pub agrees : (H : History) (o : Bytes) (what : Move) (amount : ℕ) → MoveFits H o what amount → (id : LotId) (old made : Made) → lot_made H id ≡ Some old → made_by id o what ≡ Some made → old ≡ made
 agrees H o (Receive material lot sublot) amount fits id old made there is =
     let parts = cond_some (same_lot id (lot_id o lot)) _ made is in
@@ -42,7 +37,7 @@ agrees H o (Actual order number segment Produced material lot sublot) amount fit
     let parts = cond_some (same_lot id lot) _ made is in
     let mine = same_bytes-exact lot.owner o (not-false _ (crosses_not H o order number segment Produced material lot sublot amount fits)) in
     let here : lot_made H (lot_id o lot.lot) ≡ Some old = ap (λ w. lot_made H (lot_id w lot.lot)) (sym mine) ∙ ap (lot_made H) (sym (same_lot-exact id lot parts.0)) ∙ there in
-    let origin = batch_exact order number old.origin (at_made H o lot.lot old here (λ row. is_made_by order number row.origin) (fits 7)) in
+    let origin = origin_exact order number old.origin (at_made H o lot.lot old here (λ row. is_made_by order number row.origin) (fits 7)) in
     let same = same_bytes-exact old.material material (at_made H o lot.lot old here (λ row. same_bytes row.material material) (fits 8)) in
     let e : old ≡ record { material = material; origin = Batch order number } = λ i. record { material = same i; origin = origin i } in
     e ∙ parts.1

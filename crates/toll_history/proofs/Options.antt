@@ -1,24 +1,21 @@
 -- Facts of options.
 use Rattle.std.proofs.Common.{◌≡◌, Bool, true, false, not, ◌&&◌, cond, Option, Some, None, is_some, is_none, refl, sym, ap, ◌∙◌}
 use Rattle.toll_history.proofs.Common.{not-false, false≢true, option_map, or_else, where_so, is_some_where}
+pub use Rattle.toll_base.proofs.KeyOrder.{none_of}
 
-pub some_of : {X : Type 0} (x : Option X) → is_none x ≡ false → is_some x ≡ true
-some_of None h = absurd (false≢true (sym h))
-some_of (Some x) h = refl
+pub some_if_not_none : {X : Type 0} (x : Option X) → is_none x ≡ false → is_some x ≡ true
+some_if_not_none None h = absurd (false≢true (sym h))
+some_if_not_none (Some x) h = refl
 
-pub none_of : {X : Type 0} (x : Option X) → is_some x ≡ false → x ≡ None
-none_of None h = refl
-none_of (Some x) h = absurd (false≢true (sym h))
-
--- an option isn't both
+-- An option isn't both None and Some.
 pub not_both : {X Y : Type 0} (x : Option X) (y : X) → x ≡ None → x ≡ Some y → Y
 not_both x y none is = (cc)
 
-pub map_none : {X Y : Type 0} (f : X → Y) (x : Option X) → is_none (option_map f x) ≡ is_none x
-map_none f None = refl
-map_none f (Some x) = refl
+pub is_none_map : {X Y : Type 0} (f : X → Y) (x : Option X) → is_none (option_map f x) ≡ is_none x
+is_none_map f None = refl
+is_none_map f (Some x) = refl
 
--- ---- where a test holds
+-- ---- a test of an option's value
 
 pub some_where : {X : Type 0} (b : Bool) (x : X) → b ≡ true → is_some (where_so b x) ≡ true
 some_where true x h = refl
@@ -59,6 +56,6 @@ or_else_where true true x rest = refl
 or_else_where true false x rest = refl
 or_else_where false k x rest = refl
 
--- what there is passes, where it isn't so that it fails
+-- If no value fails the test, the value passes it.
 pub known_passes : {X : Type 0} (p : X → Bool) (x : Option X) → is_some_where (λ y. not (p y)) x ≡ false → (y : X) → x ≡ Some y → p y ≡ true
 known_passes p x h y found = not-false (p y) (ap (is_some_where (λ z. not (p z))) (sym found) ∙ h)

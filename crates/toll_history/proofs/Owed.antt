@@ -1,4 +1,4 @@
--- What a call answers whose plan is decided over the rows of one owner.
+-- What the answer owes of a call whose plan is decided over the rows of one owner.
 use Rattle.std.specs.Prelude.{List, Result, IfOk}
 use Rattle.std.proofs.lemmas.Result.{IfOk-weaker}
 use Rattle.toll_history.proofs.Common.{changes_of, Slice, KeepsRules, Change, Decision}
@@ -8,7 +8,7 @@ use Rattle.toll_history.specs.OwnChanges.{PutsOnly}
 use Rattle.toll_history.specs.Verdict.{Checks}
 use Rattle.toll_history.proofs.PutsOwn.{each_decided}
 
--- where there is a decision, it is right, keeps the rules and puts rows of this owner alone
+-- If there is a decision, it is right, keeps the rules and puts only rows of this owner.
 pub record Owed {E : Type 0} (c : Command) (s : Slice) (r : Result Decision E) : Type 0 where
   pub decides : IfOk r (Decides c s)
   pub rules : IfOk r (DecisionKeepsRules s)
@@ -26,7 +26,7 @@ owed {r = r} plan decided keeps puts = record {
   own = IfOk-weaker r _ _ (λ d. each_decided _ _ _ d puts) plan;
 }
 
--- the same from a law that says both at once, over rows that keep the rules
+-- The same from a law that has both at once, over rows that keep the rules.
 pub owed_by : {E : Type 0} {c : Command} {s : Slice} {checks : Checks} {changes : List Change} {r : Result Decision E} →
     IfOk r (IsDecided checks changes) →
     ((d : Decision) → IsDecided checks changes d → Decides c s d × (KeepsRules s → DecisionKeepsRules s d)) →

@@ -3,9 +3,9 @@ use Rattle.std.proofs.Common.{◌≡◌, Bool, true, false, not, ◌&&◌, cond,
 use Rattle.toll_history.proofs.Common.{false≢true, Bytes, same_bytes, same_bytes-exact}
 use Rattle.toll_history.specs.Command.{Action, Record, Void, Command}
 use Rattle.toll_history.specs.History.{History, part, acts}
-use Rattle.toll_history.specs.Movements.{Movement, moved_by, movements, standing_after, standing, has_key}
+use Rattle.toll_history.specs.Movements.{Movement, moved_by, movements, standing_after, standing, has_move_key}
 
--- a filter that lets all pass that the other does leaves the other's
+-- Filtering by a weaker test first gives the same items.
 filter_idle : {X : Type 0} (p q : X → Bool) → ((x : X) → p x ≡ true → q x ≡ true) → (xs : List X) → filter p (filter q xs) ≡ filter p xs
 filter_idle p q lets [] = refl
 filter_idle p q lets (x ∷ xs) =
@@ -17,7 +17,7 @@ filter_idle p q lets (x ∷ xs) =
       ]
     ] refl
 
--- the owner's actions are those of its part
+-- The owner's actions are those of its part.
 pub acts-part : (o : Bytes) (H : History) → acts o (part o H) ≡ acts o H
 unfolding part acts
 acts-part o H = ap (map (λ c. c.action)) (filter_idle (λ c. same_bytes c.owner o) (λ c. same_bytes c.owner o) (λ c own. own) H)
@@ -40,33 +40,34 @@ part-other o c H other = rw other refl
 
 -- ---- movements
 
-abbrev pub is_own : Bytes → Movement → Bool
-is_own o m = same_bytes m.0 o
+abbrev pub is_own_movement : Bytes → Movement → Bool
+is_own_movement o m = same_bytes m.0 o
 
-own_moved : (o p : Bytes) (a : Action) (ms : List Movement) → same_bytes p o ≡ true → filter (is_own o) (moved_by p a ++ ms) ≡ moved_by p a ++ filter (is_own o) ms
+own_moved : (o p : Bytes) (a : Action) (ms : List Movement) → same_bytes p o ≡ true → filter (is_own_movement o) (moved_by p a ++ ms) ≡ moved_by p a ++ filter (is_own_movement o) ms
 own_moved o p (Record row) ms own = rw own refl
 own_moved o p _ ms own = refl
 
-other_moved : (o p : Bytes) (a : Action) (ms : List Movement) → same_bytes p o ≡ false → filter (is_own o) (moved_by p a ++ ms) ≡ filter (is_own o) ms
+other_moved : (o p : Bytes) (a : Action) (ms : List Movement) → same_bytes p o ≡ false → filter (is_own_movement o) (moved_by p a ++ ms) ≡ filter (is_own_movement o) ms
 other_moved o p (Record row) ms other = rw other refl
 other_moved o p _ ms other = refl
 
--- what is gathered along a history, by a step for each command: the owner's is that of its part, where a step of the owner's keeps to the owner's, and one of another changes nothing of it
+-- A list gathered along a history, by a step for each command. The owner's items are those of the owner's part, because the owner's steps
+-- only use the owner's items, and the steps of others don't change them.
 module _ (gathered : History → List Movement) (step : Bytes → Action → List Movement → List Movement) (none : gathered [] ≡ []) (more : (c : Command) (H : History) → gathered (c ∷ H) ≡ step c.owner c.action (gathered H))
-    (own_step : (o p : Bytes) (a : Action) (ms : List Movement) → same_bytes p o ≡ true → filter (is_own o) (step p a ms) ≡ step p a (filter (is_own o) ms))
-    (other_step : (o p : Bytes) (a : Action) (ms : List Movement) → same_bytes p o ≡ false → filter (is_own o) (step p a ms) ≡ filter (is_own o) ms) where
-  gathered-part : (o : Bytes) (H : History) → filter (is_own o) (gathered H) ≡ gathered (part o H)
+    (own_step : (o p : Bytes) (a : Action) (ms : List Movement) → same_bytes p o ≡ true → filter (is_own_movement o) (step p a ms) ≡ step p a (filter (is_own_movement o) ms))
+    (other_step : (o p : Bytes) (a : Action) (ms : List Movement) → same_bytes p o ≡ false → filter (is_own_movement o) (step p a ms) ≡ filter (is_own_movement o) ms) where
+  gathered-part : (o : Bytes) (H : History) → filter (is_own_movement o) (gathered H) ≡ gathered (part o H)
   unfolding part
-  gathered-part o [] = ap (filter (is_own o)) none ∙ sym none
+  gathered-part o [] = ap (filter (is_own_movement o)) none ∙ sym none
   gathered-part o (c ∷ H) =
-      ap (filter (is_own o)) (more c H)
-      ∙ elim (same_bytes c.owner o) as (λ b. same_bytes c.owner o ≡ b → filter (is_own o) (step c.owner c.action (gathered H)) ≡ gathered (cond b (c ∷ part o H) (part o H))) [
+      ap (filter (is_own_movement o)) (more c H)
+      ∙ elim (same_bytes c.owner o) as (λ b. same_bytes c.owner o ≡ b → filter (is_own_movement o) (step c.owner c.action (gathered H)) ≡ gathered (cond b (c ∷ part o H) (part o H))) [
         | true ↦ λ own. own_step o c.owner c.action (gathered H) own ∙ ap (step c.owner c.action) (gathered-part o H) ∙ sym (more c (part o H))
         | false ↦ λ other. other_step o c.owner c.action (gathered H) other ∙ gathered-part o H
       ] refl
 
--- the owner's movements are those of its part
-pub movements-part : (o : Bytes) (H : History) → filter (is_own o) (movements H) ≡ movements (part o H)
+-- The owner's movements are those of its part.
+pub movements-part : (o : Bytes) (H : History) → filter (is_own_movement o) (movements H) ≡ movements (part o H)
 movements-part = gathered-part movements (λ p a ms. moved_by p a ++ ms) refl (λ c H. refl) own_moved other_moved
 
 filter_swap : {X : Type 0} (p q : X → Bool) (xs : List X) → filter p (filter q xs) ≡ filter q (filter p xs)
@@ -83,7 +84,7 @@ filter_swap p q (x ∷ xs) =
       ]
     ] refl
 
--- one that is not the owner, and one that is, differ
+-- A name that is not the owner's differs from one that is.
 pub other_than : (p o q : Bytes) → same_bytes p o ≡ false → same_bytes q o ≡ true → same_bytes p q ≡ false
 other_than p o q other own = subst (λ r. same_bytes p r ≡ false) (sym (same_bytes-exact q o own)) other
 
@@ -91,16 +92,16 @@ not_keyed : (b rest : Bool) → b ≡ false → not (b && rest) ≡ true
 not_keyed true rest h = absurd (false≢true (sym h))
 not_keyed false rest h = refl
 
-own_standing : (o p : Bytes) (a : Action) (ms : List Movement) → same_bytes p o ≡ true → filter (is_own o) (standing_after p a ms) ≡ standing_after p a (filter (is_own o) ms)
-own_standing o p (Record row) ms own = rw own refl
-own_standing o p (Void key) ms own = filter_swap (is_own o) (λ m. not (has_key p key m)) ms
-own_standing o p _ ms own = refl
+standing_filtered : (o p : Bytes) (a : Action) (ms : List Movement) → same_bytes p o ≡ true → filter (is_own_movement o) (standing_after p a ms) ≡ standing_after p a (filter (is_own_movement o) ms)
+standing_filtered o p (Record row) ms own = rw own refl
+standing_filtered o p (Void key) ms own = filter_swap (is_own_movement o) (λ m. not (has_move_key p key m)) ms
+standing_filtered o p _ ms own = refl
 
-other_standing : (o p : Bytes) (a : Action) (ms : List Movement) → same_bytes p o ≡ false → filter (is_own o) (standing_after p a ms) ≡ filter (is_own o) ms
+other_standing : (o p : Bytes) (a : Action) (ms : List Movement) → same_bytes p o ≡ false → filter (is_own_movement o) (standing_after p a ms) ≡ filter (is_own_movement o) ms
 other_standing o p (Record row) ms other = rw other refl
-other_standing o p (Void key) ms other = filter_idle (is_own o) (λ m. not (has_key p key m)) (λ m own. not_keyed (same_bytes p m.0) (same_bytes key m.1.key) (other_than p o m.0 other own)) ms
+other_standing o p (Void key) ms other = filter_idle (is_own_movement o) (λ m. not (has_move_key p key m)) (λ m own. not_keyed (same_bytes p m.0) (same_bytes key m.1.key) (other_than p o m.0 other own)) ms
 other_standing o p _ ms other = refl
 
--- the owner's standing movements are those of its part
-pub standing-part : (o : Bytes) (H : History) → filter (is_own o) (standing H) ≡ standing (part o H)
-standing-part = gathered-part standing standing_after refl (λ c H. refl) own_standing other_standing
+-- The owner's standing movements are those of its part.
+pub standing-part : (o : Bytes) (H : History) → filter (is_own_movement o) (standing H) ≡ standing (part o H)
+standing-part = gathered-part standing standing_after refl (λ c H. refl) standing_filtered other_standing

@@ -1,16 +1,16 @@
--- What is on hand of an owner's lots, and what its batches did, comes from the owner's part of a history.
+-- What is on hand of an owner's lots, and what its batches did, follows from the owner's part of a history.
 use Rattle.std.proofs.Common.{◌≡◌, ℕ, ◌-◌, Bool, false, ◌&&◌, cond, refl, sym, ap, subst, ◌∙◌}
 use Rattle.toll_history.proofs.Common.{Bytes, same_bytes, house_name, total, lot_id, Consumed, Produced, RequirementRow, Move, Receive, Split, Ship, Scrap, Actual, same_bytes-symm, is_actual_of}
 use Rattle.toll_history.specs.History.{History, part}
 use Rattle.toll_history.specs.Movements.{standing}
 use Rattle.toll_history.specs.Verdict.{IsLawful}
 use Rattle.toll_history.proofs.Own.{standing-part}
-use Rattle.toll_history.proofs.Crossing.{crosses_by, standing_not_crossing, not_same_lot, and_false_two, is_the_owner, neither}
-use Rattle.toll_history.proofs.OwnTables.{total-own}
-use Rattle.toll_history.specs.Amounts.{adds_to, ships_from, uses_up, amounts, on_hand, shipped, meets, serves, actual_of}
+use Rattle.toll_history.proofs.Crossing.{crosses_by, standing_not_crossing, not_same_lot, and_false_two, is_the_owner, neither_name}
+use Rattle.toll_history.proofs.OwnFacts.{total-own}
+use Rattle.toll_history.specs.Amounts.{adds_to, ships_from, uses_up, amounts, on_hand, shipped, meets_requirement, serves, actual_amount}
 
 module _ (o : Bytes) where
-  -- movements of others that do not cross fail the test
+  -- Movements of others that don't cross fail the test.
   abbrev OthersFail : (Bytes → Move → Bool) → Type 0
   OthersFail passes = (p : Bytes) (what : Move) → same_bytes o p ≡ false → crosses_by p what ≡ false → passes p what ≡ false
 
@@ -35,7 +35,7 @@ module _ (o : Bytes) where
     uses_up_not not_house l p (Ship lot sublot) other h = not_same_lot (lot_id o l) p lot other
     uses_up_not not_house l p (Scrap lot sublot) other h = not_same_lot (lot_id o l) p lot other
     uses_up_not not_house l p (Actual order number segment Consumed material lot sublot) other h =
-        and_false_two (same_bytes o lot.owner) _ (neither o p house_name lot.owner h other not_house)
+        and_false_two (same_bytes o lot.owner) _ (neither_name o p house_name lot.owner h other not_house)
     uses_up_not not_house l p (Actual order number segment Produced material lot sublot) other h = refl
     uses_up_not not_house l p (Receive material lot sublot) other h = refl
     uses_up_not not_house l p (Split lot sublot target) other h = refl
@@ -45,7 +45,7 @@ module _ (o : Bytes) where
     ships_from_not l p _ other h = refl
 
     serves_not : (order : Bytes) (number : ℕ) (row : RequirementRow) → OthersFail (serves o order number row)
-    serves_not order number row p what other h = ap (λ x. x && is_actual_of order number what && meets row what) (same_bytes-symm p o ∙ other)
+    serves_not order number row p what other h = ap (λ x. x && is_actual_of order number what && meets_requirement row what) (same_bytes-symm p o ∙ other)
 
     pub on_hand-part : same_bytes o house_name ≡ false → (l : Bytes) → on_hand (part o H) (lot_id o l) ≡ on_hand H (lot_id o l)
     unfolding on_hand
@@ -55,6 +55,6 @@ module _ (o : Bytes) where
     unfolding shipped
     shipped-part l = amounts-part (ships_from (lot_id o l)) (ships_from_not l)
 
-    pub actual_of-part : (order : Bytes) (number : ℕ) (row : RequirementRow) → actual_of (part o H) o order number row ≡ actual_of H o order number row
-    unfolding actual_of
-    actual_of-part order number row = amounts-part (serves o order number row) (serves_not order number row)
+    pub actual_amount-part : (order : Bytes) (number : ℕ) (row : RequirementRow) → actual_amount (part o H) o order number row ≡ actual_amount H o order number row
+    unfolding actual_amount
+    actual_amount-part order number row = amounts-part (serves o order number row) (serves_not order number row)

@@ -1,4 +1,4 @@
--- Whose sublots a movement of a lawful history brings into and takes from, and that they are known.
+-- The owners of the sublots that a movement of a lawful history brings into and takes from; and that these sublots are known.
 use Rattle.std.proofs.Common.{◌≡◌, true, Some, ◌∷◌}
 use Rattle.toll_history.proofs.Common.{AllByRecursion, or_left, Bytes, LotId, MoveRow}
 use Rattle.toll_history.specs.Command.{Action, Record, by}
@@ -27,6 +27,6 @@ takes_still H o a m taken id sub takes = let was = taken id sub takes in (sublot
 pub all_take_known : (H : History) → IsLawful H → AllByRecursion (TakesKnown H) (movements H)
 all_take_known = each_move TakesKnown (λ H o row lawful valid accepted. takes_still H o (Record row) (o, row) (takes_now H o row accepted)) (λ H o a accepted m. takes_still H o a m)
 
--- a movement that a key finds brings into sublots of its owner
+-- The movement with a key brings into sublots of its owner.
 pub found_brings_own : (H : History) → IsLawful H → (o key : Bytes) (row : MoveRow) → movement_of (acts o H) key ≡ Some row → (id : LotId) (sub : Bytes) → brings_into id sub o row.what ≡ true → id.owner ≡ o
 found_brings_own H lawful o key row is id sub brings = (of_found (BringsOwn H) o key row H (all_bring_own H lawful) is id sub brings).0

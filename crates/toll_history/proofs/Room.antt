@@ -1,15 +1,15 @@
--- That a slice has room for what is put, and that no lawful history leads where it has none.
+-- A slice has room for what is put, and no lawful history leads to a slice without room.
 use Rattle.std.proofs.Common.{◌≡◌, ℕ, ◌+◌, ◌-◌, ◌≤◌, Bool, true, false, ◌&&◌, ◌||◌, cond, nat_le, nat_lt, length, Option, Some, None, is_some, is_none, [], ◌∷◌, ◌++◌, refl, ap, ◌∙◌, arith}
-use Rattle.toll_history.proofs.Common.{nat_list_cmp_total, or_left, or_right, option_map_or, nat_tests, Bytes, bytes_cmp, pair_cmp, lot_id, Slice, with_row, material_at, lot_at, sublot_at, move_at, KeepsRules, row_fits, batch_has_room, Refusal, LimitReached, LotRow, MoveRow, SublotRow, and_is, amount_bound, pair_cmp_total}
+use Rattle.toll_history.proofs.Common.{sublot_row_of, nat_list_cmp_total, or_left, or_right, option_map_or, nat_tests, Bytes, bytes_cmp, pair_cmp, lot_id, Slice, with_row, material_at, lot_at, sublot_at, move_at, KeepsRules, row_fits, batch_has_room, Refusal, LimitReached, LotRow, MoveRow, SublotRow, and_is, amount_bound, pair_cmp_total}
 use Rattle.toll_history.specs.Bounds.{sublot_bounds}
 use Rattle.toll_history.specs.Command.{Record, by}
 use Rattle.toll_history.specs.History.{History, acts}
 use Rattle.toll_history.specs.Movements.{count_movements, count_sublots, stock, brings_into, takes_from}
-use Rattle.toll_history.specs.Tables.{tables_of, tables_given, sublot_row}
-use Rattle.toll_history.specs.Verdict.{Accepted, Checks, first_of, stopped, amount_in, verdict, IsLawful, IsValid}
+use Rattle.toll_history.specs.OwnerFacts.{facts_of, facts_given, sublot_row}
+use Rattle.toll_history.specs.Verdict.{Accepted, Checks, verdict_of_checks, verdict_of_check, amount_in, verdict, IsLawful, IsValidAction}
 use Rattle.toll_base.specs.declared.rows.Row.TheVariants.{Lot, Sublot, Move}
-use Rattle.toll_history.proofs.Options.{some_of}
-use Rattle.toll_history.proofs.Decided.{less_of, RowsFit}
+use Rattle.toll_history.proofs.Options.{some_if_not_none}
+use Rattle.toll_history.proofs.Decided.{below_limit, RowsFit}
 use Rattle.toll_history.proofs.LimitsKept.{sublots_of_moves}
 use Rattle.toll_history.proofs.Moving.{held_is}
 use Rattle.toll_base.proofs.PutRules.{put_there, still_there}
@@ -19,17 +19,17 @@ use Rattle.toll_base.specs.declared.capacity.TheConstants.{MOST_LOTS, MOST_MOVEM
 
 -- ---- checks
 
--- bounds that never apply where checks accept say nothing
-pub unbounded : (checks bounds : Checks) → (first_of checks ≡ Accepted → first_of bounds ≡ Accepted) → first_of (checks ++ bounds) ≡ first_of checks
+-- Bounds that never apply if the checks accept don't change the verdict.
+pub unbounded : (checks bounds : Checks) → (verdict_of_checks checks ≡ Accepted → verdict_of_checks bounds ≡ Accepted) → verdict_of_checks (checks ++ bounds) ≡ verdict_of_checks checks
 unbounded [] bounds none = none refl
 unbounded (check ∷ checks) bounds none =
-    elim check.0 as (λ b. (cond b (stopped check.1) (first_of checks) ≡ Accepted → first_of bounds ≡ Accepted) → cond b (stopped check.1) (first_of (checks ++ bounds)) ≡ cond b (stopped check.1) (first_of checks)) [
+    elim check.0 as (λ b. (cond b (verdict_of_check check.1) (verdict_of_checks checks) ≡ Accepted → verdict_of_checks bounds ≡ Accepted) → cond b (verdict_of_check check.1) (verdict_of_checks (checks ++ bounds)) ≡ cond b (verdict_of_check check.1) (verdict_of_checks checks)) [
       | true ↦ λ none. refl
       | false ↦ λ none. unbounded checks bounds none
     ] none
 
-two_pass : (a b : Bool) (x y : Option Refusal) → a ≡ false → b ≡ false → first_of ((a, x) ∷ (b, y) ∷ []) ≡ Accepted
-two_pass a b x y ha hb = (λ i. cond (ha i) (stopped x) (cond (hb i) (stopped y) Accepted))
+two_pass : (a b : Bool) (x y : Option Refusal) → a ≡ false → b ≡ false → verdict_of_checks ((a, x) ∷ (b, y) ∷ []) ≡ Accepted
+two_pass a b x y ha hb = (λ i. cond (ha i) (verdict_of_check x) (cond (hb i) (verdict_of_check y) Accepted))
 
 not_full : (unknown : Bool) (n m : ℕ) → n ≤ m → nat_le MOST_SUBLOTS m ≡ false → (unknown && nat_le MOST_SUBLOTS n) ≡ false
 not_full true n m le room = grind (arith, nat_tests)
@@ -38,43 +38,43 @@ not_full false n m le room = refl
 not_over : (n most : ℕ) → n ≤ most → nat_lt most n ≡ false
 not_over n most le = grind (arith, nat_tests)
 
-more_in : (n m amount after : ℕ) → n ≡ m → after ≡ m + amount - 0 → after ≤ MOST_STOCK → n + amount ≤ MOST_STOCK
-more_in n m amount after e is le = omega arith
+room_for_amount : (n m amount after : ℕ) → n ≡ m → after ≡ m + amount - 0 → after ≤ MOST_STOCK → n + amount ≤ MOST_STOCK
+room_for_amount n m amount after e is le = omega arith
 
--- after an accepted movement into a sublot of the owner there was room for it
-module _ (H : History) (o : Bytes) (row : MoveRow) (lawful : IsLawful H) (valid : IsValid (Record row)) (accepted : verdict H (by o (Record row)) ≡ Accepted) (room : nat_le MOST_MOVEMENTS (count_movements (acts o H)) ≡ false) (lot sub : Bytes) (brings : brings_into (lot_id o lot) sub o row.what ≡ true) (takes : takes_from (lot_id o lot) sub o row.what ≡ false) where
+-- After an accepted movement into a sublot of the owner, there was room for it.
+module _ (H : History) (o : Bytes) (row : MoveRow) (lawful : IsLawful H) (valid : IsValidAction (Record row)) (accepted : verdict H (by o (Record row)) ≡ Accepted) (room : nat_le MOST_MOVEMENTS (count_movements (acts o H)) ≡ false) (lot sub : Bytes) (brings : brings_into (lot_id o lot) sub o row.what ≡ true) (takes : takes_from (lot_id o lot) sub o row.what ≡ false) where
   after_stock : stock (by o (Record row) ∷ H) (lot_id o lot) sub ≡ stock H (lot_id o lot) sub + row.amount - 0
   after_stock = stock-recorded H o row (lot_id o lot) sub lawful ∙ (λ i. stock H (lot_id o lot) sub + cond (brings i) row.amount 0 - cond (takes i) row.amount 0)
 
-  pub sublot_room : first_of (sublot_bounds (tables_given H o) lot sub row.amount) ≡ Accepted
+  pub sublot_room : verdict_of_checks (sublot_bounds (facts_given H o) lot sub row.amount) ≡ Accepted
   sublot_room =
       two_pass _ _ (Some LimitReached) (Some LimitReached)
       (not_full (is_none (sublot_row H o (lot, sub))) (count_sublots H o) (count_movements (acts o H)) (sublots_of_moves H o) room)
-      (not_over (amount_in (tables_given H o) lot sub + row.amount) MOST_STOCK
-      (more_in (amount_in (tables_given H o) lot sub) (stock H (lot_id o lot) sub) row.amount (stock (by o (Record row) ∷ H) (lot_id o lot) sub)
+      (not_over (amount_in (facts_given H o) lot sub + row.amount) MOST_STOCK
+      (room_for_amount (amount_in (facts_given H o) lot sub) (stock H (lot_id o lot) sub) row.amount (stock (by o (Record row) ∷ H) (lot_id o lot) sub)
       (held_is H o lot sub) after_stock (stock_bounded (by o (Record row) ∷ H) (lot_id o lot) sub (lawful, valid, accepted))))
 
 -- ---- slices
 
--- what is there fits, and what is not where there is room
+-- A row that is there fits, and a new row fits if there is room.
 pub room_of : {X : Type 0} (known : Option X) (most n : ℕ) → (is_none known && nat_le most n) ≡ false → (is_some known || nat_lt n most) ≡ true
-room_of None most n h = less_of most n h
+room_of None most n h = below_limit most n h
 room_of (Some x) most n h = refl
 
-at_most : (n most : ℕ) → nat_lt most n ≡ false → nat_le n most ≡ true
-at_most n most h = grind (arith, nat_tests)
+at_most_if_not_less : (n most : ℕ) → nat_lt most n ≡ false → nat_le n most ≡ true
+at_most_if_not_less n most h = grind (arith, nat_tests)
 
 module _ (s : Slice) where
   pub move_room : (row : MoveRow) → nat_le MOST_MOVEMENTS (length s.moves) ≡ false → batch_has_room s row.key row.what ≡ true → row_fits s (Move row) ≡ true
-  move_room row room batch = and_is _ _ (or_right (is_some (move_at s row.key)) _ (less_of MOST_MOVEMENTS (length s.moves) room)) batch
+  move_room row room batch = and_is _ _ (or_right (is_some (move_at s row.key)) _ (below_limit MOST_MOVEMENTS (length s.moves) room)) batch
 
   pub lot_room : (row : LotRow) → (is_none (lot_at s row.lot) && nat_le MOST_LOTS (length s.lots)) ≡ false → is_none (material_at s row.material) ≡ false → row_fits s (Lot row) ≡ true
-  lot_room row room material = and_is _ _ (room_of (lot_at s row.lot) MOST_LOTS (length s.lots) room) (some_of (material_at s row.material) material)
+  lot_room row room material = and_is _ _ (room_of (lot_at s row.lot) MOST_LOTS (length s.lots) room) (some_if_not_none (material_at s row.material) material)
 
   pub sublot_room_in : (row : SublotRow) → (is_none (sublot_at s (row.lot, row.sublot)) && nat_le MOST_SUBLOTS (length s.sublots)) ≡ false → nat_lt MOST_STOCK row.amount ≡ false → is_some (lot_at s row.lot) ≡ true → row_fits s (Sublot row) ≡ true
-  sublot_room_in row room amount lot = and_is _ _ (and_is _ _ (room_of (sublot_at s (row.lot, row.sublot)) MOST_SUBLOTS (length s.sublots) room) (at_most row.amount MOST_STOCK amount)) lot
+  sublot_room_in row room amount lot = and_is _ _ (and_is _ _ (room_of (sublot_at s (row.lot, row.sublot)) MOST_SUBLOTS (length s.sublots) room) (at_most_if_not_less row.amount MOST_STOCK amount)) lot
 
-  -- the rows of a movement into a sublot fit
+  -- The rows of a movement into a sublot fit.
   pub came_fit : (row : MoveRow) (lot : LotRow) (sublot : SublotRow) → sublot.lot ≡ lot.lot →
       nat_le MOST_MOVEMENTS (length s.moves) ≡ false → batch_has_room s row.key row.what ≡ true →
       (is_none (lot_at s lot.lot) && nat_le MOST_LOTS (length s.lots)) ≡ false → is_none (material_at s lot.material) ≡ false →
@@ -84,52 +84,52 @@ module _ (s : Slice) where
       (move_room row moves batch, (lot_room_after, (sublot_room_after, tt)))
     where
       lot_room_after : row_fits (with_row s (Move row)) (Lot lot) ≡ true
-      lot_room_after = and_is _ _ (room_of (lot_at s lot.lot) MOST_LOTS (length s.lots) lots) (some_of (material_at s lot.material) material)
+      lot_room_after = and_is _ _ (room_of (lot_at s lot.lot) MOST_LOTS (length s.lots) lots) (some_if_not_none (material_at s lot.material) material)
 
       sublot_room_after : row_fits (with_row (with_row s (Move row)) (Lot lot)) (Sublot sublot) ≡ true
       sublot_room_after =
-          and_is _ _ (and_is _ _ (room_of (sublot_at s (sublot.lot, sublot.sublot)) MOST_SUBLOTS (length s.sublots) sublots) (at_most sublot.amount MOST_STOCK amount))
+          and_is _ _ (and_is _ _ (room_of (sublot_at s (sublot.lot, sublot.sublot)) MOST_SUBLOTS (length s.sublots) sublots) (at_most_if_not_less sublot.amount MOST_STOCK amount))
           (ap (λ k. is_some (lot_at (with_row (with_row s (Move row)) (Lot lot)) k)) same ∙ ap is_some (put_there bytes_cmp nat_list_cmp_total (λ r. r.lot) s.lots lot))
 
   less_over : (n amount : ℕ) → n ≤ MOST_STOCK → nat_lt MOST_STOCK (n - amount) ≡ false
   less_over n amount le = not_over (n - amount) MOST_STOCK (let l = le in omega arith)
 
-  held_bound : KeepsRules s → (lot sub : Bytes) → amount_in (tables_of s) lot sub ≤ MOST_STOCK
+  held_bound : KeepsRules s → (lot sub : Bytes) → amount_in (facts_of s) lot sub ≤ MOST_STOCK
   held_bound keeps lot sub =
       elim (sublot_at s (lot, sub)) as (λ x. sublot_at s (lot, sub) ≡ x → option_map_or (λ (row : SublotRow). row.amount) x 0 ≤ MOST_STOCK) [
         | None ↦ λ none. omega arith
         | Some row ↦ λ found. amount_bound s keeps (lot, sub) row found
       ] refl
 
-  -- the rows of a movement from a known sublot fit
+  -- The rows of a movement from a known sublot fit.
   pub went_fit : (row : MoveRow) (lot sub : Bytes) (amount : ℕ) → KeepsRules s →
       nat_le MOST_MOVEMENTS (length s.moves) ≡ false → batch_has_room s row.key row.what ≡ true →
       is_none (lot_at s lot) ≡ false → is_none (sublot_at s (lot, sub)) ≡ false →
-      RowsFit (Move row ∷ Sublot (record { lot = lot; sublot = sub; amount = amount_in (tables_of s) lot sub - amount }) ∷ []) s
+      RowsFit (Move row ∷ Sublot (sublot_row_of lot sub (amount_in (facts_of s) lot sub - amount)) ∷ []) s
   went_fit row lot sub amount keeps moves batch lot_there sub_there =
-      (move_room row moves batch, (and_is _ _ (and_is _ _ (or_left _ _ (some_of (sublot_at s (lot, sub)) sub_there)) (at_most _ MOST_STOCK (less_over (amount_in (tables_of s) lot sub) amount (held_bound keeps lot sub)))) (some_of (lot_at s lot) lot_there), tt))
+      (move_room row moves batch, (and_is _ _ (and_is _ _ (or_left _ _ (some_if_not_none (sublot_at s (lot, sub)) sub_there)) (at_most_if_not_less _ MOST_STOCK (less_over (amount_in (facts_of s) lot sub) amount (held_bound keeps lot sub)))) (some_if_not_none (lot_at s lot) lot_there), tt))
 
-  -- the rows of a movement from a known sublot to another one of its lot fit
+  -- The rows of a movement from a known sublot to another of its lot fit.
   pub went_over_fit : (row : MoveRow) (lot sub target : Bytes) (more less : ℕ) → KeepsRules s →
       nat_le MOST_MOVEMENTS (length s.moves) ≡ false → batch_has_room s row.key row.what ≡ true →
       is_none (lot_at s lot) ≡ false → is_none (sublot_at s (lot, sub)) ≡ false →
       (is_none (sublot_at s (lot, target)) && nat_le MOST_SUBLOTS (length s.sublots)) ≡ false → nat_lt MOST_STOCK more ≡ false →
-      RowsFit (Move row ∷ Sublot (record { lot = lot; sublot = target; amount = more }) ∷ Sublot (record { lot = lot; sublot = sub; amount = amount_in (tables_of s) lot sub - less }) ∷ []) s
+      RowsFit (Move row ∷ Sublot (sublot_row_of lot target more) ∷ Sublot (sublot_row_of lot sub (amount_in (facts_of s) lot sub - less)) ∷ []) s
   went_over_fit row lot sub target more less keeps moves batch lot_there sub_there room small = (
     move_room row moves batch,
     (
-      and_is _ _ (and_is _ _ (room_of (sublot_at s (lot, target)) MOST_SUBLOTS (length s.sublots) room) (at_most more MOST_STOCK small)) (some_of (lot_at s lot) lot_there),
+      and_is _ _ (and_is _ _ (room_of (sublot_at s (lot, target)) MOST_SUBLOTS (length s.sublots) room) (at_most_if_not_less more MOST_STOCK small)) (some_if_not_none (lot_at s lot) lot_there),
       (
         and_is _ _
-            (and_is _ _ (or_left _ _ (still_there pair_cmp pair_cmp_total (λ r. (r.lot, r.sublot)) s.sublots (record { lot = lot; sublot = target; amount = more }) (lot, sub) (some_of (sublot_at s (lot, sub)) sub_there)))
-            (at_most _ MOST_STOCK (less_over (amount_in (tables_of s) lot sub) less (held_bound keeps lot sub))))
-            (some_of (lot_at s lot) lot_there),
+            (and_is _ _ (or_left _ _ (still_there pair_cmp pair_cmp_total (λ r. (r.lot, r.sublot)) s.sublots (sublot_row_of lot target more) (lot, sub) (some_if_not_none (sublot_at s (lot, sub)) sub_there)))
+            (at_most_if_not_less _ MOST_STOCK (less_over (amount_in (facts_of s) lot sub) less (held_bound keeps lot sub))))
+            (some_if_not_none (lot_at s lot) lot_there),
         tt,
       ),
     ),
   )
 
-  -- a known sublot with less in it fits
-  pub less_fit : (lot sub : Bytes) (amount : ℕ) → KeepsRules s → is_none (lot_at s lot) ≡ false → is_none (sublot_at s (lot, sub)) ≡ false → row_fits s (Sublot (record { lot = lot; sublot = sub; amount = amount_in (tables_of s) lot sub - amount })) ≡ true
+  -- A known sublot with less in it fits.
+  pub less_fit : (lot sub : Bytes) (amount : ℕ) → KeepsRules s → is_none (lot_at s lot) ≡ false → is_none (sublot_at s (lot, sub)) ≡ false → row_fits s (Sublot (sublot_row_of lot sub (amount_in (facts_of s) lot sub - amount))) ≡ true
   less_fit lot sub amount keeps lot_there sub_there =
-      and_is _ _ (and_is _ _ (or_left _ _ (some_of (sublot_at s (lot, sub)) sub_there)) (at_most _ MOST_STOCK (less_over (amount_in (tables_of s) lot sub) amount (held_bound keeps lot sub)))) (some_of (lot_at s lot) lot_there)
+      and_is _ _ (and_is _ _ (or_left _ _ (some_if_not_none (sublot_at s (lot, sub)) sub_there)) (at_most_if_not_less _ MOST_STOCK (less_over (amount_in (facts_of s) lot sub) amount (held_bound keeps lot sub)))) (some_if_not_none (lot_at s lot) lot_there)

@@ -4,9 +4,9 @@ use Rattle.toll_history.proofs.Common.{list_any, false≢true, Bytes, same_bytes
 use Rattle.toll_history.specs.Command.{Action, PlaceOrder, CancelOrder, by}
 use Rattle.toll_history.specs.History.{History, acts}
 use Rattle.toll_history.specs.Work.{order_of, cancels}
-use Rattle.toll_history.specs.Verdict.{Accepted, verdict, IsLawful, IsValid}
+use Rattle.toll_history.specs.Verdict.{Accepted, verdict, IsLawful, IsValidAction}
 use Rattle.toll_history.proofs.Acts.{along_acts}
-use Rattle.toll_history.proofs.Options.{map_none}
+use Rattle.toll_history.proofs.Options.{is_none_map}
 use Rattle.toll_history.proofs.Passed.{accepted_passes}
 
 second_none : {X : Type 0} (x y : Option X) → is_none (or_else x y) ≡ true → is_none y ≡ true
@@ -16,11 +16,11 @@ second_none (Some x) y h = absurd (false≢true h)
 abbrev pub IsUncancelled : List Action → Type 0
 IsUncancelled own = (k : Bytes) → is_none (order_of own k) ≡ true → list_any (cancels k) own ≡ false
 
-uncancelled_more : (o : Bytes) (H : History) (a : Action) → IsLawful H → IsValid a → verdict H (by o a) ≡ Accepted → IsUncancelled (acts o H) → IsUncancelled (a ∷ acts o H)
+uncancelled_more : (o : Bytes) (H : History) (a : Action) → IsLawful H → IsValidAction a → verdict H (by o a) ≡ Accepted → IsUncancelled (acts o H) → IsUncancelled (a ∷ acts o H)
 uncancelled_more o H (PlaceOrder order recipe batches) lawful valid accepted before k absent =
-    before k (map_none _ _ ∙ second_none (where_so (same_bytes k order) _) _ (sym (map_none _ _) ∙ absent))
+    before k (is_none_map _ _ ∙ second_none (where_so (same_bytes k order) _) _ (sym (is_none_map _ _) ∙ absent))
 uncancelled_more o H (CancelOrder order) lawful valid accepted before k absent =
-    let unknown : is_none (order_of (acts o H) k) ≡ true = map_none _ _ ∙ sym (map_none _ _) ∙ absent in
+    let unknown : is_none (order_of (acts o H) k) ≡ true = is_none_map _ _ ∙ sym (is_none_map _ _) ∙ absent in
     elim (same_bytes order k) as (λ b. same_bytes order k ≡ b → (b || list_any (cancels k) (acts o H)) ≡ false) [
       | true ↦ λ same. absurd (false≢true (sym (accepted_passes H o (CancelOrder order) accepted 0) ∙ ap (λ x. is_none (order_of (acts o H) x)) (same_bytes-exact order k same) ∙ unknown))
       | false ↦ λ other. before k unknown

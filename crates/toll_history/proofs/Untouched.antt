@@ -4,9 +4,9 @@ use Rattle.toll_history.proofs.Common.{false≢true, list_any, or_parts, or_from
 use Rattle.toll_history.specs.Command.{Action, RecordResult, Release, Reject, by}
 use Rattle.toll_history.specs.History.{History, acts}
 use Rattle.toll_history.specs.Movements.{lot_made}
-use Rattle.toll_history.specs.Tables.{lot_row}
-use Rattle.toll_history.specs.Dispositions.{releases, rejects, is_result_of, is_bad, stays_released, disposition_of}
-use Rattle.toll_history.specs.Laws.{IsUntouched}
+use Rattle.toll_history.specs.OwnerFacts.{lot_row}
+use Rattle.toll_history.specs.Dispositions.{releases, rejects, is_result_of, is_out_of_limits, stays_released, disposition_of}
+use Rattle.toll_history.specs.Laws.{IsLotUndisposed}
 use Rattle.toll_history.specs.Verdict.{Accepted, IsLawful, verdict}
 use Rattle.toll_history.proofs.Options.{first_none}
 use Rattle.toll_history.proofs.Passed.{accepted_passes}
@@ -14,25 +14,25 @@ use Rattle.toll_history.proofs.Acts.{any_acts}
 use Rattle.toll_history.proofs.Moving.{lot_row_none}
 use Rattle.toll_history.proofs.Lots.{lot_made-cons}
 
--- the action is a result, a release or a rejection of the lot
+-- whether the action is a result, a release or a rejection of the lot
 abbrev pub is_about : Bytes → Action → Bool
 is_about l (RecordResult lot test value day) = same_bytes lot l
 is_about l (Release lot) = same_bytes lot l
 is_about l (Reject lot) = same_bytes lot l
 is_about l _ = false
 
-none_made : (H : History) (o lot l : Bytes) → lot_made H (lot_id o l) ≡ None → same_bytes lot l ≡ true → is_none (lot_row H o lot) ≡ false → ⊥
-none_made H o lot l none same there = false≢true (
+lot_not_made : (H : History) (o lot l : Bytes) → lot_made H (lot_id o l) ≡ None → same_bytes lot l ≡ true → is_none (lot_row H o lot) ≡ false → ⊥
+lot_not_made H o lot l none same there = false≢true (
     sym there ∙ lot_row_none H o lot ∙ ap (λ x. is_none (lot_made H (lot_id o x))) (same_bytes-exact lot l same) ∙ ap is_none none)
 
--- an accepted action is about no lot that is unknown
+-- An accepted action is about no unknown lot.
 about_known : (H : History) (o : Bytes) (a : Action) → verdict H (by o a) ≡ Accepted → (l : Bytes) → lot_made H (lot_id o l) ≡ None → is_about l a ≡ true → ⊥
-about_known H o (RecordResult lot test value day) accepted l none about = none_made H o lot l none about (accepted_passes H o (RecordResult lot test value day) accepted 0)
-about_known H o (Release lot) accepted l none about = none_made H o lot l none about (accepted_passes H o (Release lot) accepted 0)
-about_known H o (Reject lot) accepted l none about = none_made H o lot l none about (accepted_passes H o (Reject lot) accepted 0)
+about_known H o (RecordResult lot test value day) accepted l none about = lot_not_made H o lot l none about (accepted_passes H o (RecordResult lot test value day) accepted 0)
+about_known H o (Release lot) accepted l none about = lot_not_made H o lot l none about (accepted_passes H o (Release lot) accepted 0)
+about_known H o (Reject lot) accepted l none about = lot_not_made H o lot l none about (accepted_passes H o (Reject lot) accepted 0)
 about_known H o _ accepted l none about = false≢true about
 
--- nor does one more action make the owner's actions be about it
+-- One more action doesn't make any of the owner's actions be about the lot.
 about_none : (H : History) (w : Bytes) (a : Action) → verdict H (by w a) ≡ Accepted → (o l : Bytes) → list_any (is_about l) (acts o H) ≡ false → lot_made H (lot_id o l) ≡ None → list_any (is_about l) (acts o (by w a ∷ H)) ≡ false
 about_none H w a accepted o l before none =
     any_acts (is_about l) o (by w a) H
@@ -45,7 +45,7 @@ none_about (c ∷ H) o l lawful none =
     let before : lot_made H (lot_id o l) ≡ None = first_none _ _ (sym (lot_made-cons H c.owner c.action (lot_id o l)) ∙ none) in
     about_none H c.owner c.action lawful.2 o l (none_about H o l lawful.0 before) before
 
--- ---- what that means
+-- ---- what follows from it
 
 none_such : (p q : Action → Bool) → ((a : Action) → q a ≡ true → p a ≡ true) → (own : List Action) → list_any p own ≡ false → list_any q own ≡ false
 none_such p q implied [] h = refl
@@ -68,25 +68,25 @@ result_about : (l test : Bytes) (a : Action) → is_result_of l test a ≡ true 
 result_about l test (RecordResult lot t value day) is = (both (same_bytes lot l) (same_bytes t test) is).0
 result_about l test _ is = absurd (false≢true is)
 
-untouched_by : (own : List Action) (l : Bytes) → list_any (is_about l) own ≡ false → IsUntouched own l
+untouched_by : (own : List Action) (l : Bytes) → list_any (is_about l) own ≡ false → IsLotUndisposed own l
 untouched_by own l about = record {
   released = none_such (is_about l) (releases l) (release_about l) own about;
   rejected = none_such (is_about l) (rejects l) (reject_about l) own about;
   results = λ test. count_none (is_result_of l test) own (none_such (is_about l) (is_result_of l test) (result_about l test) own about);
 }
 
-pub untouched : (H : History) (o l : Bytes) → IsLawful H → lot_made H (lot_id o l) ≡ None → IsUntouched (acts o H) l
-untouched H o l lawful none = untouched_by (acts o H) l (none_about H o l lawful none)
+pub lot_undisposed : (H : History) (o l : Bytes) → IsLawful H → lot_made H (lot_id o l) ≡ None → IsLotUndisposed (acts o H) l
+lot_undisposed H o l lawful none = untouched_by (acts o H) l (none_about H o l lawful none)
 
--- nor does the action that makes the lot touch it
-pub untouched_after : (H : History) (w : Bytes) (a : Action) (o l : Bytes) → IsLawful H → verdict H (by w a) ≡ Accepted → lot_made H (lot_id o l) ≡ None → IsUntouched (acts o (by w a ∷ H)) l
+-- The action that makes the lot isn't about it either.
+pub untouched_after : (H : History) (w : Bytes) (a : Action) (o l : Bytes) → IsLawful H → verdict H (by w a) ≡ Accepted → lot_made H (lot_id o l) ≡ None → IsLotUndisposed (acts o (by w a ∷ H)) l
 untouched_after H w a o l lawful accepted none = untouched_by (acts o (by w a ∷ H)) l (about_none H w a accepted o l (none_about H o l lawful none) none)
 
--- what was never released doesn't stay released
+-- A lot that was never released doesn't stay released.
 pub never_released : (bad : Bytes → ℤ → Bool) (l : Bytes) (own : List Action) → list_any (releases l) own ≡ false → stays_released bad l own ≡ false
 never_released bad l [] h = refl
 never_released bad l (a ∷ own) h = let parts = or_parts (releases l a) (list_any (releases l) own) h in
     or_from (releases l a) _ parts.0 (and_right _ _ (never_released bad l own parts.1))
 
-pub still_quarantined : (own : List Action) (material l : Bytes) → IsUntouched own l → disposition_of own material l ≡ Quarantined
-still_quarantined own material l none = rw (none.rejected, never_released (is_bad own material) l own none.released) refl
+pub still_quarantined : (own : List Action) (material l : Bytes) → IsLotUndisposed own l → disposition_of own material l ≡ Quarantined
+still_quarantined own material l none = rw (none.rejected, never_released (is_out_of_limits own material) l own none.released) refl

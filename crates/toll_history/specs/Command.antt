@@ -1,8 +1,8 @@
--- What the office is asked to write down.
+-- The commands that the office records.
 use Rattle.std.specs.Prelude.{ℕ, ℤ}
 use Rattle.toll_history.specs.Common.{Bytes, MaterialRow, TestRow, RecipeRow, RequirementRow, Move, MoveRow, StateCommand}
 
--- what is done; everything is named within the owner that the command concerns
+-- an action; all its names are within the owner that the command concerns
 pub data Action : Type 0 where
   AddOwner : (key : Bytes) → Action
   AddUnit : (unit : Bytes) → Action

@@ -1,10 +1,11 @@
--- Words of other crates that several definitions here are said in.
+-- Definitions of other crates that several definitions here use.
 pub use Rattle.std.specs.List.{list_any}
 pub use Rattle.std.specs.Option.{option_map, option_map_or}
 pub use Rattle.toll_base.specs.Bytes.{Bytes, same_bytes}
 pub use Rattle.toll_base.specs.Keys.{RequirementKey, requirement_cmp}
 pub use Rattle.toll_base.specs.Lots.{lot_id, same_lot}
 pub use Rattle.toll_base.specs.Roles.{same_role}
+pub use Rattle.toll_base.specs.Rows.{lot_row_of, sublot_row_of}
 pub use Rattle.toll_base.specs.Slice.{Slice, batch_at, lot_at, material_at, move_at, order_at, recipe_at, requirement_at, result_at, sublot_at, test_at, void_at}
 pub use Rattle.toll_base.specs.SliceRules.{KeepsRules, count_actuals, is_actual_of}
 pub use Rattle.toll_base.specs.States.{followed, is_idle, may_close, next_state}

@@ -39,17 +39,17 @@ result_of (a ∷ own) k = or_else (if is_result_of k.0 k.1 a && count_results_of
 abbrev pub is_outside : Limits → ℤ → Bool
 is_outside limits value = int_lt value limits.low || int_lt limits.high value
 
--- the value is out of the limits of the material's test
-abbrev pub is_bad : List Action → Bytes → Bytes → ℤ → Bool
-is_bad own material test value = is_some_where (λ row. is_outside row.limits value) (test_of own (material, test))
+-- whether the value is out of the limits of the material's test
+abbrev pub is_out_of_limits : List Action → Bytes → Bytes → ℤ → Bool
+is_out_of_limits own material test value = is_some_where (λ row. is_outside row.limits value) (test_of own (material, test))
 
--- the test's latest value is there, and within its limits
-abbrev pub passes : List Action → Bytes → TestRow → Bool
-passes own lot row = is_some_where (λ value. not (is_outside row.limits value)) (latest_value own lot row.test)
+-- whether the test's latest value is there and within its limits
+abbrev pub passes_test : List Action → Bytes → TestRow → Bool
+passes_test own lot row = is_some_where (λ value. not (is_outside row.limits value)) (latest_value own lot row.test)
 
--- a test of the material has no latest value of the lot within its limits
+-- whether some test of the material has no latest value of the lot within its limits
 abbrev pub has_open_test : List Action → Bytes → Bytes → Bool
-has_open_test own material lot = list_any (λ a. is_some_where (λ row. same_bytes row.material material && not (passes own lot row)) (test_added a)) own
+has_open_test own material lot = list_any (λ a. is_some_where (λ row. same_bytes row.material material && not (passes_test own lot row)) (test_added a)) own
 
 -- ---- dispositions
 
@@ -61,16 +61,16 @@ abbrev pub releases : Bytes → Action → Bool
 releases lot (Release l) = same_bytes l lot
 releases lot _ = false
 
--- the action is a result of the lot out of the limits of its test
+-- whether the action is a result of the lot out of the limits of its test
 abbrev pub is_bad_result : (Bytes → ℤ → Bool) → Bytes → Action → Bool
 is_bad_result bad lot (RecordResult l test value day) = same_bytes l lot && bad test value
 is_bad_result bad lot _ = false
 
--- there is a release after which no bad result comes
+-- whether there is a release after which no bad result comes
 abbrev pub stays_released : (Bytes → ℤ → Bool) → Bytes → List Action → Bool
 stays_released bad lot [] = false
 stays_released bad lot (a ∷ own) = releases lot a || not (is_bad_result bad lot a) && stays_released bad lot own
 
 -- for a lot of this material: rejected if it was, otherwise released if it stays so, otherwise quarantined
 abbrev pub disposition_of : List Action → (material lot : Bytes) → Disposition
-disposition_of own material lot = if list_any (rejects lot) own then Rejected else if stays_released (is_bad own material) lot own then Released else Quarantined
+disposition_of own material lot = if list_any (rejects lot) own then Rejected else if stays_released (is_out_of_limits own material) lot own then Released else Quarantined

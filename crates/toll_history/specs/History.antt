@@ -28,7 +28,7 @@ adds_owner _ = false
 abbrev pub owner_key : List Action → Option Bytes
 owner_key own = first_some key_added own
 
--- the plant's own owner, or one that was added
+-- whether the owner is HOUSE or was added
 abbrev pub owner_known : History → Bytes → Bool
 owner_known H o = same_bytes o house_name || list_any adds_owner (acts o H)
 

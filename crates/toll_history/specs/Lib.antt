@@ -5,7 +5,7 @@ pub mod Work
 pub mod Movements
 pub mod Dispositions
 pub mod Holders
-pub mod Tables
+pub mod OwnerFacts
 pub mod Verdict
 pub mod OverRows
 pub mod Bounds

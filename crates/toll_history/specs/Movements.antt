@@ -1,13 +1,13 @@
--- Movements, stock, and where lots come from. A lot is an owner with a name, and is asked about over the commands of all.
+-- Movements, stock, and the origin of lots. A lot is an owner with a name, and its facts follow from the commands of all owners.
 use Rattle.std.specs.Prelude.{ℕ, ◌+◌, ◌-◌, Bool, false, not, ◌&&◌, if◌then◌else◌, Option, Some, None, is_none, List, [], ◌∷◌, ◌++◌, filter}
 use Rattle.toll_history.specs.Common.{list_any, Bytes, same_bytes, lot_id, same_lot, total, count, or_else, is_some_where, where_so, same_role, is_actual_of, MoveRow, Move, Receive, Split, Ship, Scrap, Actual, LotId, Origin, Receipts, Batch, Consumed, Produced}
 use Rattle.toll_history.specs.Command.{Action, Record, Void}
 use Rattle.toll_history.specs.History.{History}
-use Rattle.toll_history.specs.Work.{found, count_added}
+use Rattle.toll_history.specs.Work.{added_row, count_added}
 
 -- ---- movements
 
--- a movement, and the owner in whose rows it is
+-- a movement, and the owner that it belongs to
 abbrev pub Movement : Type 0
 Movement = Bytes × MoveRow
 
@@ -20,13 +20,13 @@ abbrev pub movements : History → List Movement
 movements [] = []
 movements (c ∷ H) = moved_by c.owner c.action ++ movements H
 
-abbrev pub has_key : Bytes → Bytes → Movement → Bool
-has_key o key m = same_bytes o m.0 && same_bytes key m.1.key
+abbrev pub has_move_key : Bytes → Bytes → Movement → Bool
+has_move_key o key m = same_bytes o m.0 && same_bytes key m.1.key
 
--- of the standing movements, those that stand after an action: one that is recorded does, and one that is voided does not
+-- the standing movements after an action, from those before: a recorded movement is added, and a voided one removed
 abbrev pub standing_after : Bytes → Action → List Movement → List Movement
 standing_after o (Record row) ms = (o, row) ∷ ms
-standing_after o (Void key) ms = filter (λ m. not (has_key o key m)) ms
+standing_after o (Void key) ms = filter (λ m. not (has_move_key o key m)) ms
 standing_after o _ ms = ms
 
 -- the movements that no later command voids
@@ -40,7 +40,7 @@ movement_recorded _ = None
 
 -- the movement of an owner with this key
 abbrev pub movement_of : List Action → Bytes → Option MoveRow
-movement_of own key = found movement_recorded (λ row. same_bytes key row.key) own
+movement_of own key = added_row movement_recorded (λ row. same_bytes key row.key) own
 
 abbrev pub count_movements : List Action → ℕ
 count_movements own = count_added movement_recorded own
@@ -49,7 +49,7 @@ abbrev pub voids_key : Bytes → Action → Bool
 voids_key key (Void k) = same_bytes k key
 voids_key key _ = false
 
--- the owner's movement with this key is voided
+-- whether the owner's movement with this key is voided
 abbrev pub voided_in : List Action → Bytes → Bool
 voided_in own key = list_any (voids_key key) own
 
@@ -59,14 +59,14 @@ count_actuals_of own order number = count (λ a. is_some_where (λ row. is_actua
 
 -- ---- stock (IEC 62264-2, material sublots)
 
--- a movement of this owner brings into the sublot: it is received, produced, or the target of a split
+-- whether a movement of this owner brings into the sublot: it is received, produced, or the target of a split
 abbrev pub brings_into : LotId → Bytes → Bytes → Move → Bool
 brings_into id sub o (Receive material lot sublot) = same_lot id (lot_id o lot) && same_bytes sub sublot
 brings_into id sub o (Split lot sublot target) = same_lot id (lot_id o lot) && same_bytes sub target
 brings_into id sub o (Actual order number segment Produced material lot sublot) = same_lot id lot && same_bytes sub sublot
 brings_into id sub o _ = false
 
--- a movement of this owner takes out of the sublot: it is shipped, scrapped, consumed, or split
+-- whether a movement of this owner takes out of the sublot: it is shipped, scrapped, consumed, or split
 abbrev pub takes_from : LotId → Bytes → Bytes → Move → Bool
 takes_from id sub o (Split lot sublot target) = same_lot id (lot_id o lot) && same_bytes sub sublot
 takes_from id sub o (Ship lot sublot) = same_lot id (lot_id o lot) && same_bytes sub sublot
@@ -85,11 +85,11 @@ taken H id sub = total (λ m. if takes_from id sub m.0 m.1.what then m.1.amount 
 unfoldable pub stock : History → LotId → Bytes → ℕ
 stock H id sub = brought H id sub - taken H id sub
 
--- a sublot is known if a movement brings into it, voided or not
+-- whether the sublot is known: a movement brings into it, voided or not
 unfoldable pub sublot_known : History → LotId → Bytes → Bool
 sublot_known H id sub = list_any (λ m. brings_into id sub m.0 m.1.what) (movements H)
 
--- ---- where a lot comes from (IEC 62264-2, material lots)
+-- ---- the origin of a lot (IEC 62264-2, material lots)
 
 -- a lot's material and its origin
 pub record Made : Type 0 where
@@ -111,7 +111,7 @@ lot_made H id = first_made id (movements H)
 
 -- ---- the lots and sublots of an owner
 
--- a movement makes a lot of its owner's: none before it brought into that lot
+-- whether a movement makes a lot of its owner's: none before it brought into that lot
 abbrev pub makes_lot : Bytes → Move → List Movement → Bool
 makes_lot o (Receive material lot sublot) ms = is_none (first_made (lot_id o lot) ms)
 makes_lot o (Actual order number segment Produced material lot sublot) ms = is_none (first_made lot ms)
@@ -120,7 +120,7 @@ makes_lot o _ ms = false
 abbrev pub sublot_in : LotId → Bytes → List Movement → Bool
 sublot_in id sub ms = list_any (λ m. brings_into id sub m.0 m.1.what) ms
 
--- a movement makes a sublot: none before it brought into that sublot
+-- whether a movement makes a sublot: none before it brought into that sublot
 abbrev pub makes_sublot : Bytes → Move → List Movement → Bool
 makes_sublot o (Receive material lot sublot) ms = not (sublot_in (lot_id o lot) sublot ms)
 makes_sublot o (Split lot sublot target) ms = not (sublot_in (lot_id o lot) target ms)
@@ -142,6 +142,6 @@ count_sublots H o = count_making makes_sublot o (movements H)
 abbrev pub lot_brought : Bytes → Movement → Option Bytes
 lot_brought o m = elim m.1.what [ Receive material lot sublot ↦ where_so (same_bytes o m.0) lot | Actual order number segment role material lot sublot ↦ where_so (same_role role Produced && same_bytes o lot.owner) lot.lot | _ ↦ None ]
 
--- a lot of the owner is of this material
+-- whether a lot of the owner is of this material
 unfoldable pub material_used : History → Bytes → Bytes → Bool
 material_used H o material = list_any (λ m. is_some_where (λ lot. is_some_where (λ made. same_bytes made.material material) (lot_made H (lot_id o lot))) (lot_brought o m)) (movements H)

@@ -6,8 +6,9 @@ use Rattle.toll_history.specs.Command.{Action, AddOwner, AddUnit, AddMaterial, A
 use Rattle.toll_history.specs.History.{History, owner_known, count_owners, unit_known, count_units}
 use Rattle.toll_history.specs.Holders.{holder}
 use Rattle.toll_history.specs.Dispositions.{is_outside}
-use Rattle.toll_history.specs.Tables.{Tables, tables_given}
+use Rattle.toll_history.specs.OwnerFacts.{OwnerFacts, facts_given}
 use Rattle.toll_base.specs.declared.refusal.Refusal.TheVariants.{UnknownOwner, OwnerExists, UnitExists, UnknownUnit, UnitBusy, MaterialExists, UnknownMaterial, MaterialInUse, TestExists, RecipeExists, UnknownRecipe, RecipeInUse, BadSegment, RequirementExists, OrderExists, UnknownOrder, OrderCancelled, OrderStarted, NoMoreBatches, UnknownBatch, BadState, BatchClosed, BatchIdle, NotInRecipe, UnknownLot, UnknownSublot, WrongMaterial, WrongOrigin, NotReleased, NotQuarantined, NotEnough, SameSublot, KeyConflict, TestsOpen, UnknownTest, CrossOwner, LimitReached, UnknownKey, Voided, Rejected}
+pub use Rattle.toll_base.specs.SliceRules.{is_actual}
 
 pub data Verdict : Type 0 where
   Accepted : Verdict
@@ -18,14 +19,14 @@ pub data Verdict : Type 0 where
 abbrev pub Checks : Type 0
 Checks = List (Bool × Option Refusal)
 
-abbrev pub stopped : Option Refusal → Verdict
-stopped None = Repeated
-stopped (Some why) = Refused why
+abbrev pub verdict_of_check : Option Refusal → Verdict
+verdict_of_check None = Repeated
+verdict_of_check (Some why) = Refused why
 
 -- what the first check that applies says; accepted if none does
-abbrev pub first_of : Checks → Verdict
-first_of [] = Accepted
-first_of (check ∷ more) = if check.0 then stopped check.1 else first_of more
+abbrev pub verdict_of_checks : Checks → Verdict
+verdict_of_checks [] = Accepted
+verdict_of_checks (check ∷ more) = if check.0 then verdict_of_check check.1 else verdict_of_checks more
 
 -- ---- words of the checks
 
@@ -45,29 +46,29 @@ abbrev pub is_receipts : Origin → Bool
 is_receipts Receipts = true
 is_receipts _ = false
 
--- the lot is of this batch
+-- whether the lot is of this batch
 abbrev pub is_made_by : Bytes → ℕ → Origin → Bool
 is_made_by order number Receipts = false
 is_made_by order number (Batch o n) = same_bytes o order && n == number
 
--- what is in the sublot
-abbrev pub amount_in : Tables → (lot sublot : Bytes) → ℕ
+-- the amount in the sublot
+abbrev pub amount_in : OwnerFacts → (lot sublot : Bytes) → ℕ
 amount_in t lot sublot = option_map_or (λ row. row.amount) (t.sublot (lot, sublot)) 0
 
--- a source, or a lot's owner, that is neither the owner nor HOUSE, or isn't the owner if it is produced
+-- whether the source, or the lot's owner, is neither the owner nor HOUSE; or isn't the owner, for a production
 abbrev pub crosses : Bytes → Role → Bytes → Bool
 crosses o Consumed source = not (same_bytes source o || same_bytes source house_name)
 crosses o Produced source = not (same_bytes source o)
 
 -- ---- materials, tests, recipes
 
-abbrev pub material_checks : Tables → MaterialRow → Checks
+abbrev pub material_checks : OwnerFacts → MaterialRow → Checks
 material_checks t row =
     (is_some (t.material row.material), Some MaterialExists)
     ∷ (nat_le MOST_MATERIALS t.materials, Some LimitReached)
     ∷ []
 
-abbrev pub test_checks : Tables → TestRow → Checks
+abbrev pub test_checks : OwnerFacts → TestRow → Checks
 test_checks t row =
     (is_none (t.material row.material), Some UnknownMaterial)
     ∷ (is_some (t.test (row.material, row.test)), Some TestExists)
@@ -75,7 +76,7 @@ test_checks t row =
     ∷ (nat_le MOST_TESTS t.tests, Some LimitReached)
     ∷ []
 
-abbrev pub recipe_checks : Tables → RecipeRow → Checks
+abbrev pub recipe_checks : OwnerFacts → RecipeRow → Checks
 recipe_checks t row =
     (is_some (t.recipe row.recipe), Some RecipeExists)
     ∷ (nat_le MOST_RECIPES t.recipes, Some LimitReached)
@@ -85,7 +86,7 @@ abbrev pub requirement_key : RequirementRow → RequirementKey
 requirement_key row = (row.recipe, row.segment, row.role, row.source, row.material)
 
 -- over the tables of the owner, and of the source
-abbrev pub requirement_checks : Bytes → Tables → Tables → RequirementRow → Checks
+abbrev pub requirement_checks : Bytes → OwnerFacts → OwnerFacts → RequirementRow → Checks
 requirement_checks o t source row =
     (is_none (t.recipe row.recipe), Some UnknownRecipe)
     ∷ (t.recipe_used row.recipe, Some RecipeInUse)
@@ -101,7 +102,7 @@ requirement_checks o t source row =
 abbrev pub is_equal_order : Bytes → ℕ → OrderRow → Bool
 is_equal_order recipe batches row = same_bytes row.recipe recipe && row.batches == batches
 
-abbrev pub order_checks : Tables → (order recipe : Bytes) → (batches : ℕ) → Checks
+abbrev pub order_checks : OwnerFacts → (order recipe : Bytes) → (batches : ℕ) → Checks
 order_checks t order recipe batches =
     (is_some_where (is_equal_order recipe batches) (t.order order), None)
     ∷ (is_some (t.order order), Some OrderExists)
@@ -110,55 +111,55 @@ order_checks t order recipe batches =
     ∷ []
 
 -- what cancelling an order and opening a batch of it have in common
-abbrev pub standing_order_checks : Tables → (order : Bytes) → Checks
-standing_order_checks t order =
+abbrev pub uncancelled_order_checks : OwnerFacts → (order : Bytes) → Checks
+uncancelled_order_checks t order =
     (is_none (t.order order), Some UnknownOrder)
     ∷ (is_some_where (λ row. row.cancelled) (t.order order), Some OrderCancelled)
     ∷ []
 
-abbrev pub cancel_checks : Tables → (order : Bytes) → Checks
-cancel_checks t order = standing_order_checks t order ++ (nat_lt 0 (t.opened order), Some OrderStarted) ∷ []
+abbrev pub cancel_checks : OwnerFacts → (order : Bytes) → Checks
+cancel_checks t order = uncancelled_order_checks t order ++ (nat_lt 0 (t.opened order), Some OrderStarted) ∷ []
 
 -- whether the unit is known, and whether it is held
-abbrev pub open_checks : Tables → (order : Bytes) → (known busy : Bool) → Checks
+abbrev pub open_checks : OwnerFacts → (order : Bytes) → (known busy : Bool) → Checks
 open_checks t order known busy =
-    standing_order_checks t order
+    uncancelled_order_checks t order
     ++ (is_some_where (λ row. nat_le row.batches (t.opened order)) (t.order order), Some NoMoreBatches)
     ∷ (not known, Some UnknownUnit)
     ∷ (busy, Some UnitBusy)
     ∷ []
 
 -- what a command to a batch, its closing, an actual and a view of it have in common
-abbrev pub known_batch_checks : Tables → (order : Bytes) → (number : ℕ) → Checks
+abbrev pub known_batch_checks : OwnerFacts → (order : Bytes) → (number : ℕ) → Checks
 known_batch_checks t order number =
     (is_none (t.order order), Some UnknownOrder)
     ∷ (is_none (t.batch (order, number)), Some UnknownBatch)
     ∷ []
 
-abbrev pub open_batch_checks : Tables → (order : Bytes) → (number : ℕ) → Checks
+abbrev pub open_batch_checks : OwnerFacts → (order : Bytes) → (number : ℕ) → Checks
 open_batch_checks t order number = known_batch_checks t order number ++ (is_some_where (λ row. row.closed) (t.batch (order, number)), Some BatchClosed) ∷ []
 
-abbrev pub batch_command_checks : Tables → (order : Bytes) → (number : ℕ) → StateCommand → Checks
+abbrev pub batch_command_checks : OwnerFacts → (order : Bytes) → (number : ℕ) → StateCommand → Checks
 batch_command_checks t order number command = open_batch_checks t order number ++ (is_some_where (λ row. is_none (next_state row.state command)) (t.batch (order, number)), Some BadState) ∷ []
 
-abbrev pub close_checks : Tables → (order : Bytes) → (number : ℕ) → Checks
+abbrev pub close_checks : OwnerFacts → (order : Bytes) → (number : ℕ) → Checks
 close_checks t order number = open_batch_checks t order number ++ (is_some_where (λ row. not (may_close row.state)) (t.batch (order, number)), Some BadState) ∷ []
 
 -- ---- movements
 
--- a known key repeats an equal movement that stands, and is in conflict with any other
-abbrev pub key_checks : Tables → MoveRow → Checks
+-- An equal movement under a known key is voided or repeated, and any other conflicts.
+abbrev pub key_checks : OwnerFacts → MoveRow → Checks
 key_checks t row =
     (is_some_where (same_movement row) (t.movement row.key) && t.voided row.key, Some Voided)
     ∷ (is_some_where (same_movement row) (t.movement row.key), None)
     ∷ (is_some (t.movement row.key), Some KeyConflict)
     ∷ []
 
--- a movement of the owner more is above the limit
-abbrev pub movements_full : Tables → Bool
+-- whether one more movement of the owner is above the limit
+abbrev pub movements_full : OwnerFacts → Bool
 movements_full t = nat_le MOST_MOVEMENTS t.movements
 
-abbrev pub receive_checks : Tables → (material lot : Bytes) → Checks
+abbrev pub receive_checks : OwnerFacts → (material lot : Bytes) → Checks
 receive_checks t material lot =
     (is_none (t.material material), Some UnknownMaterial)
     ∷ (is_some_where (λ row. not (is_receipts row.origin)) (t.lot lot), Some WrongOrigin)
@@ -168,11 +169,11 @@ receive_checks t material lot =
     ∷ []
 
 -- the lot gives material to a shipment or a batch
-abbrev pub giving_check : Tables → (lot : Bytes) → Checks
+abbrev pub giving_check : OwnerFacts → (lot : Bytes) → Checks
 giving_check t lot = (is_some_where (λ row. not (is_released row.disposition)) (t.lot lot), Some NotReleased) ∷ []
 
--- material is taken from a sublot: what is checked of the lot, of the sublot, and of the room for the movement
-abbrev pub taking_checks : (of_lot of_sublot : Checks) → (is_full : Bool) → Tables → (lot sublot : Bytes) → ℕ → Checks
+-- the checks for taking material from a sublot: those of the lot, of the sublot, and of the room for the movement
+abbrev pub taking_checks : (of_lot of_sublot : Checks) → (is_full : Bool) → OwnerFacts → (lot sublot : Bytes) → ℕ → Checks
 taking_checks of_lot of_sublot is_full t lot sublot amount =
     (is_none (t.lot lot), Some UnknownLot)
     ∷ of_lot
@@ -182,29 +183,29 @@ taking_checks of_lot of_sublot is_full t lot sublot amount =
     ∷ (is_full, Some LimitReached)
     ∷ []
 
-abbrev pub scrap_checks : Tables → (lot sublot : Bytes) → ℕ → Checks
+abbrev pub scrap_checks : OwnerFacts → (lot sublot : Bytes) → ℕ → Checks
 scrap_checks t lot sublot amount = taking_checks [] [] (movements_full t) t lot sublot amount
 
-abbrev pub split_checks : Tables → (lot sublot target : Bytes) → ℕ → Checks
+abbrev pub split_checks : OwnerFacts → (lot sublot target : Bytes) → ℕ → Checks
 split_checks t lot sublot target amount = (same_bytes sublot target, Some SameSublot) ∷ scrap_checks t lot sublot amount
 
-abbrev pub ship_checks : Tables → (lot sublot : Bytes) → ℕ → Checks
+abbrev pub ship_checks : OwnerFacts → (lot sublot : Bytes) → ℕ → Checks
 ship_checks t lot sublot amount = taking_checks [] (giving_check t lot) (movements_full t) t lot sublot amount
 
 -- the recipe of the order that is there
-abbrev pub recipe_of_order : Tables → Bytes → Bytes
+abbrev pub recipe_of_order : OwnerFacts → Bytes → Bytes
 recipe_of_order t order = option_map_or (λ row. row.recipe) (t.order order) []
 
--- the segment is above those of the order's recipe
-abbrev pub is_bad_segment : Tables → Bytes → ℕ → Bool
+-- whether the segment is above those of the order's recipe
+abbrev pub is_bad_segment : OwnerFacts → Bytes → ℕ → Bool
 is_bad_segment t order segment = is_some_where (λ recipe. nat_lt recipe.segments segment) (t.recipe (recipe_of_order t order))
 
--- a movement of the owner, or an actual of the batch, more is above the limit
-abbrev pub actuals_full : Tables → Bytes → ℕ → Bool
+-- whether one more movement of the owner, or one more actual of the batch, is above the limit
+abbrev pub actuals_full : OwnerFacts → Bytes → ℕ → Bool
 actuals_full t order number = movements_full t || nat_le MOST_ACTUALS (t.actuals order number)
 
 -- what consumptions and productions have in common
-abbrev pub actual_checks : Bytes → Tables → (order : Bytes) → (number segment : ℕ) → Role → (material : Bytes) → LotId → Checks
+abbrev pub actual_checks : Bytes → OwnerFacts → (order : Bytes) → (number segment : ℕ) → Role → (material : Bytes) → LotId → Checks
 actual_checks o t order number segment role material lot =
     open_batch_checks t order number
     ++ (is_some_where (λ row. is_idle row.state) (t.batch (order, number)), Some BatchIdle)
@@ -214,11 +215,11 @@ actual_checks o t order number segment role material lot =
     ∷ []
 
 -- over the tables of the batch's owner, and of the lot's
-abbrev pub consumed_checks : Tables → Tables → (order : Bytes) → (number : ℕ) → (material lot sublot : Bytes) → ℕ → Checks
+abbrev pub consumed_checks : OwnerFacts → OwnerFacts → (order : Bytes) → (number : ℕ) → (material lot sublot : Bytes) → ℕ → Checks
 consumed_checks t u order number material lot sublot amount =
     taking_checks ((is_some_where (λ row. not (same_bytes row.material material)) (u.lot lot), Some WrongMaterial) ∷ giving_check u lot) [] (actuals_full t order number) u lot sublot amount
 
-abbrev pub produced_checks : Tables → (order : Bytes) → (number : ℕ) → (material lot : Bytes) → Checks
+abbrev pub produced_checks : OwnerFacts → (order : Bytes) → (number : ℕ) → (material lot : Bytes) → Checks
 produced_checks t order number material lot =
     (is_some_where (λ row. not (is_made_by order number row.origin)) (t.lot lot), Some WrongOrigin)
     ∷ (is_some_where (λ row. not (same_bytes row.material material)) (t.lot lot), Some WrongMaterial)
@@ -227,10 +228,10 @@ produced_checks t order number material lot =
     ∷ []
 
 -- the tables of a lot's owner, which is the owner or HOUSE
-abbrev pub tables_for : Bytes → Tables → Tables → Bytes → Tables
+abbrev pub tables_for : Bytes → OwnerFacts → OwnerFacts → Bytes → OwnerFacts
 tables_for o t house source = if same_bytes source o then t else house
 
-abbrev pub movement_checks : Bytes → Tables → Tables → Move → ℕ → Checks
+abbrev pub movement_checks : Bytes → OwnerFacts → OwnerFacts → Move → ℕ → Checks
 movement_checks o t house (Receive material lot sublot) amount = receive_checks t material lot
 movement_checks o t house (Split lot sublot target) amount = split_checks t lot sublot target amount
 movement_checks o t house (Ship lot sublot) amount = ship_checks t lot sublot amount
@@ -242,7 +243,7 @@ movement_checks o t house (Actual order number segment Produced material lot sub
 
 -- ---- results and dispositions
 
-abbrev pub result_checks : Tables → (lot test : Bytes) → Checks
+abbrev pub result_checks : OwnerFacts → (lot test : Bytes) → Checks
 result_checks t lot test =
     (is_none (t.lot lot), Some UnknownLot)
     ∷ (is_some_where (λ row. is_none (t.test (row.material, test))) (t.lot lot), Some UnknownTest)
@@ -250,18 +251,18 @@ result_checks t lot test =
     ∷ (nat_le MOST_RESULTS t.results, Some LimitReached)
     ∷ []
 
--- a test of the lot's material has no latest value within its limits
-abbrev pub tests_open : Tables → (lot : Bytes) → Bool
+-- whether some test of the lot's material has no latest value within its limits
+abbrev pub tests_open : OwnerFacts → (lot : Bytes) → Bool
 tests_open t lot = is_some_where (λ known. t.any_test (λ row. same_bytes row.material known.material && not (is_some_where (λ value. not (is_outside row.limits value)) (t.latest lot row.test)))) (t.lot lot)
 
-abbrev pub release_checks : Tables → (lot : Bytes) → Checks
+abbrev pub release_checks : OwnerFacts → (lot : Bytes) → Checks
 release_checks t lot =
     (is_none (t.lot lot), Some UnknownLot)
     ∷ (is_some_where (λ row. not (is_quarantined row.disposition)) (t.lot lot), Some NotQuarantined)
     ∷ (tests_open t lot, Some TestsOpen)
     ∷ []
 
-abbrev pub reject_checks : Tables → (lot : Bytes) → Checks
+abbrev pub reject_checks : OwnerFacts → (lot : Bytes) → Checks
 reject_checks t lot =
     (is_none (t.lot lot), Some UnknownLot)
     ∷ (is_some_where (λ row. is_rejected row.disposition) (t.lot lot), Some Rejected)
@@ -269,21 +270,17 @@ reject_checks t lot =
 
 -- ---- voiding an actual
 
-abbrev pub is_actual : Move → Bool
-is_actual (Actual order number segment role material lot sublot) = true
-is_actual _ = false
-
--- the batch of the actual is closed
-abbrev pub is_of_closed : Tables → Move → Bool
+-- whether the batch of the actual is closed
+abbrev pub is_of_closed : OwnerFacts → Move → Bool
 is_of_closed t (Actual order number segment role material lot sublot) = is_some_where (λ row. row.closed) (t.batch (order, number))
 is_of_closed t _ = false
 
--- a production of more than its sublot holds
-abbrev pub takes_too_much : Tables → ℕ → Move → Bool
+-- whether the movement is a production of more than its sublot holds
+abbrev pub takes_too_much : OwnerFacts → ℕ → Move → Bool
 takes_too_much t amount (Actual order number segment Produced material lot sublot) = nat_lt (amount_in t lot.lot sublot) amount
 takes_too_much t amount _ = false
 
-abbrev pub void_checks : Tables → (key : Bytes) → Checks
+abbrev pub void_checks : OwnerFacts → (key : Bytes) → Checks
 void_checks t key =
     (not (is_some_where (λ row. is_actual row.what) (t.movement key)), Some UnknownKey)
     ∷ (t.voided key, Some Voided)
@@ -294,15 +291,15 @@ void_checks t key =
 -- ---- the verdict
 
 -- what the plant alone sees: owners and units
-pub record Plant : Type 0 where
+pub record PlantFacts : Type 0 where
   pub owner_known : Bytes → Bool
   pub owners : ℕ
   pub unit_known : Bytes → Bool
   pub units : ℕ
   pub unit_busy : Bytes → Bool
 
-abbrev pub plant_given : History → Plant
-plant_given H = record {
+abbrev pub plant_facts_given : History → PlantFacts
+plant_facts_given H = record {
   owner_known = owner_known H;
   owners = count_owners H;
   unit_known = unit_known H;
@@ -311,7 +308,7 @@ plant_given H = record {
 }
 
 -- the checks of an owner's action, over the owner's tables and HOUSE's
-abbrev pub action_checks : Plant → Bytes → Tables → Tables → Action → Checks
+abbrev pub action_checks : PlantFacts → Bytes → OwnerFacts → OwnerFacts → Action → Checks
 action_checks p o t house (AddOwner key) = (p.owner_known o, Some OwnerExists) ∷ (nat_le MOST_OWNERS p.owners, Some LimitReached) ∷ []
 action_checks p o t house (AddUnit unit) = (p.unit_known unit, Some UnitExists) ∷ (nat_le MOST_UNITS p.units, Some LimitReached) ∷ []
 action_checks p o t house (AddMaterial row) = material_checks t row
@@ -329,17 +326,17 @@ action_checks p o t house (Release lot) = release_checks t lot
 action_checks p o t house (Reject lot) = reject_checks t lot
 action_checks p o t house (Void key) = void_checks t key
 
--- every action but the adding of an owner needs its owner to be known
+-- whether the action needs its owner to be known: each one does but adding an owner
 abbrev pub needs_owner : Action → Bool
 needs_owner (AddOwner key) = false
 needs_owner _ = true
 
 unfoldable pub checks : History → Command → Checks
-checks H c = (needs_owner c.action && not (owner_known H c.owner), Some UnknownOwner) ∷ action_checks (plant_given H) c.owner (tables_given H c.owner) (tables_given H house_name) c.action
+checks H c = (needs_owner c.action && not (owner_known H c.owner), Some UnknownOwner) ∷ action_checks (plant_facts_given H) c.owner (facts_given H c.owner) (facts_given H house_name) c.action
 
 -- the verdict on a command after a history
 abbrev pub verdict : History → Command → Verdict
-verdict H c = first_of (checks H c)
+verdict H c = verdict_of_checks (checks H c)
 
 -- the history after a command that is judged so
 abbrev pub grown : Verdict → History → Command → History
@@ -352,13 +349,13 @@ grow H c = grown (verdict H c) H c
 
 -- ---- lawful histories
 
--- the amount of a movement is one, and so is how many batches an order is for
-abbrev pub IsValid : Action → Type 0
-IsValid (Record row) = IsAmount row.amount
-IsValid (PlaceOrder order recipe batches) = IsBatchNo batches
-IsValid _ = Unit {0}
+-- The amount of a movement is valid, and so is the number of an order's batches.
+abbrev pub IsValidAction : Action → Type 0
+IsValidAction (Record row) = IsAmount row.amount
+IsValidAction (PlaceOrder order recipe batches) = IsBatchNo batches
+IsValidAction _ = Unit {0}
 
--- each command was accepted over those before it
+-- Each command was accepted over those before it.
 abbrev pub IsLawful : History → Type 0
 IsLawful [] = Unit {0}
-IsLawful (c ∷ H) = IsLawful H × IsValid c.action × (verdict H c ≡ Accepted)
+IsLawful (c ∷ H) = IsLawful H × IsValidAction c.action × (verdict H c ≡ Accepted)

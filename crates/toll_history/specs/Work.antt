@@ -1,4 +1,4 @@
--- Materials, tests, recipes, orders and batches of one owner, of which the owner's own actions tell.
+-- Materials, tests, recipes, orders and batches of one owner, by the owner's own actions.
 use Rattle.std.specs.Prelude.{ℕ, ◌+◌, Bool, false, ◌&&◌, ◌==◌, if◌then◌else◌, Option, Some, None, is_some, List, [], ◌∷◌}
 use Rattle.toll_history.specs.Common.{list_any, option_map, option_map_or, Bytes, same_bytes, RequirementKey, requirement_cmp, count, first_some, where_so, or_else, followed, State, MaterialRow, TestRow, RecipeRow, RequirementRow, OrderRow, BatchRow}
 use Rattle.std.specs.Ordering.{is_eq}
@@ -6,8 +6,8 @@ use Rattle.toll_history.specs.Command.{Action, AddMaterial, AddTest, AddRecipe, 
 use Rattle.toll_base.specs.declared.state.State.TheVariants.{Idle}
 
 -- the row that was added and passes the test, of those that actions add
-abbrev pub found : {R : Type 0} → (Action → Option R) → (R → Bool) → List Action → Option R
-found added passes own = first_some (λ a. elim (added a) [ Some row ↦ where_so (passes row) row | None ↦ None ]) own
+abbrev pub added_row : {R : Type 0} → (Action → Option R) → (R → Bool) → List Action → Option R
+added_row added passes own = first_some (λ a. elim (added a) [ Some row ↦ where_so (passes row) row | None ↦ None ]) own
 
 -- how many were added
 abbrev pub count_added : {R : Type 0} → (Action → Option R) → List Action → ℕ
@@ -21,7 +21,7 @@ material_added _ = None
 
 -- the material with this name
 abbrev pub material_of : List Action → Bytes → Option MaterialRow
-material_of own m = found material_added (λ row. same_bytes m row.material) own
+material_of own m = added_row material_added (λ row. same_bytes m row.material) own
 
 -- the measure of the material
 abbrev pub measure_of : List Action → Bytes → Bytes
@@ -36,19 +36,19 @@ test_added _ = None
 
 -- the test of the material
 abbrev pub test_of : List Action → Bytes × Bytes → Option TestRow
-test_of own k = found test_added (λ row. same_bytes k.0 row.material && same_bytes k.1 row.test) own
+test_of own k = added_row test_added (λ row. same_bytes k.0 row.material && same_bytes k.1 row.test) own
 
 abbrev pub count_tests : List Action → ℕ
 count_tests own = count_added test_added own
 
--- ---- recipes and their requirements (IEC 62264-2, segment requirements)
+-- ---- recipes and their requirements (IEC 62264-2, operations definitions and operations material specifications)
 
 abbrev pub recipe_added : Action → Option RecipeRow
 recipe_added (AddRecipe row) = Some row
 recipe_added _ = None
 
 abbrev pub recipe_of : List Action → Bytes → Option RecipeRow
-recipe_of own r = found recipe_added (λ row. same_bytes r row.recipe) own
+recipe_of own r = added_row recipe_added (λ row. same_bytes r row.recipe) own
 
 abbrev pub count_recipes : List Action → ℕ
 count_recipes own = count_added recipe_added own
@@ -57,12 +57,12 @@ abbrev pub required : Action → Option RequirementRow
 required (Require row) = Some row
 required _ = None
 
--- the two keys of requirements are equal
+-- whether the two keys of requirements are equal
 abbrev pub same_requirement : RequirementKey → RequirementKey → Bool
 same_requirement a b = is_eq (requirement_cmp a b)
 
 abbrev pub requirement_of : List Action → RequirementKey → Option RequirementRow
-requirement_of own k = found required (λ row. same_requirement k (row.recipe, row.segment, row.role, row.source, row.material)) own
+requirement_of own k = added_row required (λ row. same_requirement k (row.recipe, row.segment, row.role, row.source, row.material)) own
 
 abbrev pub count_requirements : List Action → ℕ
 count_requirements own = count_added required own
@@ -81,7 +81,7 @@ cancels order _ = false
 abbrev pub order_of : List Action → Bytes → Option OrderRow
 order_of own order =
     option_map {T = OrderRow} (λ row. record row { cancelled = list_any (cancels order) own })
-    (found order_placed (λ row. same_bytes order row.order) own)
+    (added_row order_placed (λ row. same_bytes order row.order) own)
 
 abbrev pub count_orders : List Action → ℕ
 count_orders own = count_added order_placed own
@@ -90,7 +90,7 @@ abbrev pub names_recipe : Bytes → Action → Bool
 names_recipe recipe (PlaceOrder o r n) = same_bytes r recipe
 names_recipe recipe _ = false
 
--- an order names the recipe, cancelled or not
+-- whether an order names the recipe, cancelled or not
 abbrev pub recipe_used : List Action → Bytes → Bool
 recipe_used own recipe = list_any (names_recipe recipe) own
 

@@ -1,4 +1,4 @@
--- Histories that worked examples begin with, and what is judged along further commands.
+-- Histories that worked examples begin with, and the verdicts on further commands.
 use Rattle.std.specs.Prelude.{◌≡◌, ℕ, pos, negsuc, List, [], ◌∷◌, ◌++◌, map, codes}
 use Rattle.toll_history.specs.Common.{Bytes, house_name, lot_id, LotId, Role, Consumed, Produced, Receive, Split, Ship, Scrap, Actual, State, StateCommand}
 use Rattle.toll_history.specs.Command.{Action, AddOwner, AddUnit, AddMaterial, AddTest, AddRecipe, Require, PlaceOrder, CancelOrder, OpenBatch, CommandBatch, CloseBatch, RecordResult, Release, Reject, Void, Command, by, moves}
@@ -9,9 +9,9 @@ use Rattle.toll_base.specs.declared.refusal.Refusal.TheVariants.{UnknownOwner, O
 use Rattle.toll_base.specs.declared.state_command.StateCommand.TheVariants.{Done, Start, Stop, Hold, Restart, Reset, Pause}
 
 -- the history after these commands, the first one first
-abbrev pub after : History → List Command → History
-after H [] = H
-after H (c ∷ commands) = after (grow H c) commands
+abbrev pub history_after : History → List Command → History
+history_after H [] = H
+history_after H (c ∷ commands) = history_after (grow H c) commands
 
 -- the verdicts along these commands, the first one first
 abbrev pub verdicts : History → List Command → List Verdict
@@ -41,7 +41,7 @@ actual key segment role m lot sublot amount day = moves acme key (Actual (codes 
 
 -- ---- the setups
 
--- what is known before the first setup's material comes
+-- the commands before the first setup's receipt
 abbrev pub groundwork : List Command
 groundwork =
     by acme (AddOwner (codes "ACMEKEY1"))
@@ -70,10 +70,10 @@ setup_one = groundwork ++ batch_started
 
 -- the same, if the recipe's second segment consumes what the first produces
 abbrev pub product_consumed : History
-product_consumed = after [] (groundwork ++ (require acme (codes "R") 2 Consumed acme (codes "P") 1 ∷ batch_started))
+product_consumed = history_after [] (groundwork ++ (require acme (codes "R") 2 Consumed acme (codes "P") 1 ∷ batch_started))
 
 abbrev pub one_batch : History
-one_batch = after [] setup_one
+one_batch = history_after [] setup_one
 
 -- ACME's batch consumes lot A of its own and H-1 of HOUSE and produces P1, and then consumes B in a later segment
 abbrev pub setup_two : List Command
@@ -104,22 +104,22 @@ setup_two =
     ∷ []
 
 abbrev pub one_product : History
-one_product = after [] setup_two
+one_product = history_after [] setup_two
 
 -- every command of a list is accepted, one after the other
-abbrev pub all_accepted : List Command → List Verdict
-all_accepted [] = []
-all_accepted (c ∷ commands) = Accepted ∷ all_accepted commands
+abbrev pub accepted_verdicts : List Command → List Verdict
+accepted_verdicts [] = []
+accepted_verdicts (c ∷ commands) = Accepted ∷ accepted_verdicts commands
 
 -- the states of a batch before these commands to it and after each, if each leads somewhere
-abbrev pub states : List Action → (order : Bytes) → (number : ℕ) → List StateCommand → List State
-states own order number [] = state_of own order number ∷ []
-states own order number (command ∷ commands) = state_of own order number ∷ states (CommandBatch order number command ∷ own) order number commands
+abbrev pub batch_states : List Action → (order : Bytes) → (number : ℕ) → List StateCommand → List State
+batch_states own order number [] = state_of own order number ∷ []
+batch_states own order number (command ∷ commands) = state_of own order number ∷ batch_states (CommandBatch order number command ∷ own) order number commands
 
 -- in the first setup: 40 of A consumed, 50 of P1 produced, and 20 of it scrapped
 abbrev pub with_two_actuals : History
 with_two_actuals =
-    after one_batch (
+    history_after one_batch (
     actual (codes "K2") 1 Consumed (codes "M") (lot_id acme (codes "A")) (codes "S1") 40 11
     ∷ actual (codes "K3") 1 Produced (codes "P") (lot_id acme (codes "P1")) (codes "S1") 50 11
     ∷ moves acme (codes "K4") (Scrap (codes "P1") (codes "S1")) 20 12
@@ -130,7 +130,7 @@ with_two_actuals =
 -- ACME's lot A passes its one test and is released
 abbrev pub tested_lot : History
 tested_lot =
-    after [] (
+    history_after [] (
     by acme (AddOwner (codes "ACMEKEY1"))
     ∷ material acme (codes "M")
     ∷ by acme (AddTest (record { material = codes "M"; test = codes "PH"; limits = record { low = negsuc 4; high = pos 8; ordered = _ } }))
@@ -139,15 +139,15 @@ tested_lot =
     ∷ by acme (Release (codes "A"))
     ∷ [])
 
--- and then fails it
+-- the same lot, which then fails its test
 abbrev pub failed_lot : History
-failed_lot = after tested_lot (by acme (RecordResult (codes "A") (codes "PH") (pos 9) 2) ∷ [])
+failed_lot = history_after tested_lot (by acme (RecordResult (codes "A") (codes "PH") (pos 9) 2) ∷ [])
 
 -- ---- the verdicts along commands
 
--- these commands, in order, have these verdicts
-abbrev pub AreTold : History → List (Command × Verdict) → Type 0
-AreTold H told = verdicts H (map (λ t. t.0) told) ≡ map (λ t. t.1) told
+-- These commands, in order, have these verdicts.
+abbrev pub HaveVerdicts : History → List (Command × Verdict) → Type 0
+HaveVerdicts H reported = verdicts H (map (λ t. t.0) reported) ≡ map (λ t. t.1) reported
 
 -- BOLT opens a batch on the unit that ACME's holds
 abbrev pub held_unit : List (Command × Verdict)
@@ -253,7 +253,8 @@ plants_refusals =
     ∷ (by house_name (AddUnit (codes "U1")), Refused UnitExists)
     ∷ []
 
--- voids of what is not there any more, of a consumption, once more, of what is no actual, and of a closed batch
+-- voids of a production whose product is used up, of a consumption, of the same consumption again, of keys without an actual, and in a
+-- closed batch
 abbrev pub actuals_voided : List (Command × Verdict)
 actuals_voided =
     (by acme (Void (codes "K3")), Refused NotEnough)

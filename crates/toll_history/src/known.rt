@@ -3,7 +3,7 @@ ghost use Rattle.std.specs.Prelude.{◌≡◌, ◌++◌, List, IfSome, Some, Non
 ghost use Rattle.toll_base.specs.Slice.{move_at};
 ghost use Rattle.toll_base.specs.declared.decision.Change as change;
 ghost use Rattle.toll_history.specs.Decision.{IsDecided};
-ghost use Rattle.toll_history.specs.Tables.{tables_of};
+ghost use Rattle.toll_history.specs.OwnerFacts.{facts_of};
 ghost use Rattle.toll_history.specs.Verdict.{Checks, key_checks};
 
 use toll_base::{Decision, Move, MoveRow, Refusal, Slice};
@@ -13,7 +13,7 @@ use toll_base::{Decision, Move, MoveRow, Refusal, Slice};
 /// An equal movement is [`Refusal::Voided`] if it was voided, otherwise repeated; any other is a
 /// [`Refusal::KeyConflict`].
 pub fn decide_known(slice: &Slice, row: &MoveRow) -> Option<Decision>
-    ensures known { IfSome result (λ d. (rest : Checks) (changes : List change.Change) → IsDecided (key_checks (tables_of slice.now) row.now ++ rest) changes d) }
+    ensures known { IfSome result (λ d. (rest : Checks) (changes : List change.Change) → IsDecided (key_checks (facts_of slice.now) row.now ++ rest) changes d) }
     ensures unknown { result ≡ None → move_at slice.now row.now.key ≡ None }
 {
     // The lookup of movements needs their type named.

@@ -13,11 +13,11 @@ ghost use Rattle.toll_base.specs.declared.lot.LotId.{LotId};
 ghost use Rattle.toll_base.specs.declared.movement.MoveRow.{MoveRow};
 ghost use Rattle.toll_base.specs.declared.rows.TestRow.{TestRow};
 ghost use Rattle.toll_history.specs.Command.{Action, Record, Void, Command};
-ghost use Rattle.toll_history.specs.Dispositions.{disposition_of, has_open_test, passes};
+ghost use Rattle.toll_history.specs.Dispositions.{disposition_of, has_open_test, passes_test};
 ghost use Rattle.toll_history.specs.History.{History, acts, count_owners, count_units};
-ghost use Rattle.toll_history.specs.Laws.{IsWithinLimits, IsUntouched, IsUnmoved, BringsOwn, TakesKnown, Agrees, has_this_key, coming, going, is_taken_in, records_or_voids, gives_from, IsCleared, IsKnownMaterial, IsOfActual, IsQuarantined, PassesEach, IfReleased, IfStands, IfRecorded, IsTakenBack, ComesQuarantined, IsMoved, IsMovedBack, KeepsSublots};
+ghost use Rattle.toll_history.specs.Laws.{IsWithinLimits, IsLotUndisposed, IsUnmoved, BringsOwn, TakesKnown, Agrees, has_this_key, coming, going, is_taken_in, records_or_voids, gives_from, IsCleared, IsKnownMaterial, IsOfActual, IsQuarantined, PassesEach, IfReleased, IfStands, IfRecorded, IsTakenBack, ComesQuarantined, IsMoved, IsMovedBack, KeepsSublots};
 ghost use Rattle.toll_history.specs.Movements.{Movement, Made, made_by, brought, taken, stock, count_movements, sublot_known, lot_made, movements, standing, movement_of, voided_in};
-ghost use Rattle.toll_history.specs.Tables.{lot_row, sublot_row};
+ghost use Rattle.toll_history.specs.OwnerFacts.{lot_row, sublot_row};
 ghost use Rattle.toll_history.specs.Verdict.{Accepted, IsLawful, is_actual, verdict};
 ghost use Rattle.toll_history.specs.Work.{material_of, requirement_of, test_of};
 
@@ -71,15 +71,14 @@ pub fn voided_keys_are_of_actuals()
     ensures { (H : History) (o key : Bytes) → IsLawful H → voided_in (acts o H) key ≡ true → IsOfActual H o key }
 {}
 
-/// A void takes back exactly the movement with its key, whatever is summed over the movements that
-/// stand.
+/// A void takes back exactly the movement with its key, in any sum over the standing movements.
 pub fn a_void_takes_back_its_movement()
     ensures { (H : History) (o key : Bytes) (row : MoveRow) → IsLawful H → IfStands H o key row (IsTakenBack H o key row) }
 {}
 
 /// A lot that is not known has no results, and was neither released nor rejected.
 pub fn unknown_lots_are_untouched()
-    ensures untouched { (H : History) (o l : Bytes) → IsLawful H → lot_made H (lot_id o l) ≡ None → IsUntouched (acts o H) l }
+    ensures untouched { (H : History) (o l : Bytes) → IsLawful H → lot_made H (lot_id o l) ≡ None → IsLotUndisposed (acts o H) l }
     ensures quarantined { (H : History) (o l : Bytes) → IsLawful H → lot_made H (lot_id o l) ≡ None → IsQuarantined (acts o H) l }
 {}
 
@@ -116,8 +115,8 @@ pub fn stock_changes_by_what_is_moved()
     ensures unmoved { (H : History) (c : Command) → records_or_voids c.action ≡ false → IsUnmoved H c }
 {}
 
-/// An accepted command leaves each sublot of another owner as it is, but for those of HOUSE from
-/// which it takes, or to which a void gives back.
+/// An accepted command leaves each sublot of another owner as it is, except for those of HOUSE from which it
+/// takes, or to which a void gives back.
 pub fn commands_keep_the_sublots_of_others()
     ensures { (H : History) (c : Command) (o : Bytes) → IsLawful H → verdict H c ≡ Accepted → same_bytes o c.owner ≡ false → KeepsSublots H c o }
 {}

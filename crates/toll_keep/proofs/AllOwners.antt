@@ -1,28 +1,28 @@
--- What is among slices, of which no owner has two, is what a content has, and the other way round.
+-- A fact of all slices in a list, of which no owner has two, is a fact of the content, and the other way round.
 use Rattle.std.proofs.Common.{◌≡◌, ◌⊎◌, ℕ, ◌+◌, ◌<◌, true, false, cond, Option, Some, None, is_some, List, [], ◌∷◌, ◌++◌, length, get_or, take, refl, sym, ap, subst, ◌∙◌, inl, inr}
 use Rattle.toll_keep.proofs.Common.{false≢true, take_more, All-contains, Contains-append_left, Contains-append_right, Contains-append_cases, Contains-push, Contains-push_cases, Bytes, is_some_where, row_at, Slice, empty_slice, batch_at, Edge, same_bytes-refl, same_bytes-symm, IsInOrder, edge_cmp, IsEdge, AreEdges, Contains-none, Contains-here, Contains-later, Contains-cases, member_of_all, kept_in_order, edges_exact}
 use Rattle.std.specs.Prelude.{Contains, Any}
 use Rattle.toll_keep.specs.declared.holder.Holder.{Holder}
 use Rattle.toll_keep.specs.Holding.{is_on, IsHolder, IsHolderIn, IsHolderAmong, IsEdgeOfSome, AreGathered}
-use Rattle.toll_keep.specs.Slices.{is_of, rows_in, IsOneEach, Kept, content_of}
+use Rattle.toll_keep.specs.Slices.{is_slice_of, rows_in, IsOneEach, Kept, content_of}
 
--- ---- a slice among them has its owner's rows
+-- ---- a slice of the list has its owner's rows
 
 pub own_rows : (slices : List Slice) (s : Slice) → IsOneEach slices → Contains slices s → rows_in slices s.owner ≡ s
 own_rows [] s one there = absurd (Contains-none s there)
 own_rows (first ∷ slices) s one there = elim (Contains-cases first slices s there) [
-  | inl e ↦ subst (λ t. cond (is_of t.owner first) first (rows_in slices t.owner) ≡ t) e (let same : is_of first.owner first ≡ true = same_bytes-refl first.owner in rw same refl)
+  | inl e ↦ subst (λ t. cond (is_slice_of t.owner first) first (rows_in slices t.owner) ≡ t) e (let same : is_slice_of first.owner first ≡ true = same_bytes-refl first.owner in rw same refl)
   | inr later ↦
-      let others : is_of first.owner s ≡ false = member_of_all (λ other. is_of first.owner other ≡ false) slices s one.0 later in
-      let differs : is_of s.owner first ≡ false = same_bytes-symm first.owner s.owner ∙ others in
+      let others : is_slice_of first.owner s ≡ false = member_of_all (λ other. is_slice_of first.owner other ≡ false) slices s one.0 later in
+      let differs : is_slice_of s.owner first ≡ false = same_bytes-symm first.owner s.owner ∙ others in
       rw differs (own_rows slices s one.1 later)
 ]
 
--- an owner's rows are a slice among them, or none
+-- An owner's rows are a slice of the list, or none.
 pub there_or_none : (slices : List Slice) (o : Bytes) → Contains slices (rows_in slices o) ⊎ (rows_in slices o ≡ empty_slice o)
 there_or_none [] o = inr refl
 there_or_none (s ∷ slices) o =
-    elim (is_of o s) as (λ b. Contains (s ∷ slices) (cond b s (rows_in slices o)) ⊎ (cond b s (rows_in slices o) ≡ empty_slice o)) [
+    elim (is_slice_of o s) as (λ b. Contains (s ∷ slices) (cond b s (rows_in slices o)) ⊎ (cond b s (rows_in slices o) ≡ empty_slice o)) [
       | true ↦ inl (Contains-here s slices)
       | false ↦ elim (there_or_none slices o) [
         | inl there ↦ inl (Contains-later s slices (rows_in slices o) there)
@@ -30,7 +30,7 @@ there_or_none (s ∷ slices) o =
       ]
     ]
 
--- what holds of each slice and of no rows holds of each owner's rows
+-- A fact of each slice and of no rows holds of each owner's rows.
 each_owner : (P : Slice → Type 0) (slices : List Slice) → ((s : Slice) → Contains slices s → P s) → ((o : Bytes) → P (empty_slice o)) → (o : Bytes) → P (rows_in slices o)
 each_owner P slices each none o = elim (there_or_none slices o) [ inl there ↦ each (rows_in slices o) there | inr e ↦ subst P (sym e) (none o) ]
 

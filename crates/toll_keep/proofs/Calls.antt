@@ -1,32 +1,32 @@
--- One call of a keep after another, and the same under another answer.
+-- One call of a keep after another, and a call under another answer.
 use Rattle.std.proofs.Common.{◌≡◌, false, [], ◌∷◌, Result, Ok, Err, inl, inr, refl, sym, subst, ◌∙◌}
 use Rattle.std.specs.Prelude.{◌≢◌, ◌↔◌, ◌⊎◌, IsTrue, OnErr, OnOk}
 use mathlib.Core.Bool.{false≢true}
-use Rattle.toll_keep.specs.Meaning.{Meaning, OverHeld}
+use Rattle.toll_keep.specs.Meaning.{Meaning, OverContent}
 use Rattle.toll_keep.specs.Content.{Content, ContentKeepsRules}
-use Rattle.toll_keep.specs.Goes.{Goes, Keeps, IsReading, IsSpared, Settles, closes}
+use Rattle.toll_keep.specs.CallEffects.{CallEffect, Keeps, IsReading, IsSpared, Settles, closes_keep}
 use Rattle.toll_keep.specs.declared.fault.KeepFault.{KeepFault}
 use Rattle.toll_keep.specs.declared.fault.KeepFault.TheVariants.{Memory, Disk, Damaged, Closed}
 
--- that a call was answered, and that it failed
+-- the result of a call that was answered, and of one that failed
 abbrev pub answered : {X : Type 0} → X → Result X KeepFault
 answered x = Ok x
 
-abbrev pub failed : {X : Type 0} → KeepFault → Result X KeepFault
-failed fault = Err fault
+abbrev pub failed_call : {X : Type 0} → KeepFault → Result X KeepFault
+failed_call fault = Err fault
 
 module _ {K : Type 0} (meaning : Meaning K) where
   abbrev GoesTo : {X : Type 0} → K → K → Result X KeepFault → Type 0
-  GoesTo old new r = Goes meaning old new r
+  GoesTo old new r = CallEffect meaning old new r
 
   abbrev ReadsTo : {X : Type 0} → K → K → Result X KeepFault → Type 0
   ReadsTo old new r = IsReading meaning old new r
 
-  -- a call that answered was of a keep that was not closed
+  -- A call that was answered was of a keep that was not closed.
   open_before : {X : Type 0} (old new : K) (x : X) → GoesTo old new (answered x) → IsTrue (meaning.is_closed old) → ⊥
   open_before old new x goes was = let e : answered x ≡ Err Closed = goes.closed.1 was in (cc)
 
-  -- after a call that answered, another
+  -- another call after one that was answered
   pub goes_then : {X Y : Type 0} (old middle new : K) (x : X) (r : Result Y KeepFault) → GoesTo old middle (answered x) → GoesTo middle new r → GoesTo old new r
   goes_then old middle new x r first second = record {
     honest = λ now. first.honest (second.honest now);
@@ -42,21 +42,21 @@ module _ {K : Type 0} (meaning : Meaning K) where
     shut = λ now not cs left. let before = second.honest now in absurd (not (first.live before (first.shown before)));
   }
 
-  -- while the store lives, a stop between two calls leaves what is held
+  -- While the store is live, a stop between two calls leaves the content that is held.
   abbrev pub Rests : Type 0
   Rests = (k : K) (c : Content) → meaning.is_honest k → meaning.is_live k → meaning.holds k c → meaning.leaves k (c ∷ [])
 
-  -- so it does once a call has returned, or the store met a cause of Disk
+  -- The same holds once a call has returned, or the store met a cause of Disk.
   pub settles : {X : Type 0} (old new : K) (r : Result X KeepFault) → Rests → GoesTo old new r → Settles meaning old new
   settles old new r settled goes = λ now lived c held. elim (goes.lasts now lived) [ inl lives ↦ inl (lives, settled new c now lives held) | inr cause ↦ inr cause ]
 
-  -- behind want of memory nothing changed, where the call leaves what is held
-  pub spared : {X : Type 0} (old new : K) (r : Result X KeepFault) → Rests → r ≡ Err Memory → GoesTo old new r → OverHeld meaning old new (λ c. OnErr r (meaning.holds new c)) → IsSpared meaning old new
+  -- After Memory nothing changed, if the call leaves the content that is held.
+  pub spared : {X : Type 0} (old new : K) (r : Result X KeepFault) → Rests → r ≡ Err Memory → GoesTo old new r → OverContent meaning old new (λ c. OnErr r (meaning.holds new c)) → IsSpared meaning old new
   spared old new r settled is goes none = λ now lived c held.
       let same : meaning.holds new c = subst (λ a. OnErr a (meaning.holds new c)) is (none now c held) in
       elim (goes.spares now is lived) [ inl lives ↦ inl (lives, same, settled new c now lives same) | inr unsure ↦ inr unsure ]
 
-  -- a keep that is open, and lives while it is honest, is as after a reading call that was answered
+  -- An open keep that is live while it is honest is as after an answered reading call.
   pub rests : Rests → (k : K) → meaning.is_closed k ≡ false → (meaning.is_honest k → meaning.is_live k) → ReadsTo {X = Unit {0}} k k (answered tt)
   rests settled k open_there lives =
       let shut : IsTrue (meaning.is_closed k) → ⊥ = λ closed. false≢true (sym open_there ∙ closed) in
@@ -91,11 +91,11 @@ module _ {K : Type 0} (meaning : Meaning K) where
     whole = λ now c held rules. second.whole now c ((first.keeps (second.goes.honest now)).content c held) rules;
   }
 
-  -- what is so of a call is so under another answer, which is the same fault, or none or a want of memory where it was none
-  goes_under : {X Y : Type 0} (old new : K) (was : Result X KeepFault) (told : Result Y KeepFault) →
-      ((told ≡ Err Closed) ↔ (was ≡ Err Closed)) → closes was ≡ closes told → (OnOk was (meaning.is_live new) → OnOk told (meaning.is_live new)) → (told ≡ Err Disk → was ≡ Err Disk)
-      → (told ≡ Err Memory → (was ≡ Err Memory) ⊎ (OnOk was (meaning.is_live new) → meaning.is_live new)) → GoesTo old new was → GoesTo old new told
-  goes_under old new was told shut_out alike shows fails lacks goes = record {
+  -- The effect of a call is also that of a call with another answer: the same fault, or none, or Memory where there was none.
+  goes_under : {X Y : Type 0} (old new : K) (was : Result X KeepFault) (reported : Result Y KeepFault) →
+      ((reported ≡ Err Closed) ↔ (was ≡ Err Closed)) → closes_keep was ≡ closes_keep reported → (OnOk was (meaning.is_live new) → OnOk reported (meaning.is_live new)) → (reported ≡ Err Disk → was ≡ Err Disk)
+      → (reported ≡ Err Memory → (was ≡ Err Memory) ⊎ (OnOk was (meaning.is_live new) → meaning.is_live new)) → GoesTo old new was → GoesTo old new reported
+  goes_under old new was reported shut_out alike shows fails lacks goes = record {
     honest = goes.honest;
     closed = (λ is. goes.closed.0 (shut_out.0 is), λ closed. shut_out.1 (goes.closed.1 closed));
     closes = goes.closes ∙ alike;
@@ -112,13 +112,13 @@ module _ {K : Type 0} (meaning : Meaning K) where
   pub goes_as : {X Y : Type 0} (old new : K) (x : X) (y : Y) → GoesTo old new (answered x) → GoesTo old new (answered y)
   goes_as old new x y = goes_under old new (answered x) (answered y) (λ is. (cc), λ is. (cc)) refl (λ live. live) (λ is. (cc)) (λ is. (cc))
 
-  pub goes_memory : {X Y : Type 0} (old new : K) (x : X) → GoesTo old new (answered x) → GoesTo {X = Y} old new (failed Memory)
-  goes_memory {X} {Y} old new x = goes_under {X = X} {Y = Y} old new (answered x) (failed Memory) (λ is. (cc), λ is. (cc)) refl (λ live. tt) (λ is. (cc)) (λ is. inr (λ live. live))
+  pub goes_memory : {X Y : Type 0} (old new : K) (x : X) → GoesTo old new (answered x) → GoesTo {X = Y} old new (failed_call Memory)
+  goes_memory {X} {Y} old new x = goes_under {X = X} {Y = Y} old new (answered x) (failed_call Memory) (λ is. (cc), λ is. (cc)) refl (λ live. tt) (λ is. (cc)) (λ is. inr (λ live. live))
 
-  pub goes_fault : {X Y : Type 0} (old new : K) (fault : KeepFault) → GoesTo {X = X} old new (failed fault) → GoesTo {X = Y} old new (failed fault)
-  goes_fault {X} {Y} old new fault = goes_under {X = X} {Y = Y} old new (failed fault) (failed fault) (λ is. (cc), λ is. (cc)) (closes_alike fault) (λ live. live) (λ is. (cc)) (λ is. inl (cc))
+  pub goes_fault : {X Y : Type 0} (old new : K) (fault : KeepFault) → GoesTo {X = X} old new (failed_call fault) → GoesTo {X = Y} old new (failed_call fault)
+  goes_fault {X} {Y} old new fault = goes_under {X = X} {Y = Y} old new (failed_call fault) (failed_call fault) (λ is. (cc), λ is. (cc)) (closes_alike fault) (λ live. live) (λ is. (cc)) (λ is. inl (cc))
     where
-      closes_alike : (fault : KeepFault) → closes {X = X} (Err fault) ≡ closes {X = Y} (Err fault)
+      closes_alike : (fault : KeepFault) → closes_keep {X = X} (Err fault) ≡ closes_keep {X = Y} (Err fault)
       closes_alike Memory = refl
       closes_alike Disk = refl
       closes_alike Damaged = refl
@@ -133,8 +133,8 @@ module _ {K : Type 0} (meaning : Meaning K) where
   pub read_ok : {X Y : Type 0} (old new : K) (x : X) (y : Y) → GoesTo old new (answered x) → KeepsTo old new → ReadsTo old new (answered y)
   read_ok old new x y goes keeps = record { goes = goes_as old new x y goes; keeps = keeps; whole = λ now c held rules is. (cc) }
 
-  pub read_fault : {X Y : Type 0} (old new : K) (fault : KeepFault) → GoesTo {X = X} old new (failed fault) → KeepsTo old new → IsWhole {X = X} old new (failed fault) → ReadsTo {X = Y} old new (failed fault)
+  pub read_fault : {X Y : Type 0} (old new : K) (fault : KeepFault) → GoesTo {X = X} old new (failed_call fault) → KeepsTo old new → IsWhole {X = X} old new (failed_call fault) → ReadsTo {X = Y} old new (failed_call fault)
   read_fault old new fault goes keeps whole = record { goes = goes_fault old new fault goes; keeps = keeps; whole = λ now c held rules is. whole now c held rules (cc) }
 
-  pub read_memory : {X Y : Type 0} (old new : K) (x : X) → GoesTo old new (answered x) → KeepsTo old new → ReadsTo {X = Y} old new (failed Memory)
+  pub read_memory : {X Y : Type 0} (old new : K) (x : X) → GoesTo old new (answered x) → KeepsTo old new → ReadsTo {X = Y} old new (failed_call Memory)
   read_memory old new x goes keeps = record { goes = goes_memory old new x goes; keeps = keeps; whole = λ now c held rules is. (cc) }

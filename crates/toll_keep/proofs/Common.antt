@@ -1,4 +1,4 @@
--- Words that several proofs here use.
+-- Definitions and lemmas that several proofs here use.
 pub use Rattle.std.proofs.lemmas.Bool.{not-false}
 pub use Rattle.std.proofs.lemmas.Iterator.{YieldsList-from_slice}
 pub use Rattle.std.proofs.lemmas.Iterator.Search.{find_from_yields_List, position_from_yields_List}

@@ -1,4 +1,4 @@
--- Edges stay through changes that draw none and take none away.
+-- Edges stay through changes that add none and remove none.
 use Rattle.std.proofs.Common.{◌≡◌, Bool, true, false, not, ◌&&◌, ◌||◌, cond, Option, Some, None, is_some, List, [], ◌∷◌, refl, sym, ap, subst, ◌∙◌}
 use Rattle.std.specs.Prelude.{Contains, filter}
 use Rattle.std.proofs.lemmas.Bool.{and_parts, not-true}
@@ -15,21 +15,21 @@ use Rattle.toll_trace.specs.Graph.{IsGraph}
 use Rattle.toll_trace.proofs.Members.{Contains-from_filter}
 use Rattle.toll_trace.proofs.Recording.{graph_same}
 use Rattle.toll_keep.proofs.Common.{false≢true, list_any, is_eq, All-contains, Bytes, bytes_cmp, same_bytes, same_bytes-exact, Slice, with_row, after_change, after_changes, Change, Owner, Unit as UnitAdded, Put, Edge, IsEdge, Contains-here, Contains-later}
-use Rattle.toll_keep.specs.Content.{Content, slice_of, knows, after}
+use Rattle.toll_keep.specs.Content.{Content, slice_of, knows, content_after}
 use Rattle.toll_keep.specs.Graphs.{AreGraphsOf, is_actual, is_drawn, lacks_key, may_draw}
 use Rattle.toll_keep.specs.Remembered.{AreOf}
-use Rattle.toll_keep.specs.Slices.{is_of}
+use Rattle.toll_keep.specs.Slices.{is_slice_of}
 use Rattle.toll_keep.specs.declared.known_graph.KnownGraph.{KnownGraph}
 use Rattle.toll_keep.proofs.Changed.{own_after}
-use Rattle.toll_keep.proofs.RememberedLemmas.{of_known}
+use Rattle.toll_keep.proofs.RememberedLemmas.{cached_known_slice}
 
--- the two have the same actuals and the same voids
+-- The two slices have the same actuals and the same voids.
 pub record SameActuals (s t : Slice) : Type 0 where
   pub there : (row : MoveRow) → is_actual row.what ≡ true → move_at s row.key ≡ Some row → move_at t row.key ≡ Some row
   pub back : (row : MoveRow) → is_actual row.what ≡ true → move_at t row.key ≡ Some row → move_at s row.key ≡ Some row
   pub voids : s.voids ≡ t.voids
 
--- then they have the same edges
+-- Then they have the same edges.
 drawn_there : (s t : Slice) → ((row : MoveRow) → is_actual row.what ≡ true → move_at s row.key ≡ Some row → move_at t row.key ≡ Some row) → s.voids ≡ t.voids → (e : Edge) → IsEdge s e → IsEdge t e
 drawn_there s t there voids e edge = record {
   order = edge.order;
@@ -79,7 +79,7 @@ put_other s t moved other new same = record { there = there; back = back; voids 
         go false e is = same.back r actual is
 
 module _ (slices : List Slice) (o named : Bytes) (s : Slice) (lacks : (key : Bytes) → lacks_key slices o key ≡ true → move_at s key ≡ None) where
-  -- neither an actual nor where one may be
+  -- a movement that is no actual, with a key that the rows lack
   quiet : (a l : Bool) → (a || not l) ≡ false → (a ≡ false) × (l ≡ true)
   quiet true l e = absurd (false≢true (sym e))
   quiet false true e = (refl, refl)
@@ -109,7 +109,7 @@ module _ (slices : List Slice) (o named : Bytes) (s : Slice) (lacks : (key : Byt
       go true e = put_stays p r t (ap (same_bytes p) (sym own) ∙ e) quiet_so same
       go false e = same
 
-  -- ---- one after another
+  -- ---- changes one after another
   all_stay : (changes : List Change) (t : Slice) → t.owner ≡ named → list_any (may_draw slices o named) changes ≡ false → SameActuals s t → SameActuals s (after_changes changes t)
   all_stay [] t own none same = same
   all_stay (change ∷ changes) t own none same = go (may_draw slices o named change) refl none (λ h now. all_stay changes (after_change change t) (own_after change t ∙ own) h now)
@@ -118,27 +118,27 @@ module _ (slices : List Slice) (o named : Bytes) (s : Slice) (lacks : (key : Byt
       go true e h later = absurd (false≢true (sym h))
       go false e h later = later h (one_stays change t own e same)
 
--- ---- what lacks a key among slices of a content
+-- ---- slices of a content that lack a key
 
 any_where : {X : Type 0} (p : X → Bool) (x : X) (xs : List X) (b : Bool) → p x ≡ b → (b || list_any p xs) ≡ true → (list_any p xs ≡ true → (y : X) × Contains xs y × (p y ≡ true)) → (y : X) × Contains (x ∷ xs) y × (p y ≡ true)
 any_where p x xs true e t later = (x, Contains-here x xs, e)
 any_where p x xs false e t later = let r = later t in (r.0, Contains-later x xs r.0 r.1, r.2)
 
-pub any_member : {X : Type 0} (p : X → Bool) (xs : List X) → list_any p xs ≡ true → (x : X) × Contains xs x × (p x ≡ true)
-any_member p [] h = absurd (false≢true h)
-any_member p (x ∷ xs) h = any_where p x xs (p x) refl h (λ t. any_member p xs t)
+pub drawn_any_member : {X : Type 0} (p : X → Bool) (xs : List X) → list_any p xs ≡ true → (x : X) × Contains xs x × (p x ≡ true)
+drawn_any_member p [] h = absurd (false≢true h)
+drawn_any_member p (x ∷ xs) h = any_where p x xs (p x) refl h (λ t. drawn_any_member p xs t)
 
 pub lacks_in : (c : Content) (slices : List Slice) (o : Bytes) (key : Bytes) → AreOf c slices → lacks_key slices o key ≡ true → move_at (c.rows o) key ≡ None
 lacks_in c slices o key all h =
-    let (s, there, test) = any_member (λ s. is_of o s && not (is_some (move_at s key))) slices h in
-    let two = and_parts (is_of o s) (not (is_some (move_at s key))) test in
+    let (s, there, test) = drawn_any_member (λ s. is_slice_of o s && not (is_some (move_at s key))) slices h in
+    let two = and_parts (is_slice_of o s) (not (is_some (move_at s key))) test in
     let own : s.owner ≡ o = same_bytes-exact s.owner o two.0 in
-    let rows : c.rows s.owner ≡ s = (of_known (knows c s.owner) (c.rows s.owner) s (All-contains (λ s. slice_of c s.owner ≡ Some s) slices s all there)).1 in
+    let rows : c.rows s.owner ≡ s = (cached_known_slice (knows c s.owner) (c.rows s.owner) s (All-contains (λ s. slice_of c s.owner ≡ Some s) slices s all there)).1 in
     ap (λ p. move_at (c.rows p) key) (sym own) ∙ ap (λ t. move_at t key) rows ∙ none_of (move_at s key) (not-true _ two.1)
 
--- ---- the graphs that are left
+-- ---- the graphs that are kept
 
-pub graphs_left : (changes : List Change) (c : Content) (slices : List Slice) (old : List KnownGraph) → AreOf c slices → AreGraphsOf c old → AreGraphsOf (after changes c) (filter (λ known. not (is_drawn slices changes known)) old)
+pub graphs_left : (changes : List Change) (c : Content) (slices : List Slice) (old : List KnownGraph) → AreOf c slices → AreGraphsOf c old → AreGraphsOf (content_after changes c) (filter (λ known. not (is_drawn slices changes known)) old)
 graphs_left changes c slices old all of known i =
     let r = Contains-from_filter (λ (k : KnownGraph). not (is_drawn slices changes k)) old known i in
     let o = known.owner in

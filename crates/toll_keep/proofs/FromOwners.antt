@@ -9,15 +9,15 @@ use Rattle.toll_keep.specs.Holding.{IsEdgeOfSome, AreMore}
 use Rattle.toll_keep.specs.Remembered.{OnlyKnownHaveRows}
 use Rattle.toll_keep.proofs.AllOwners.{no_edges}
 
--- the edges are those of HOUSE and of these owners
+-- The edges are those of HOUSE and of these owners.
 pub record AreFrom (c : Content) (owners : List OwnerRow) (edges : List Edge) : Type 0 where
   pub only : (e : Edge) → Contains edges e → IsEdgeOfSome c e
   pub house : (e : Edge) → IsEdge (c.rows house_name) e → Contains edges e
   pub each : (row : OwnerRow) → Contains owners row → (e : Edge) → IsEdge (c.rows row.owner) e → Contains edges e
 
--- ---- one owner's
+-- ---- the edges of one owner
 
--- an owner's edges that were added to others
+-- An owner's edges were added to the others.
 pub more_edges : (s : Slice) (old own new : List Edge) → AreEdges (IsEdge s) own → new ≡ old ++ own → AreMore s old new
 more_edges s old own new are is = subst (AreMore s old) (sym is) (record {
   only = λ e i. elim (Contains-append_cases old own e i) [ inl before ↦ inl before | inr added ↦ inr (are.only e added) ];
@@ -28,17 +28,17 @@ more_edges s old own new are is = subst (AreMore s old) (sym is) (record {
 of_some : (c : Content) (o : Bytes) (e : Edge) → IsEdge (c.rows o) e → IsEdgeOfSome c e
 of_some c o e edge = record { owner = o; edge = edge }
 
--- ---- HOUSE's, and then of one owner after another
+-- ---- the edges of HOUSE, and then of one owner after another
 
-pub from_house : (c : Content) (none edges : List Edge) (house : Bytes) → house ≡ house_name → none ≡ [] → AreMore (c.rows house) none edges → AreFrom c [] edges
-from_house c none edges house named is more = record {
+pub edges_of_house : (c : Content) (none edges : List Edge) (house : Bytes) → house ≡ house_name → none ≡ [] → AreMore (c.rows house) none edges → AreFrom c [] edges
+edges_of_house c none edges house named is more = record {
   only = λ e i. elim (more.only e i) [ inl before ↦ absurd (Contains-none e (subst (λ es. Contains es e) is before)) | inr edge ↦ of_some c house e edge ];
   house = λ e edge. more.own e (subst (λ o. IsEdge (c.rows o) e) (sym named) edge);
   each = λ row i. absurd (Contains-none row i);
 }
 
-from_more : (c : Content) (owners : List OwnerRow) (row : OwnerRow) (old new : List Edge) → AreFrom c owners old → AreMore (c.rows row.owner) old new → AreFrom c (owners ++ row ∷ []) new
-from_more c owners row old new so_far more = record {
+edges_of_more : (c : Content) (owners : List OwnerRow) (row : OwnerRow) (old new : List Edge) → AreFrom c owners old → AreMore (c.rows row.owner) old new → AreFrom c (owners ++ row ∷ []) new
+edges_of_more c owners row old new so_far more = record {
   only = λ e i. elim (more.only e i) [ inl before ↦ so_far.only e before | inr edge ↦ of_some c row.owner e edge ];
   house = λ e edge. more.before e (so_far.house e edge);
   each = λ other i e edge. elim (Contains-push_cases owners row other i) [
@@ -50,14 +50,14 @@ from_more c owners row old new so_far more = record {
 pub from_next : (c : Content) (owners : List OwnerRow) (i : ℕ) (row : OwnerRow) (old new : List Edge) → i < length owners → row ≡ get_or owners i row → AreFrom c (take i owners) old → AreMore (c.rows row.owner) old new → AreFrom c (take (i + 1) owners) new
 from_next c owners i row old new lt is so_far more =
     subst (λ front. AreFrom c front new) (sym (take_more owners i row lt ∙ ap (λ t. take i owners ++ t ∷ []) (sym is)))
-    (from_more c (take i owners) row old new so_far more)
+    (edges_of_more c (take i owners) row old new so_far more)
 
--- ---- in the end everybody's
+-- ---- all edges in the end
 
-named_row : (rows : List OwnerRow) (o : Bytes) → is_some (row_at bytes_cmp (λ (row : OwnerRow). row.owner) rows o) ≡ true → (row : OwnerRow) × Contains rows row × (row.owner ≡ o)
+owner_row_named : (rows : List OwnerRow) (o : Bytes) → is_some (row_at bytes_cmp (λ (row : OwnerRow). row.owner) rows o) ≡ true → (row : OwnerRow) × Contains rows row × (row.owner ≡ o)
 unfolding row_at
-named_row [] o h = absurd (false≢true h)
-named_row (row ∷ rows) o h = go (is_eq (bytes_cmp o row.owner)) refl h (named_row rows o)
+owner_row_named [] o h = absurd (false≢true h)
+owner_row_named (row ∷ rows) o h = go (is_eq (bytes_cmp o row.owner)) refl h (owner_row_named rows o)
   where
     go : (b : Bool) → is_eq (bytes_cmp o row.owner) ≡ b → is_some (if b then Some row else row_at bytes_cmp (λ (row : OwnerRow). row.owner) rows o) ≡ true → (is_some (row_at bytes_cmp (λ (row : OwnerRow). row.owner) rows o) ≡ true → (r : OwnerRow) × Contains rows r × (r.owner ≡ o)) → (r : OwnerRow) × Contains (row ∷ rows) r × (r.owner ≡ o)
     go true e h ih = (row, Contains-here row rows, sym (tells_apart exact_bytes o row.owner e))
@@ -73,7 +73,7 @@ from_all c owners edges sorted only are all in_order = record {
     by_name : (e : Edge) (o : Bytes) → IsEdge (c.rows o) e → (house : Bool) → same_bytes o house_name ≡ house → (house || is_some (row_at bytes_cmp (λ row. row.owner) c.owners o)) ≡ true → Contains edges e
     by_name e o edge true named h = all.house e (subst (λ p. IsEdge (c.rows p) e) (same_bytes-exact o house_name named) edge)
     by_name e o edge false named h =
-        let row = named_row c.owners o h in
+        let row = owner_row_named c.owners o h in
         all.each row.0 (subst (λ rows. Contains rows row.0) are row.1) e (subst (λ p. IsEdge (c.rows p) e) (sym row.2) edge)
 
     own : (e : Edge) (o : Bytes) → IsEdge (c.rows o) e → (known : Bool) → knows c o ≡ known → Contains edges e

@@ -14,11 +14,11 @@ use Rattle.toll_base.specs.declared.lot.LotId.{LotId}
 use Rattle.toll_keep.proofs.Common.{false≢true, list_any, All-get_or, Bytes, same_bytes, same_bytes-exact, same_bytes-refl, Slice, empty_slice, IsEdge, Contains-none, Contains-here, Contains-later, Contains-cases, Contains-append_left, Contains-append_cases, Contains-push, Contains-push_cases, take_more, Edge}
 use Rattle.toll_keep.specs.Content.{Content, slice_of, knows}
 use Rattle.toll_keep.specs.Graphs.{AreGraphsOf, HasGraph, IsKnownGraph}
-use Rattle.toll_keep.specs.Holding.{IsEdgeOfOne, TellsTrace}
+use Rattle.toll_keep.specs.Holding.{IsEdgeOfOne, GivesTrace}
 use Rattle.toll_keep.specs.Remembered.{OnlyKnownHaveRows}
 use Rattle.toll_keep.specs.declared.known_graph.KnownGraph.{KnownGraph}
-use Rattle.toll_keep.proofs.DrawnStay.{any_member}
-use Rattle.toll_keep.proofs.RememberedLemmas.{of_known, not_known}
+use Rattle.toll_keep.proofs.DrawnStay.{drawn_any_member}
+use Rattle.toll_keep.proofs.RememberedLemmas.{cached_known_slice, unknown_if_none}
 
 -- ---- a graph of rows
 
@@ -30,18 +30,18 @@ known_of c known o s own rows named graph =
     }
 
 pub rows_there : (c : Content) (o : Bytes) (s : Slice) → slice_of c o ≡ Some s → c.rows o ≡ s
-rows_there c o s there = (of_known (knows c o) (c.rows o) s there).1
+rows_there c o s there = (cached_known_slice (knows c o) (c.rows o) s there).1
 
 pub no_rows_there : (c : Content) (o : Bytes) → OnlyKnownHaveRows c → slice_of c o ≡ None → c.rows o ≡ empty_slice o
-no_rows_there c o only none = only o (not_known (knows c o) (c.rows o) none)
+no_rows_there c o only none = only o (unknown_if_none (knows c o) (c.rows o) none)
 
--- ---- which are there
+-- ---- the graphs that are there
 
 pub known_there : (graphs : List KnownGraph) (o : Bytes) → list_any (λ known. same_bytes known.owner o) graphs ≡ true → HasGraph graphs o
-known_there graphs o h = let r = any_member (λ (known : KnownGraph). same_bytes known.owner o) graphs h in (r.0, r.1, same_bytes-exact r.0.owner o r.2)
+known_there graphs o h = let r = drawn_any_member (λ (known : KnownGraph). same_bytes known.owner o) graphs h in (r.0, r.1, same_bytes-exact r.0.owner o r.2)
 
-pub still_has : (graphs more : List KnownGraph) (o : Bytes) → HasGraph graphs o → HasGraph (graphs ++ more) o
-still_has graphs more o has = (has.0, Contains-append_left graphs more has.0 has.1, has.2)
+pub still_has_graph : (graphs more : List KnownGraph) (o : Bytes) → HasGraph graphs o → HasGraph (graphs ++ more) o
+still_has_graph graphs more o has = (has.0, Contains-append_left graphs more has.0 has.1, has.2)
 
 pub has_pushed : (graphs : List KnownGraph) (known : KnownGraph) (o : Bytes) → known.owner ≡ o → HasGraph (graphs ++ known ∷ []) o
 has_pushed graphs known o own = (known, Contains-push graphs known, own)
@@ -58,14 +58,14 @@ or_one : (a b : Bool) → b ≡ true → (a || b) ≡ true
 or_one true b h = refl
 or_one false b h = h
 
-any_of : {X : Type 0} (p : X → Bool) (xs : List X) (x : X) → Contains xs x → p x ≡ true → list_any p xs ≡ true
-any_of p [] x i h = absurd (Contains-none x i)
-any_of p (y ∷ xs) x i h = elim (Contains-cases y xs x i) [
+learnt_any_of : {X : Type 0} (p : X → Bool) (xs : List X) (x : X) → Contains xs x → p x ≡ true → list_any p xs ≡ true
+learnt_any_of p [] x i h = absurd (Contains-none x i)
+learnt_any_of p (y ∷ xs) x i h = elim (Contains-cases y xs x i) [
   | inl same ↦ subst (λ b. (b || list_any p xs) ≡ true) (sym (ap p same ∙ h)) refl
-  | inr later ↦ or_one (p y) (list_any p xs) (any_of p xs x later h)
+  | inr later ↦ or_one (p y) (list_any p xs) (learnt_any_of p xs x later h)
 ]
 
--- those of them that are the owners'
+-- the graphs of these owners
 abbrev pub graphs_of : List Bytes → List KnownGraph → List Graph
 graphs_of owners graphs = map (λ known. known.graph) (filter (λ known. list_any (same_bytes known.owner) owners) graphs)
 
@@ -79,7 +79,7 @@ lead_of_one c owners graphs are each way from steps traced = trace_same (LeadAmo
     to a b leads =
         let r = Contains-from_map (λ (known : KnownGraph). known.graph) (filter chosen graphs) leads.0 leads.1 in
         let there = Contains-from_filter chosen graphs r.0 r.1 in
-        let o = any_member (same_bytes r.0.owner) owners there.1 in
+        let o = drawn_any_member (same_bytes r.0.owner) owners there.1 in
         let own : r.0.owner ≡ o.0 = same_bytes-exact r.0.owner o.0 o.2 in
         record {
           owner = r.0.owner;
@@ -90,14 +90,14 @@ lead_of_one c owners graphs are each way from steps traced = trace_same (LeadAmo
     back : (a b : LotId) → IsEdgeOfOne c owners (edge_of way a b) → LeadAmong (graphs_of owners graphs) way a b
     back a b edge =
         let (known, there, own) = each edge.owner edge.named in
-        let test : chosen known ≡ true = any_of (same_bytes known.owner) owners edge.owner edge.named (ap (same_bytes known.owner) (sym own) ∙ same_bytes-refl known.owner) in
+        let test : chosen known ≡ true = learnt_any_of (same_bytes known.owner) owners edge.owner edge.named (ap (same_bytes known.owner) (sym own) ∙ same_bytes-refl known.owner) in
         (known.graph, Contains-map (λ (k : KnownGraph). k.graph) (filter chosen graphs) known (Contains-filter chosen graphs known there test), (are known there).graph.every way a b (subst (λ o. IsEdge (c.rows o) (edge_of way a b)) (sym own) edge.edge))
 
-pub tells_trace : {E : Type 0} (c : Content) (owners : List Bytes) (graphs : List KnownGraph) → AreGraphsOf c graphs → ((o : Bytes) → Contains owners o → HasGraph graphs o) → (way : Way) (from : LotId) (told : Result (Vec Step Global) E) → IfOk told (λ steps. IsTrace (LeadAmong (graphs_of owners graphs) way) from steps.items) → TellsTrace c owners from way told
-tells_trace c owners graphs are each way from (Ok steps) led = lead_of_one c owners graphs are each way from steps.items led
-tells_trace c owners graphs are each way from (Err e) led = tt
+pub gives_trace : {E : Type 0} (c : Content) (owners : List Bytes) (graphs : List KnownGraph) → AreGraphsOf c graphs → ((o : Bytes) → Contains owners o → HasGraph graphs o) → (way : Way) (from : LotId) (reported : Result (Vec Step Global) E) → IfOk reported (λ steps. IsTrace (LeadAmong (graphs_of owners graphs) way) from steps.items) → GivesTrace c owners from way reported
+gives_trace c owners graphs are each way from (Ok steps) led = lead_of_one c owners graphs are each way from steps.items led
+gives_trace c owners graphs are each way from (Err e) led = tt
 
--- ---- one more, or some of them left
+-- ---- one more graph, or some of them dropped
 
 filter_push : {X : Type 0} (p : X → Bool) (xs : List X) (x : X) (b : Bool) → p x ≡ b → filter p (xs ++ x ∷ []) ≡ filter p xs ++ cond b (x ∷ []) []
 filter_push p [] x b e = ap (λ t. cond t (x ∷ []) []) e
@@ -136,7 +136,7 @@ chosen_more owners graphs i known refs ref lt is e shown before =
 pub chosen_same : (owners : List Bytes) (graphs : List KnownGraph) (i : ℕ) (known : KnownGraph) (refs : List (Bor Graph)) → i < length graphs → known ≡ get_or graphs i known → list_any (same_bytes known.owner) owners ≡ false → map (λ graph. graph.now) refs ≡ graphs_of owners (take i graphs) → map (λ graph. graph.now) refs ≡ graphs_of owners (take (i + 1) graphs)
 chosen_same owners graphs i known refs lt is e before = before ∙ sym (graphs_more owners graphs i known false lt is e ∙ append_none (graphs_of owners (take i graphs)))
 
--- ---- what is recorded of some owners
+-- ---- the records of some owners
 
 pub drawn_none : (c : Content) (none : Edge → Type 0) → ((e : Edge) → none e → ⊥) → (e : Edge) → none e ↔ IsEdgeOfOne c [] e
 drawn_none c none not e = (λ drawn. absurd (not e drawn), λ edge. absurd (Contains-none edge.owner edge.named))
@@ -159,7 +159,7 @@ drawn_more c owners i o old new lt is before more e = (to, back)
       | inr same ↦ inr (subst (λ p. IsEdge (c.rows p) e) (sym same) edge.edge)
     ])
 
--- the trace over a graph of what they drew
-pub tells_drawn : {E : Type 0} (c : Content) (owners : List Bytes) (drawn : Edge → Type 0) (graph : Graph) → IsGraph drawn graph → ((e : Edge) → drawn e ↔ IsEdgeOfOne c owners e) → (way : Way) (from : LotId) (told : Result (Vec Step Global) E) → IfOk told (λ steps. IsTrace (Leads graph way) from steps.items) → TellsTrace c owners from way told
-tells_drawn c owners drawn graph is same way from (Ok steps) led = trace_same (Leads graph way) (λ a b. IsEdgeOfOne c owners (edge_of way a b)) (λ a b l. (same (edge_of way a b)).0 (is.only way a b l)) (λ a b edge. is.every way a b ((same (edge_of way a b)).1 edge)) from steps.items led
-tells_drawn c owners drawn graph is same way from (Err e) led = tt
+-- the trace over a graph of what the owners' records draw
+pub gives_drawn_trace : {E : Type 0} (c : Content) (owners : List Bytes) (drawn : Edge → Type 0) (graph : Graph) → IsGraph drawn graph → ((e : Edge) → drawn e ↔ IsEdgeOfOne c owners e) → (way : Way) (from : LotId) (reported : Result (Vec Step Global) E) → IfOk reported (λ steps. IsTrace (Leads graph way) from steps.items) → GivesTrace c owners from way reported
+gives_drawn_trace c owners drawn graph is same way from (Ok steps) led = trace_same (Leads graph way) (λ a b. IsEdgeOfOne c owners (edge_of way a b)) (λ a b l. (same (edge_of way a b)).0 (is.only way a b l)) (λ a b edge. is.every way a b ((same (edge_of way a b)).1 edge)) from steps.items led
+gives_drawn_trace c owners drawn graph is same way from (Err e) led = tt

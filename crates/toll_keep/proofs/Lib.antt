@@ -11,4 +11,4 @@ pub mod Learning
 pub mod Around
 mod FromOwners
 pub mod Calls
-pub mod PendingLemmas
+pub mod StagedLemmas

@@ -1,22 +1,22 @@
--- What follows from what an outcome gives.
+-- What follows from the clauses about a result.
 use Rattle.std.proofs.Common.{◌≡◌, true, is_ok, OnOk, OnErr, Result, Ok, Err}
 use mathlib.Core.Bool.{false≢true}
 
-pub on_ok : {T E P Q : Type 0} (r : Result T E) → (P → Q) → OnOk r P → OnOk r Q
-on_ok (Ok x) so h = so h
-on_ok (Err e) so h = tt
+pub on_ok_weaker : {T E P Q : Type 0} (r : Result T E) → (P → Q) → OnOk r P → OnOk r Q
+on_ok_weaker (Ok x) so h = so h
+on_ok_weaker (Err e) so h = tt
 
--- what is so after either
+-- a fact that follows from either clause
 pub either_way : {T E P Q S : Type 0} (r : Result T E) → (P → S) → (Q → S) → OnOk r P → OnErr r Q → S
 either_way (Ok x) ok err p q = ok p
 either_way (Err e) ok err p q = err q
 
--- what is so after Ok, at a result that is one
+-- a fact of Ok, for a result that is Ok
 pub of_ok : {T E P : Type 0} (r : Result T E) → is_ok r ≡ true → OnOk r P → P
 of_ok (Ok x) is h = h
 of_ok (Err e) is h = absurd (false≢true is)
 
--- at a fault what is so anyway
+-- a fact of Err that always holds
 pub on_err_always : {T E P : Type 0} (r : Result T E) → P → OnErr r P
 on_err_always (Ok x) p = tt
 on_err_always (Err e) p = p

@@ -1,4 +1,4 @@
--- Words of other crates that several definitions and contracts here are said in.
+-- Definitions of other crates that several definitions and contracts here use.
 pub use Rattle.std.specs.Global.{Global, Vec}
 pub use Rattle.std.specs.List.{AllByRecursion, list_any}
 pub use Rattle.toll_base.specs.Bytes.{Bytes, bytes_cmp, same_bytes}

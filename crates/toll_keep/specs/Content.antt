@@ -1,4 +1,4 @@
--- All rows of the office, and what changes make of them.
+-- All rows of the office, and the effect of changes on them.
 use Rattle.std.specs.Prelude.{◌≡◌, Bool, true, ◌||◌, if◌then◌else◌, Option, Some, None, is_some, List, [], ◌∷◌}
 use Rattle.toll_keep.specs.Common.{Bytes, bytes_cmp, same_bytes, row_at, put_row, Slice, empty_slice, with_row, KeepsRules, after_changes, OwnerRow, UnitRow, Change, Owner, Unit as UnitAdded, Put}
 use Rattle.toll_base.specs.Values.{house_name}
@@ -9,57 +9,57 @@ pub record Content : Type 0 where
   pub units : List UnitRow
   pub rows : Bytes → Slice
 
--- the owner is HOUSE, or one of the owners
+-- whether the owner is HOUSE or one of the owners
 abbrev pub knows : Content → Bytes → Bool
 knows c o = same_bytes o house_name || is_some (row_at bytes_cmp (λ row. row.owner) c.owners o)
 
--- the rows of an owner that is known
+-- the rows of an owner, if it is known
 abbrev pub slice_of : Content → Bytes → Option Slice
 slice_of c o = if knows c o then Some (c.rows o) else None
 
--- no owners but HOUSE, no units, no rows
-abbrev pub nothing : Content
-nothing = record { owners = []; units = []; rows = empty_slice }
+-- the content without owners, units and rows
+abbrev pub empty_content : Content
+empty_content = record { owners = []; units = []; rows = empty_slice }
 
 -- ---- after changes, in order
 
--- the owners: those that are added come in
+-- the owners after these changes
 abbrev pub after_owners : List Change → List OwnerRow → List OwnerRow
 after_owners [] rows = rows
 after_owners (Owner row ∷ changes) rows = after_owners changes (put_row bytes_cmp (λ row. row.owner) rows row)
 after_owners (_ ∷ changes) rows = after_owners changes rows
 
--- the units: those that are added come in
+-- the units after these changes
 abbrev pub after_units : List Change → List UnitRow → List UnitRow
 after_units [] rows = rows
 after_units (UnitAdded row ∷ changes) rows = after_units changes (put_row bytes_cmp (λ row. row.unit) rows row)
 after_units (_ ∷ changes) rows = after_units changes rows
 
--- the content: each owner's slice takes the rows that are put for it
-abbrev pub after : List Change → Content → Content
-after changes c = record {
+-- the content after these changes: each owner's slice takes the rows that are put for it
+abbrev pub content_after : List Change → Content → Content
+content_after changes c = record {
   owners = after_owners changes c.owners;
   units = after_units changes c.units;
   rows = λ o. after_changes changes (c.rows o);
 }
 
--- ---- what a caller sees to
+-- ---- what a caller must ensure
 
--- the rows of each owner keep the rules of a slice
+-- The rows of each owner keep the rules of a slice.
 abbrev pub ContentKeepsRules : Content → Type 0
 ContentKeepsRules c = (o : Bytes) → KeepsRules (c.rows o)
 
--- the row that a change puts is of a known owner, whose rows keep the rules with it
+-- The change puts a row of a known owner, whose rows keep the rules with it.
 abbrev pub ChangeFits : Content → Change → Type 0
 ChangeFits c (Put o row) = (knows c o ≡ true) × KeepsRules (with_row (c.rows o) row)
 ChangeFits c _ = Unit {0}
 
--- each of the changes fits what the ones before it make
-abbrev pub Fits : Content → List Change → Type 0
-Fits c [] = Unit {0}
-Fits c (change ∷ changes) = ChangeFits c change × Fits (after (change ∷ []) c) changes
+-- Each change fits the content after those before it.
+abbrev pub AllChangesFit : Content → List Change → Type 0
+AllChangesFit c [] = Unit {0}
+AllChangesFit c (change ∷ changes) = ChangeFits c change × AllChangesFit (content_after (change ∷ []) c) changes
 
--- each row that is put is of an owner that the content knows
+-- Each row is put for a known owner.
 abbrev pub PutsToKnown : Content → List Change → Type 0
 PutsToKnown c [] = Unit {0}
 PutsToKnown c (Put o row ∷ changes) = (knows c o ≡ true) × PutsToKnown c changes

@@ -1,11 +1,11 @@
--- The words of the faults.
+-- The names of faults.
 use Rattle.std.specs.Prelude.{ℕ, List, codes}
 use Rattle.toll_keep.specs.declared.fault.KeepFault.{KeepFault}
 use Rattle.toll_keep.specs.declared.fault.KeepFault.TheVariants.{Memory, Disk, Damaged, Closed}
 
--- the word of a fault
-abbrev pub name_of : KeepFault → List ℕ
-name_of Memory = codes "Memory"
-name_of Disk = codes "Disk"
-name_of Damaged = codes "Damaged"
-name_of Closed = codes "Closed"
+-- the name of a fault
+abbrev pub fault_word : KeepFault → List ℕ
+fault_word Memory = codes "Memory"
+fault_word Disk = codes "Disk"
+fault_word Damaged = codes "Damaged"
+fault_word Closed = codes "Closed"

@@ -1,4 +1,4 @@
--- The batch that holds a unit, and the edges of all owners, as a content has them.
+-- The batch that holds a unit and the edges of all owners, in a content.
 use Rattle.std.specs.Prelude.{◌≡◌, ◌↔◌, ◌⊎◌, ℕ, Bool, true, not, ◌&&◌, Option, Some, None, List, Contains, All, Any, Result, Vec, IfOk}
 use Rattle.toll_keep.specs.Common.{Global, Bytes, same_bytes, Slice, batch_at, AreEdges, IsEdge}
 use Rattle.toll_base.specs.Words.{is_some_where, none_or}
@@ -14,42 +14,42 @@ use Rattle.toll_trace.specs.declared.way.Way.{Way}
 use Rattle.toll_keep.specs.Content.{Content}
 use Rattle.toll_keep.specs.declared.holder.Holder.{Holder}
 
--- the batch was opened on the unit, and is not closed
+-- whether the batch was opened on the unit and is not closed
 abbrev pub is_on : Bytes → BatchRow → Bool
 is_on unit row = same_bytes row.unit unit && not row.closed
 
--- the batch holds the unit; where none is named, no batch of any owner does
+-- The batch holds the unit; None means that no batch of any owner does.
 abbrev pub IsHolder : Content → Bytes → Option Holder → Type 0
 IsHolder c unit (Some h) = is_some_where (is_on unit) (batch_at (c.rows h.owner) (h.order, h.number)) ≡ true
 IsHolder c unit None = (o : Bytes) (k : Bytes × ℕ) → none_or (λ row. not (is_on unit row)) (batch_at (c.rows o) k) ≡ true
 
--- the batch of this owner holds the unit; where none is named, none of its batches does
+-- The batch of this owner holds the unit; None means that none of its batches does.
 abbrev pub IsHolderIn : Slice → Bytes → Option Holder → Type 0
 IsHolderIn s unit (Some h) = (h.owner ≡ s.owner) × (is_some_where (is_on unit) (batch_at s (h.order, h.number)) ≡ true)
 IsHolderIn s unit None = (k : Bytes × ℕ) → none_or (λ row. not (is_on unit row)) (batch_at s k) ≡ true
 
--- one of the slices has the batch that holds the unit; where none is named, none of them has
+-- One of the slices has the batch that holds the unit; None means that none has.
 abbrev pub IsHolderAmong : List Slice → Bytes → Option Holder → Type 0
 IsHolderAmong slices unit (Some h) = Any (λ s. IsHolderIn s unit (Some h)) slices
 IsHolderAmong slices unit None = All (λ s. IsHolderIn s unit None) slices
 
 -- ---- edges
 
--- the rows of some owner have the edge
+-- The rows of some owner have the edge.
 pub record IsEdgeOfSome (c : Content) (e : Edge) : Type 0 where
   pub owner : Bytes
   pub edge : IsEdge (c.rows owner) e
 
--- the edges that are told, where they are, are those of all owners of the content
-abbrev pub TellsAllEdges : {E : Type 0} → Content → Result (Vec Edge Global) E → Type 0
-TellsAllEdges c told = IfOk told (λ edges. AreEdges (IsEdgeOfSome c) edges.items)
+-- If edges are returned, they are those of all owners of the content.
+abbrev pub GivesAllEdges : {E : Type 0} → Content → Result (Vec Edge Global) E → Type 0
+GivesAllEdges c reported = IfOk reported (λ edges. AreEdges (IsEdgeOfSome c) edges.items)
 
--- the edges are all those of the slices, and no others
+-- The edges are exactly those of the slices.
 pub record AreGathered (slices : List Slice) (edges : List Edge) : Type 0 where
   pub only : (e : Edge) → Contains edges e → Any (λ s. IsEdge s e) slices
   pub every : (s : Slice) (e : Edge) → Contains slices s → IsEdge s e → Contains edges e
 
--- the edges are those from before, and those of the slice
+-- The edges are those from before and those of the slice.
 pub record AreMore (s : Slice) (old new : List Edge) : Type 0 where
   pub only : (e : Edge) → Contains new e → Contains old e ⊎ IsEdge s e
   pub before : (e : Edge) → Contains old e → Contains new e
@@ -57,20 +57,20 @@ pub record AreMore (s : Slice) (old new : List Edge) : Type 0 where
 
 -- ---- traces
 
--- the rows of one of these owners have the edge
+-- The rows of one of these owners have the edge.
 pub record IsEdgeOfOne (c : Content) (owners : List Bytes) (e : Edge) : Type 0 where
   pub owner : Bytes
   pub named : Contains owners owner
   pub edge : IsEdge (c.rows owner) e
 
--- what is recorded draws the edges of these owners and no others
+-- The records draw exactly the edges of these owners.
 abbrev pub DrawsFor : Content → List Bytes → Recorded → Type 0
 DrawsFor c owners recorded = (e : Edge) → Draws recorded e ↔ IsEdgeOfOne c owners e
 
--- where rows are told, they are the owner's
-abbrev pub TellsRows : {E : Type 0} → Content → Bytes → Result Slice E → Type 0
-TellsRows c o told = IfOk told (λ slice. slice ≡ c.rows o)
+-- If rows are returned, they are the owner's.
+abbrev pub GivesRows : {E : Type 0} → Content → Bytes → Result Slice E → Type 0
+GivesRows c o reported = IfOk reported (λ slice. slice ≡ c.rows o)
 
--- where steps are told, they are the trace from the lot over the edges of these owners
-abbrev pub TellsTrace : {E : Type 0} → Content → List Bytes → LotId → Way → Result (Vec Step Global) E → Type 0
-TellsTrace c owners from way told = IfOk told (λ steps. IsTrace (λ a b. IsEdgeOfOne c owners (edge_of way a b)) from steps.items)
+-- If steps are returned, they are the trace from the lot over the edges of these owners.
+abbrev pub GivesTrace : {E : Type 0} → Content → List Bytes → LotId → Way → Result (Vec Step Global) E → Type 0
+GivesTrace c owners from way reported = IfOk reported (λ steps. IsTrace (λ a b. IsEdgeOfOne c owners (edge_of way a b)) from steps.items)

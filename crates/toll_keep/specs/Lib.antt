@@ -1,7 +1,7 @@
 pub mod Common
 pub mod Content
 pub mod Fault
-pub mod Goes
+pub mod CallEffects
 pub mod Meaning
 pub mod Holding
 pub mod Slices
@@ -9,4 +9,4 @@ pub mod Graphs
 pub mod Remembered
 pub mod Around
 pub mod Reads
-pub mod PendingChanges
+pub mod StagedChanges

@@ -1,24 +1,24 @@
--- What a keep means. Who must trust a keep reads which record its type has here.
+-- What a keep means. To trust a keep, read which record its type has here.
 use Rattle.std.specs.Prelude.{◌≡◌, Bool, false, List}
 use Rattle.toll_keep.specs.Content.{Content}
 
 pub record Meaning (K : Type 0) : Type 1 where
-  -- it has the rows of this content
+  -- It has the rows of this content.
   pub holds : K → Content → Type 0
-  -- no wrong answer of its store was taken as true so far
+  -- No wrong answer of its store has been taken as true.
   pub is_honest : K → Type 0
-  -- it answered Disk or Damaged, and from then on answers Closed
+  -- whether it answered Disk or Damaged, after which it answers Closed
   pub is_closed : K → Bool
-  -- its store has not shut itself
+  -- Its store has not shut itself.
   pub is_live : K → Type 0
-  -- it lacked the memory to ask whether its store lives still
+  -- whether there was no memory to ask if its store is still live
   pub is_unsure : K → Bool
-  -- what its store met between the one and the other is a cause of Disk
+  -- Its store met a cause of Disk between the first and the second.
   pub has_cause : K → K → Type 0
-  -- a stop at this moment leaves one of these contents
+  -- A stop at this moment leaves one of these contents.
   pub leaves : K → List Content → Type 0
 
--- what is meant by a keep around another one, where it means what the one inside means
+-- the meaning of a keep around another one, if it means the same as the one inside
 abbrev pub meaning_of : {K L : Type 0} → (L → K) → Meaning K → Meaning L
 meaning_of inside meaning = record {
   holds = λ k c. meaning.holds (inside k) c;
@@ -30,14 +30,14 @@ meaning_of inside meaning = record {
   leaves = λ k cs. meaning.leaves (inside k) cs;
 }
 
--- what is so of whatever content the keep held before, where it is honest after
-abbrev pub OverHeld : {K : Type 0} → Meaning K → (old new : K) → (Content → Type 0) → Type 0
-OverHeld meaning old new P = meaning.is_honest new → (c : Content) → meaning.holds old c → P c
+-- If the keep is honest after the call, P holds of any content that it held before.
+abbrev pub OverContent : {K : Type 0} → Meaning K → (old new : K) → (Content → Type 0) → Type 0
+OverContent meaning old new P = meaning.is_honest new → (c : Content) → meaning.holds old c → P c
 
--- the same where its store lived before
+-- The same, if its store was live before.
 abbrev pub OverLive : {K : Type 0} → Meaning K → (old new : K) → (Content → Type 0) → Type 0
 OverLive meaning old new P = meaning.is_honest new → meaning.is_live old → (c : Content) → meaning.holds old c → P c
 
--- no keep of the type is ever closed
+-- No keep of the type is ever closed.
 abbrev pub NeverCloses : {K : Type 0} → Meaning K → Type 0
 NeverCloses {K} meaning = (k : K) → meaning.is_closed k ≡ false

@@ -1,8 +1,8 @@
 //! The remembered rows of a keep.
 ghost use Rattle.std.specs.Prelude.{◌≡◌, OnOk};
 ghost use Rattle.toll_keep.specs.Common.{list_any};
-ghost use Rattle.toll_keep.specs.Content.{Content, after};
-ghost use Rattle.toll_keep.specs.Remembered.{IsNothing, IsOf, is_addition};
+ghost use Rattle.toll_keep.specs.Content.{Content, content_after};
+ghost use Rattle.toll_keep.specs.Remembered.{IsNothing, IsCacheOf, is_addition};
 
 use crate::cached_slice::CachedSlice;
 use crate::drawing::forget_drawn;
@@ -49,7 +49,7 @@ impl Cache {
     /// owners and the units if one is added. It forgets an owner's graph if a change may add or remove an
     /// edge of the owner. If memory runs out, or a row doesn't fit, the rest can't be used any more.
     pub fn follow(&mut self, alloc: Global, changes: &[Change]) -> Result<(), AllocError>
-        ensures { OnOk result ((c : Content) → IsOf c self.old → IsOf (after changes.now c) self.new) }
+        ensures { OnOk result ((c : Content) → IsCacheOf c self.old → IsCacheOf (content_after changes.now c) self.new) }
     {
         forget_drawn(&mut self.graphs, &self.slices, changes);
         follow_all(alloc, &mut self.slices, changes)?;

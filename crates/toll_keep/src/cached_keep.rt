@@ -1,15 +1,15 @@
 //! A keep that remembers what it read.
 ghost use Rattle.std.specs.Prelude.{◌≡◌, ◌↔◌, OnErr, OnOk, false};
 ghost use Rattle.toll_keep.specs.Content.{Content};
-ghost use Rattle.toll_keep.specs.Remembered.{IsNothing, IsOf, OnlyKnownHaveRows};
+ghost use Rattle.toll_keep.specs.Remembered.{IsNothing, IsCacheOf, OnlyKnownHaveRows};
 
 use crate::cache::Cache;
+use crate::cached_reading::{read_edges, read_rows, read_slice};
 use crate::fault::KeepFault;
 use crate::gathering::read_all_edges;
 use crate::holder::Holder;
 use crate::keep::Keep;
-use crate::telling::{tell_edges, tell_rows, tell_slice};
-use crate::tracing::tell_trace;
+use crate::tracing::read_trace;
 use std::alloc::Global;
 use std::mem;
 use toll_base::{Change, Edge, LotId, Name, OwnerRow, Row, Slice, UnitRow};
@@ -21,18 +21,15 @@ use toll_trace::{Step, Way};
 /// may change. At any fault it forgets everything.
 pub struct CachedKeep<K: Keep> {
     keep: K,
-    recollection: Cache,
-    ghost unclosed: { ¬ (IsNothing recollection) → K.meaning.is_closed keep ≡ false },
-    ghost live: { ¬ (IsNothing recollection) → K.meaning.is_honest keep → ∥ K.meaning.is_live keep ∥₁ },
+    cache: Cache,
+    ghost unclosed: { ¬ (IsNothing cache) → K.meaning.is_closed keep ≡ false },
+    ghost live: { ¬ (IsNothing cache) → K.meaning.is_honest keep → ∥ K.meaning.is_live keep ∥₁ },
 }
 
 /// Written by hand: a derived `Drop` is expanded at every exit of every function that owns a keep.
 impl<K: Keep + Drop> Drop for CachedKeep<K> {
     fn drop(self) {
-        let CachedKeep {
-            keep: _,
-            recollection: _,
-        } = self;
+        let CachedKeep { keep: _, cache: _ } = self;
     }
 }
 
@@ -41,12 +38,12 @@ impl<K: Keep> CachedKeep<K> {
     /// nothing yet, and takes no memory.
     pub fn new(alloc: Global, keep: K) -> Self
         ensures keep { result.keep ≡ keep }
-        ensures nothing { IsNothing result.recollection }
+        ensures nothing { IsNothing result.cache }
         ensures holds { (c : Content) → ⟦<CachedKeep<K> as Keep>⟧.meaning.holds result c ↔ (K.meaning.holds keep c × OnlyKnownHaveRows c) }
     {
         CachedKeep {
             keep,
-            recollection: Cache::nothing(alloc),
+            cache: Cache::nothing(alloc),
         }
     }
 
@@ -54,10 +51,7 @@ impl<K: Keep> CachedKeep<K> {
     pub fn inside(self) -> K
         ensures { result ≡ self.keep }
     {
-        let CachedKeep {
-            keep,
-            recollection: _,
-        } = self;
+        let CachedKeep { keep, cache: _ } = self;
         keep
     }
 }
@@ -65,22 +59,22 @@ impl<K: Keep> CachedKeep<K> {
 // Passes the answer on. If it is a fault, everything is forgotten.
 fn or_forget<T>(
     alloc: Global,
-    recollection: &mut Cache,
-    told: Result<T, KeepFault>,
+    cache: &mut Cache,
+    answer: Result<T, KeepFault>,
 ) -> Result<T, KeepFault>
-    ensures same { result ≡ told }
-    ensures kept { OnOk told (recollection.new ≡ recollection.old) }
-    ensures forgotten { OnErr told (IsNothing recollection.new) }
+    ensures same { result ≡ answer }
+    ensures kept { OnOk answer (cache.new ≡ cache.old) }
+    ensures forgotten { OnErr answer (IsNothing cache.new) }
 {
-    if told.is_err() {
-        *recollection = Cache::nothing(alloc);
+    if answer.is_err() {
+        *cache = Cache::nothing(alloc);
     }
-    told
+    answer
 }
 
 impl<K: Keep> Keep for CachedKeep<K> {
     ghost meaning = { record {
-      holds = λ r c. K.meaning.holds r.keep c × IsOf c r.recollection × OnlyKnownHaveRows c;
+      holds = λ r c. K.meaning.holds r.keep c × IsCacheOf c r.cache × OnlyKnownHaveRows c;
       is_honest = λ r. K.meaning.is_honest r.keep;
       is_closed = λ r. K.meaning.is_closed r.keep;
       is_live = λ r. K.meaning.is_live r.keep;
@@ -90,39 +84,39 @@ impl<K: Keep> Keep for CachedKeep<K> {
     } };
 
     fn slice(&mut self, alloc: Global, owner: &Name) -> Result<Option<Slice>, KeepFault> {
-        let CachedKeep { keep, recollection } = self;
-        let told = tell_slice(alloc, keep, &mut recollection.slices, &[], owner);
-        or_forget(alloc, recollection, told)
+        let CachedKeep { keep, cache } = self;
+        let answer = read_slice(alloc, keep, &mut cache.slices, &[], owner);
+        or_forget(alloc, cache, answer)
     }
 
     fn owners(&mut self, alloc: Global) -> Result<Vec<OwnerRow>, KeepFault> {
-        let CachedKeep { keep, recollection } = self;
-        let told = tell_rows(alloc, keep, &mut recollection.owners);
-        or_forget(alloc, recollection, told)
+        let CachedKeep { keep, cache } = self;
+        let answer = read_rows(alloc, keep, &mut cache.owners);
+        or_forget(alloc, cache, answer)
     }
 
     fn units(&mut self, alloc: Global) -> Result<Vec<UnitRow>, KeepFault> {
-        let CachedKeep { keep, recollection } = self;
-        let told = tell_rows(alloc, keep, &mut recollection.units);
-        or_forget(alloc, recollection, told)
+        let CachedKeep { keep, cache } = self;
+        let answer = read_rows(alloc, keep, &mut cache.units);
+        or_forget(alloc, cache, answer)
     }
 
     fn holder(&mut self, alloc: Global, unit: &Name) -> Result<Option<Holder>, KeepFault> {
-        let CachedKeep { keep, recollection } = self;
-        let told = keep.holder(alloc, unit);
-        or_forget(alloc, recollection, told)
+        let CachedKeep { keep, cache } = self;
+        let answer = keep.holder(alloc, unit);
+        or_forget(alloc, cache, answer)
     }
 
     fn edges(&mut self, alloc: Global, owner: &Name) -> Result<Vec<Edge>, KeepFault> {
-        let CachedKeep { keep, recollection } = self;
-        let told = tell_edges(alloc, keep, &mut recollection.slices, owner);
-        or_forget(alloc, recollection, told)
+        let CachedKeep { keep, cache } = self;
+        let answer = read_edges(alloc, keep, &mut cache.slices, owner);
+        or_forget(alloc, cache, answer)
     }
 
     fn all_edges(&mut self, alloc: Global) -> Result<Vec<Edge>, KeepFault> {
-        let CachedKeep { keep, recollection } = self;
-        let told = read_all_edges(alloc, keep, recollection);
-        or_forget(alloc, recollection, told)
+        let CachedKeep { keep, cache } = self;
+        let answer = read_all_edges(alloc, keep, cache);
+        or_forget(alloc, cache, answer)
     }
 
     fn trace(
@@ -132,9 +126,9 @@ impl<K: Keep> Keep for CachedKeep<K> {
         from: &LotId,
         way: Way,
     ) -> Result<Vec<Step>, KeepFault> {
-        let CachedKeep { keep, recollection } = self;
-        let told = tell_trace(alloc, keep, recollection, owners, from, way);
-        or_forget(alloc, recollection, told)
+        let CachedKeep { keep, cache } = self;
+        let answer = read_trace(alloc, keep, cache, owners, from, way);
+        or_forget(alloc, cache, answer)
     }
 
     // The keep inside makes the changes first: it alone can refuse them. The remembered rows are taken
@@ -142,10 +136,10 @@ impl<K: Keep> Keep for CachedKeep<K> {
     fn apply(&mut self, alloc: Global, changes: &[Change]) -> Result<(), KeepFault> {
         // This names the type for the proof: a change may have a row.
         let _row: Option<Row> = None;
-        let mut recollection = mem::replace(&mut self.recollection, Cache::nothing(alloc));
+        let mut cache = mem::replace(&mut self.cache, Cache::nothing(alloc));
         self.keep.apply(alloc, changes)?;
-        if recollection.follow(alloc, changes).is_ok() {
-            self.recollection = recollection;
+        if cache.follow(alloc, changes).is_ok() {
+            self.cache = cache;
         }
         Ok(())
     }

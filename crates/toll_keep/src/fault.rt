@@ -1,6 +1,6 @@
 //! Why a keep didn't answer.
 ghost use Rattle.std.specs.Prelude.{◌≡◌};
-ghost use Rattle.toll_keep.specs.Fault.{name_of};
+ghost use Rattle.toll_keep.specs.Fault.{fault_word};
 
 use std::alloc::AllocError;
 use std::fmt;
@@ -24,7 +24,7 @@ pub enum KeepFault {
 impl KeepFault {
     /// The word.
     pub fn name(&self) -> &'static str
-        ensures { result.now ≡ name_of self.now }
+        ensures { result.now ≡ fault_word self.now }
     {
         match self {
             KeepFault::Memory => "Memory",
@@ -38,9 +38,9 @@ impl KeepFault {
 /// Its word.
 impl fmt::Display for KeepFault {
     ghost use Rattle.std.specs.Prelude.{Some};
-    ghost use Rattle.toll_keep.specs.Fault.{name_of};
+    ghost use Rattle.toll_keep.specs.Fault.{fault_word};
 
-    ghost output = { λ fault. Some (name_of fault) };
+    ghost output = { λ fault. Some (fault_word fault) };
 
     fn fmt<W: fmt::Write>(&self, f: &mut fmt::Formatter<W>) -> fmt::Result {
         f.write_str(self.name())

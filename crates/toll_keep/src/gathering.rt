@@ -1,18 +1,18 @@
 //! The edges of all owners, from their slices.
 ghost use Rattle.std.specs.Prelude.{◌≡◌, IfOk, OnOk};
 ghost use Rattle.toll_keep.specs.Common.{AreEdges, IsEdge};
-ghost use Rattle.toll_keep.specs.Goes.{IsReading};
-ghost use Rattle.toll_keep.specs.Holding.{AreMore, TellsAllEdges};
-ghost use Rattle.toll_keep.specs.Meaning.{OverHeld};
-ghost use Rattle.toll_keep.specs.Reads.{HaveRead, IsKept};
-ghost use Rattle.toll_keep.specs.Remembered.{IfOf, IsNothing, IsOf, OnlyKnownHaveRows};
+ghost use Rattle.toll_keep.specs.CallEffects.{IsReading};
+ghost use Rattle.toll_keep.specs.Holding.{AreMore, GivesAllEdges};
+ghost use Rattle.toll_keep.specs.Meaning.{OverContent};
+ghost use Rattle.toll_keep.specs.Reads.{HaveRead, IsContentKept};
+ghost use Rattle.toll_keep.specs.Remembered.{IfOf, IsNothing, IsCacheOf, OnlyKnownHaveRows};
 
 use crate::cache::Cache;
+use crate::cached_reading::read_rows;
 use crate::cached_slice::CachedSlice;
 use crate::fault::KeepFault;
 use crate::keep::Keep;
 use crate::remembered::remembered_edges;
-use crate::telling::tell_rows;
 use std::alloc::{AllocError, Global};
 use toll_base::{Edge, Name, OwnerRow, Slice};
 use toll_trace::{edges_of, put_in_order};
@@ -22,14 +22,14 @@ use toll_trace::{edges_of, put_in_order};
 pub fn read_all_edges<K: Keep>(
     alloc: Global,
     keep: &mut K,
-    recollection: &mut Cache,
+    cache: &mut Cache,
 ) -> Result<Vec<Edge>, KeepFault>
-    ensures reading { (¬ (IsNothing recollection.old) → HaveRead K.meaning keep.old keep.old) → IsReading K.meaning keep.old keep.new result }
-    ensures reads { OverHeld K.meaning keep.old keep.new (λ c. IsOf c recollection.old → OnlyKnownHaveRows c → TellsAllEdges c result) }
-    ensures own { OverHeld K.meaning keep.old keep.new (λ c. IsOf c recollection.old → IsOf c recollection.new) }
+    ensures reading { (¬ (IsNothing cache.old) → HaveRead K.meaning keep.old keep.old) → IsReading K.meaning keep.old keep.new result }
+    ensures reads { OverContent K.meaning keep.old keep.new (λ c. IsCacheOf c cache.old → OnlyKnownHaveRows c → GivesAllEdges c result) }
+    ensures own { OverContent K.meaning keep.old keep.new (λ c. IsCacheOf c cache.old → IsCacheOf c cache.new) }
 {
-    match tell_rows(alloc, keep, &mut recollection.owners) {
-        Ok(owners) => gather(alloc, keep, &mut recollection.slices, &owners),
+    match read_rows(alloc, keep, &mut cache.owners) {
+        Ok(owners) => gather(alloc, keep, &mut cache.slices, &owners),
         Err(fault) => Err(fault),
     }
 }
@@ -42,9 +42,9 @@ fn gather<K: Keep>(
     owners: &[OwnerRow],
 ) -> Result<Vec<Edge>, KeepFault>
     ensures reads { (first : K) → HaveRead K.meaning first keep.old → IsReading K.meaning first keep.new result }
-    ensures kept { IsKept K.meaning keep.old keep.new }
+    ensures kept { IsContentKept K.meaning keep.old keep.new }
     ensures same { slices.new.items ≡ slices.old.items }
-    ensures told { OverHeld K.meaning keep.old keep.new (λ c. IfOf c slices.old.items (c.owners ≡ owners.now → TellsAllEdges c result)) }
+    ensures reported { OverContent K.meaning keep.old keep.new (λ c. IfOf c slices.old.items (c.owners ≡ owners.now → GivesAllEdges c result)) }
 {
     let mut edges = Vec::new(alloc);
     add_edges(alloc, keep, slices, &Name::house(), &mut edges)?;
@@ -64,9 +64,9 @@ fn add_edges<K: Keep>(
     edges: &mut Vec<Edge>,
 ) -> Result<(), KeepFault>
     ensures reads { (first : K) → HaveRead K.meaning first keep.old → IsReading K.meaning first keep.new result }
-    ensures kept { IsKept K.meaning keep.old keep.new }
+    ensures kept { IsContentKept K.meaning keep.old keep.new }
     ensures same { slices.new.items ≡ slices.old.items }
-    ensures added { OverHeld K.meaning keep.old keep.new (λ c. IfOf c slices.old.items (OnOk result (AreMore (c.rows owner.now) edges.old.items edges.new.items))) }
+    ensures added { OverContent K.meaning keep.old keep.new (λ c. IfOf c slices.old.items (OnOk result (AreMore (c.rows owner.now) edges.old.items edges.new.items))) }
 {
     let own = own_edges(alloc, keep, slices, owner)?;
     Ok(edges.extend_from_slice(&own)?)
@@ -80,12 +80,12 @@ fn own_edges<K: Keep>(
     owner: &Name,
 ) -> Result<Vec<Edge>, KeepFault>
     ensures reads { (first : K) → HaveRead K.meaning first keep.old → IsReading K.meaning first keep.new result }
-    ensures kept { IsKept K.meaning keep.old keep.new }
+    ensures kept { IsContentKept K.meaning keep.old keep.new }
     ensures same { slices.new.items ≡ slices.old.items }
-    ensures told { OverHeld K.meaning keep.old keep.new (λ c. IfOf c slices.old.items (IfOk result (λ edges. AreEdges (IsEdge (c.rows owner.now)) edges.items))) }
+    ensures reported { OverContent K.meaning keep.old keep.new (λ c. IfOf c slices.old.items (IfOk result (λ edges. AreEdges (IsEdge (c.rows owner.now)) edges.items))) }
 {
     match remembered_edges(alloc, slices, owner) {
-        Some(told) => Ok(told?),
+        Some(reported) => Ok(reported?),
         None => edges_once(alloc, keep, owner),
     }
 }
@@ -93,7 +93,7 @@ fn own_edges<K: Keep>(
 // The same, from a slice that is read and not remembered.
 fn edges_once<K: Keep>(alloc: Global, keep: &mut K, owner: &Name) -> Result<Vec<Edge>, KeepFault>
     ensures reading { IsReading K.meaning keep.old keep.new result }
-    ensures reads { OverHeld K.meaning keep.old keep.new (λ c. OnlyKnownHaveRows c → IfOk result (λ edges. AreEdges (IsEdge (c.rows owner.now)) edges.items)) }
+    ensures reads { OverContent K.meaning keep.old keep.new (λ c. OnlyKnownHaveRows c → IfOk result (λ edges. AreEdges (IsEdge (c.rows owner.now)) edges.items)) }
 {
     match keep.slice(alloc, owner)? {
         Some(slice) => Ok(edges_in(alloc, slice)?),

@@ -26,7 +26,7 @@ pub fn a_keep_in_memory_has_its_content()
 
 /// A keep that remembers is honest, live, unsure or closed if and only if the keep inside is. It has the
 /// same causes of Disk.
-pub fn a_remembering_keep_is_as_open_as_the_one_inside<K: Keep>()
+pub fn a_cached_keep_is_as_open_as_the_one_inside<K: Keep>()
     ensures honest { (r : CachedKeep K ⟦<K as Keep>⟧) → ⟦<CachedKeep<K> as Keep>⟧.meaning.is_honest r ↔ K.meaning.is_honest r.keep }
     ensures live { (r : CachedKeep K ⟦<K as Keep>⟧) → ⟦<CachedKeep<K> as Keep>⟧.meaning.is_live r ↔ K.meaning.is_live r.keep }
     ensures unsure { (r : CachedKeep K ⟦<K as Keep>⟧) → ⟦<CachedKeep<K> as Keep>⟧.meaning.is_unsure r ≡ K.meaning.is_unsure r.keep }
@@ -36,7 +36,7 @@ pub fn a_remembering_keep_is_as_open_as_the_one_inside<K: Keep>()
 
 /// A keep that remembers holds a content if and only if the keep inside holds it, all that is remembered
 /// is of it, and only known owners have rows. A stop leaves what the keep inside leaves.
-pub fn a_remembering_keep_has_the_content_inside<K: Keep>()
+pub fn a_cached_keep_has_the_content_inside<K: Keep>()
     ensures holds { (r : CachedKeep K ⟦<K as Keep>⟧) (c : Content) → ⟦<CachedKeep<K> as Keep>⟧.meaning.holds r c ↔ HoldsAround K.meaning.holds r c }
     ensures leaves { (r : CachedKeep K ⟦<K as Keep>⟧) (cs : List Content) → ⟦<CachedKeep<K> as Keep>⟧.meaning.leaves r cs ↔ K.meaning.leaves r.keep cs }
 {}

@@ -1,10 +1,10 @@
 //! The keep of the office's rows.
 ghost use Rattle.std.specs.Prelude.{◌≡◌, ◌≢◌, Err, List, [], ◌∷◌, ◌++◌, IfOk, OnOk, OnErr};
 ghost use Rattle.toll_keep.specs.Common.{AreEdges, IsEdge};
-ghost use Rattle.toll_keep.specs.Content.{Content, slice_of, after, Fits, ContentKeepsRules};
-ghost use Rattle.toll_keep.specs.Goes.{Goes, IsReading, IsSpared};
-ghost use Rattle.toll_keep.specs.Holding.{IsHolder, IsEdgeOfSome, TellsTrace};
-ghost use Rattle.toll_keep.specs.Meaning.{Meaning, OverHeld, OverLive};
+ghost use Rattle.toll_keep.specs.Content.{Content, slice_of, content_after, AllChangesFit, ContentKeepsRules};
+ghost use Rattle.toll_keep.specs.CallEffects.{CallEffect, IsReading, IsSpared};
+ghost use Rattle.toll_keep.specs.Holding.{IsHolder, IsEdgeOfSome, GivesTrace};
+ghost use Rattle.toll_keep.specs.Meaning.{Meaning, OverContent, OverLive};
 
 use crate::fault::KeepFault;
 use crate::holder::Holder;
@@ -27,32 +27,33 @@ pub trait Keep {
     /// All rows of an owner: `None` for an unknown owner. HOUSE is always known.
     fn slice(&mut self, alloc: Global, owner: &Name) -> Result<Option<Slice>, KeepFault>
         ensures reading { IsReading meaning self.old self.new result }
-        ensures reads { OverHeld meaning self.old self.new (λ c. IfOk result (λ slice. slice ≡ slice_of c owner.now)) };
+        ensures reads { OverContent meaning self.old self.new (λ c. IfOk result (λ slice. slice ≡ slice_of c owner.now)) };
 
     /// The owners besides HOUSE, in the order of their names.
     fn owners(&mut self, alloc: Global) -> Result<Vec<OwnerRow>, KeepFault>
         ensures reading { IsReading meaning self.old self.new result }
-        ensures reads { OverHeld meaning self.old self.new (λ c. IfOk result (λ rows. rows.items ≡ c.owners)) };
+        ensures reads { OverContent meaning self.old self.new (λ c. IfOk result (λ rows. rows.items ≡ c.owners)) };
 
     /// The units, in the order of their names.
     fn units(&mut self, alloc: Global) -> Result<Vec<UnitRow>, KeepFault>
         ensures reading { IsReading meaning self.old self.new result }
-        ensures reads { OverHeld meaning self.old self.new (λ c. IfOk result (λ rows. rows.items ≡ c.units)) };
+        ensures reads { OverContent meaning self.old self.new (λ c. IfOk result (λ rows. rows.items ≡ c.units)) };
 
     /// The batch, of any owner, that holds the unit: `None` if no batch does.
     fn holder(&mut self, alloc: Global, unit: &Name) -> Result<Option<Holder>, KeepFault>
         ensures reading { IsReading meaning self.old self.new result }
-        ensures reads { OverHeld meaning self.old self.new (λ c. IfOk result (IsHolder c unit.now)) };
+        ensures reads { OverContent meaning self.old self.new (λ c. IfOk result (IsHolder c unit.now)) };
 
-    /// The genealogy of an owner's own batches, in order, each edge once: empty for an unknown owner.
+    /// The genealogy of an owner's own batches, in order, each edge once: empty for an unknown owner. Only
+    /// tests call it: programs follow edges with [`Keep::trace`].
     fn edges(&mut self, alloc: Global, owner: &Name) -> Result<Vec<Edge>, KeepFault>
         ensures reading { IsReading meaning self.old self.new result }
-        ensures reads { OverHeld meaning self.old self.new (λ c. IfOk result (λ edges. AreEdges (IsEdge (c.rows owner.now)) edges.items)) };
+        ensures reads { OverContent meaning self.old self.new (λ c. IfOk result (λ edges. AreEdges (IsEdge (c.rows owner.now)) edges.items)) };
 
-    /// The genealogy of all batches, in order, each edge once.
+    /// The genealogy of all batches, in order, each edge once. Only tests call it.
     fn all_edges(&mut self, alloc: Global) -> Result<Vec<Edge>, KeepFault>
         ensures reading { IsReading meaning self.old self.new result }
-        ensures reads { OverHeld meaning self.old self.new (λ c. IfOk result (λ edges. AreEdges (IsEdgeOfSome c) edges.items)) };
+        ensures reads { OverContent meaning self.old self.new (λ c. IfOk result (λ edges. AreEdges (IsEdgeOfSome c) edges.items)) };
 
     /// Every lot that ends a chain of the edges of these owners' own batches from the lot, the lot itself
     /// included: the same steps as those of `toll_trace::Graph::trace`. An unknown owner has no edges.
@@ -64,7 +65,7 @@ pub trait Keep {
         way: Way,
     ) -> Result<Vec<Step>, KeepFault>
         ensures reading { IsReading meaning self.old self.new result }
-        ensures reads { OverHeld meaning self.old self.new (λ c. TellsTrace c owners.now from.now way result) };
+        ensures reads { OverContent meaning self.old self.new (λ c. GivesTrace c owners.now from.now way result) };
 
     /// Makes all of these changes, in order, or none.
     ///
@@ -73,12 +74,12 @@ pub trait Keep {
     /// rules of a [`Slice`]. If a stop or a disk fault interrupts the call, the store, opened again, has
     /// the rows from before or those after all changes, never some.
     fn apply(&mut self, alloc: Global, changes: &[Change]) -> Result<(), KeepFault>
-        ensures goes { Goes meaning self.old self.new result }
-        ensures all { OverHeld meaning self.old self.new (λ c. Fits c changes.now → OnOk result (meaning.holds self.new (after changes.now c))) }
-        ensures none { OverHeld meaning self.old self.new (λ c. OnErr result (meaning.holds self.new c)) }
+        ensures goes { CallEffect meaning self.old self.new result }
+        ensures all { OverContent meaning self.old self.new (λ c. AllChangesFit c changes.now → OnOk result (meaning.holds self.new (content_after changes.now c))) }
+        ensures none { OverContent meaning self.old self.new (λ c. OnErr result (meaning.holds self.new c)) }
         ensures spared { result ≡ Err KeepFault.Memory → IsSpared meaning self.old self.new }
-        ensures whole { OverHeld meaning self.old self.new (λ c. ContentKeepsRules c → result ≢ Err KeepFault.Damaged) }
-        ensures crash { OverLive meaning self.old self.new (λ c. Fits c changes.now → meaning.leaves self.new (c ∷ after changes.now c ∷ [])) };
+        ensures whole { OverContent meaning self.old self.new (λ c. ContentKeepsRules c → result ≢ Err KeepFault.Damaged) }
+        ensures crash { OverLive meaning self.old self.new (λ c. AllChangesFit c changes.now → meaning.leaves self.new (c ∷ content_after changes.now c ∷ [])) };
 
     // While the store lives, a stop between two calls leaves the content and nothing else.
     ghost settled: { (k : Self) (c : Content) → meaning.is_honest k → meaning.is_live k → meaning.holds k c → meaning.leaves k (c ∷ []) };

@@ -3,6 +3,7 @@
 
 mod cache;
 mod cached_keep;
+mod cached_reading;
 mod cached_slice;
 mod drawing;
 mod everyone;
@@ -13,20 +14,19 @@ mod holder;
 mod keep;
 mod known_graph;
 mod mem_keep;
-mod pending_changes;
 mod plant_row;
 mod remembered;
 mod slices;
-mod telling;
+mod staged_changes;
 mod tracing;
 
 pub use cached_keep::CachedKeep;
 pub use fault::KeepFault;
 pub use ghosts::{
+    a_cached_keep_has_the_content_inside, a_cached_keep_is_as_open_as_the_one_inside,
     a_keep_in_memory_has_its_content, a_keep_in_memory_is_always_open,
-    a_remembering_keep_has_the_content_inside, a_remembering_keep_is_as_open_as_the_one_inside,
 };
 pub use holder::Holder;
 pub use keep::Keep;
 pub use mem_keep::MemKeep;
-pub use pending_changes::PendingChanges;
+pub use staged_changes::StagedChanges;

@@ -1,9 +1,9 @@
 //! A keep of lists in memory.
 ghost use Rattle.std.specs.Prelude.{◌≡◌, ◌↔◌, ◌⊎◌, [], ◌∷◌, false, ⊤, IfOk, OnOk, OnErr, IsOkUnless};
 ghost use Rattle.toll_keep.specs.Common.{AreEdges, IsEdge};
-ghost use Rattle.toll_keep.specs.Content.{nothing, knows, slice_of, after};
-ghost use Rattle.toll_keep.specs.Goes.{IsAmong};
-ghost use Rattle.toll_keep.specs.Holding.{DrawsFor, IsEdgeOfSome, TellsTrace};
+ghost use Rattle.toll_keep.specs.Content.{empty_content, knows, slice_of, content_after};
+ghost use Rattle.toll_keep.specs.CallEffects.{IsAmong};
+ghost use Rattle.toll_keep.specs.Holding.{DrawsFor, IsEdgeOfSome, GivesTrace};
 ghost use Rattle.toll_base.specs.declared.lot.Edge.{Edge};
 ghost use Rattle.toll_trace.specs.Recorded.{Draws};
 ghost use Rattle.toll_keep.specs.Slices.{content_of, rows_in};
@@ -18,7 +18,8 @@ use std::marker::Model;
 use toll_base::{Change, Edge, LotId, Name, OwnerRow, Row, Slice, Table, UnitRow};
 use toll_trace::{Graph, Recorded, Step, Way, edges_of, put_in_order};
 
-/// Rows in lists. Its only fault is [`KeepFault::Memory`].
+/// Rows in lists. Its only fault is [`KeepFault::Memory`]. Only tests run it: the programs' rows are in
+/// tables.
 pub struct MemKeep {
     owners: Table<OwnerRow>,
     units: Table<UnitRow>,
@@ -26,11 +27,11 @@ pub struct MemKeep {
 }
 
 impl Model for MemKeep {
-    ghost use Rattle.toll_keep.specs.Slices.{Kept, shown, IsOneEach};
+    ghost use Rattle.toll_keep.specs.Slices.{Kept, kept_view, IsOneEach};
 
     ghost Value = { Kept };
 
-    ghost view = { shown };
+    ghost view = { kept_view };
 
     ghost invariant = { λ k. IsOneEach k.slices.items };
 }
@@ -49,8 +50,8 @@ impl Drop for MemKeep {
 impl MemKeep {
     /// No owners but HOUSE, no units, no rows. It takes no memory yet.
     pub fn new(alloc: Global) -> Self
-        ensures empty { content_of result ≡ nothing }
-        ensures holds { ⟦<MemKeep as Keep>⟧.meaning.holds result nothing }
+        ensures empty { content_of result ≡ empty_content }
+        ensures holds { ⟦<MemKeep as Keep>⟧.meaning.holds result empty_content }
     {
         MemKeep {
             owners: Table::new(alloc),
@@ -123,7 +124,7 @@ impl MemKeep {
         from: &LotId,
         way: Way,
     ) -> Result<Vec<Step>, AllocError>
-        ensures { TellsTrace (content_of self.now) owners.now from.now way result }
+        ensures { GivesTrace (content_of self.now) owners.now from.now way result }
     {
         let graph = Graph::of_recorded(alloc, self.recorded_by(alloc, owners)?)?;
         graph.trace(alloc, from, way)
@@ -144,7 +145,7 @@ impl MemKeep {
     // Makes the changes, in order. If memory runs out, or a row doesn't fit, the rows can't be used any
     // more.
     fn make_all(&mut self, alloc: Global, changes: &[Change]) -> Result<(), AllocError>
-        ensures { OnOk result (content_of self.new ≡ after changes.now (content_of self.old)) }
+        ensures { OnOk result (content_of self.new ≡ content_after changes.now (content_of self.old)) }
     {
         for change in changes {
             self.make(alloc, change)?;
@@ -153,7 +154,7 @@ impl MemKeep {
     }
 
     fn make(&mut self, alloc: Global, change: &Change) -> Result<(), AllocError>
-        ensures { OnOk result (content_of self.new ≡ after (change.now ∷ []) (content_of self.old)) }
+        ensures { OnOk result (content_of self.new ≡ content_after (change.now ∷ []) (content_of self.old)) }
     {
         // This names the type for the proof: a change may have a row.
         let _row: Option<Row> = None;
@@ -166,7 +167,7 @@ impl MemKeep {
 
     // Makes the changes in a copy. The copy replaces the rows if all changes succeed.
     fn change(&mut self, alloc: Global, changes: &[Change]) -> Result<(), KeepFault>
-        ensures all { OnOk result (content_of self.new ≡ after changes.now (content_of self.old)) }
+        ensures all { OnOk result (content_of self.new ≡ content_after changes.now (content_of self.old)) }
         ensures none { OnErr result (content_of self.new ≡ content_of self.old) }
         ensures fault { IsOkUnless result KeepFault.Memory }
     {
@@ -227,7 +228,7 @@ impl Keep for MemKeep {
     }
 
     ghost use Rattle.std.proofs.Common.{inl, refl};
-    ghost use Rattle.toll_keep.specs.Goes.{among-more};
+    ghost use Rattle.toll_keep.specs.CallEffects.{among-more};
 
     ghost settled = { λ k c _ _ held. inl held };
 

@@ -1,7 +1,7 @@
 //! The plant's own rows.
 ghost use Rattle.std.specs.Prelude.{◌≡◌, IfOk};
-ghost use Rattle.toll_keep.specs.Goes.{IsReading};
-ghost use Rattle.toll_keep.specs.Meaning.{OverHeld};
+ghost use Rattle.toll_keep.specs.CallEffects.{IsReading};
+ghost use Rattle.toll_keep.specs.Meaning.{OverContent};
 
 use crate::fault::KeepFault;
 use crate::keep::Keep;
@@ -19,7 +19,7 @@ pub trait PlantRow: Copy {
     /// The rows of this kind, as the keep gives them.
     fn read<K: Keep>(alloc: Global, keep: &mut K) -> Result<Vec<Self>, KeepFault>
         ensures reading { IsReading K.meaning keep.old keep.new result }
-        ensures reads { OverHeld K.meaning keep.old keep.new (λ c. IfOk result (λ rows. rows.items ≡ rows_of c)) };
+        ensures reads { OverContent K.meaning keep.old keep.new (λ c. IfOk result (λ rows. rows.items ≡ rows_of c)) };
 }
 
 impl PlantRow for OwnerRow {

@@ -3,7 +3,7 @@ ghost use Rattle.std.specs.Prelude.{◌≡◌, ◌≢◌, [], Some, OnOk, IfOk, 
 ghost use Rattle.toll_keep.specs.Common.{after_change, after_changes, AreEdges, IsEdge};
 ghost use Rattle.toll_keep.specs.Content.{Content, slice_of};
 ghost use Rattle.toll_keep.specs.Remembered.{AreOf};
-ghost use Rattle.toll_keep.specs.Slices.{is_of};
+ghost use Rattle.toll_keep.specs.Slices.{is_slice_of};
 
 use crate::cached_slice::CachedSlice;
 use crate::slices::shared;
@@ -12,14 +12,14 @@ use toll_base::{Change, Edge, Name, Row, Slice};
 
 // The place of the owner's slice.
 fn index_of_cached(slices: &[CachedSlice], owner: &Name) -> Option<usize>
-    ensures { result ≡ position (is_of owner.now) slices.now }
+    ensures { result ≡ position (is_slice_of owner.now) slices.now }
 {
     slices.iter().position(|slice| *slice.owner() == *owner)
 }
 
 /// The owner's slice, if it is remembered.
 pub fn remembered<'a>(slices: &'a [CachedSlice], owner: &Name) -> Option<&'a CachedSlice>
-    ensures found { is_some result ≡ is_some (position (is_of owner.now) slices.now) }
+    ensures found { is_some result ≡ is_some (position (is_slice_of owner.now) slices.now) }
     ensures own { IfSome result (λ slice. (c : Content) → AreOf c slices.now → slice_of c owner.now ≡ Some slice.now) }
     ensures some { IfSome result (λ _. slices.now ≢ []) }
 {
@@ -33,7 +33,7 @@ pub fn remembered_edges(
     owner: &Name,
 ) -> Option<Result<Vec<Edge>, AllocError>>
     ensures same { slices.new.items ≡ slices.old.items }
-    ensures own { IfSome result (λ told. IfOk told (λ edges. (c : Content) → AreOf c slices.old.items → AreEdges (IsEdge (c.rows owner.now)) edges.items)) }
+    ensures own { IfSome result (λ reported. IfOk reported (λ edges. (c : Content) → AreOf c slices.old.items → AreEdges (IsEdge (c.rows owner.now)) edges.items)) }
     ensures some { IfSome result (λ _. slices.old.items ≢ []) }
 {
     let at = index_of_cached(slices, owner)?;

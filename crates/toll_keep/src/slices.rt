@@ -1,14 +1,14 @@
 //! Slices in a list.
 ghost use Rattle.std.specs.Prelude.{◌≡◌, IfOk, OnOk, OnErr, position};
 ghost use Rattle.toll_keep.specs.Common.{with_row};
-ghost use Rattle.toll_keep.specs.Slices.{is_of, rows_in, put_slice};
+ghost use Rattle.toll_keep.specs.Slices.{is_slice_of, rows_in, put_slice};
 
 use std::alloc::{AllocError, Global};
 use toll_base::{Name, Row, Slice};
 
 /// The place of the owner's slice.
 pub fn index_of_slice(slices: &[Slice], owner: &Name) -> Option<usize>
-    ensures { result ≡ position (is_of owner.now) slices.now }
+    ensures { result ≡ position (is_slice_of owner.now) slices.now }
 {
     slices.iter().position(|slice| *slice.owner() == *owner)
 }

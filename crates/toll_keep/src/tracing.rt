@@ -3,20 +3,20 @@ ghost use Rattle.std.specs.Prelude.{◌≡◌, [], ◌∷◌, ◌++◌, map, IfO
 ghost use Rattle.std.specs.List.{list_any};
 ghost use Rattle.toll_base.specs.Bytes.{Bytes, same_bytes};
 ghost use Rattle.toll_keep.specs.Content.{Content};
-ghost use Rattle.toll_keep.specs.Goes.{IsReading};
+ghost use Rattle.toll_keep.specs.CallEffects.{IsReading};
 ghost use Rattle.toll_keep.specs.Graphs.{AreGraphsOf, HasGraph, HaveGraphs, IsKnownGraph, graphs_among};
-ghost use Rattle.toll_keep.specs.Holding.{TellsTrace};
-ghost use Rattle.toll_keep.specs.Meaning.{OverHeld};
-ghost use Rattle.toll_keep.specs.Reads.{HaveRead, IsKept};
-ghost use Rattle.toll_keep.specs.Remembered.{IfOf, IsNothing, IsOf, OnlyKnownHaveRows};
+ghost use Rattle.toll_keep.specs.Holding.{GivesTrace};
+ghost use Rattle.toll_keep.specs.Meaning.{OverContent};
+ghost use Rattle.toll_keep.specs.Reads.{HaveRead, IsContentKept};
+ghost use Rattle.toll_keep.specs.Remembered.{IfOf, IsNothing, IsCacheOf, OnlyKnownHaveRows};
 
 use crate::cache::Cache;
+use crate::cached_reading::read_rows;
 use crate::cached_slice::CachedSlice;
 use crate::fault::KeepFault;
 use crate::keep::Keep;
 use crate::known_graph::KnownGraph;
 use crate::remembered::remembered;
-use crate::telling::tell_rows;
 use std::alloc::{AllocError, Global};
 use toll_base::{LotId, Name, Slice};
 use toll_trace::{Graph, Step, Way, trace_among};
@@ -26,25 +26,25 @@ const MOST_GRAPHS: usize = 64;
 
 /// The trace from the lot over the edges of these owners' batches. Each owner's graph is remembered. It is
 /// made of the remembered slice, or of a slice that is read and not remembered. The owners are remembered.
-pub fn tell_trace<K: Keep>(
+pub fn read_trace<K: Keep>(
     alloc: Global,
     keep: &mut K,
-    recollection: &mut Cache,
+    cache: &mut Cache,
     owners: &[Name],
     from: &LotId,
     way: Way,
 ) -> Result<Vec<Step>, KeepFault>
-    ensures reading { (¬ (IsNothing recollection.old) → HaveRead K.meaning keep.old keep.old) → IsReading K.meaning keep.old keep.new result }
-    ensures reads { OverHeld K.meaning keep.old keep.new (λ c. IsOf c recollection.old → OnlyKnownHaveRows c → TellsTrace c owners.now from.now way result) }
-    ensures own { OverHeld K.meaning keep.old keep.new (λ c. IsOf c recollection.old → OnlyKnownHaveRows c → IsOf c recollection.new) }
+    ensures reading { (¬ (IsNothing cache.old) → HaveRead K.meaning keep.old keep.old) → IsReading K.meaning keep.old keep.new result }
+    ensures reads { OverContent K.meaning keep.old keep.new (λ c. IsCacheOf c cache.old → OnlyKnownHaveRows c → GivesTrace c owners.now from.now way result) }
+    ensures own { OverContent K.meaning keep.old keep.new (λ c. IsCacheOf c cache.old → OnlyKnownHaveRows c → IsCacheOf c cache.new) }
 {
-    // This asks the keep at least once, whatever is remembered.
-    match tell_rows(alloc, keep, &mut recollection.owners) {
-        Ok(_owners) => trace_learnt(
+    // So the keep was asked at least once: now, or when it gave the owners that are remembered.
+    match read_rows(alloc, keep, &mut cache.owners) {
+        Ok(_owners) => trace_read(
             alloc,
             keep,
-            &recollection.slices,
-            &mut recollection.graphs,
+            &cache.slices,
+            &mut cache.graphs,
             owners,
             from,
             way,
@@ -54,7 +54,7 @@ pub fn tell_trace<K: Keep>(
 }
 
 // The same, with the remembered slices.
-fn trace_learnt<K: Keep>(
+fn trace_read<K: Keep>(
     alloc: Global,
     keep: &mut K,
     slices: &[CachedSlice],
@@ -64,14 +64,14 @@ fn trace_learnt<K: Keep>(
     way: Way,
 ) -> Result<Vec<Step>, KeepFault>
     ensures reads { (first : K) → HaveRead K.meaning first keep.old → IsReading K.meaning first keep.new result }
-    ensures kept { IsKept K.meaning keep.old keep.new }
-    ensures own { OverHeld K.meaning keep.old keep.new (λ c. IfOf c slices.now (AreGraphsOf c graphs.old.items → AreGraphsOf c graphs.new.items)) }
-    ensures told { OverHeld K.meaning keep.old keep.new (λ c. IfOf c slices.now (AreGraphsOf c graphs.old.items → TellsTrace c owners.now from.now way result)) }
+    ensures kept { IsContentKept K.meaning keep.old keep.new }
+    ensures own { OverContent K.meaning keep.old keep.new (λ c. IfOf c slices.now (AreGraphsOf c graphs.old.items → AreGraphsOf c graphs.new.items)) }
+    ensures reported { OverContent K.meaning keep.old keep.new (λ c. IfOf c slices.now (AreGraphsOf c graphs.old.items → GivesTrace c owners.now from.now way result)) }
 {
-    learn_all(alloc, keep, slices, graphs, owners)?;
-    let told = trace_known(alloc, graphs, owners, from, way);
+    read_graphs(alloc, keep, slices, graphs, owners)?;
+    let reported = trace_known(alloc, graphs, owners, from, way);
     graphs.truncate(MOST_GRAPHS);
-    Ok(told?)
+    Ok(reported?)
 }
 
 // The trace over these owners' graphs.
@@ -82,7 +82,7 @@ fn trace_known(
     from: &LotId,
     way: Way,
 ) -> Result<Vec<Step>, AllocError>
-    ensures { (c : Content) → AreGraphsOf c graphs.now → HaveGraphs graphs.now owners.now → TellsTrace c owners.now from.now way result }
+    ensures { (c : Content) → AreGraphsOf c graphs.now → HaveGraphs graphs.now owners.now → GivesTrace c owners.now from.now way result }
 {
     let chosen = chosen(alloc, graphs, owners)?;
     trace_among(alloc, &chosen, from, way)
@@ -114,7 +114,7 @@ fn is_among(owners: &[Name], owner: &Name) -> bool
 // ---- graphs that aren't remembered yet
 
 // Adds the missing graphs of these owners.
-fn learn_all<K: Keep>(
+fn read_graphs<K: Keep>(
     alloc: Global,
     keep: &mut K,
     slices: &[CachedSlice],
@@ -122,18 +122,18 @@ fn learn_all<K: Keep>(
     owners: &[Name],
 ) -> Result<(), KeepFault>
     ensures reads { (first : K) → HaveRead K.meaning first keep.old → IsReading K.meaning first keep.new result }
-    ensures kept { IsKept K.meaning keep.old keep.new }
-    ensures own { OverHeld K.meaning keep.old keep.new (λ c. IfOf c slices.now (AreGraphsOf c graphs.old.items → AreGraphsOf c graphs.new.items)) }
+    ensures kept { IsContentKept K.meaning keep.old keep.new }
+    ensures own { OverContent K.meaning keep.old keep.new (λ c. IfOf c slices.now (AreGraphsOf c graphs.old.items → AreGraphsOf c graphs.new.items)) }
     ensures there { OnOk result (HaveGraphs graphs.new.items owners.now) }
 {
     for owner in owners {
-        learn(alloc, keep, slices, graphs, owner)?;
+        read_graph(alloc, keep, slices, graphs, owner)?;
     }
     Ok(())
 }
 
 // Adds the graph of the owner, if it is missing.
-fn learn<K: Keep>(
+fn read_graph<K: Keep>(
     alloc: Global,
     keep: &mut K,
     slices: &[CachedSlice],
@@ -141,8 +141,8 @@ fn learn<K: Keep>(
     owner: &Name,
 ) -> Result<(), KeepFault>
     ensures reads { (first : K) → HaveRead K.meaning first keep.old → IsReading K.meaning first keep.new result }
-    ensures kept { IsKept K.meaning keep.old keep.new }
-    ensures own { OverHeld K.meaning keep.old keep.new (λ c. IfOf c slices.now (AreGraphsOf c graphs.old.items → AreGraphsOf c graphs.new.items)) }
+    ensures kept { IsContentKept K.meaning keep.old keep.new }
+    ensures own { OverContent K.meaning keep.old keep.new (λ c. IfOf c slices.now (AreGraphsOf c graphs.old.items → AreGraphsOf c graphs.new.items)) }
     ensures stay { OnOk result ((o : Bytes) → HasGraph graphs.old.items o → HasGraph graphs.new.items o) }
     ensures there { OnOk result (HasGraph graphs.new.items owner.now) }
 {
@@ -175,9 +175,9 @@ fn own_graph<K: Keep>(
     owner: &Name,
 ) -> Result<KnownGraph, KeepFault>
     ensures reads { (first : K) → HaveRead K.meaning first keep.old → IsReading K.meaning first keep.new result }
-    ensures kept { IsKept K.meaning keep.old keep.new }
+    ensures kept { IsContentKept K.meaning keep.old keep.new }
     ensures owner { IfOk result (λ known. known.owner ≡ owner.now) }
-    ensures told { OverHeld K.meaning keep.old keep.new (λ c. IfOf c slices.now (IfOk result (IsKnownGraph c))) }
+    ensures reported { OverContent K.meaning keep.old keep.new (λ c. IfOf c slices.now (IfOk result (IsKnownGraph c))) }
 {
     match remembered(slices, owner) {
         Some(slice) => Ok(slice.graph(alloc, owner)?),
@@ -189,7 +189,7 @@ fn own_graph<K: Keep>(
 fn graph_once<K: Keep>(alloc: Global, keep: &mut K, owner: &Name) -> Result<KnownGraph, KeepFault>
     ensures reading { IsReading K.meaning keep.old keep.new result }
     ensures owner { IfOk result (λ known. known.owner ≡ owner.now) }
-    ensures reads { OverHeld K.meaning keep.old keep.new (λ c. OnlyKnownHaveRows c → IfOk result (IsKnownGraph c)) }
+    ensures reads { OverContent K.meaning keep.old keep.new (λ c. OnlyKnownHaveRows c → IfOk result (IsKnownGraph c)) }
 {
     match keep.slice(alloc, owner)? {
         Some(slice) => Ok(graph_in(alloc, owner, slice)?),
@@ -199,7 +199,7 @@ fn graph_once<K: Keep>(alloc: Global, keep: &mut K, owner: &Name) -> Result<Know
 
 fn graph_in(alloc: Global, owner: &Name, read: Slice) -> Result<KnownGraph, AllocError>
     ensures owner { IfOk result (λ known. known.owner ≡ owner.now) }
-    ensures told { (c : Content) → c.rows owner.now ≡ read → IfOk result (IsKnownGraph c) }
+    ensures reported { (c : Content) → c.rows owner.now ≡ read → IfOk result (IsKnownGraph c) }
 {
     KnownGraph::of(alloc, owner, &read)
 }

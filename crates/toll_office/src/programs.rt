@@ -1,41 +1,52 @@
 //! The programs.
-use crate::doing::do_script;
 use crate::file_server::FileServer;
-use crate::office::office_at;
 use crate::resolving::resolved;
-use crate::serving::serve_all;
 use crate::sockets::Sockets;
 use std::alloc::{AllocError, Global};
 use std::fmt::Display;
 use std::fs::{File, OpenOptions};
 use std::io::ErrorKind;
 use std::{env, io};
+use toll_keep::Keep;
 use toll_programs::{
-    FrontFault, MOST_FILE_BYTES, Status, Task, read_front, task_of, tell_end, usage_of, warn,
+    FrontFault, MOST_FILE_BYTES, Status, Task, read_front, task_of, usage_of, warn,
 };
 use toll_server::ServingEnd;
-use toll_service::{OfficeFault, do_file, do_words};
+use toll_service::{KeepOpener, OfficeFault, OfficePath, do_file, do_words, serve_file};
 
 /// How many standard streams there are.
 const STREAMS: usize = 3;
 
-/// Does what the program's words ask for, and gives the exit status. If there is no memory to hold the
-/// standard streams, nothing is done.
-pub fn run(rt: &HostRuntime) -> u64 {
+/// Does what the program's words ask for, and gives the exit status: a script by `run_script`, and all else
+/// over the office in a file, which the opener opens. If there is no memory to hold the standard streams,
+/// nothing is done.
+pub fn run<K: Keep + Drop, O: KeepOpener<K>, S: FnOnce(&HostRuntime) -> u64 + Drop>(
+    rt: &HostRuntime,
+    opener: O,
+    run_script: S,
+) -> u64
+    requires { S.IsAlwaysCallable run_script }
+{
     match hold_streams(rt) {
         Err(fault) if fault.kind() == ErrorKind::OutOfMemory => {
             fail(rt, Status::Failed, "fault Memory")
         }
-        _held => run_task(rt),
+        _held => run_task(rt, opener, run_script),
     }
 }
 
 // What the words ask for, while the standard streams are held.
-fn run_task(rt: &HostRuntime) -> u64 {
+fn run_task<K: Keep + Drop, O: KeepOpener<K>, S: FnOnce(&HostRuntime) -> u64 + Drop>(
+    rt: &HostRuntime,
+    opener: O,
+    run_script: S,
+) -> u64
+    requires { S.IsAlwaysCallable run_script }
+{
     let words = match read_words(rt) {
         Ok(words) => words,
         Err(fault) if fault.kind() == ErrorKind::InvalidData => {
-            return warn(&mut rt.stderr(), usage_of(&[]).as_bytes(), Status::Unread);
+            return warn(&mut rt.stderr(), usage_of(&[]).as_bytes(), Status::Usage);
         }
         Err(_) => return fail(rt, Status::Failed, "fault Memory"),
     };
@@ -44,14 +55,14 @@ fn run_task(rt: &HostRuntime) -> u64 {
     };
     match task_of(&words) {
         Some(Task::Script) => run_script(rt),
-        Some(Task::Words { file, words }) => status_of(rt, run_words(rt, file, words)),
-        Some(Task::Import { file, actuals }) => status_of(rt, run_import(rt, file, actuals)),
-        Some(Task::Serve { file, port, count }) => status_of(rt, run_serve(rt, file, port, count)),
-        None => warn(
-            &mut rt.stderr(),
-            usage_of(&words).as_bytes(),
-            Status::Unread,
-        ),
+        Some(Task::Words { file, words }) => status_of(rt, run_words(rt, opener, file, words)),
+        Some(Task::Import { file, actuals }) => {
+            status_of(rt, run_import(rt, opener, file, actuals))
+        }
+        Some(Task::Serve { file, port, count }) => {
+            status_of(rt, run_serve(rt, opener, file, port, count))
+        }
+        None => warn(&mut rt.stderr(), usage_of(&words).as_bytes(), Status::Usage),
     }
 }
 
@@ -65,7 +76,7 @@ fn hold_streams(rt: &HostRuntime) -> io::Result<Vec<File>> {
     Ok(held)
 }
 
-// The words behind the program's name. One that is no text is InvalidData.
+// The words after the program's name. One that is no text is InvalidData.
 fn read_words(rt: &HostRuntime) -> io::Result<Vec<String>> {
     let mut words = Vec::new(rt.alloc());
     for word in env::args(rt)?.skip(1) {
@@ -78,11 +89,6 @@ fn texts_of(alloc: Global, words: &[String]) -> Result<Vec<&str>, AllocError> {
     words.iter().map(|word| word.as_str()).collect(alloc)
 }
 
-fn run_script(rt: &HostRuntime) -> u64 {
-    let end = do_script(rt.alloc(), &mut rt.reader(), &mut io::writer(rt));
-    tell_end(end, &mut rt.stderr())
-}
-
 // The exit status, or why the path of the office's file leads nowhere.
 fn status_of(rt: &HostRuntime, done: Result<u64, OfficeFault>) -> u64 {
     match done {
@@ -91,11 +97,17 @@ fn status_of(rt: &HostRuntime, done: Result<u64, OfficeFault>) -> u64 {
     }
 }
 
-fn run_words(rt: &HostRuntime, file: &str, words: &[&str]) -> Result<u64, OfficeFault> {
+fn run_words<K: Keep, O: KeepOpener<K>>(
+    rt: &HostRuntime,
+    opener: O,
+    file: &str,
+    words: &[&str],
+) -> Result<u64, OfficeFault> {
     let path = resolved(rt, file)?;
+    let path = path.as_str();
     let (mut output, mut error) = (io::writer(rt), rt.stderr());
     Ok(do_words(
-        &mut office_at(rt, path.as_str()),
+        &mut OfficePath { rt, path, opener },
         &mut FileServer,
         words,
         &mut output,
@@ -103,15 +115,21 @@ fn run_words(rt: &HostRuntime, file: &str, words: &[&str]) -> Result<u64, Office
     ))
 }
 
-fn run_import(rt: &HostRuntime, file: &str, actuals: &str) -> Result<u64, OfficeFault> {
+fn run_import<K: Keep, O: KeepOpener<K>>(
+    rt: &HostRuntime,
+    opener: O,
+    file: &str,
+    actuals: &str,
+) -> Result<u64, OfficeFault> {
     let path = resolved(rt, file)?;
+    let path = path.as_str();
     let text = match read_file(rt, actuals) {
         Ok(text) => text,
         Err(fault) => return Ok(fail(rt, Status::Failed, format_args!("fault {fault}"))),
     };
     let (mut output, mut error) = (io::writer(rt), rt.stderr());
     Ok(do_file(
-        &mut office_at(rt, path.as_str()),
+        &mut OfficePath { rt, path, opener },
         &mut FileServer,
         &text,
         &mut output,
@@ -127,16 +145,25 @@ fn read_file(rt: &HostRuntime, path: &str) -> Result<Vec<u8>, FrontFault> {
     }
 }
 
-fn run_serve(rt: &HostRuntime, file: &str, port: u16, count: u64) -> Result<u64, OfficeFault> {
+fn run_serve<K: Keep + Drop, O: KeepOpener<K>>(
+    rt: &HostRuntime,
+    opener: O,
+    file: &str,
+    port: u16,
+    count: u64,
+) -> Result<u64, OfficeFault> {
     let path = resolved(rt, file)?;
-    let Ok(mut sockets) = Sockets::listen(rt, port, path.as_str()) else {
+    let path = path.as_str();
+    let Ok(mut sockets) = Sockets::listen(rt, port, path) else {
         return Ok(fail(rt, Status::Failed, "fault Net"));
     };
-    Ok(match serve_all(rt, &mut sockets, path.as_str(), count) {
-        Ok(ServingEnd::All | ServingEnd::Spent) => u64::from(Status::Done.code()),
-        Ok(ServingEnd::Fault) => fail(rt, Status::Failed, "fault Net"),
-        Err(_) => fail(rt, Status::Failed, "fault Write"),
-    })
+    Ok(
+        match serve_file(&mut sockets, OfficePath { rt, path, opener }, count) {
+            Ok(ServingEnd::All | ServingEnd::Spent) => u64::from(Status::Done.code()),
+            Ok(ServingEnd::Fault) => fail(rt, Status::Failed, "fault Net"),
+            Err(_) => fail(rt, Status::Failed, "fault Write"),
+        },
+    )
 }
 
 // Prints why the program failed. A standard error that can't be written to changes nothing.

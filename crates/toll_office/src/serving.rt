@@ -1,12 +1,11 @@
 //! Serving owners on a socket.
-use crate::office::office_at;
 use crate::sockets::Sockets;
 use crate::timed::Timed;
 use std::io;
 use std::net::{TcpListener, TcpStream};
+use toll_keep::Keep;
 use toll_protocol::{ReadFault, read_request, write_whole};
-use toll_server::ServingEnd as Ended;
-use toll_service::{Announcing, Out, answer_once, serve_place};
+use toll_service::{Announcing, KeepOpener, OfficePath, Out, answer_once};
 
 /// The outcome of one connection.
 #[derive(Clone, Copy)]
@@ -21,35 +20,22 @@ pub enum Served {
     AcceptFault,
 }
 
-/// Serves one connection over the office in the file: reads the request, takes the lock, opens the file,
+/// Serves one connection over the office at this path: reads the request, takes the lock, opens the file,
 /// answers, closes the file, releases the lock, and writes the reply. The reply is 503 if the lock isn't
-/// taken or the file isn't opened.
-pub fn serve_one(rt: &HostRuntime, listener: &TcpListener, path: &str) -> Served {
+/// taken or the file isn't opened. Only tests call it: the program serves with
+/// [`serve_file`](toll_service::serve_file).
+pub fn serve_one<K: Keep, O: KeepOpener<K>>(
+    office_path: &mut OfficePath<'_, O>,
+    listener: &TcpListener,
+) -> Served {
+    let rt = office_path.rt;
     let Ok((socket, _)) = listener.accept() else {
         return Served::AcceptFault;
     };
     match take_request(rt, &socket) {
-        Ok(request) => give(
-            rt,
-            &socket,
-            &answer_once(&mut office_at(rt, path), &request),
-        ),
+        Ok(request) => give(rt, &socket, &answer_once(office_path, &request)),
         Err(_) => Served::ReadFault,
     }
-}
-
-/// Serves this number of owners side by side over the office in the file, and the plant meanwhile, as
-/// [`toll_server::serve`] does. Each owner is answered as [`serve_one`] answers it, and the plant as the
-/// program itself answers it, except for how often the file is opened. If the file is there, it is opened
-/// before `listening` and the port are printed. It stays open between requests while no other program changes
-/// it. An `Err` if that line can't be printed: no client was served.
-pub fn serve_all(
-    rt: &HostRuntime,
-    sockets: &mut Sockets<'_>,
-    path: &str,
-    count: u64,
-) -> io::Result<Ended> {
-    serve_place(sockets, office_at(rt, path), count)
 }
 
 impl Announcing for Sockets<'_> {

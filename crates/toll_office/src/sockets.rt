@@ -17,7 +17,7 @@ use toll_service::{FaultLog, ServingFault};
 /// How many events one wait gives.
 const MOST_EVENTS: usize = 256;
 
-/// The listeners' tokens. A connection's token is its key behind them.
+/// The listeners' tokens. The tokens of connections follow: each is its key and [`FIRST_CONNECTION`].
 const OWNERS: usize = 0;
 
 const PLANT: usize = 1;
@@ -84,7 +84,8 @@ impl<'a> Sockets<'a> {
             return;
         }
         if self.plant.is_ok() {
-            self.listener.update(self.rt, Some(ServingFault::Door));
+            self.listener
+                .update(self.rt, Some(ServingFault::PlantSocket));
         }
         self.plant = PlantListener::open(self.rt, self.office);
         if let Ok(listener) = &mut self.plant {
@@ -95,7 +96,7 @@ impl<'a> Sockets<'a> {
                 self.plant = Err(ListenerFault::Socket);
             }
         }
-        let fault = self.plant.is_err().then_some(ServingFault::Door);
+        let fault = self.plant.is_err().then_some(ServingFault::PlantSocket);
         self.listener.update(self.rt, fault);
     }
 
@@ -167,7 +168,8 @@ impl Network for Sockets<'_> {
                 ErrorKind::WouldBlock => Ok(Accepted::NoneWaiting),
                 ErrorKind::ConnectionAborted | ErrorKind::Interrupted => Ok(Accepted::Aborted),
                 _ => {
-                    self.resources.update(self.rt, Some(ServingFault::Room));
+                    self.resources
+                        .update(self.rt, Some(ServingFault::NoResources));
                     Ok(Accepted::NoResources)
                 }
             },

@@ -1,30 +1,30 @@
 -- The commands of records.
 use Rattle.std.proofs.Common.{◌≡◌, Bool, true, false, cond, Option, Some, None, List, [], ◌∷◌, length, refl, ap, sym, subst, inl, inr}
 use Rattle.std.specs.Prelude.{◌==◌, IsSome, Result, Ok, Err}
-use Rattle.toll_plant.proofs.Common.{AllByRecursion, Refusal, IsValidCommand, asked_by, PlantCmd, looks_at_two}
+use Rattle.toll_plant.proofs.Common.{AllByRecursion, Refusal, IsValidCommand, command_of, PlantCmd, looks_at_two}
 use Rattle.toll_base.proofs.Texts.{nat_eq-exact}
 use Rattle.toll_base.specs.Lots.{lot_id}
 use Rattle.toll_base.specs.declared.movement.Move.TheVariants as move
-use Rattle.toll_desk.specs.declared.plant_cmd.PlantCmd.TheVariants.{Actual, Unread}
+use Rattle.toll_answers.specs.declared.plant_cmd.PlantCmd.TheVariants.{Actual, Unread}
 use Rattle.toll_plant.specs.Commands.{command_from}
 use Rattle.toll_plant.specs.Files.{Fields, command_in}
 use Rattle.toll_plant.specs.Imports.{commands_in}
 use Rattle.toll_plant.specs.Table.{actual_line}
 use Rattle.toll_plant.specs.Words.{command_read, command_with, values_read}
 use Rattle.toll_plant.specs.declared.argument.ArgumentValue.{ArgumentValue}
-use Rattle.toll_plant.specs.Imports.{CanBeHeld, HasValidValues}
+use Rattle.toll_plant.specs.Imports.{CanBeStaged, HasValidValues}
 use Rattle.toll_plant.proofs.ImportRuns.{IsDeed, IsDeedOrNone}
-use Rattle.toll_plant.proofs.TableLemmas.{actual_makes, made, values_have}
+use Rattle.toll_plant.proofs.TableLemmas.{actual_makes, command_made, values_have}
 
--- as many fields as an actual has values give a command
+-- As many fields as an actual has values give a command.
 pub asks_actual : (fields : Fields) → length fields ≡ length actual_line.values → IsSome (command_with actual_line fields)
-asks_actual fields same = made actual_line fields (values_read actual_line.values fields) actual_makes same refl
+asks_actual fields same = command_made actual_line fields (values_read actual_line.values fields) actual_makes same refl
 
--- what is asked records a movement, or can't be read, and is decided over two owners' rows at most
+-- The command records a movement or can't be read, and its decision uses the rows of at most two owners.
 abbrev IsDeedOfTwo : PlantCmd → Type 0
-IsDeedOfTwo command = IsDeed (asked_by command) × (looks_at_two (asked_by command) ≡ true) × IsValidCommand (asked_by command)
+IsDeedOfTwo command = IsDeed command × (looks_at_two command ≡ true) × IsValidCommand command
 
--- the command that the values of an actual make is such a command
+-- The command that the values of an actual make is such a command.
 abbrev MakeDeed : List ArgumentValue → Type 0
 MakeDeed values = (command : PlantCmd) → command_from actual_line.command values ≡ Some command → IsDeedOfTwo command
 
@@ -32,36 +32,36 @@ deeds_made : (fields : Fields) (read : Result (List ArgumentValue) Refusal) → 
     → (command : PlantCmd) → command_read actual_line.command read ≡ Some command → IsDeedOfTwo command
 deeds_made fields (Err why) same e command is =
     let read : Unread why ≡ command = cc is in
-    (inr (why, ap asked_by (sym read)), ap (λ c. looks_at_two (asked_by c)) (sym read), subst (λ c. IsValidCommand (asked_by c)) read tt)
+    (inr (why, sym read), ap looks_at_two (sym read), subst IsValidCommand read tt)
 deeds_made fields (Ok values) same e command is =
     values_have actual_line.values MakeDeed fields values same
     (λ key owner order number segment role material lot_owner lot sublot amount within day command is.
-    let made : Actual key owner order number segment role material (lot_id lot_owner lot) sublot amount day ≡ command = cc is in
-    (inl (owner, record { key = key; what = move.Actual order number segment role material (lot_id lot_owner lot) sublot; amount = amount; day = day }, ap asked_by (sym made)), ap (λ c. looks_at_two (asked_by c)) (sym made), subst (λ c. IsValidCommand (asked_by c)) made within))
+    let command_made : Actual key owner order number segment role material (lot_id lot_owner lot) sublot amount day ≡ command = cc is in
+    (inl (owner, record { key = key; what = move.Actual order number segment role material (lot_id lot_owner lot) sublot; amount = amount; day = day }, ap command_of (sym command_made)), ap looks_at_two (sym command_made), subst IsValidCommand command_made within))
     e command is
 
 in_record : (fields : Fields) (b : Bool) → (length fields == length actual_line.values) ≡ b → (command : PlantCmd) → cond b (command_with actual_line fields) None ≡ Some command → IsDeedOfTwo command
 in_record fields true same command is = deeds_made fields (values_read actual_line.values fields) (nat_eq-exact (length fields) (length actual_line.values) same) refl command is
 in_record fields false same command is = absurd (cc is)
 
--- what is so of each such command, and where there is none, is so of what records give
+-- A fact of each such command, and of no command, holds for all commands that records give.
 module _ (P : Option PlantCmd → Type 0) (none : P None) (so : (c : PlantCmd) → IsDeedOfTwo c → P (Some c)) where
   so_or_none : (command : Option PlantCmd) → ((c : PlantCmd) → command ≡ Some c → IsDeedOfTwo c) → P command
   so_or_none None deed = none
   so_or_none (Some c) deed = so c (deed c refl)
 
-  all_so : (records : List Fields) → AllByRecursion P (commands_in records)
-  all_so [] = tt
-  all_so (fields ∷ records) = (so_or_none (command_in fields) (in_record fields (length fields == length actual_line.values) refl), all_so records)
+  record_all_so : (records : List Fields) → AllByRecursion P (commands_in records)
+  record_all_so [] = tt
+  record_all_so (fields ∷ records) = (so_or_none (command_in fields) (in_record fields (length fields == length actual_line.values) refl), record_all_so records)
 
--- records give commands or nothing
+-- Records give deeds or nothing.
 pub all_deeds : (records : List Fields) → AllByRecursion IsDeedOrNone (commands_in records)
-all_deeds = all_so IsDeedOrNone tt (λ c deed. deed.0)
+all_deeds = record_all_so IsDeedOrNone tt (λ c deed. deed.0)
 
--- and what they change can be held back
-pub all_held : (records : List Fields) → AllByRecursion CanBeHeld (commands_in records)
-all_held = all_so CanBeHeld tt (λ c deed. deed.1)
+-- Their changes can be staged.
+pub all_staged : (records : List Fields) → AllByRecursion CanBeStaged (commands_in records)
+all_staged = record_all_so CanBeStaged tt (λ c deed. deed.1)
 
--- and their values are within their bounds
+-- Their values are within their bounds.
 pub all_valid : (records : List Fields) → AllByRecursion HasValidValues (commands_in records)
-all_valid = all_so HasValidValues tt (λ c deed. deed.2)
+all_valid = record_all_so HasValidValues tt (λ c deed. deed.2)

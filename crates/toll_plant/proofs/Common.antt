@@ -1,4 +1,4 @@
--- Words that several proofs here use.
+-- Definitions and lemmas that several proofs here use.
 pub use Rattle.clap.proofs.WalkLemmas.{find-map}
 pub use Rattle.clap.specs.Simple.{App, HasMatchesOf, Shape, built, filled, is_simple, with_index}
 unfoldable pub use Rattle.clap.specs.Takes.{walk_passes}
@@ -18,25 +18,26 @@ pub use Rattle.std.specs.Bool.{MatchBool}
 unfoldable pub use Rattle.std.specs.Fmt.{char_count, padded_integral}
 pub use Rattle.std.specs.Fmt.{format_spec, styled_decimal}
 pub use Rattle.std.specs.List.{repeat}
+pub use Rattle.std.specs.Option.{option_map_or}
 pub use Rattle.std.specs.Result.{is_ok}
-pub use Rattle.toll_answers.specs.PlantAnswers.{AsksBatch, AsksOrders, AsksRecall, AsksStock, AsksTrace, CannotRead}
+pub use Rattle.toll_answers.specs.PlantAnswers.{IsQuestionAnswer, IsVerdictOr}
 pub use Rattle.toll_base.specs.Values.{IsAmount, house_name, is_measure, is_name, is_owner_key, number_of}
 pub use Rattle.toll_base.specs.declared.decision.Change.{Change}
 pub use Rattle.toll_base.specs.declared.movement.MoveRow.{MoveRow}
 pub use Rattle.toll_base.specs.declared.refusal.Refusal.TheVariants.{KeyConflict, UnknownOwner, Voided}
 pub use Rattle.toll_base.specs.declared.role.Role.{Role}
-pub use Rattle.toll_desk.specs.Translations.{is_accepted, plant_told}
-pub use Rattle.toll_desk.specs.Plans.{LeadsTo}
-pub use Rattle.toll_desk.specs.PlantStaged.{IsPlantStaged, IsToldOver, IsUnasked, IsVerdictOrMemory, looks_at_two}
+pub use Rattle.toll_desk.specs.Translations.{is_answer_accepted, meaning_of_plant_reply}
+pub use Rattle.toll_desk.specs.Plans.{ChangesLeadTo}
+pub use Rattle.toll_desk.specs.PlantStaged.{IsPlantStaged, IsAnsweredOver, IsKeepUnread, IsVerdictOrMemory, looks_at_two}
 pub use Rattle.toll_history.proofs.Acts.{any_acts, count_acts}
 pub use Rattle.toll_history.proofs.KeysOnce.{found_once, void_of_actual}
 pub use Rattle.toll_history.specs.Command.{Command, Record, by}
 pub use Rattle.toll_history.specs.History.{adds_owner, owner_known}
-pub use Rattle.toll_history.specs.Movements.{has_key, movement_of, movements, voided_in, voids_key}
-pub use Rattle.toll_history.specs.Verdict.{grown, verdict}
+pub use Rattle.toll_history.specs.Movements.{has_move_key, movement_of, movements, voided_in, voids_key}
+pub use Rattle.toll_history.specs.Verdict.{grow, grown, verdict}
 pub use Rattle.toll_keep.proofs.Calls.{Rests, goes_as, goes_fault, goes_memory, goes_then, read_fault, settles}
-pub use Rattle.toll_keep.specs.PendingChanges.{IsOver, IsReadThrough, ReadsThrough}
-pub use Rattle.toll_keep.specs.Reads.{IsKept}
+pub use Rattle.toll_keep.specs.StagedChanges.{IsOver, IsReadThrough, ReadsThrough}
+pub use Rattle.toll_keep.specs.Reads.{IsContentKept}
 pub use Rattle.toll_keep.specs.declared.fault.KeepFault.TheVariants.{Closed, Disk}
-pub use Rattle.toll_plant.specs.Common.{Accepted, AllByRecursion, BadAmount, BadName, Bytes, Content, Damaged, Does, Goes, History, IsLawful, IsPlantAnswer, IsReading, IsValidCommand, Judged, KeepFault, Meaning, Memory, PlantRequest, PlantCmd, PlantAnswer, Refusal, Refused, Repeated, Settles, StandsFor, Verdict, acts, after, after_plant, asked_by, bytes_eq, is_some_where, list_all, list_any, same_bytes, where_so}
+pub use Rattle.toll_plant.specs.Common.{Accepted, AllByRecursion, BadAmount, BadName, Bytes, Content, Damaged, CallEffect, History, IsLawful, IsPlantAnswer, IsReading, IsValidCommand, Judged, KeepFault, Meaning, Memory, PlantCmd, PlantAnswer, Refusal, Refused, Repeated, Settles, Represents, Verdict, acts, content_after, after_plant, bytes_eq, command_of, is_some_where, list_all, list_any, same_bytes, where_so}
 pub use mathlib.Core.Bool.{false≢true}

@@ -8,7 +8,7 @@ use Rattle.toll_plant.specs.declared.import_fault.ImportFault.{ImportFault}
 use Rattle.toll_plant.specs.declared.import_fault.ImportFault.TheVariants.{Memory, TooLong, BadHeader}
 use Rattle.toll_plant.specs.declared.importing.TheConstants.{MOST_FILE_BYTES}
 
--- a file that is not too long, and of which no records were read
+-- The file is not too long, but its records couldn't be read.
 pub refused_unread : (file : Bytes) (fault : ImportFault) → length file ≤ MOST_FILE_BYTES → IsNoActualsOf file fault → IsRefusedFor file fault
 refused_unread file Memory bounded why = bounded
 refused_unread file TooLong bounded why = absurd why

@@ -5,16 +5,16 @@ use Rattle.std.specs.Int.Signed.{le_z, le_z_yes}
 use Rattle.std.proofs.Math.Dec.{T_prop}
 use Rattle.toll_base.specs.Bytes.{Bytes}
 use Rattle.toll_base.specs.declared.limits.Limits.{Limits}
-use Rattle.toll_desk.specs.declared.plant_cmd.PlantCmd.TheVariants as cmd
+use Rattle.toll_answers.specs.declared.plant_cmd.PlantCmd.TheVariants as cmd
 use Rattle.toll_plant.specs.Commands.{limits_if, limits_of, test_add}
 
-same_order : (a b : ℤ) (p q : a ≤ℤ b) → p ≡ q
-same_order a b p q = ap (λ (t : T (le_z a b)). let order : a ≤ℤ b = record { le = t } in order) (T_prop (le_z a b) p.le q.le)
+one_order_proof : (a b : ℤ) (p q : a ≤ℤ b) → p ≡ q
+one_order_proof a b p q = ap (λ (t : T (le_z a b)). let order : a ≤ℤ b = record { le = t } in order) (T_prop (le_z a b) p.le q.le)
 
 limits_so : (limits : Limits) (b : Bool) (is : T b → limits.low ≤ℤ limits.high) → T b → limits_if limits.low limits.high b is ≡ Some limits
 limits_so limits true is holds =
     ap (λ (p : limits.low ≤ℤ limits.high). let made : Limits = record { low = limits.low; high = limits.high; ordered = p } in Some made)
-    (same_order limits.low limits.high (is tt) limits.ordered)
+    (one_order_proof limits.low limits.high (is tt) limits.ordered)
 limits_so limits false is holds = absurd holds
 
 are_limits : (limits : Limits) → limits_of limits.low limits.high ≡ Some limits

@@ -40,9 +40,9 @@ module _ {A S : Type 0} (h : A → Argument) (items : S → Bytes) where
       ∙ (ap (λ r. with_front front (in_front r (read_over bs vs))) reads
       ∙ (in_front_of front value (read_over bs vs) ∙ ap (λ vs'. with_front vs' (read_over bs vs)) (sym grown)))))
 
-  pub one_refused : (all : Result (List ArgumentValue) Refusal) (front : List ArgumentValue) (xs bs : List A) (a : A) (ws vs : List S) (w : S) (why : Refusal)
+  pub refused_value : (all : Result (List ArgumentValue) Refusal) (front : List ArgumentValue) (xs bs : List A) (a : A) (ws vs : List S) (w : S) (why : Refusal)
       → all ≡ with_front front (read_over xs ws) → xs ≡ a ∷ bs → ws ≡ w ∷ vs → read_as (h a).reading (items w) ≡ Err why → all ≡ Err why
-  one_refused all front xs bs a ws vs w why before first second reads =
+  refused_value all front xs bs a ws vs w why before first second reads =
       before
       ∙ (ap (λ ys. with_front front (read_over ys ws)) first
       ∙ (ap (λ ys. with_front front (read_over (a ∷ bs) ys)) second

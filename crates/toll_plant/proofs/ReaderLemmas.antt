@@ -1,4 +1,4 @@
--- A reader that is flexible refuses no record.
+-- A flexible reader refuses no record.
 use Rattle.std.proofs.Common.{◌≡◌, ℕ, List, true, false, Option, Some, Result, Ok, Err}
 use Rattle.std.specs.Prelude.{IfErr}
 use Rattle.csv.specs.Reading.{ExplainsRead, RowStep, error_kind, is_flexible}

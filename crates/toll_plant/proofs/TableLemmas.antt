@@ -6,9 +6,9 @@ use Rattle.toll_base.specs.States.{read_command}
 use Rattle.toll_base.specs.declared.state_command.StateCommand.{StateCommand}
 use Rattle.toll_trace.specs.declared.way.Way.{Way}
 use Rattle.toll_plant.specs.Commands.{command_from}
-use Rattle.toll_plant.specs.Lines.{Argument, Line, line_named, line_of, takes_values}
+use Rattle.toll_plant.specs.Lines.{Argument, Line, line_named, fitting_line, takes_values}
 use Rattle.toll_plant.specs.Readings.{number_within, or_refused, read_as, role_of, value_of, way_of}
-use Rattle.toll_plant.specs.Table.{actual_line, plant_lines}
+use Rattle.toll_plant.specs.Table.{actual_line, command_lines}
 use Rattle.toll_plant.specs.Words.{command_read, command_with, in_front, values_read}
 use Rattle.toll_base.proofs.Bools.{both}
 use Rattle.toll_base.proofs.Texts.{nat_eq-exact}
@@ -17,30 +17,30 @@ use Rattle.toll_plant.specs.declared.argument.ArgumentValue.TheVariants as given
 use Rattle.toll_plant.specs.declared.argument.ArgumentKind.{ArgumentKind}
 use Rattle.toll_plant.specs.declared.argument.ArgumentKind.TheVariants as by
 
--- the fact holds of each value that is read so
-abbrev pub HoldsOfAll : ArgumentKind → (ArgumentValue → Type 0) → Type 0
-HoldsOfAll by.Name P = (name : Bytes) → P (given.Name name)
-HoldsOfAll by.OwnerKey P = (key : Bytes) → P (given.OwnerKey key)
-HoldsOfAll by.Measure P = (measure : Bytes) → P (given.Measure measure)
-HoldsOfAll by.Role P = (role : Role) → P (given.Role role)
-HoldsOfAll by.Way P = (way : Way) → P (given.Way way)
-HoldsOfAll by.StateCommand P = (command : StateCommand) → P (given.StateCommand command)
-HoldsOfAll by.Amount P = (amount : ℕ) → IsAmount amount → P (given.Amount amount)
-HoldsOfAll by.Day P = (day : ℕ) → P (given.Day day)
-HoldsOfAll by.Segment P = (segment : ℕ) → P (given.Segment segment)
-HoldsOfAll by.BatchNo P = (number : ℕ) → P (given.BatchNo number)
-HoldsOfAll by.Value P = (value : ℤ) → P (given.Value value)
+-- The fact holds of each value that is read in this way.
+abbrev pub HoldsOfValues : ArgumentKind → (ArgumentValue → Type 0) → Type 0
+HoldsOfValues by.Name P = (name : Bytes) → P (given.Name name)
+HoldsOfValues by.OwnerKey P = (key : Bytes) → P (given.OwnerKey key)
+HoldsOfValues by.Measure P = (measure : Bytes) → P (given.Measure measure)
+HoldsOfValues by.Role P = (role : Role) → P (given.Role role)
+HoldsOfValues by.Way P = (way : Way) → P (given.Way way)
+HoldsOfValues by.StateCommand P = (command : StateCommand) → P (given.StateCommand command)
+HoldsOfValues by.Amount P = (amount : ℕ) → IsAmount amount → P (given.Amount amount)
+HoldsOfValues by.Day P = (day : ℕ) → P (given.Day day)
+HoldsOfValues by.Segment P = (segment : ℕ) → P (given.Segment segment)
+HoldsOfValues by.BatchNo P = (number : ℕ) → P (given.BatchNo number)
+HoldsOfValues by.Value P = (value : ℤ) → P (given.Value value)
 
--- the fact holds of all lists of values that are read so
+-- The fact holds of all lists of values that are read in these ways.
 abbrev pub HoldsOfEach : List Argument → (List ArgumentValue → Type 0) → Type 0
 HoldsOfEach [] P = P []
-HoldsOfEach (a ∷ rest) P = HoldsOfAll a.reading (λ value. HoldsOfEach rest (λ values. P (value ∷ values)))
+HoldsOfEach (a ∷ rest) P = HoldsOfValues a.reading (λ value. HoldsOfEach rest (λ values. P (value ∷ values)))
 
 read_has : {A : Type 0} (why : Refusal) (made : A → ArgumentValue) (o : Option A) (P : ArgumentValue → Type 0) (v : ArgumentValue) → ((x : A) → P (made x)) → or_refused why made o ≡ Ok v → P v
 read_has why made None P v all e = absurd (cc e)
 read_has why made (Some x) P v all e = let same : made x ≡ v = cc in subst P same (all x)
 
--- an amount that is read is one
+-- An amount that was read is within its bounds.
 amount_has : (word : Bytes) (o : Option ℕ) (P : ArgumentValue → Type 0) (v : ArgumentValue) → ((n : ℕ) → IsAmount n → P (given.Amount n))
     → or_refused BadAmount given.Amount (option_and_then (λ n. where_so (nat_le 1 n && nat_le n 1000000000) n) o) ≡ Ok v → P v
 amount_has word None P v all e = absurd (cc e)
@@ -53,7 +53,7 @@ amount_has word (Some n) P v all e = on (nat_le 1 n && nat_le n 1000000000) refl
         subst P same (all n (leb-true 1 n least, leb-true n 1000000000 most))
     on false within is = absurd (cc is)
 
-value_has : (r : ArgumentKind) (P : ArgumentValue → Type 0) (word : Bytes) (v : ArgumentValue) → HoldsOfAll r P → read_as r word ≡ Ok v → P v
+value_has : (r : ArgumentKind) (P : ArgumentValue → Type 0) (word : Bytes) (v : ArgumentValue) → HoldsOfValues r P → read_as r word ≡ Ok v → P v
 value_has by.Name P word v all e = read_has BadName given.Name (where_so (is_name word) word) P v all e
 value_has by.OwnerKey P word v all e = read_has BadName given.OwnerKey (where_so (is_owner_key word) word) P v all e
 value_has by.Measure P word v all e = read_has BadName given.Measure (where_so (is_measure word) word) P v all e
@@ -66,7 +66,7 @@ value_has by.Segment P word v all e = read_has BadAmount given.Segment (number_w
 value_has by.BatchNo P word v all e = read_has BadAmount given.BatchNo (number_within 1 99 word) P v all e
 value_has by.Value P word v all e = read_has BadAmount given.Value (value_of word) P v all e
 
--- what the first value and those behind it are, where all were read
+-- the first value and those after it, if all were read
 record Parts (first : Result ArgumentValue Refusal) (behind : Result (List ArgumentValue) Refusal) (values : List ArgumentValue) : Type 0 where
   value : ArgumentValue
   others : List ArgumentValue
@@ -89,19 +89,19 @@ values_have (a ∷ rest) P (w ∷ words) values same all e =
     (values_have rest (λ vs. P (p.value ∷ vs)) words p.others (omega arith)
     (value_has a.reading (λ v. HoldsOfEach rest (λ vs. P (v ∷ vs))) w p.value all p.read) p.all_read)
 
--- the values of the line make its command
-abbrev pub Makes : Line → Type 0
-Makes l = HoldsOfEach l.values (λ values. IsSome (command_from l.command values))
+-- The values of the line make its command.
+abbrev pub MakesCommand : Line → Type 0
+MakesCommand l = HoldsOfEach l.values (λ values. IsSome (command_from l.command values))
 
--- a fact of a line, and of those behind it
+-- a fact of one line, and of those after it
 infixr 30 ◌and◌
 ◌and◌ : {A B : Type 0} → A → B → A × B
 first and others = (first, others)
 
-pub actual_makes : Makes actual_line
+pub actual_makes : MakesCommand actual_line
 actual_makes = λ key owner order number segment role material lot_owner lot sublot amount within day. refl
 
-every_line : AllByRecursion Makes plant_lines
+every_line : AllByRecursion MakesCommand command_lines
 every_line =
     (λ owner key. refl)
     and (λ unit. refl)
@@ -138,14 +138,14 @@ found_has P p (y ∷ ys) x all e = on (p y) (found_has P p ys x all.1) e
     on true later e = let same : y ≡ x = cc in subst P same all.0
     on false later e = later e
 
-all_so : {A : Type 0} (p : A → Bool) (xs : List A) → list_all p xs ≡ true → AllByRecursion (λ x. p x ≡ true) xs
-all_so p [] so = tt
-all_so p (x ∷ xs) so = let parts = both (p x) (list_all p xs) so in (parts.0, all_so p xs parts.1)
+table_all_so : {A : Type 0} (p : A → Bool) (xs : List A) → list_all p xs ≡ true → AllByRecursion (λ x. p x ≡ true) xs
+table_all_so p [] so = tt
+table_all_so p (x ∷ xs) so = let parts = both (p x) (list_all p xs) so in (parts.0, table_all_so p xs parts.1)
 
-pub made : (l : Line) (words : List Bytes) (read : Result (List ArgumentValue) Refusal) → Makes l → length words ≡ length l.values → values_read l.values words ≡ read
+pub command_made : (l : Line) (words : List Bytes) (read : Result (List ArgumentValue) Refusal) → MakesCommand l → length words ≡ length l.values → values_read l.values words ≡ read
     → IsSome (command_read l.command read)
-made l words (Err why) makes same e = refl
-made l words (Ok values) makes same e = values_have l.values (λ vs. IsSome (command_from l.command vs)) words values same makes e
+command_made l words (Err why) makes same e = refl
+command_made l words (Ok values) makes same e = values_have l.values (λ vs. IsSome (command_from l.command vs)) words values same makes e
 
 line_taken : (y : Option Line) (values : List Bytes) (l : Line)
     → option_and_then (λ m. if takes_values m values then Some m else None) y ≡ Some l → (y ≡ Some l) × (takes_values l values ≡ true)
@@ -156,21 +156,21 @@ line_taken (Some m) values l e = on (takes_values m values) refl e
     on true is e = (e, let same : m ≡ l = cc in subst (λ (x : Line). takes_values x values ≡ true) same is)
     on false is e = absurd (cc e)
 
-some_values : AllByRecursion (λ (l : Line). nat_lt 0 (length l.values) ≡ true) plant_lines
-some_values = all_so (λ (l : Line). nat_lt 0 (length l.values)) plant_lines refl
+some_values : AllByRecursion (λ (l : Line). nat_lt 0 (length l.values) ≡ true) command_lines
+some_values = table_all_so (λ (l : Line). nat_lt 0 (length l.values)) command_lines refl
 
--- words that fit a line are its name and its values, of which there are some
-pub fits_line : (words : List Bytes) (l : Line) → line_of plant_lines words ≡ Some l → (0 < length l.values) × (takes_values l (drop 1 words) ≡ true)
+-- Words that fit a line are its name and its values, of which there is at least one.
+pub fits_line : (words : List Bytes) (l : Line) → fitting_line command_lines words ≡ Some l → (0 < length l.values) × (takes_values l (drop 1 words) ≡ true)
 fits_line [] l e = absurd (cc e)
 fits_line (name ∷ values) l e =
-    let t = line_taken (line_named plant_lines name) values l e in
-    let some = found_has (λ (l : Line). nat_lt 0 (length l.values) ≡ true) (λ m. bytes_eq m.name name) plant_lines l some_values t.0 in
+    let t = line_taken (line_named command_lines name) values l e in
+    let some = found_has (λ (l : Line). nat_lt 0 (length l.values) ≡ true) (λ m. bytes_eq m.name name) command_lines l some_values t.0 in
     (grind (arith, nat_tests), t.1)
 
--- words that fit a line ask for a command
-pub asks : (words : List Bytes) (l : Line) → line_of plant_lines words ≡ Some l → IsSome (command_with l (drop 1 words))
-asks [] l e = absurd (cc e)
-asks (name ∷ values) l e =
-    let t = line_taken (line_named plant_lines name) values l e in
+-- Words that fit a line ask for a command.
+pub line_gives_command : (words : List Bytes) (l : Line) → fitting_line command_lines words ≡ Some l → IsSome (command_with l (drop 1 words))
+line_gives_command [] l e = absurd (cc e)
+line_gives_command (name ∷ values) l e =
+    let t = line_taken (line_named command_lines name) values l e in
     let same = nat_eq-exact (length values) (length l.values) (both (length values == length l.values) _ t.1).0 in
-    made l values (values_read l.values values) (found_has Makes (λ m. bytes_eq m.name name) plant_lines l every_line t.0) same refl
+    command_made l values (values_read l.values values) (found_has MakesCommand (λ m. bytes_eq m.name name) command_lines l every_line t.0) same refl

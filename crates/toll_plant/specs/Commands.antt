@@ -4,37 +4,37 @@ use Rattle.std.specs.Int.Signed.{le_z, le_z_yes}
 use Rattle.toll_plant.specs.Common.{Bytes, BadAmount, PlantCmd}
 use Rattle.toll_base.specs.Lots.{lot_id}
 use Rattle.toll_base.specs.declared.limits.Limits.{Limits}
-use Rattle.toll_desk.specs.declared.plant_cmd.PlantCmd.TheVariants as cmd
+use Rattle.toll_answers.specs.declared.plant_cmd.PlantCmd.TheVariants as cmd
 use Rattle.toll_plant.specs.declared.taken.Taken.{Taken}
 use Rattle.toll_plant.specs.declared.command.CommandName.{CommandName}
 use Rattle.toll_plant.specs.declared.command.CommandName.TheVariants as called
 use Rattle.toll_plant.specs.declared.argument.ArgumentValue.{ArgumentValue}
 use Rattle.toll_plant.specs.declared.argument.ArgumentValue.TheVariants.{Name, OwnerKey, Measure, Role, Way, StateCommand, Amount, Day, Segment, BatchNo, Value}
 
--- limits, if the test says that the low one is not above the high one
+-- the limits, if the test says that the low one is not above the high one
 abbrev pub limits_if : (low high : ℤ) (b : Bool) → (T b → low ≤ℤ high) → Option Limits
 limits_if low high true ordered = Some (record { low = low; high = high; ordered = ordered tt })
 limits_if low high false ordered = None
 
--- limits, the low one not above the high one
+-- the limits, if the low one is not above the high one
 abbrev pub limits_of : ℤ → ℤ → Option Limits
 limits_of low high = limits_if low high (le_z low high) le_z_yes
 
--- a test with these limits, or the refusal where they are none
+-- the command that adds a test with these limits, or its refusal if there are none
 abbrev pub test_add : (owner material test : Bytes) → Option Limits → PlantCmd
 test_add owner material test (Some limits) = cmd.TestAdd owner material test limits
 test_add owner material test None = cmd.Unread BadAmount
 
--- what was used or made, where these are the values that say it
+-- what was consumed or produced, if these are its values
 abbrev pub taken_from : List ArgumentValue → Option Taken
 taken_from (Role role ∷ Name material ∷ Name lot_owner ∷ Name lot ∷ Name sublot ∷ Amount amount ∷ Day day ∷ []) = Some (record { role = role; material = material; lot = lot_id lot_owner lot; sublot = sublot; amount = amount; day = day })
 taken_from _ = None
 
 -- an actual of this segment of a batch
-abbrev pub actual_of : (key owner order : Bytes) (number segment : ℕ) → Taken → PlantCmd
-actual_of key owner order number segment t = cmd.Actual key owner order number segment t.role t.material t.lot t.sublot t.amount t.day
+abbrev pub actual_command : (key owner order : Bytes) (number segment : ℕ) → Taken → PlantCmd
+actual_command key owner order number segment t = cmd.Actual key owner order number segment t.role t.material t.lot t.sublot t.amount t.day
 
--- the command of this name with these values, where they are its values
+-- the command with this name and these values, if they fit the name
 abbrev pub command_from : CommandName → List ArgumentValue → Option PlantCmd
 command_from called.OwnerAdd (Name owner ∷ OwnerKey key ∷ []) = Some (cmd.OwnerAdd owner key)
 command_from called.UnitAdd (Name unit ∷ []) = Some (cmd.UnitAdd unit)
@@ -54,7 +54,7 @@ command_from called.Scrap (Name owner ∷ Name key ∷ Name lot ∷ Name sublot 
 command_from called.Result (Name owner ∷ Name lot ∷ Name test ∷ Value value ∷ Day day ∷ []) = Some (cmd.Result owner lot test value day)
 command_from called.Release (Name lot ∷ []) = Some (cmd.Release lot)
 command_from called.Reject (Name lot ∷ []) = Some (cmd.Reject lot)
-command_from called.Actual (Name key ∷ Name owner ∷ Name order ∷ BatchNo number ∷ Segment segment ∷ rest) = option_map (actual_of key owner order number segment) (taken_from rest)
+command_from called.Actual (Name key ∷ Name owner ∷ Name order ∷ BatchNo number ∷ Segment segment ∷ rest) = option_map (actual_command key owner order number segment) (taken_from rest)
 command_from called.Void (Name owner ∷ Name key ∷ []) = Some (cmd.Void owner key)
 command_from called.Orders (Name owner ∷ []) = Some (cmd.Orders owner)
 command_from called.Stock (Name owner ∷ []) = Some (cmd.Stock owner)

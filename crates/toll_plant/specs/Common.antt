@@ -1,19 +1,18 @@
--- Words of other crates that several definitions here are said in.
+-- Definitions of other crates that several files here use.
 pub use Rattle.std.specs.List.{AllByRecursion, list_all, list_any}
 pub use Rattle.std.specs.Str.{bytes_eq}
-pub use Rattle.toll_answers.specs.PlantAnswers.{Does, IsPlantAnswer, Judged, PlantRequest, PlantAnswer, Shows, after_plant}
+pub use Rattle.toll_answers.specs.PlantAnswers.{IsPlantAnswer, IsValidCommand, Judged, PlantAnswer, Shows, after_plant, command_of}
+pub use Rattle.toll_answers.specs.declared.plant_cmd.PlantCmd.{PlantCmd}
 pub use Rattle.toll_base.specs.Bytes.{Bytes, same_bytes}
 pub use Rattle.toll_base.specs.Words.{count, is_some_where, total, where_so}
 pub use Rattle.toll_base.specs.declared.refusal.Refusal.{Refusal}
 pub use Rattle.toll_base.specs.declared.refusal.Refusal.TheVariants.{BadAmount, BadName}
-pub use Rattle.toll_desk.specs.Translations.{IsValidCommand, asked_by}
 pub use Rattle.toll_desk.specs.Reads.{Over}
-pub use Rattle.toll_desk.specs.Standing.{StandsFor}
-pub use Rattle.toll_desk.specs.declared.plant_cmd.PlantCmd.{PlantCmd}
+pub use Rattle.toll_desk.specs.Representing.{Represents}
 pub use Rattle.toll_history.specs.History.{History, acts}
 pub use Rattle.toll_history.specs.Verdict.{Accepted, IsLawful, Refused, Repeated, Verdict}
-pub use Rattle.toll_keep.specs.Content.{Content, Fits, after}
-pub use Rattle.toll_keep.specs.Goes.{FindsNoDamage, Goes, IsReading, Settles}
-pub use Rattle.toll_keep.specs.Meaning.{Meaning, OverHeld, OverLive}
+pub use Rattle.toll_keep.specs.Content.{Content, AllChangesFit, content_after}
+pub use Rattle.toll_keep.specs.CallEffects.{FindsNoDamage, CallEffect, IsReading, Settles}
+pub use Rattle.toll_keep.specs.Meaning.{Meaning, OverContent, OverLive}
 pub use Rattle.toll_keep.specs.declared.fault.KeepFault.{KeepFault}
 pub use Rattle.toll_keep.specs.declared.fault.KeepFault.TheVariants.{Damaged, Memory}

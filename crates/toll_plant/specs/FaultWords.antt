@@ -1,4 +1,4 @@
--- The words of faults.
+-- The names of faults.
 use Rattle.std.specs.Prelude.{codes}
 use Rattle.toll_base.specs.Bytes.{Bytes}
 use Rattle.toll_plant.specs.declared.fault.WordsFault.{WordsFault}
@@ -6,12 +6,12 @@ use Rattle.toll_plant.specs.declared.fault.WordsFault.TheVariants as words
 use Rattle.toll_plant.specs.declared.import_fault.ImportFault.{ImportFault}
 use Rattle.toll_plant.specs.declared.import_fault.ImportFault.TheVariants as imports
 
--- why words gave no command
+-- the name of the fault for words that gave no command
 abbrev pub word_of_words_fault : WordsFault → Bytes
 word_of_words_fault words.Memory = codes "Memory"
 word_of_words_fault (words.Usage text) = codes "Usage"
 
--- why a file of actuals was not imported
+-- the name of the fault for a file of actuals that was not imported
 abbrev pub word_of_import_fault : ImportFault → Bytes
 word_of_import_fault imports.Memory = codes "Memory"
 word_of_import_fault imports.TooLong = codes "TooLong"

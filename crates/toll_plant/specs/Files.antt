@@ -14,22 +14,22 @@ Fields = List Bytes
 abbrev pub header : Fields
 header = codes "key" ∷ codes "owner" ∷ codes "order" ∷ codes "batch" ∷ codes "segment" ∷ codes "use" ∷ codes "material" ∷ codes "lot_owner" ∷ codes "lot" ∷ codes "sublot" ∷ codes "amount" ∷ codes "day" ∷ []
 
--- all records of a file, behind a byte order mark if it begins with one
-abbrev pub Reads : Bytes → List Fields → Type 0
-Reads file records = AreRecords default_config StartRecord (strip_bom file) records
+-- These are all records of the file, after a byte order mark if it begins with one.
+abbrev pub HasRecords : Bytes → List Fields → Type 0
+HasRecords file records = AreRecords default_config StartRecord (strip_bom file) records
 
--- the file has the header, and these records under it
+-- The file has the header, and these records after it.
 abbrev pub HasActuals : Bytes → List Fields → Type 0
-HasActuals file records = Reads file (header ∷ records)
+HasActuals file records = HasRecords file (header ∷ records)
 
--- the file begins with the header
+-- The file begins with the header.
 abbrev pub HasHeader : Bytes → Type 0
 HasHeader file = (records : List Fields) × HasActuals file records
 
--- the command of a record: that of the words for an actual, where it has as many fields as they have values
+-- the command of a record with these fields: that of the words of an actual, if there are as many fields as an actual has values
 abbrev pub command_in : Fields → Option PlantCmd
 command_in fields = if length fields == length actual_line.values then command_with actual_line fields else None
 
--- these are the commands of the records under the header, in order
+-- These are the commands of the records after the header, in order.
 abbrev pub AreCommandsOf : Bytes → List (Option PlantCmd) → Type 0
 AreCommandsOf file commands = (records : List Fields) × HasActuals file records × (commands ≡ map command_in records)

@@ -7,13 +7,13 @@ pub mod Shown
 pub mod Usages
 pub mod Words
 pub mod ClapWords
-pub mod Unread
+pub mod ArgumentFaults
 pub mod Outcomes
 pub mod Files
 pub mod ImportFaults
 pub mod Imports
 pub mod ImportStates
-pub mod HeldRecords
+pub mod StagedRecords
 pub mod ImportTexts
 pub mod ImportLaws
 pub mod FaultWords

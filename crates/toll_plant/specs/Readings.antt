@@ -21,12 +21,12 @@ use Rattle.toll_plant.specs.declared.argument.ArgumentValue.TheVariants as given
 abbrev pub role_of : Bytes → Option Role
 role_of word = find (λ role. same_bytes word (use_word role)) (Consumed ∷ Produced ∷ [])
 
--- the word of a way
+-- the word of a direction
 abbrev pub way_word : Way → Bytes
 way_word Back = codes "back"
 way_word Forward = codes "forward"
 
--- the way that the word names
+-- the direction that the word names
 abbrev pub way_of : Bytes → Option Way
 way_of word = find (λ way. same_bytes word (way_word way)) (Back ∷ Forward ∷ [])
 
@@ -46,12 +46,12 @@ value_of (b ∷ word) =
 
 -- ---- values
 
--- what was read, or the refusal of bytes that are nothing of the kind
+-- the value that was read, or this refusal if none was
 abbrev pub or_refused : {A : Type 0} → Refusal → (A → ArgumentValue) → Option A → Result ArgumentValue Refusal
 or_refused why made None = Err why
 or_refused why made (Some value) = Ok (made value)
 
--- a value as it is read, or the refusal of one that can't be read
+-- the value of a word that is read in this way, or the refusal of a word that can't be read
 abbrev pub read_as : ArgumentKind → Bytes → Result ArgumentValue Refusal
 read_as by.Name word = or_refused BadName given.Name (where_so (is_name word) word)
 read_as by.OwnerKey word = or_refused BadName given.OwnerKey (where_so (is_owner_key word) word)

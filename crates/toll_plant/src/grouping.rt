@@ -1,15 +1,15 @@
 //! A group of records of a file of actuals, with one change of the keep for all of them.
 ghost use Rattle.std.specs.Prelude.{◌≡◌, ◌+◌, ◌<◌, ◌≤◌, [], false, Err, OnErr, length, take, vec_capacity, vec_len};
 ghost use Rattle.std.specs.List.{AllByRecursion, list_any};
-ghost use Rattle.toll_plant.specs.HeldRecords.{AreHeld, IsMade, IsRecordHeld};
-ghost use Rattle.toll_plant.specs.Imports.{CanBeHeld, IsGroupServed, before_accepted, refused_at};
-ghost use Rattle.toll_plant.specs.Outcomes.{is_accepted};
+ghost use Rattle.toll_plant.specs.StagedRecords.{AreStaged, IsCommitted, IsRecordStaged};
+ghost use Rattle.toll_plant.specs.Imports.{CanBeStaged, IsGroupServed, before_accepted, refused_at};
+ghost use Rattle.toll_plant.specs.Outcomes.{is_outcome_accepted};
 
 use crate::outcome::Outcome;
 use std::alloc::Global;
 use toll_base::{Change, Row};
 use toll_desk::{PlantCmd, commit, plant_stage};
-use toll_keep::{Keep, KeepFault, PendingChanges};
+use toll_keep::{Keep, KeepFault, StagedChanges};
 
 /// How many records of a file act with one change of the keep, at most. There is one wait for the disk for so
 /// many records, and the changes that are held back until then take little memory.
@@ -33,52 +33,52 @@ pub fn import_group<K: Keep>(
     commands: &[Option<PlantCmd>],
     outcomes: &mut Vec<Outcome>,
 ) -> Result<(), KeepFault>
-    requires can { AllByRecursion CanBeHeld commands.now }
+    requires can { AllByRecursion CanBeStaged commands.now }
     requires room { length commands.now ≤ vec_capacity outcomes.old }
     ensures served { IsGroupServed K.meaning keep.old keep.new commands.now outcomes.new.items result }
     ensures within { vec_len outcomes.new ≤ length commands.now }
     ensures capacity { vec_capacity outcomes.new ≡ vec_capacity outcomes.old }
 {
     outcomes.clear();
-    match hold_all(alloc, keep, commands, outcomes) {
+    match stage_all(alloc, keep, commands, outcomes) {
         Ok(held) => make(alloc, keep, held, outcomes),
         Err(fault) => refuse(outcomes, fault),
     }
 }
 
 // The changes of records, which the keep does not have yet.
-struct Held {
+struct Staged {
     changes: Vec<Change>,
     // The fault if there was no memory for the last of them.
     end: Result<(), KeepFault>,
 }
 
 /// By hand, since derived code is written out at every exit of every function that owns one.
-impl Drop for Held {
+impl Drop for Staged {
     fn drop(self) {
-        let Held { changes: _, end: _ } = self;
+        let Staged { changes: _, end: _ } = self;
     }
 }
 
 // Does the records over the rows of the keep, one after another, and holds back their changes. An `Err` is a
 // fault of reading rows, after the outcomes that were written.
-fn hold_all<K: Keep>(
+fn stage_all<K: Keep>(
     alloc: Global,
     keep: &mut K,
     commands: &[Option<PlantCmd>],
     outcomes: &mut Vec<Outcome>,
-) -> Result<Held, KeepFault>
-    requires can { AllByRecursion CanBeHeld commands.now }
+) -> Result<Staged, KeepFault>
+    requires can { AllByRecursion CanBeStaged commands.now }
     requires none { outcomes.old.items ≡ [] }
     requires room { length commands.now ≤ vec_capacity outcomes.old }
-    ensures held { AreHeld K.meaning keep.old keep.new commands.now outcomes.new.items result }
+    ensures held { AreStaged K.meaning keep.old keep.new commands.now outcomes.new.items result }
     ensures within { vec_len outcomes.new ≤ length commands.now }
     ensures short { OnErr result (vec_len outcomes.new < length commands.now) }
     ensures capacity { vec_capacity outcomes.new ≡ vec_capacity outcomes.old }
 {
     // Named for the proof: a change may have a row.
     let _row: Option<Row> = None;
-    let mut pending = PendingChanges::new(alloc);
+    let mut pending = StagedChanges::new(alloc);
     for command in commands {
         let outcome = match act(alloc, keep, &mut pending, command) {
             Ok(outcome) => outcome,
@@ -86,13 +86,13 @@ fn hold_all<K: Keep>(
         };
         outcomes.push_reserved(outcome);
         if outcome.is_fault() {
-            return Ok(Held {
+            return Ok(Staged {
                 changes: pending.into_changes(),
                 end: Err(KeepFault::Memory),
             });
         }
     }
-    Ok(Held {
+    Ok(Staged {
         changes: pending.into_changes(),
         end: Ok(()),
     })
@@ -102,11 +102,11 @@ fn hold_all<K: Keep>(
 fn act<K: Keep>(
     alloc: Global,
     keep: &mut K,
-    pending: &mut PendingChanges,
+    pending: &mut StagedChanges,
     command: &Option<PlantCmd>,
 ) -> Result<Outcome, KeepFault>
-    requires { CanBeHeld command.now }
-    ensures { IsRecordHeld K.meaning keep.old keep.new pending.old pending.new command.now result }
+    requires { CanBeStaged command.now }
+    ensures { IsRecordStaged K.meaning keep.old keep.new pending.old pending.new command.now result }
 {
     match command {
         None => Ok(Outcome::BadRecord),
@@ -121,11 +121,11 @@ fn act<K: Keep>(
 fn make<K: Keep>(
     alloc: Global,
     keep: &mut K,
-    held: Held,
+    held: Staged,
     outcomes: &mut Vec<Outcome>,
 ) -> Result<(), KeepFault>
-    requires { list_any is_accepted outcomes.old.items ≡ false → held.changes.items ≡ [] }
-    ensures made { IsMade K.meaning keep.old keep.new held outcomes.old.items outcomes.new.items result }
+    requires { list_any is_outcome_accepted outcomes.old.items ≡ false → held.changes.items ≡ [] }
+    ensures made { IsCommitted K.meaning keep.old keep.new held outcomes.old.items outcomes.new.items result }
     ensures within { vec_len outcomes.new ≤ vec_len outcomes.old }
     ensures capacity { vec_capacity outcomes.new ≡ vec_capacity outcomes.old }
 {
@@ -138,7 +138,7 @@ fn make<K: Keep>(
 // Records that nothing of the group was made, because of this fault.
 fn refuse(outcomes: &mut Vec<Outcome>, fault: KeepFault) -> Result<(), KeepFault>
     requires { length (before_accepted outcomes.old.items) < vec_capacity outcomes.old }
-    ensures told { outcomes.new.items ≡ refused_at fault outcomes.old.items }
+    ensures reported { outcomes.new.items ≡ refused_at fault outcomes.old.items }
     ensures fault { result ≡ Err fault }
     ensures len { vec_len outcomes.new ≡ length (before_accepted outcomes.old.items) + 1 }
     ensures capacity { vec_capacity outcomes.new ≡ vec_capacity outcomes.old }

@@ -1,7 +1,7 @@
 //! An import of a file of actuals that is under way.
 ghost use Rattle.std.specs.Prelude.{◌≡◌, ◌↔◌, ◌+◌, ◌++◌, ◌≤◌, IsTrue, IfErr, IfOk, [], length, vec_capacity, vec_len};
 ghost use Rattle.toll_plant.specs.ImportFaults.{IsRefusedFor};
-ghost use Rattle.toll_plant.specs.Imports.{AreNumbered, outcomes_in};
+ghost use Rattle.toll_plant.specs.Imports.{AreNumberedFrom, outcomes_in};
 ghost use Rattle.toll_plant.specs.ImportStates.{IsBegun, IsResumed, IsUnderWay};
 
 use crate::actuals::actuals;
@@ -92,7 +92,7 @@ impl Import {
     /// fault.
     pub fn into_report(self) -> ImportReport
         ensures lines { result.lines.items ≡ self.lines }
-        ensures numbered { AreNumbered 1 result.lines.items }
+        ensures numbered { AreNumberedFrom 1 result.lines.items }
     {
         ImportReport { lines: self.lines }
     }
@@ -101,8 +101,8 @@ impl Import {
 // Adds a line for each of these outcomes.
 fn push_lines(lines: &mut Vec<ImportLine>, outcomes: &[Outcome])
     requires { vec_len lines.old + length outcomes.now ≤ vec_capacity lines.old }
-    ensures told { outcomes_in lines.new.items ≡ outcomes_in lines.old.items ++ outcomes.now }
-    ensures numbered { AreNumbered 1 lines.old.items → AreNumbered 1 lines.new.items }
+    ensures reported { outcomes_in lines.new.items ≡ outcomes_in lines.old.items ++ outcomes.now }
+    ensures numbered { AreNumberedFrom 1 lines.old.items → AreNumberedFrom 1 lines.new.items }
     ensures len { vec_len lines.new ≡ vec_len lines.old + length outcomes.now }
     ensures capacity { vec_capacity lines.new ≡ vec_capacity lines.old }
 {

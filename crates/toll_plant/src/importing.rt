@@ -3,7 +3,7 @@ ghost use Rattle.std.specs.Prelude.{◌≡◌, IfOk, OnErr};
 ghost use Rattle.toll_keep.specs.Meaning.{NeverCloses};
 ghost use Rattle.toll_desk.specs.Reads.{Over};
 ghost use Rattle.toll_plant.specs.ImportFaults.{IsImportedOrRefused};
-ghost use Rattle.toll_plant.specs.Imports.{AllTell, AreNumbered, AreRecordsServed, AreStepsOf, IsImportOf, IsOpenOutcome, IsWholeOutcome, OfRecords};
+ghost use Rattle.toll_plant.specs.Imports.{AllOutcomesAre, AreNumberedFrom, AreRecordsServed, AreStepsOf, IsImportOf, IsOpenOutcome, IsWholeOutcome, OfRecords};
 
 use crate::import::Import;
 use crate::import_fault::ImportFault;
@@ -39,12 +39,12 @@ pub fn import_actuals<K: Keep>(
     ensures read { IsImportedOrRefused file.now result }
     ensures err { OnErr result (keep.new ≡ keep.old) }
     ensures honest { K.meaning.is_honest keep.new → K.meaning.is_honest keep.old }
-    ensures numbered { IfOk result (λ report. AreNumbered 1 report.lines.items) }
+    ensures numbered { IfOk result (λ report. AreNumberedFrom 1 report.lines.items) }
     ensures served { IfOk result (OfRecords file.now (λ commands outcomes. AreRecordsServed K.meaning keep.old commands outcomes keep.new)) }
     ensures run { Over K.meaning keep.old keep.new (λ c H. IfOk result (OfRecords file.now (IsImportOf (K.meaning.holds keep.new) H))) }
     ensures steps { Over K.meaning keep.old keep.new (λ c H. IfOk result (AreStepsOf K.meaning keep.old keep.new c H file.now)) }
-    ensures whole { Over K.meaning keep.old keep.new (λ c H. IfOk result (AllTell IsWholeOutcome)) }
-    ensures open { NeverCloses K.meaning → Over K.meaning keep.old keep.new (λ c H. IfOk result (AllTell IsOpenOutcome)) }
+    ensures whole { Over K.meaning keep.old keep.new (λ c H. IfOk result (AllOutcomesAre IsWholeOutcome)) }
+    ensures open { NeverCloses K.meaning → Over K.meaning keep.old keep.new (λ c H. IfOk result (AllOutcomesAre IsOpenOutcome)) }
 {
     let mut import = Import::of(alloc, file)?;
     while !import.is_over() {

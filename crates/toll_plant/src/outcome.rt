@@ -1,7 +1,7 @@
 //! The outcome of a record.
 ghost use Rattle.std.specs.Prelude.{◌≡◌};
-ghost use Rattle.toll_desk.specs.Translations.{plant_told};
-ghost use Rattle.toll_plant.specs.Outcomes.{is_accepted, is_fault, outcome_of};
+ghost use Rattle.toll_desk.specs.Translations.{meaning_of_plant_reply};
+ghost use Rattle.toll_plant.specs.Outcomes.{is_outcome_accepted, is_fault_outcome, record_outcome};
 
 use std::fmt;
 use toll_base::Refusal;
@@ -24,7 +24,7 @@ impl Outcome {
     /// The outcome of an actual with this answer. No actual is answered with a text: such an answer would
     /// mean that the rows can't be trusted.
     pub(crate) fn of(reply: PlantReply) -> Self
-        ensures { result ≡ outcome_of (plant_told reply) }
+        ensures { result ≡ record_outcome (meaning_of_plant_reply reply) }
     {
         match reply {
             PlantReply::Accepted => Outcome::Accepted,
@@ -37,14 +37,14 @@ impl Outcome {
 
     /// Whether the record changed something.
     pub(crate) fn is_accepted(&self) -> bool
-        ensures { result ≡ is_accepted self.now }
+        ensures { result ≡ is_outcome_accepted self.now }
     {
         matches!(self, Outcome::Accepted)
     }
 
     /// Whether no later record acts.
     pub(crate) fn is_fault(&self) -> bool
-        ensures { result ≡ is_fault self.now }
+        ensures { result ≡ is_fault_outcome self.now }
     {
         matches!(self, Outcome::Fault(_))
     }

@@ -2,7 +2,7 @@
 ghost use Rattle.std.specs.Prelude.{◌≡◌, IfErr, IfOk, IsErr, Ok, map};
 ghost use Rattle.csv.specs.Reading.{error_kind};
 ghost use Rattle.csv.specs.Records.{fields_of};
-ghost use Rattle.toll_plant.specs.Files.{Reads};
+ghost use Rattle.toll_plant.specs.Files.{HasRecords};
 ghost use Rattle.toll_plant.specs.ImportFaults.{IsOfReader};
 
 use csv::{ByteRecord, Error, ErrorKind, ReaderBuilder};
@@ -11,7 +11,7 @@ use std::alloc::{AllocError, Global};
 /// Every record of the file, with any number of fields: `csv` refuses none. The reader of bytes in memory
 /// fails only if there is no memory.
 pub fn records(alloc: Global, file: &[u8]) -> Result<Vec<ByteRecord>, AllocError>
-    ensures { IfOk result (λ records. Reads file.now (map fields_of records.items)) }
+    ensures { IfOk result (λ records. HasRecords file.now (map fields_of records.items)) }
 {
     let reader = ReaderBuilder::new()
         .has_headers(false)

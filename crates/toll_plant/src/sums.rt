@@ -1,7 +1,7 @@
 //! How many records have which outcome.
 ghost use Rattle.std.specs.Prelude.{◌≡◌, count_by};
-ghost use Rattle.toll_plant.specs.ImportTexts.{is_bad, is_refused, is_repeated};
-ghost use Rattle.toll_plant.specs.Outcomes.{is_accepted, is_fault};
+ghost use Rattle.toll_plant.specs.ImportTexts.{is_bad_record, is_refused, is_repeated};
+ghost use Rattle.toll_plant.specs.Outcomes.{is_outcome_accepted, is_fault_outcome};
 
 use crate::outcome::Outcome;
 use crate::report::ImportLine;
@@ -30,11 +30,11 @@ pub struct Sums {
 impl Sums {
     /// The sums over these lines.
     pub fn of(lines: &[ImportLine]) -> Self
-        ensures accepted { result.accepted ≡ count_by (λ l. is_accepted l.outcome) lines.now }
+        ensures accepted { result.accepted ≡ count_by (λ l. is_outcome_accepted l.outcome) lines.now }
         ensures repeated { result.repeated ≡ count_by (λ l. is_repeated l.outcome) lines.now }
         ensures refused { result.refused ≡ count_by (λ l. is_refused l.outcome) lines.now }
-        ensures bad { result.bad ≡ count_by (λ l. is_bad l.outcome) lines.now }
-        ensures faults { result.faults ≡ count_by (λ l. is_fault l.outcome) lines.now }
+        ensures bad { result.bad ≡ count_by (λ l. is_bad_record l.outcome) lines.now }
+        ensures faults { result.faults ≡ count_by (λ l. is_fault_outcome l.outcome) lines.now }
     {
         Sums {
             accepted: accepted(lines),
@@ -68,7 +68,7 @@ impl fmt::Display for Sums {
 }
 
 fn accepted(lines: &[ImportLine]) -> usize
-    ensures { result ≡ count_by (λ l. is_accepted l.outcome) lines.now }
+    ensures { result ≡ count_by (λ l. is_outcome_accepted l.outcome) lines.now }
 {
     count!(lines, Outcome::Accepted)
 }
@@ -86,13 +86,13 @@ fn refused(lines: &[ImportLine]) -> usize
 }
 
 fn bad(lines: &[ImportLine]) -> usize
-    ensures { result ≡ count_by (λ l. is_bad l.outcome) lines.now }
+    ensures { result ≡ count_by (λ l. is_bad_record l.outcome) lines.now }
 {
     count!(lines, Outcome::BadRecord)
 }
 
 fn faults(lines: &[ImportLine]) -> usize
-    ensures { result ≡ count_by (λ l. is_fault l.outcome) lines.now }
+    ensures { result ≡ count_by (λ l. is_fault_outcome l.outcome) lines.now }
 {
     count!(lines, Outcome::Fault(_))
 }

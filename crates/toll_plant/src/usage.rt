@@ -1,16 +1,16 @@
 //! How commands are written.
 ghost use Rattle.std.specs.Prelude.{◌≡◌, ◌++◌, IfOk, OnOk, flat_map, map};
-ghost use Rattle.toll_plant.specs.Shown.{shown, shown_argument};
+ghost use Rattle.toll_plant.specs.Shown.{shown_line, shown_argument};
 ghost use Rattle.toll_plant.specs.Usages as spec;
 
 use crate::argument::Argument;
 use crate::line::Line;
 use std::alloc::{AllocError, Global};
 
-/// The usage of one command: how it is written behind the program's name, and which words are none of its
+/// The usage of one command: how it is written after the program's name, and which words are none of its
 /// values.
 pub fn usage_of_line(alloc: Global, line: &Line<'_>) -> Result<Vec<u8>, AllocError>
-    ensures { IfOk result (λ text. text.items ≡ spec.usage_of_line (shown line.now)) }
+    ensures { IfOk result (λ text. text.items ≡ spec.usage_of_line (shown_line line.now)) }
 {
     let mut text = Vec::from_slice(alloc, b"usage: ")?;
     push_call(&mut text, line)?;
@@ -22,7 +22,7 @@ pub fn usage_of_line(alloc: Global, line: &Line<'_>) -> Result<Vec<u8>, AllocErr
 
 /// The usage of all commands, a line for each.
 pub fn usage_of_all(alloc: Global, lines: &[Line<'_>]) -> Result<Vec<u8>, AllocError>
-    ensures { IfOk result (λ text. text.items ≡ spec.usage_of_all (map shown lines.now)) }
+    ensures { IfOk result (λ text. text.items ≡ spec.usage_of_all (map shown_line lines.now)) }
 {
     let mut text = Vec::from_slice(alloc, b"usage: one of these commands and questions\n")?;
     push_lines(&mut text, lines)?;
@@ -30,7 +30,7 @@ pub fn usage_of_all(alloc: Global, lines: &[Line<'_>]) -> Result<Vec<u8>, AllocE
 }
 
 fn push_lines(text: &mut Vec<u8>, lines: &[Line<'_>]) -> Result<(), AllocError>
-    ensures { OnOk result (text.new.items ≡ text.old.items ++ flat_map spec.indented (map shown lines.now)) }
+    ensures { OnOk result (text.new.items ≡ text.old.items ++ flat_map spec.indented (map shown_line lines.now)) }
 {
     for line in lines {
         push_indented(text, line)?;
@@ -39,7 +39,7 @@ fn push_lines(text: &mut Vec<u8>, lines: &[Line<'_>]) -> Result<(), AllocError>
 }
 
 fn push_indented(text: &mut Vec<u8>, line: &Line<'_>) -> Result<(), AllocError>
-    ensures { OnOk result (text.new.items ≡ text.old.items ++ spec.indented (shown line.now)) }
+    ensures { OnOk result (text.new.items ≡ text.old.items ++ spec.indented (shown_line line.now)) }
 {
     text.extend_from_slice(b"       ")?;
     push_call(text, line)?;
@@ -48,7 +48,7 @@ fn push_indented(text: &mut Vec<u8>, line: &Line<'_>) -> Result<(), AllocError>
 
 // The whole line of a command.
 fn push_call(text: &mut Vec<u8>, line: &Line<'_>) -> Result<(), AllocError>
-    ensures { OnOk result (text.new.items ≡ text.old.items ++ spec.call (shown line.now)) }
+    ensures { OnOk result (text.new.items ≡ text.old.items ++ spec.call (shown_line line.now)) }
 {
     text.extend_from_slice(b"toll --db FILE ")?;
     text.extend_from_slice(line.name.as_bytes())?;

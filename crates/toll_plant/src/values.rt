@@ -1,7 +1,7 @@
 //! The values of a command, read from left to right.
 ghost use Rattle.std.specs.Prelude.{◌≡◌, IfOk, IfErr, IsSome, Some, Ok, map};
-ghost use Rattle.toll_plant.specs.Shown.{shown, shown_argument};
-ghost use Rattle.toll_plant.specs.Unread.{IsUnread};
+ghost use Rattle.toll_plant.specs.Shown.{shown_line, shown_argument};
+ghost use Rattle.toll_plant.specs.ArgumentFaults.{IsArgumentFault};
 ghost use Rattle.toll_plant.specs.Words.{command_with, values_read};
 
 use crate::argument::{Argument, ArgumentValue};
@@ -14,7 +14,7 @@ use toll_desk::PlantCmd;
 
 /// Why values were not read.
 #[derive(Clone, Copy)]
-pub enum Unread {
+pub enum ArgumentFault {
     /// There was no memory.
     Memory,
     /// The first value that can't be read has this refusal.
@@ -27,16 +27,16 @@ pub fn read<S: AsSlice<u8>>(
     line: &Line<'_>,
     words: &[S],
 ) -> Result<PlantCmd, AllocError>
-    requires { IsSome (command_with (shown line.now) (map S.items words.now)) }
-    ensures { IfOk result (λ command. command_with (shown line.now) (map S.items words.now) ≡ Some command) }
+    requires { IsSome (command_with (shown_line line.now) (map S.items words.now)) }
+    ensures { IfOk result (λ command. command_with (shown_line line.now) (map S.items words.now) ≡ Some command) }
 {
     match read_all(alloc, line.values, words) {
         Ok(values) => match command_from(line.command, &values) {
             Some(command) => Ok(command),
             None => unreachable!(),
         },
-        Err(Unread::Refused(why)) => Ok(PlantCmd::Unread(why)),
-        Err(Unread::Memory) => Err(AllocError),
+        Err(ArgumentFault::Refused(why)) => Ok(PlantCmd::Unread(why)),
+        Err(ArgumentFault::Memory) => Err(AllocError),
     }
 }
 
@@ -45,15 +45,15 @@ fn read_all<S: AsSlice<u8>>(
     alloc: Global,
     arguments: &[Argument<'_>],
     words: &[S],
-) -> Result<Vec<ArgumentValue>, Unread>
+) -> Result<Vec<ArgumentValue>, ArgumentFault>
     ensures values { IfOk result (λ values. values_read (map shown_argument arguments.now) (map S.items words.now) ≡ Ok values.items) }
-    ensures unread { IfErr result (IsUnread (values_read (map shown_argument arguments.now) (map S.items words.now))) }
+    ensures unread { IfErr result (IsArgumentFault (values_read (map shown_argument arguments.now) (map S.items words.now))) }
 {
     let mut values = Vec::new(alloc);
     for (argument, word) in arguments.iter().zip(words) {
         match argument.reading.read(word.as_slice()) {
-            Ok(value) => values.push(value).map_err(|_| Unread::Memory)?,
-            Err(why) => return Err(Unread::Refused(why)),
+            Ok(value) => values.push(value).map_err(|_| ArgumentFault::Memory)?,
+            Err(why) => return Err(ArgumentFault::Refused(why)),
         }
     }
     Ok(values)

@@ -2,9 +2,9 @@
 ghost use Rattle.std.specs.Prelude.{◌≡◌, IfOk, IfErr, Some, find, map, option_map};
 ghost use Rattle.std.specs.List.{list_all};
 ghost use Rattle.std.specs.Str.{bytes_eq};
-ghost use Rattle.toll_plant.specs.Lines.{is_plain, line_of, takes_values};
-ghost use Rattle.toll_plant.specs.Shown.{shown};
-ghost use Rattle.toll_plant.specs.Table.{plant_lines};
+ghost use Rattle.toll_plant.specs.Lines.{is_plain_word, fitting_line, takes_values};
+ghost use Rattle.toll_plant.specs.Shown.{shown_line};
+ghost use Rattle.toll_plant.specs.Table.{command_lines};
 ghost use Rattle.toll_plant.specs.Usages.{named_by};
 ghost use Rattle.toll_plant.specs.Words.{IsUsageOf, IsUsageOnlyOf, command_of_words};
 
@@ -26,7 +26,7 @@ use toll_desk::PlantCmd;
 pub fn command_of(alloc: Global, words: &[&str]) -> Result<PlantCmd, WordsFault>
     ensures command { IfOk result (λ command. command_of_words (map (λ w. w.now) words.entry.now) ≡ Some command) }
     ensures usage { IfErr result (IsUsageOnlyOf (map (λ w. w.now) words.entry.now)) }
-    ensures text { IfErr result (IsUsageOf plant_lines (map (λ w. w.now) words.entry.now)) }
+    ensures text { IfErr result (IsUsageOf command_lines (map (λ w. w.now) words.entry.now)) }
 {
     let lines = &LINES;
     match fitting(lines, words) {
@@ -40,7 +40,7 @@ pub fn command_of(alloc: Global, words: &[&str]) -> Result<PlantCmd, WordsFault>
 
 // How the command is written that the first word names, or how all are written.
 fn usage_of(alloc: Global, lines: &[Line<'_>], words: &[&str]) -> WordsFault
-    ensures { IsUsageOf (map shown lines.now) (map (λ w. w.now) words.now) result }
+    ensures { IsUsageOf (map shown_line lines.now) (map (λ w. w.now) words.now) result }
 {
     let text = match first_named(lines, words) {
         Some(line) => usage_of_line(alloc, line),
@@ -54,7 +54,7 @@ fn usage_of(alloc: Global, lines: &[Line<'_>], words: &[&str]) -> WordsFault
 
 // The line with the name that the first word is.
 fn first_named<'l, 'a>(lines: &'l [Line<'a>], words: &[&str]) -> Option<&'l Line<'a>>
-    ensures { option_map (λ l. shown l.now) result ≡ named_by (map shown lines.entry.now) (map (λ w. w.now) words.now) }
+    ensures { option_map (λ l. shown_line l.now) result ≡ named_by (map shown_line lines.entry.now) (map (λ w. w.now) words.now) }
 {
     match words.split_first() {
         None => None,
@@ -64,7 +64,7 @@ fn first_named<'l, 'a>(lines: &'l [Line<'a>], words: &[&str]) -> Option<&'l Line
 
 // The line that the words fit.
 fn fitting<'l, 'a>(lines: &'l [Line<'a>], words: &[&str]) -> Option<&'l Line<'a>>
-    ensures { option_map (λ l. shown l.now) result ≡ line_of (map shown lines.entry.now) (map (λ w. w.now) words.entry.now) }
+    ensures { option_map (λ l. shown_line l.now) result ≡ fitting_line (map shown_line lines.entry.now) (map (λ w. w.now) words.entry.now) }
 {
     match words.split_first() {
         None => None,
@@ -85,19 +85,19 @@ fn named<'l, 'a>(lines: &'l [Line<'a>], name: &str) -> Option<&'l Line<'a>>
 
 // Whether the words are as many as the line's values, and plain.
 fn takes(line: &Line<'_>, words: &[&str]) -> bool
-    ensures { result ≡ takes_values (shown line.now) (map (λ w. w.now) words.entry.now) }
+    ensures { result ≡ takes_values (shown_line line.now) (map (λ w. w.now) words.entry.now) }
 {
     words.len() == line.values.len() && are_plain(words)
 }
 
 fn are_plain(words: &[&str]) -> bool
-    ensures { result ≡ list_all (λ w. is_plain w.now) words.entry.now }
+    ensures { result ≡ list_all (λ w. is_plain_word w.now) words.entry.now }
 {
     words.iter().all(|word| is_plain(word))
 }
 
 fn is_plain(word: &str) -> bool
-    ensures { result ≡ is_plain word.now }
+    ensures { result ≡ is_plain_word word.now }
 {
     !word.is_empty() && !word.starts_with('-') && word != "help"
 }

@@ -1,4 +1,4 @@
--- The pieces of a text, at the place of its first such byte.
+-- The pieces of a text, split at the first byte of this kind.
 use Rattle.std.proofs.Common.{◌≡◌, ◌∙◌, ℕ, ◌+◌, ◌-◌, ◌<◌, ◌≤◌, Bool, true, false, cond, List, [], ◌∷◌, length, take, drop, sym, ap, refl, arith, None, Some}
 use Rattle.std.specs.Prelude.{◌==◌, nat_lt, position}
 use Rattle.std.specs.List.{position_or_len}

@@ -1,4 +1,4 @@
--- What a script is read from.
+-- The input of a script.
 use Rattle.std.specs.Prelude.{◌≡◌, ◌+◌, ◌≤◌, ℕ, Option, length}
 use Rattle.toll_programs.specs.Common.{Consumes, IsAtEnd, Bytes}
 use Rattle.toll_programs.specs.declared.input.TheConstants.{TEXT_LIMIT}
@@ -7,12 +7,12 @@ use Rattle.toll_programs.specs.declared.input.TheConstants.{TEXT_LIMIT}
 abbrev pub script_limit : ℕ
 script_limit = TEXT_LIMIT
 
--- this input is all that a reader had left, up to its end, and no longer than a script may be
-pub record IsWhole (old new : Option Bytes) (input : Bytes) : Type 0 where
+-- The input is all that the reader had left, up to its end, and no longer than a script may be.
+pub record IsWholeInput (old new : Option Bytes) (input : Bytes) : Type 0 where
   pub given : Consumes old new input
   pub ended : IsAtEnd new
   pub short : length input ≤ script_limit
 
--- a reader had more than a script may be, and gave one byte more
+-- The reader had more than a script may have, and gave one byte more than the limit.
 abbrev pub IsTooLong : Option Bytes → Option Bytes → Type 0
 IsTooLong old new = (front : Bytes) × Consumes old new front × (length front ≡ script_limit + 1)

@@ -1,31 +1,32 @@
--- What the words behind the program's name ask for.
+-- What the words after the program's name ask for.
 use Rattle.std.specs.Prelude.{ℕ, List, [], ◌∷◌, codes, Option, Some, None, if◌then◌else◌, option_map, option_and_then, unwrap_or}
 use Rattle.toll_programs.specs.Common.{bytes_eq, Bytes}
 use Rattle.toll_plant.specs.Readings.{number_within}
 use Rattle.toll_programs.specs.declared.task.TheConstants.{IMPORT_USAGE, MOST_CONNECTIONS, SERVE_USAGE, USAGE}
 
--- a script; a command or question in these words, an import, or so many connections on a port, over the office in a file
+-- the task of the program: a script; or, over the office in a file, a command or question in these words, an import, or serving so many
+-- connections on a port
 pub data RequestedTask : Type 0 where
   Script : RequestedTask
   Words : (file : Bytes) (words : List Bytes) → RequestedTask
   Import : (file actuals : Bytes) → RequestedTask
   Serve : (file : Bytes) (port count : ℕ) → RequestedTask
 
--- a port of 16 bits, and at least one connection
+-- A port has 16 bits, and there is at least one connection.
 abbrev pub serve_task : (file port count : Bytes) → Option RequestedTask
 serve_task file port count = option_and_then (λ p. option_map (Serve file p) (number_within 1 MOST_CONNECTIONS count)) (number_within 0 65535 port)
 
--- behind `serve` stand a port and a count
+-- After `serve` come a port and a count.
 abbrev pub serving_task : (file : Bytes) → List Bytes → Option RequestedTask
 serving_task file (port ∷ count ∷ []) = serve_task file port count
 serving_task file _ = None
 
--- behind `import` stands the name of a file of actuals
+-- After `import` comes the name of a file of actuals.
 abbrev pub import_task : (file : Bytes) → List Bytes → Option RequestedTask
 import_task file (actuals ∷ []) = Some (Import file actuals)
 import_task file _ = None
 
--- over the office in a file: words of which the first is `import` or `serve` are none of the plant's
+-- A task over the office in a file. Words that begin with `import` or `serve` are never a command of the plant.
 abbrev pub office_task : (file : Bytes) → List Bytes → Option RequestedTask
 office_task file [] = None
 office_task file (first ∷ words) =
@@ -37,12 +38,12 @@ requested_task (word ∷ []) = if bytes_eq word (codes "script") then Some Scrip
 requested_task (word ∷ file ∷ words) = if bytes_eq word (codes "--db") then office_task file words else None
 requested_task _ = None
 
--- how the form is called that stands behind the file, where it has a usage of its own
+-- the usage of the form named after the file, if that form has its own
 abbrev pub usage_for_form : List Bytes → Option Bytes
 usage_for_form (word ∷ file ∷ form ∷ words) =
     if bytes_eq form (codes "import") then Some IMPORT_USAGE.now else (if bytes_eq form (codes "serve") then Some SERVE_USAGE.now else None)
 usage_for_form _ = None
 
--- how the program is called, for words that ask for nothing: in that form, or in all its forms
+-- the usage for words that ask for nothing: of that form, or of all forms
 abbrev pub usage_for : List Bytes → Bytes
 usage_for words = unwrap_or (usage_for_form words) USAGE.now

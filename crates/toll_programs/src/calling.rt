@@ -4,11 +4,11 @@ ghost use Rattle.toll_protocol.specs.PlantMessages.{call_text};
 ghost use Rattle.toll_protocol.specs.Frames.{frame};
 ghost use Rattle.toll_programs.specs.StreamOutput.{IsWarned, stream_of, streams_of};
 ghost use Rattle.toll_programs.specs.declared.status.Status.{Status};
-ghost use Rattle.toll_programs.specs.ServerCalls.{CanBeTold, HasHandshake, IsAnswer, IsExchange, IsRunOnServer, IsWrittenOf, lost_line};
+ghost use Rattle.toll_programs.specs.ServerCalls.{CanBeOutcome, HasHandshake, IsResponseText, IsExchange, IsRunOnServer, IsWrittenOf, lost_line};
 
 use crate::output::print;
+use crate::reporting::warn;
 use crate::status::Status;
-use crate::telling::warn;
 use crate::tracked_stream::TracksReads;
 use crate::version::VERSION;
 use std::alloc::Global;
@@ -31,10 +31,10 @@ pub enum CallOutcome {
     Answered(Vec<u8>),
 }
 
-/// Sends words, and the file that they name, to the server behind a connection, if its handshake is that of
-/// this build. Writes its response, and gives the exit status: that of the response, or 3 if its output can't
-/// be written. If no response came, or there was no memory for it, `fault Lost` is written to `error`, and
-/// the status is 3. `None` if the server did not take the whole call: nothing was done or written.
+/// Sends words, and the file that they name, to the server of a connection, if its handshake is that of this
+/// build. Writes its response, and gives the exit status: that of the response, or 3 if its output can't be
+/// written. If no response came, or there was no memory for it, `fault Lost` is written to `error`, and the
+/// status is 3. `None` if the server did not take the whole call: nothing was done or written.
 pub fn run_on_server<S: TracksReads, W: Sink, E: Sink>(
     alloc: Global,
     stream: &mut S,
@@ -60,11 +60,11 @@ pub fn run_on_server<S: TracksReads, W: Sink, E: Sink>(
 
 // Writes a server's response.
 fn write_response<W: Sink, E: Sink>(text: &[u8], output: &mut W, error: &mut E) -> u64
-    requires { IsAnswer text.now }
+    requires { IsResponseText text.now }
     ensures { IsWrittenOf (streams_of W.Sink E.Sink output.old output.new error.old error.new) text.now result }
 {
     match Response::read(text) {
-        Some(told) => print(&told, output, error),
+        Some(reported) => print(&reported, output, error),
         None => write_lost(error),
     }
 }
@@ -107,7 +107,7 @@ fn has_handshake<S: TracksReads>(alloc: Global, stream: &mut S, version: &str) -
 
 // The response of a server that was sent the whole call.
 fn read_response<S: TracksReads>(alloc: Global, stream: &mut S) -> CallOutcome
-    ensures told { CanBeTold S.Source stream.old stream.new result }
+    ensures reported { CanBeOutcome S.Source stream.old stream.new result }
     ensures unsent { S.Sink.held stream.new ≡ S.Sink.held stream.old }
 {
     let mut frame = Frame::new(alloc);

@@ -1,6 +1,6 @@
 //! One command or question of the plant, as the program answers it.
 ghost use Rattle.toll_programs.specs.Done.{IsCommandDone};
-ghost use Rattle.toll_programs.specs.Outputs.{IsReplyTold, IsShownIfRoom, printout_of};
+ghost use Rattle.toll_programs.specs.Outputs.{IsReplyPrintout, IsShownIfRoom, printout_of};
 ghost use Rattle.toll_programs.specs.Printing.{refusal_line};
 ghost use Rattle.toll_programs.specs.StreamOutput.{IsSomePrinted, streams_of};
 
@@ -38,7 +38,7 @@ pub fn execute<K: Keep>(alloc: Global, keep: &mut K, command: &PlantCmd) -> Outp
 
 // The output for an answer: a fault on standard error, and any other answer on standard output.
 fn output_of(alloc: Global, reply: PlantReply) -> Output
-    ensures { IsReplyTold reply (printout_of result) }
+    ensures { IsReplyPrintout reply (printout_of result) }
 {
     match reply {
         PlantReply::Accepted => Output::on_stdout(Status::Done, CowSlice::Borrowed(b"accepted\n")),

@@ -1,7 +1,7 @@
 //! Connecting to the server of an office.
 ghost use Rattle.std.specs.Prelude.{◌≡◌, IfSome, IsNone};
 ghost use Rattle.toll_programs.specs.StreamOutput.{streams_of};
-ghost use Rattle.toll_programs.specs.ServerCalls.{IsServerTold};
+ghost use Rattle.toll_programs.specs.ServerCalls.{IsServerAnswerPrinted};
 
 use crate::calling::run_on_server;
 use crate::tracked_stream::TracksReads;
@@ -25,7 +25,7 @@ pub fn try_server<S: TracksReads + Drop, C: Connector<S>, W: Sink, E: Sink>(
     output: &mut W,
     error: &mut E,
 ) -> Option<u64>
-    ensures told { IfSome result (IsServerTold (streams_of W.Sink E.Sink output.old output.new error.old error.new)) }
+    ensures reported { IfSome result (IsServerAnswerPrinted (streams_of W.Sink E.Sink output.old output.new error.old error.new)) }
     ensures untold { IsNone result → (output.new ≡ output.old) × (error.new ≡ error.old) }
 {
     let mut stream = connector.connect(rt, path)?;

@@ -2,7 +2,7 @@
 ghost use Rattle.std.specs.Prelude.{◌≡◌, ◌==◌, ◌<◌, [], ◌∷◌, length, MatchOption, IfSome, position};
 ghost use Rattle.toll_programs.specs.Pieces.{pieces_at};
 
-/// The text before the first of these bytes, and the text behind it: `None` if there is no such byte.
+/// The text before the first of these bytes, and the text after it: `None` if there is no such byte.
 pub fn cut(text: &[u8], at: u8) -> Option<(&[u8], &[u8])>
     ensures pieces { MatchOption result (pieces_at at text.now ≡ text.now ∷ [])
         (λ parts. pieces_at at text.now ≡ parts.0.now ∷ pieces_at at parts.1.now) }

@@ -1,8 +1,8 @@
 //! The events of a script.
 ghost use Rattle.std.specs.Prelude.{◌≡◌, ◌∷◌, ◌<◌, ◌≤◌, IfOk, IfErr, IfSome, OnOk, Ok, Err, map, length, option_map};
 ghost use Rattle.std.specs.Str.{is_utf8};
-ghost use Rattle.toll_programs.specs.ScriptEvents.{script_events_of, IsFaultOf, GivesEvent, Gives, Adds, lines_in, IsFaultOfScript};
-ghost use Rattle.toll_programs.specs.Script.{AsksFor, script_lines, asked_by, request_asked, command_asked, is_request, takes_memory, words_in};
+ghost use Rattle.toll_programs.specs.ScriptEvents.{script_events_of, IsFaultOf, GivesEvent, Gives, AddsEvent, script_lines_left, IsFaultOfScript};
+ghost use Rattle.toll_programs.specs.Script.{IsScriptOf, script_lines, meaning_of_line, request_in_line, command_in_line, is_request, takes_memory, words_in};
 
 use crate::cutting::cut;
 use crate::request_line::RequestLine;
@@ -28,7 +28,7 @@ enum LineFault {
 
 /// The events of the lines of a script, in order.
 pub fn events_of(alloc: Global, text: &[u8]) -> Result<Vec<Event>, ScriptFault>
-    ensures events { IfOk result (λ events. AsksFor text.now (script_events_of events.items)) }
+    ensures events { IfOk result (λ events. IsScriptOf text.now (script_events_of events.items)) }
     ensures fault { IfErr result (IsFaultOfScript text.now) }
 {
     let mut events = Vec::new(alloc);
@@ -46,9 +46,9 @@ pub fn events_of(alloc: Global, text: &[u8]) -> Result<Vec<Event>, ScriptFault>
     Ok(events)
 }
 
-// The first line, and those behind it.
+// The first line, and those after it.
 fn first_line(lines: &[u8]) -> (&[u8], Option<&[u8]>)
-    ensures pieces { script_lines lines.now ≡ result.0.now ∷ lines_in (option_map (λ t. t.now) result.1) }
+    ensures pieces { script_lines lines.now ≡ result.0.now ∷ script_lines_left (option_map (λ t. t.now) result.1) }
     ensures shorter { IfSome result.1 (λ others. length others.now < length lines.now) }
 {
     match cut(lines, b'\n') {
@@ -59,8 +59,8 @@ fn first_line(lines: &[u8]) -> (&[u8], Option<&[u8]>)
 
 // Adds the event that a line asks for, if there is one.
 fn add_event(alloc: Global, events: &mut Vec<Event>, line: &[u8]) -> Result<(), LineFault>
-    ensures ok { OnOk result (Adds (asked_by line.now) events.old.items events.new.items) }
-    ensures fault { IfErr result (IsFaultOf (asked_by line.now) (takes_memory line.now)) }
+    ensures ok { OnOk result (AddsEvent (meaning_of_line line.now) events.old.items events.new.items) }
+    ensures fault { IfErr result (IsFaultOf (meaning_of_line line.now) (takes_memory line.now)) }
 {
     match event_of(alloc, line) {
         Ok(Some(event)) => events.push(event).map_err(|_| LineFault::Memory),
@@ -71,7 +71,7 @@ fn add_event(alloc: Global, events: &mut Vec<Event>, line: &[u8]) -> Result<(), 
 
 // The event that a line asks for: none for an empty line and a comment.
 fn event_of(alloc: Global, line: &[u8]) -> Result<Option<Event>, LineFault>
-    ensures { Gives (asked_by line.now) (takes_memory line.now) result }
+    ensures { Gives (meaning_of_line line.now) (takes_memory line.now) result }
 {
     match line {
         [] | [b'#', ..] => Ok(None),
@@ -81,7 +81,7 @@ fn event_of(alloc: Global, line: &[u8]) -> Result<Option<Event>, LineFault>
 }
 
 fn request_of(alloc: Global, line: &[u8]) -> Result<Event, LineFault>
-    ensures { GivesEvent (request_asked line.now) (is_request line.now) result }
+    ensures { GivesEvent (request_in_line line.now) (is_request line.now) result }
 {
     let Some(request) = RequestLine::parse(line) else {
         return Err(LineFault::Bad);
@@ -93,7 +93,7 @@ fn request_of(alloc: Global, line: &[u8]) -> Result<Event, LineFault>
 }
 
 fn plant_of(alloc: Global, line: &[u8]) -> Result<Event, LineFault>
-    ensures { GivesEvent (command_asked line.now) (is_utf8 line.now) result }
+    ensures { GivesEvent (command_in_line line.now) (is_utf8 line.now) result }
 {
     let Ok(line) = str::from_utf8(line) else {
         return Err(LineFault::Bad);

@@ -2,10 +2,10 @@
 ghost use Rattle.std.specs.Prelude.{◌≡◌};
 ghost use Rattle.std.specs.List.{list_any};
 ghost use Rattle.toll_plant.specs.ImportTexts.{import_text};
-ghost use Rattle.toll_plant.specs.Outcomes.{is_fault};
+ghost use Rattle.toll_plant.specs.Outcomes.{is_fault_outcome};
 ghost use Rattle.toll_programs.specs.Done.{IsImportDone};
-ghost use Rattle.toll_programs.specs.Outputs.{IsImportTold, IsShownIfRoom, IsStoppedImportTold, printout_of, refused_file};
-ghost use Rattle.toll_programs.specs.Statuses.{after_lines, is_turned_away};
+ghost use Rattle.toll_programs.specs.Outputs.{IsImportPrintout, IsShownIfRoom, IsStoppedImportPrintout, printout_of, refused_file};
+ghost use Rattle.toll_programs.specs.Statuses.{status_after_lines, is_turned_away};
 ghost use Rattle.toll_programs.specs.StreamOutput.{IsSomePrinted, streams_of};
 
 use crate::output::Output;
@@ -42,7 +42,7 @@ pub fn import_file<K: Keep>(alloc: Global, keep: &mut K, file: &[u8]) -> Output
 
 /// What [`plant_import`] prints for an import, or for a file that was not imported.
 pub fn output_of_import(alloc: Global, imported: Result<ImportReport, ImportFault>) -> Output
-    ensures { IsImportTold imported (printout_of result) }
+    ensures { IsImportPrintout imported (printout_of result) }
 {
     match imported {
         Ok(report) => output_of_report(alloc, &report),
@@ -53,7 +53,7 @@ pub fn output_of_import(alloc: Global, imported: Result<ImportReport, ImportFaul
 /// The output for an import that can't go on: the outcomes of its records so far, unless there is no memory
 /// for them, and the line of the fault, which takes no memory. The program has failed.
 pub fn output_of_stopped_import(alloc: Global, report: &ImportReport, why: &'static [u8]) -> Output
-    ensures { IsStoppedImportTold report.now.lines.items why.now (printout_of result) }
+    ensures { IsStoppedImportPrintout report.now.lines.items why.now (printout_of result) }
 {
     let stdout = match import_text(alloc, report) {
         Ok(text) => CowSlice::Owned(text),
@@ -68,7 +68,7 @@ pub fn output_of_stopped_import(alloc: Global, report: &ImportReport, why: &'sta
 
 // The text of an import, or that there was no memory for it.
 fn output_of_report(alloc: Global, report: &ImportReport) -> Output
-    ensures { IsShownIfRoom (after_lines report.now.lines.items) (import_text report.now.lines.items) (printout_of result) }
+    ensures { IsShownIfRoom (status_after_lines report.now.lines.items) (import_text report.now.lines.items) (printout_of result) }
 {
     match import_text(alloc, report) {
         Ok(text) => Output::on_stdout(status_of(&report.lines), CowSlice::Owned(text)),
@@ -82,12 +82,9 @@ fn output_of_fault(fault: ImportFault) -> Output
 {
     match fault {
         ImportFault::Memory => Output::fault(b"fault Memory\n"),
-        ImportFault::TooLong => Output::on_stderr(
-            Status::Unread,
-            CowSlice::Borrowed(b"too long\n"),
-        ),
+        ImportFault::TooLong => Output::on_stderr(Status::Usage, CowSlice::Borrowed(b"too long\n")),
         ImportFault::BadHeader => Output::on_stderr(
-            Status::Unread,
+            Status::Usage,
             CowSlice::Borrowed(b"bad header\n"),
         ),
     }
@@ -95,7 +92,7 @@ fn output_of_fault(fault: ImportFault) -> Output
 
 // The exit status after an import with these lines.
 fn status_of(lines: &[ImportLine]) -> Status
-    ensures { result ≡ after_lines lines.now }
+    ensures { result ≡ status_after_lines lines.now }
 {
     if has_fault(lines) {
         Status::Failed
@@ -107,7 +104,7 @@ fn status_of(lines: &[ImportLine]) -> Status
 }
 
 fn has_fault(lines: &[ImportLine]) -> bool
-    ensures { result ≡ list_any (λ l. is_fault l.outcome) lines.now }
+    ensures { result ≡ list_any (λ l. is_fault_outcome l.outcome) lines.now }
 {
     lines
         .iter()

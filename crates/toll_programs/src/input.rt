@@ -2,7 +2,7 @@
 ghost use Rattle.std.specs.Prelude.{◌≡◌, ◌≢◌, ◌+◌, ◌^◌, ◌<◌, ◌≤◌, length, take, IfOk, OnErr, OnOk, Err};
 ghost use Rattle.std.specs.Io.KnownBytes.{Consumes, IsAtEnd};
 ghost use Rattle.toll_protocol.specs.Streams.{HasFailed, NoneFailed};
-ghost use Rattle.toll_programs.specs.Inputs.{IsTooLong, IsWhole};
+ghost use Rattle.toll_programs.specs.Inputs.{IsTooLong, IsWholeInput};
 
 use std::alloc::Global;
 use std::io;
@@ -36,7 +36,7 @@ pub enum FrontFault {
 
 /// All bytes that the reader gives up to its end.
 pub fn read_input<R: Source>(alloc: Global, reader: &mut R) -> Result<Vec<u8>, InputFault>
-    ensures whole { IfOk result (λ text. IsWhole (R.unread reader.old) (R.unread reader.new) text.items) }
+    ensures whole { IfOk result (λ text. IsWholeInput (R.unread reader.old) (R.unread reader.new) text.items) }
     ensures unread { result ≡ Err InputFault.Memory → reader.new ≡ reader.old }
     ensures too_long { result ≡ Err InputFault.TooLong → IsTooLong (R.unread reader.old) (R.unread reader.new) }
     ensures failed { result ≡ Err InputFault.Read → HasFailed (R.has_failed reader.old) (R.has_failed reader.new) }

@@ -2,7 +2,7 @@
 ghost use Rattle.std.specs.Prelude.{◌≡◌, [], OnErr, OnOk};
 ghost use Rattle.std.specs.Cow.{cow_slice_items};
 ghost use Rattle.toll_programs.specs.Outputs.{on_error, on_output, printout_in, printout_of};
-ghost use Rattle.toll_programs.specs.StreamOutput.{IsCut, IsPrinted, IsUntouched, IsWritten, stream_of, streams_of};
+ghost use Rattle.toll_programs.specs.StreamOutput.{IsCut, IsPrinted, IsNothingWritten, IsWritten, stream_of, streams_of};
 
 use crate::status::Status;
 use std::borrow::CowSlice;
@@ -84,7 +84,7 @@ pub fn print<W: Sink, E: Sink>(response: &Response<'_>, output: &mut W, error: &
 fn write_text<W: Sink>(writer: &mut W, text: &[u8]) -> Result<(), WriteFault>
     ensures written { OnOk result (IsWritten (stream_of W.Sink writer.old writer.new) text.now) }
     ensures cut { OnErr result (IsCut (stream_of W.Sink writer.old writer.new) text.now) }
-    ensures silent { text.now ≡ [] → IsUntouched (stream_of W.Sink writer.old writer.new) }
+    ensures silent { text.now ≡ [] → IsNothingWritten (stream_of W.Sink writer.old writer.new) }
 {
     if text.is_empty() {
         return Ok(());

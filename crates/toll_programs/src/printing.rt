@@ -51,7 +51,7 @@ const STATUS_BEGINS: usize = 9;
 
 const STATUS_LEN: usize = 3;
 
-// The three digits behind `HTTP/1.1 `.
+// The three digits after `HTTP/1.1 `.
 fn status_of(reply: &[u8]) -> &[u8]
     ensures { result.now ≡ spec.status_of reply.now }
 {
@@ -60,7 +60,7 @@ fn status_of(reply: &[u8]) -> &[u8]
     status
 }
 
-// The text behind the first empty line.
+// The text after the first empty line.
 fn body_of(reply: &[u8]) -> &[u8]
     ensures { result.now ≡ spec.body_of reply.now }
 {
@@ -79,7 +79,7 @@ fn print_plant_reply(
     text: &mut Vec<u8>,
     reply: &PlantReply,
 ) -> Result<(), AllocError>
-    ensures { OnOk result (text.new.items ≡ text.old.items ++ spec.plant_lines reply.now) }
+    ensures { OnOk result (text.new.items ≡ text.old.items ++ spec.plant_reply_text reply.now) }
 {
     match reply {
         PlantReply::Accepted => text.extend_from_slice(b"accepted\n"),

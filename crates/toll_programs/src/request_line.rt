@@ -8,7 +8,7 @@ ghost use Rattle.toll_programs.specs.ShownRequest.{shown_request};
 use crate::cutting::cut;
 use std::alloc::{AllocError, Global};
 
-/// `OWNER KEY METHOD TARGET`, and the body behind one more space.
+/// `OWNER KEY METHOD TARGET`, and the body after one more space.
 #[derive(Clone, Copy)]
 pub struct RequestLine<'a> {
     pub owner: &'a [u8],
@@ -62,7 +62,7 @@ impl<'a> RequestLine<'a> {
     }
 }
 
-// The last word, and the text behind it: no bytes if the line ends there.
+// The last word, and the text after it: no bytes if the line ends there.
 fn target_and_body(line: &[u8]) -> (&[u8], &[u8])
     ensures { (pieces : List (List ℕ)) × (pieces_at 32 line.now ≡ result.0.now ∷ pieces)
         × (result.1.now ≡ join_with_byte 32 pieces) }

@@ -31,7 +31,7 @@ pub enum ScriptEnd {
 /// Runs a script: reads it whole, checks all its lines, runs their events over the keep, and writes the
 /// answers.
 ///
-/// Lines end in LF, which may be missing behind the last. Empty lines and lines that begin with `#` ask for
+/// Lines end in LF, which may be missing after the last. Empty lines and lines that begin with `#` ask for
 /// nothing. `> OWNER KEY METHOD TARGET` is an owner's request, with its body after one more space; `-` for
 /// OWNER or KEY leaves that field out. Any other line is the words of a command of the plant, with spaces
 /// between them.

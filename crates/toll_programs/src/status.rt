@@ -1,6 +1,6 @@
 //! How the program ends.
 ghost use Rattle.std.specs.Prelude.{◌≡◌};
-ghost use Rattle.toll_programs.specs.Statuses.{code_of};
+ghost use Rattle.toll_programs.specs.Statuses.{exit_code};
 
 /// How the program ends.
 #[derive(Clone, Copy, PartialEq, Eq)]
@@ -10,7 +10,7 @@ pub enum Status {
     /// A command is refused, or a record of a file is refused or bad: exit status 1.
     Refused,
     /// The program takes no such words, script or file: exit status 2.
-    Unread,
+    Usage,
     /// Memory, a file, a stream or the network failed: exit status 3.
     Failed,
 }
@@ -18,12 +18,12 @@ pub enum Status {
 impl Status {
     /// The exit status.
     pub fn code(self) -> u8
-        ensures { result ≡ code_of self }
+        ensures { result ≡ exit_code self }
     {
         match self {
             Status::Done => 0,
             Status::Refused => 1,
-            Status::Unread => 2,
+            Status::Usage => 2,
             Status::Failed => 3,
         }
     }

@@ -32,7 +32,7 @@ pub enum Task<'a> {
 pub const MOST_CONNECTIONS: u64 = 1_000_000;
 
 /// The usage of the program.
-pub const USAGE: &str = "toll 1.0, office format 2
+pub const USAGE: &str = "toll 1.1, office format 2
 usage: toll script
        toll --db FILE import CSV
        toll --db FILE serve PORT COUNT
@@ -74,7 +74,7 @@ pub const SERVE_USAGE: &str = "usage: toll --db FILE serve PORT COUNT
 PORT is 0 to 65535, and 0 takes a free one; COUNT, from 1 to 1000000, is how many connections are served.
 ";
 
-/// What the words behind the program's name ask for: `None` if they have none of its four forms. Words behind
+/// What the words after the program's name ask for: `None` if they have none of its four forms. Words after
 /// the file whose first is `import` or `serve` are no command of the plant.
 pub fn task_of<'a>(words: &'a [&'a str]) -> Option<Task<'a>>
     ensures { option_map shown_task result ≡ requested_task (map (λ w. w.now) words.entry.now) }

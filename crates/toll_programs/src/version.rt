@@ -1,5 +1,5 @@
 //! The version of this build.
 
-/// The version of this build, as in the first line of the program's usage behind `toll`. A server and a
+/// The version of this build, as in the first line of the program's usage after `toll`. A server and a
 /// command of different versions exchange nothing.
-pub const VERSION: &str = "1.0, office format 2";
+pub const VERSION: &str = "1.1, office format 2";

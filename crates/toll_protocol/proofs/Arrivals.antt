@@ -1,4 +1,4 @@
--- A text comes to one thing.
+-- A text is parsed in only one way.
 use Rattle.std.proofs.Common.{◌≡◌, ◌∙◌, ℕ, List, drop, map, sym, ap, subst, inl, inr}
 use Rattle.httparse.specs.Grammar.{RequestHead}
 use Rattle.httparse.specs.Spans.{name_and_value}

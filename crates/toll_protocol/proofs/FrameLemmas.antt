@@ -1,13 +1,13 @@
--- What stands at the front of a text as a frame.
+-- The frame that a text begins with.
 use Rattle.std.proofs.Common.{◌≡◌, ◌∙◌, ℕ, ◌<◌, ◌≤◌, ◌^◌, Bool, true, false, cond, ltb, List, ◌++◌, length, get_or, take, drop, None, Some, sym, ap, refl, arith, inl, inr}
 use Rattle.std.specs.Int.{from_be_bytes, to_be_bytes, w32}
 use Rattle.std.proofs.lemmas.Bool.{cases_lt, ltb-false}
 use Rattle.std.proofs.lemmas.List.{get_or-take, get_or_past, length-take, length-take-le, take-append-drop}
 use Rattle.std.proofs.lemmas.Nat.{be_bytes_4, from_be_bytes-to_be_bytes_4}
 use Rattle.std.proofs.Math.Seq.{drop-append_seam, take-append_seam}
-use Rattle.toll_protocol.specs.Frames.{HasFrame, claimed, frame}
+use Rattle.toll_protocol.specs.Frames.{HasFrame, claimed_length, frame}
 
--- two frames at the front of one text are the same
+-- A text begins with only one frame.
 pub one_parcel : (a b x y : List ℕ) → length a < 2 ^ 32 → length b < 2 ^ 32 → frame a ++ x ≡ frame b ++ y → (a ≡ b) × (x ≡ y)
 one_parcel a b x y short other same =
     let heads : to_be_bytes w32 (length a) ≡ to_be_bytes w32 (length b) = ap (take 4) same in
@@ -18,7 +18,7 @@ one_parcel a b x y short other same =
       sym (drop-append_seam a x) ∙ (ap (drop (length a)) tails ∙ (ap (λ n. drop n (b ++ y)) size ∙ drop-append_seam b y)),
     )
 
--- what two frames of one text have for their contents, and behind them
+-- Two frames that a text begins with have the same content and the same rest.
 pub one_held : (most : ℕ) (text a b x y : List ℕ) → most < 2 ^ 32 → HasFrame most text a x → HasFrame most text b y → (a ≡ b) × (x ≡ y)
 one_held most text a b x y short p q = one_parcel a b x y (omega (arith, p.1)) (omega (arith, q.1)) (sym p.0 ∙ q.0)
 
@@ -33,13 +33,13 @@ front_fits text fits i =
       | inr le ↦ rw (get_or_past (take 4 text) i 0 (omega (arith, length-take 4 text))) (omega arith)
     ]
 
--- the bytes that a length claims are a frame with it
-pub claimed_frame : (text : List ℕ) (len : ℕ) → ((i : ℕ) → get_or text i 0 < 256) → claimed text ≡ Some len → len ≤ length (drop 4 text)
+-- If the bytes that the length claims are there, they are a frame with it.
+pub claimed_frame : (text : List ℕ) (len : ℕ) → ((i : ℕ) → get_or text i 0 < 256) → claimed_length text ≡ Some len → len ≤ length (drop 4 text)
     → text ≡ frame (take len (drop 4 text)) ++ drop len (drop 4 text)
 claimed_frame text len fits is within =
-    let (long, told) = test_some (ltb (length text) 4) (from_be_bytes w32 (take 4 text)) len is in
+    let (long, reported) = test_some (ltb (length text) 4) (from_be_bytes w32 (take 4 text)) len is in
     let rest = drop 4 text in
     let size : length (take len rest) ≡ len = length-take-le len rest within in
     let four : length (take 4 text) ≡ 4 = length-take-le 4 text (ltb-false _ _ long) in
-    let head : to_be_bytes w32 (length (take len rest)) ≡ take 4 text = be_bytes_4 (take 4 text) _ four (front_fits text fits) (size ∙ told) in
+    let head : to_be_bytes w32 (length (take len rest)) ≡ take 4 text = be_bytes_4 (take 4 text) _ four (front_fits text fits) (size ∙ reported) in
     sym (take-append-drop 4 text) ∙ (ap (λ h. h ++ rest) (sym head) ∙ ap (λ t. to_be_bytes w32 (length (take len rest)) ++ t) (sym (take-append-drop len rest)))

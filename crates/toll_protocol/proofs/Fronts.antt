@@ -1,4 +1,4 @@
--- A front that settles a stream.
+-- A prefix of a stream that settles it.
 use Rattle.std.proofs.Common.{◌≡◌, ◌∙◌, ℕ, ◌+◌, ◌≤◌, Bool, true, false, cond, List, [], ◌++◌, length, take, drop, map, refl, sym, ap, subst, arith, inl, inr, Option, Some, None, length-append, take-add}
 use Rattle.std.specs.Prelude.{◌↔◌, codes, nat_lt}
 use Rattle.std.proofs.lemmas.List.{take-append-le, drop-append-le}
@@ -9,18 +9,18 @@ use Rattle.httparse.specs.Spans.{name_and_value}
 use Rattle.httparse.proofs.GrammarLemmas.{request_unique}
 use Rattle.toll_protocol.specs.declared.http_messages.failure.Failure.TheVariants.{BadRequest, NotImplemented}
 use Rattle.toll_protocol.specs.Limits.{body_limit}
-use Rattle.toll_protocol.specs.Fields.{Pair, named, is_present, length_claimed}
+use Rattle.toll_protocol.specs.Fields.{Pair, fields_named, is_present, length_claimed}
 use Rattle.toll_protocol.specs.Head.{EndsHead, IsHeadLen, IsHeadOf, IsSearched}
 use Rattle.toll_protocol.specs.Parsing.{ParseResult, refused, IsParsedAs, IsSettled, HasBody, checked, by_length, host_fails}
 
-front : (text more : List ℕ) (n : ℕ) → n ≤ length text → take n (text ++ more) ≡ take n text
-front text more n le = take-append-le n text more le
+take_front : (text more : List ℕ) (n : ℕ) → n ≤ length text → take n (text ++ more) ≡ take n text
+take_front text more n le = take-append-le n text more le
 
 len_more : (text more : List ℕ) (n : ℕ) → IsHeadLen text n → IsHeadLen (text ++ more) n
 len_more text more n is = record {
   within = omega (arith, is.within, length-append text more);
-  ends = rw (front text more n is.within) is.ends;
-  first = λ k lt e. is.first k lt (rw (front text more k (omega (arith, is.within, lt))) at e);
+  ends = rw (take_front text more n is.within) is.ends;
+  first = λ k lt e. is.first k lt (rw (take_front text more k (omega (arith, is.within, lt))) at e);
 }
 
 pub one_len : (text : List ℕ) (m n : ℕ) → IsHeadLen text m → IsHeadLen text n → m ≡ n
@@ -34,7 +34,7 @@ head_more : (text more : List ℕ) (n : ℕ) (h : RequestHead) → IsHeadOf text
 head_more text more n h is = record {
   shortest = len_more text more n is.shortest;
   short = is.short;
-  reads = rw (front text more n is.shortest.within) is.reads;
+  reads = rw (take_front text more n is.shortest.within) is.reads;
   room = is.room;
 }
 
@@ -42,15 +42,15 @@ head_less : (text more : List ℕ) (n : ℕ) (h : RequestHead) → IsHeadLen tex
 head_less text more n h len is = record {
   shortest = len;
   short = is.short;
-  reads = rw (front text more n len.within) at is.reads;
+  reads = rw (take_front text more n len.within) at is.reads;
   room = is.room;
 }
 
--- a text has one head
+-- A text has only one head.
 pub one_head : (text : List ℕ) (n : ℕ) (h k : RequestHead) → IsHeadOf text n h → IsHeadOf text n k → h ≡ k
 one_head text n h k a b = (request_unique (take n text) h k [] [] a.reads b.reads).0
 
--- the checks don't look behind a body that is there
+-- If the body is there, the checks don't use the bytes after it.
 length_more : (c : Option ℕ) (h : RequestHead) (fields : List Pair) (rest more : List ℕ)
     → ((len : ℕ) → c ≡ Some len → len ≤ body_limit → len ≤ length rest) → by_length c h fields (rest ++ more) ≡ by_length c h fields rest
 length_more None h fields rest more enough = refl
@@ -70,18 +70,18 @@ checked_more : (h : RequestHead) (rest more : List ℕ) → HasBody h rest
     → checked h (map name_and_value h.fields) (rest ++ more) ≡ checked h (map name_and_value h.fields) rest
 checked_more h rest more enough =
     let fields = map name_and_value h.fields in
-    ap (λ (t : ParseResult). cond (host_fails h.minor (named (codes "host") fields)) (refused BadRequest)
-    (cond (is_present (named (codes "transfer-encoding") fields)) (refused NotImplemented) t))
-    (length_more (length_claimed (named (codes "content-length") fields)) h fields rest more enough)
+    ap (λ (t : ParseResult). cond (host_fails h.minor (fields_named (codes "host") fields)) (refused BadRequest)
+    (cond (is_present (fields_named (codes "transfer-encoding") fields)) (refused NotImplemented) t))
+    (length_more (length_claimed (fields_named (codes "content-length") fields)) h fields rest more enough)
 
--- the text says what it says with more behind it
+-- A settled text keeps its result with more bytes after it.
 settled_then : (text more : List ℕ) (outcome : ParseResult) → IsSettled text → IsParsedAs text outcome → IsParsedAs (text ++ more) outcome
 settled_then text more outcome (inl far) (inl head) = let (n, h, is, e) = head in absurd (far.0 n is.shortest.within is.short is.shortest.ends)
 settled_then text more outcome (inl far) (inr none) =
     inr (
       λ n h is.
           let le : n ≤ length text = omega (arith, is.short, far.1) in
-          far.0 n le is.short (rw (front text more n le) at is.shortest.ends),
+          far.0 n le is.short (rw (take_front text more n le) at is.shortest.ends),
       none.1,
     )
 settled_then text more outcome (inr near) (inl head) =
@@ -106,12 +106,12 @@ settled_then text more outcome (inr near) (inr none) =
       none.1,
     )
 
--- and with more behind it what it says without
+-- A settled text with more bytes after it has the result that it has without them.
 settled_back : (text more : List ℕ) (outcome : ParseResult) → IsSettled text → IsParsedAs (text ++ more) outcome → IsParsedAs text outcome
 settled_back text more outcome (inl far) (inl head) =
     let (n, h, is, e) = head in
     let le : n ≤ length text = omega (arith, is.short, far.1) in
-    absurd (far.0 n le is.short (rw (front text more n le) at is.shortest.ends))
+    absurd (far.0 n le is.short (rw (take_front text more n le) at is.shortest.ends))
 settled_back text more outcome (inl far) (inr none) =
     inr (λ n h is. far.0 n is.shortest.within is.short is.shortest.ends, none.1)
 settled_back text more outcome (inr near) (inl head) =
@@ -126,7 +126,7 @@ settled_back text more outcome (inr near) (inr none) = inr (λ n h is. none.0 n 
 pub settled : (text more : List ℕ) (outcome : ParseResult) → IsSettled text → IsParsedAs text outcome ↔ IsParsedAs (text ++ more) outcome
 settled text more outcome is = (settled_then text more outcome is, settled_back text more outcome is)
 
--- a text with a head is settled where the body is there
+-- A text with a head is settled if and only if the body is there.
 pub settled_by_body : (text front rest : List ℕ) (n : ℕ) (h : RequestHead) (There : Type 0) → IsHeadOf text n h → rest ≡ drop n text
     → There ↔ HasBody h rest → There ↔ IsSettled text
 settled_by_body text front rest n h There is back body = (
@@ -149,11 +149,11 @@ settled_by_body text front rest n h There is back body = (
         let P : ℕ → Type 0 = λ k. IsHeadOf text k h in
         body.1 (subst (HasBody h) (sym (back ∙ ap (λ k. drop k text) same)) (enough h (subst P same is)))
 
--- what was searched of a front is searched when it has grown
+-- The searched part of a prefix stays searched when the prefix grows.
 pub searched_more : (old new : List ℕ) (m n searched : ℕ) → take m new ≡ take m old → searched ≤ length (take m old) + 1 → IsSearched (take m old) searched
     → IsSearched (take (m + n) new) searched
 searched_more old new m n searched same within is k lt ends =
     let rest = take n (drop m new) in
     let whole : take (m + n) new ≡ take m old ++ rest = take-add m n new ∙ ap (λ t. t ++ rest) same in
-    let seen : take k (take (m + n) new) ≡ take k (take m old) = ap (take k) whole ∙ front (take m old) rest k (omega arith) in
+    let seen : take k (take (m + n) new) ≡ take k (take m old) = ap (take k) whole ∙ take_front (take m old) rest k (omega arith) in
     is k lt (subst EndsHead seen ends)

@@ -1,4 +1,4 @@
--- What the parser of heads tells of a text.
+-- What the parser of heads returns for a text.
 use Rattle.std.proofs.Common.{◌≡◌, ◌≤◌, ◌∙◌, ℕ, List, [], length, take, drop, sym, ap, subst, arith, append-nil, Result, Ok, Err}
 use Rattle.std.proofs.lemmas.List.{drop_all, length-map, length-take-le}
 use Rattle.httparse.specs.declared.Error.{Error}
@@ -13,7 +13,7 @@ use Rattle.toll_protocol.specs.Limits.{head_limit, field_limit}
 use Rattle.toll_protocol.specs.Head.{IsHeadLen, IsHeadOf}
 
 module _ (text : List ℕ) (n : ℕ) (fields : List HeaderSpan) where
-  -- a head that takes up a front is that of the text
+  -- A head that takes up a prefix is the head of the text.
   pub head_read : (r : Result (Status RequestSpans) Error) (line : RequestSpans) → r ≡ Ok (Complete line)
       → IfComplete r (IsRequestWithin (take n text) fields) → IfComplete r (IsRequestOf (take n text) fields)
       → IsHeadLen text n → n ≤ head_limit → length fields ≡ field_limit → line.len ≡ n
@@ -35,7 +35,7 @@ module _ (text : List ℕ) (n : ℕ) (fields : List HeaderSpan) where
         at,
       )
 
-  -- the head of a text is found, and takes up its front
+  -- The parser finds the head of the text, which takes up its prefix.
   pub head_found : (r : Result (Status RequestSpans) Error) → FindsRequest (take n text) field_limit fields r
       → (h : RequestHead) → IsHeadOf text n h → IsCompleteAnd r (λ line. line.len ≡ n)
   head_found r finds h is = of_len r (finds h [] is.reads is.room)

@@ -7,7 +7,7 @@ use Rattle.toll_protocol.specs.Streams.{HasFailed, NoneBlocked, RecordsFailure}
 
 -- ---- bytes
 
--- what was read up to the end is all
+-- What was read up to the end is the whole stream.
 pub read_all : (a b : Option (List ℕ)) (given : List ℕ) → Consumes a b given → IsAtEnd b → IfSome a (λ input. given ≡ input)
 read_all None b given p end = tt
 read_all (Some input) None given p end = absurd p
@@ -30,7 +30,7 @@ one_failed None b c p q is = absurd (cc is)
 one_failed (Some true) b c p q is = absurd (cc is)
 one_failed (Some false) b c p q is = let same = subst (λ (o : Option Bool). RecordsFailure o c true) p q in same
 
--- a write that took some bytes didn't fail
+-- A write that took some bytes didn't fail.
 pub none_failed_by_some : (a b c : Option Bool) (n : ℕ) → 0 < n → RecordsFailure a b false → RecordsFailure b c (n == 0) → RecordsFailure a c false
 none_failed_by_some a b c n some p q =
     let taken : (n == 0) ≡ false = grind (arith, nat_tests) in

@@ -1,11 +1,11 @@
--- A front of a stream, and what comes behind it.
+-- A prefix of a stream, and the bytes after it.
 use Rattle.std.proofs.Common.{◌∙◌, ℕ, List, ◌++◌, sym, ap, subst, Option, None, Some, append-nil, inl, inr}
 use Rattle.std.specs.Prelude.{◌⊎◌, ◌↔◌, IfSome}
 use Rattle.std.specs.Io.KnownBytes.{Consumes, IsAtEnd}
 use Rattle.toll_protocol.specs.Parsing.{IsParsedAs, IsSettled, ParseResult}
 use Rattle.toll_protocol.proofs.Fronts.{settled}
 
--- what was read comes to what the stream comes to
+-- The bytes that were read are parsed as the whole stream is.
 pub same_as_stream : (a b : Option (List ℕ)) (given : List ℕ) → Consumes a b given → IsSettled given ⊎ IsAtEnd b
     → IfSome a (λ stream. (outcome : ParseResult) → IsParsedAs given outcome ↔ IsParsedAs stream outcome)
 same_as_stream None b given p enough = tt

@@ -2,7 +2,7 @@
 use Rattle.std.proofs.Common.{◌≡◌, ◌∙◌, ◌≢◌, ◌<◌, ◌+◌, ℕ, zero, suc, List, [], ◌∷◌, ◌++◌, length, get_or, take, drop, sym, ap, refl, subst, arith, add-one, append_assoc}
 use Rattle.toll_protocol.specs.Words.{AreWords, HasNoZero, IsWord, words_text}
 
--- the first zero is one
+-- A text has only one first zero.
 pub one_zero : (a b x y : List ℕ) → HasNoZero a → HasNoZero b → a ++ 0 ∷ x ≡ b ++ 0 ∷ y → (a ≡ b) × (x ≡ y)
 one_zero [] [] x y p q same = (refl, cc)
 one_zero [] (b ∷ more) x y p q same = absurd (q.0 cc)
@@ -11,16 +11,16 @@ one_zero (a ∷ rest) (b ∷ more) x y p q same =
     let tails : rest ++ 0 ∷ x ≡ more ++ 0 ∷ y = cc in
     let (front, behind) = one_zero rest more x y p.1 q.1 tails in (cc, behind)
 
--- a text is one list of words
-pub one_list : (words others : List (List ℕ)) → AreWords words → AreWords others → words_text words ≡ words_text others → words ≡ others
-one_list [] [] p q same = refl
-one_list [] ([] ∷ others) p q same = absurd cc
-one_list [] ((b ∷ more) ∷ others) p q same = absurd cc
-one_list ([] ∷ words) [] p q same = absurd cc
-one_list ((a ∷ rest) ∷ words) [] p q same = absurd cc
-one_list (a ∷ words) (b ∷ others) p q same =
+-- A text is only one list of words.
+pub one_list_of_words : (words others : List (List ℕ)) → AreWords words → AreWords others → words_text words ≡ words_text others → words ≡ others
+one_list_of_words [] [] p q same = refl
+one_list_of_words [] ([] ∷ others) p q same = absurd cc
+one_list_of_words [] ((b ∷ more) ∷ others) p q same = absurd cc
+one_list_of_words ([] ∷ words) [] p q same = absurd cc
+one_list_of_words ((a ∷ rest) ∷ words) [] p q same = absurd cc
+one_list_of_words (a ∷ words) (b ∷ others) p q same =
     let (front, behind) = one_zero a b (words_text words) (words_text others) p.0.free q.0.free same in
-    let rest = one_list words others p.1 q.1 behind in cc
+    let rest = one_list_of_words words others p.1 q.1 behind in cc
 
 pub words_text-append : (words more : List (List ℕ)) → words_text (words ++ more) ≡ words_text words ++ words_text more
 words_text-append [] more = refl
@@ -32,7 +32,7 @@ free_suc [] n lt here before = absurd (omega arith)
 free_suc (b ∷ text) zero lt here before = (here, tt)
 free_suc (b ∷ text) (suc n) lt here before = (before.0, free_suc text n (omega arith) here before.1)
 
--- one byte more that is no zero
+-- One more byte isn't zero.
 pub free_more : (text : List ℕ) (n : ℕ) → n < length text → get_or text n 0 ≢ 0 → HasNoZero (take n text) → HasNoZero (take (n + 1) text)
 free_more text n lt here before = rw add-one (free_suc text n lt here before)
 
@@ -41,23 +41,23 @@ at_suc [] n lt here = absurd (omega arith)
 at_suc (b ∷ text) zero lt here = ap (λ x. x ∷ text) here
 at_suc (b ∷ text) (suc n) lt here = ap (λ t. b ∷ t) (at_suc text n (omega arith) here)
 
--- what stands at a zero
+-- a text that is split at a zero
 pub at_zero : (text : List ℕ) (n : ℕ) → n < length text → get_or text n 0 ≡ 0 → text ≡ take n text ++ 0 ∷ drop (n + 1) text
 at_zero text n lt here = rw add-one (at_suc text n lt here)
 
--- a text with no zero has no word
+-- A text without a zero has no word.
 pub no_word : (text word rest : List ℕ) → HasNoZero text → text ≡ word ++ 0 ∷ rest → ⊥
 no_word text [] rest free same = let here : HasNoZero (0 ∷ rest) = subst HasNoZero same free in here.0 refl
 no_word text (b ∷ word) rest free same = let here : HasNoZero (b ∷ (word ++ 0 ∷ rest)) = subst HasNoZero same free in no_word (word ++ 0 ∷ rest) word rest here.1 refl
 
--- a list of words whose text begins with this word
+-- The list's first word is the one that its text begins with.
 pub tail_of : (word rest : List ℕ) (words : List (List ℕ)) → HasNoZero word → AreWords words → word ++ 0 ∷ rest ≡ words_text words
     → (tail : List (List ℕ)) × AreWords tail × (rest ≡ words_text tail)
 tail_of [] rest [] free are same = absurd cc
 tail_of (b ∷ word) rest [] free are same = absurd cc
 tail_of word rest (w ∷ words) free are same = (words, are.1, (one_zero word w rest (words_text words) free are.0.free same).1)
 
--- one word more
+-- One more word.
 pub word_more : (before : List (List ℕ)) (word rest text : List ℕ) → words_text before ++ (word ++ 0 ∷ rest) ≡ text → words_text (before ++ word ∷ []) ++ rest ≡ text
 word_more before word rest text so_far =
     ap (λ t. t ++ rest) (words_text-append before (word ∷ [])) ∙ (append_assoc (words_text before) (word ++ 0 ∷ []) rest
@@ -67,7 +67,7 @@ pub are_more : (before : List (List ℕ)) (word : List ℕ) → AreWords before 
 are_more [] word are is = (is, tt)
 are_more (w ∷ before) word are is = (are.0, are_more before word are.1 is)
 
--- what has bytes and begins with no word is no words
+-- A text that isn't empty and doesn't begin with a word is no list of words.
 pub no_tail : (rest : List ℕ) (tail : List (List ℕ)) → AreWords tail → rest ≡ words_text tail → rest ≢ []
     → ((word behind : List ℕ) → IsWord word → rest ≡ word ++ 0 ∷ behind → ⊥) → ⊥
 no_tail rest [] are is some none = some is

@@ -1,11 +1,11 @@
--- What is sent back where a check of a request fails.
+-- The reply to a request that a check refuses.
 use Rattle.std.specs.Prelude.{ℕ, Option, Some, None, codes}
 use Rattle.toll_base.specs.Bytes.{Bytes}
 use Rattle.toll_protocol.specs.declared.http_messages.verb.Verb.{Verb}
 use Rattle.toll_protocol.specs.declared.http_messages.failure.Failure.{Failure}
 use Rattle.toll_protocol.specs.declared.http_messages.failure.Failure.TheVariants.{BadRequest, Forbidden, NoRoute, MethodNotAllowed, TooLarge, NotImplemented}
 
--- the status code
+-- the status code of the failure
 abbrev pub status_of_failure : Failure → ℕ
 status_of_failure BadRequest = 400
 status_of_failure Forbidden = 403
@@ -14,7 +14,7 @@ status_of_failure (MethodNotAllowed allowed) = 405
 status_of_failure TooLarge = 413
 status_of_failure NotImplemented = 501
 
--- the word of the body, if there is a body
+-- the word in the body, if there is a body
 abbrev pub word_of_failure : Failure → Option Bytes
 word_of_failure BadRequest = Some (codes "BadRequest")
 word_of_failure Forbidden = Some (codes "Forbidden")
@@ -23,7 +23,7 @@ word_of_failure (MethodNotAllowed allowed) = Some (codes "MethodNotAllowed")
 word_of_failure TooLarge = Some (codes "TooLarge")
 word_of_failure NotImplemented = None
 
--- the method that is allowed in place of the one that isn't
+-- the allowed method, if the request's method isn't allowed
 abbrev pub allowed_after : Failure → Option Verb
 allowed_after BadRequest = None
 allowed_after Forbidden = None

@@ -5,17 +5,17 @@ use Rattle.toll_base.specs.Bytes.{Bytes}
 use Rattle.toll_protocol.specs.Verbs.{verb_name}
 use Rattle.toll_protocol.specs.declared.http_messages.verb.Verb.{Verb}
 
--- absent where there is no body
+-- the line for a body's type, if there is a body
 abbrev pub content_type : Bytes → Bytes
 content_type [] = []
 content_type (b ∷ body) = codes "content-type: application/json\r\n"
 
--- absent but where a method is not allowed
+-- the line for the allowed method, if a method isn't allowed
 abbrev pub allow_line : Option Verb → Bytes
 allow_line None = []
 allow_line (Some verb) = codes "allow: " ++ (verb_name verb ++ codes "\r\n")
 
--- a whole reply: a status, the method that is allowed, a body
+-- a whole reply: a status, the allowed method, and a body
 unfoldable pub reply_text : ℕ → Option Verb → Bytes → Bytes
 reply_text status allowed body =
     codes "HTTP/1.1 " ++ (status_text status ++ (codes "\r\n" ++ (content_type body ++ (codes "content-length: " ++ (decimal (length body)

@@ -8,6 +8,6 @@ abbrev pub verb_name : Verb → List ℕ
 verb_name Get = codes "GET"
 verb_name Post = codes "POST"
 
--- the verb that has this name
+-- the verb with this name
 abbrev pub verb_of : List ℕ → Option Verb
 verb_of method = if bytes_eq method (codes "GET") then Some Get else (if bytes_eq method (codes "POST") then Some Post else None)

@@ -1,4 +1,4 @@
-//! Frames: bytes behind their length, so that a reader knows when all have come; and the messages that the
+//! Frames: bytes after their length, so that a reader knows when all have come; and the messages that the
 //! plant and the server of a file exchange in them.
 
 mod call;

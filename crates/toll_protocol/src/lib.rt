@@ -18,5 +18,5 @@ pub use http_messages::{
 };
 pub use streams::{
     ReadStatus, ResponseWriter, Sink, Source, Stream, WriteFault, WriteStatus,
-    a_plain_reader_tells_its_bytes, a_plain_writer_tells_its_bytes, read_behind, write_whole,
+    a_plain_reader_reports_its_bytes, a_plain_writer_reports_its_bytes, read_behind, write_whole,
 };

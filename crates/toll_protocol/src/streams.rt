@@ -1,4 +1,4 @@
-//! Streams of bytes that may report what was read, what was written and what failed: reading behind the bytes
+//! Streams of bytes that may report what was read, what was written and what failed: reading after the bytes
 //! that have come, and writing a text at once or bit by bit.
 
 mod laws;
@@ -10,7 +10,7 @@ mod stream;
 mod write_status;
 mod writing;
 
-pub use laws::{a_plain_reader_tells_its_bytes, a_plain_writer_tells_its_bytes};
+pub use laws::{a_plain_reader_reports_its_bytes, a_plain_writer_reports_its_bytes};
 pub use read_status::ReadStatus;
 pub use response_writer::ResponseWriter;
 pub use sink::Sink;

@@ -1,9 +1,9 @@
--- Who has come while others are accepted.
+-- What holds while connections are accepted.
 use Rattle.std.proofs.Common.{◌≡◌, ◌∙◌, ◌+◌, ◌≤◌, ◌⊎◌, ℕ, inl, inr, List, [], ◌∷◌, ◌++◌, length, ap, refl, sym, subst, arith}
 use Rattle.std.specs.Prelude.{None, Ok, OnOk, Option, Result, option_map, slice_index_or}
 use Rattle.slab.specs.Slab.{Slab}
 use Rattle.toll_server.specs.Accepting.{HasAccepted, StandsStill}
-use Rattle.toll_server.specs.Connections.{Adds, AddsAll, AddsNext, MakesRoom}
+use Rattle.toll_server.specs.Connections.{AddsConnection, AddsAll, AddsNext, MakesRoom}
 use Rattle.toll_server.specs.Networks.{Accepts, Arrival, IsPausedAt, Lacks, NoneWaits, Tallies, Tally, after_accept, owners_at}
 use Rattle.toll_server.specs.declared.connection.Connection.{Connection}
 use Rattle.toll_server.specs.declared.connections.AcceptState.TheVariants.{Open, Backlogged}
@@ -16,7 +16,7 @@ use Rattle.toll_server.specs.declared.network.NetworkFault.{NetworkFault}
 use Rattle.toll_server.proofs.StandLemmas.{room_new, same_new, stands_added, stands_fewer, stands_lost}
 use Rattle.toll_server.proofs.TallyLemmas.{tallies_both, tallies_more, tallies_weaker}
 
--- as many came as are no longer to come, and the network did nothing besides
+-- The accepted owners and those still to accept add up, and nothing else of the tally changed.
 pub record Counts {S : Type 0} (before left count : ℕ) (t u : Tally S) : Type 0 where
   pub owners : u.owners + left ≡ t.owners + before
   pub accepts : u.accepts ≡ t.accepts + count
@@ -38,13 +38,13 @@ counts_more before left count later key listener stream t u p is = record {
   clock = p.clock;
 }
 
--- what the network told, where what it gave is known
-pub told_of : {S : Type 0} (key : ℕ) (given accepted : Accepted S) (b c : Option (Tally S)) → given ≡ accepted → c ≡ option_map (after_accept {E = NetworkFault} key (Ok given)) b
+-- The tally follows from the connection that was accepted.
+pub accept_reported : {S : Type 0} (key : ℕ) (given accepted : Accepted S) (b c : Option (Tally S)) → given ≡ accepted → c ≡ option_map (after_accept {E = NetworkFault} key (Ok given)) b
     → c ≡ option_map (after_accept {E = NetworkFault} key (Ok accepted)) b
-told_of key given accepted b c is told = subst (λ x. c ≡ option_map (after_accept {E = NetworkFault} key (Ok x)) b) is told
+accept_reported key given accepted b c is reported = subst (λ x. c ≡ option_map (after_accept {E = NetworkFault} key (Ok x)) b) is reported
 
 module _ {S T P : Type 0} where
-  -- so many came, and all are there
+  -- This many connections were accepted, and all are stored.
   pub record HasCome (most now : ℕ) (old : Slab (Connection S T P)) (count : ℕ) (new : Slab (Connection S T P)) (t u : Tally S) : Type 0 where
     pub clock : u.clock ≡ now
     pub came : List (Arrival S)
@@ -53,7 +53,7 @@ module _ {S T P : Type 0} where
     pub so_many : length came ≡ count
 
   pub come_more : (most now : ℕ) (old : Slab (Connection S T P)) (count : ℕ) (middle new : Slab (Connection S T P)) (key : ℕ) (listener : Listener) (stream : S) (t u : Tally S)
-      → HasCome most now old count middle t u → Adds most now (record { key = key; listener = listener; stream = stream }) middle new
+      → HasCome most now old count middle t u → AddsConnection most now (record { key = key; listener = listener; stream = stream }) middle new
       → HasCome most now old (count + 1) new t (after_accept {E = NetworkFault} key (Ok (Connected listener stream)) u)
   come_more most now old count middle new key listener stream t u p adds = record {
     clock = p.clock;
@@ -90,11 +90,11 @@ module _ {S T P : Type 0} where
     cause (inl q) = inl (q.0 ∙ p.arrivals, q.1)
     cause (inr q) = let (lost, is) = q in inr (lost, is ∙ ap (λ l. lost ∷ l) p.arrivals)
 
-  -- no memory for one that came
-  pub lost : (old new : Connections S T P) (now count key : ℕ) (listener : Listener) (stream : S) (slots full : Slab (Connection S T P)) (a b c : Option (Tally S))
+  -- There was no memory for an accepted connection.
+  pub lost_newcomer : (old new : Connections S T P) (now count key : ℕ) (listener : Listener) (stream : S) (slots full : Slab (Connection S T P)) (a b c : Option (Tally S))
       → c ≡ option_map (after_accept {E = NetworkFault} key (Ok (Connected listener stream))) b → ¬ (IsPausedAt now old.accept_state) → full.slots ≡ slots.slots
       → MakesRoom count now full new.slots new.accept_state → Tallies (HasCome old.most_open now old.slots count slots) a b → Tallies (HasAccepted {A = Unit {0}} {E = NetworkFault} (Ok tt) old new) a c
-  lost old new now count key listener stream slots full a b c is not same room p = tallies_more (HasCome old.most_open now old.slots count slots) (HasAccepted {A = Unit {0}} {E = NetworkFault} (Ok tt) old new)
+  lost_newcomer old new now count key listener stream slots full a b c is not same room p = tallies_more (HasCome old.most_open now old.slots count slots) (HasAccepted {A = Unit {0}} {E = NetworkFault} (Ok tt) old new)
       (after_accept {E = NetworkFault} key (Ok (Connected listener stream))) a b c is (λ t u q. ends_in_want {A = Unit {0}} {E = NetworkFault} (Ok tt) old new now count slots full t u
       (after_accept {E = NetworkFault} key (Ok (Connected listener stream)) u) q not refl same room (inr (record { key = key; listener = listener; stream = stream }, refl))) p
 
@@ -106,7 +106,7 @@ module _ {S T P : Type 0} where
       stands_fewer unread (came ∷ u.arrivals) full new.slots (room_new count now full new.slots new.accept_state room)
       (stands_fewer unread (came ∷ u.arrivals) slots full (same_new slots full (λ k. ap (λ l. slice_index_or l k None) same)) (stands_lost unread u.arrivals came slots (stands stood)))) p
 
-  -- no resources for the next one
+  -- There were no resources for the next connection.
   pub wanted : (old new : Connections S T P) (now count key : ℕ) (slots : Slab (Connection S T P)) (a b c : Option (Tally S))
       → c ≡ option_map (after_accept {E = NetworkFault} key (Ok NoResources)) b → ¬ (IsPausedAt now old.accept_state)
       → MakesRoom count now slots new.slots new.accept_state → Tallies (HasCome old.most_open now old.slots count slots) a b → Tallies (HasAccepted {A = Unit {0}} {E = NetworkFault} (Ok tt) old new) a c
@@ -120,22 +120,22 @@ module _ {S T P : Type 0} where
   wanted_stands unread old new count now key slots a b c is room p = tallies_more (StandsStill unread old slots) (StandsStill unread old new.slots)
       (after_accept {E = NetworkFault} key (Ok NoResources)) a b c is (λ t u stands stood. stands_fewer unread u.arrivals slots new.slots (room_new count now slots new.slots new.accept_state room) (stands stood)) p
 
-  -- one more came
+  -- One more connection was accepted.
   pub more_come : (most now : ℕ) (old : Slab (Connection S T P)) (count key : ℕ) (listener : Listener) (stream : S) (middle new : Slab (Connection S T P)) (a b c : Option (Tally S))
       → c ≡ option_map (after_accept {E = NetworkFault} key (Ok (Connected listener stream))) b → key ≡ middle.vacant_key → AddsNext most now listener stream middle new
       → Tallies (HasCome most now old count middle) a b → Tallies (HasCome most now old (count + 1) new) a c
   more_come most now old count key listener stream middle new a b c is at adds p = tallies_more (HasCome most now old count middle) (HasCome most now old (count + 1) new)
       (after_accept {E = NetworkFault} key (Ok (Connected listener stream))) a b c is (λ t u q. come_more most now old count middle new key listener stream t u q
-      (subst (λ k. Adds most now (record { key = k; listener = listener; stream = stream }) middle new) (sym at) adds)) p
+      (subst (λ k. AddsConnection most now (record { key = k; listener = listener; stream = stream }) middle new) (sym at) adds)) p
 
   pub more_stand : (unread : S → Option (List ℕ)) (most now : ℕ) (old : Slab (Connection S T P)) (key : ℕ) (listener : Listener) (stream : S) (middle new : Slab (Connection S T P)) (a b c : Option (Tally S))
       → c ≡ option_map (after_accept {E = NetworkFault} key (Ok (Connected listener stream))) b → key ≡ middle.vacant_key → AddsNext most now listener stream middle new
       → Tallies (StandsStill unread old middle) a b → Tallies (StandsStill unread old new) a c
   more_stand unread most now old key listener stream middle new a b c is at adds p = tallies_more (StandsStill unread old middle) (StandsStill unread old new)
       (after_accept {E = NetworkFault} key (Ok (Connected listener stream))) a b c is (λ t u stands stood. stands_added unread most now u.arrivals (record { key = key; listener = listener; stream = stream }) middle new
-      (subst (λ k. Adds most now (record { key = k; listener = listener; stream = stream }) middle new) (sym at) adds) (stands stood)) p
+      (subst (λ k. AddsConnection most now (record { key = k; listener = listener; stream = stream }) middle new) (sym at) adds) (stands stood)) p
 
-  -- as many were asked for as may be between two waits
+  -- MOST_ACCEPTS connections were asked for, the most between two waits.
   pub all_asked : (old new : Connections S T P) (before left now count came : ℕ) (slots : Slab (Connection S T P)) (a b : Option (Tally S)) → count ≡ MOST_ACCEPTS
       → ¬ (IsPausedAt now old.accept_state) → new.slots ≡ slots → new.accept_state ≡ Backlogged
       → Tallies (Counts before left count) a b → Tallies (HasCome old.most_open now old.slots came slots) a b → Tallies (HasAccepted {A = Unit {0}} {E = NetworkFault} (Ok tt) old new) a b
@@ -144,7 +144,7 @@ module _ {S T P : Type 0} where
       (tallies_both (Counts before left count) (HasCome old.most_open now old.slots came slots) a b counts p)
       (λ t u q. ends_well {A = Unit {0}} {E = NetworkFault} (Ok tt) old new now came slots t u u q.1 not refl refl same (inr (state, q.0.accepts ∙ ap (λ n. t.accepts + n) most)))
 
-  -- one had closed before it was accepted
+  -- One connection was aborted before it was accepted.
   pub aborted : (most now : ℕ) (old : Slab (Connection S T P)) (came key : ℕ) (slots : Slab (Connection S T P)) (a b c : Option (Tally S))
       → c ≡ option_map (after_accept {E = NetworkFault} key (Ok Aborted)) b → Tallies (HasCome most now old came slots) a b → Tallies (HasCome most now old came slots) a c
   aborted most now old came key slots a b c is p = tallies_more (HasCome most now old came slots) (HasCome most now old came slots) (after_accept {E = NetworkFault} key (Ok Aborted)) a b c is
@@ -179,7 +179,7 @@ module _ {A E S T P : Type 0} where
   grown_by r old new t u (inr (came, middle, not, added, inr (full, same, room, inl want))) = (came, want.0)
   grown_by r old new t u (inr (came, middle, not, added, inr (full, same, room, inr (lost, is)))) = (lost ∷ came, is)
 
-  -- what accepting comes to for the rounds
+  -- What accepting gives to the lemmas of rounds.
   pub accepted_all : (r : Result A E) (unread : S → Option (List ℕ)) (old new : Connections S T P) (a b : Option (Tally S)) → Tallies (Accepts r old.accept_state old.owners_left new.owners_left) a b
       → Tallies (HasAccepted r old new) a b → Tallies (StandsStill unread old.slots new.slots) a b
       → Tallies (λ t u. ((u.wakes ≡ t.wakes) × (u.unheard ≡ t.unheard) × (u.missed ≡ t.missed) × ((xs : List (Arrival S)) × (u.arrivals ≡ xs ++ t.arrivals))) × StandsStill unread old.slots new.slots t u) a b

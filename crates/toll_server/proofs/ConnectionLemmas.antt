@@ -1,4 +1,4 @@
--- One connection takes a step, and all others stay as they were.
+-- One connection takes a step, and all others stay unchanged.
 use Rattle.std.proofs.Common.{◌≡◌, ◌+◌, ◌∙◌, ◌||◌, ℕ, zero, suc, arith, inl, inr, List, [], ◌∷◌, Bool, true, false, Option, None, Some, ap, refl, subst, sym}
 use Rattle.std.specs.Prelude.{IfSome, IsSome, cond, count_by, is_some, option_and_then, option_map, slice_index_or, if◌then◌else◌}
 use Rattle.std.proofs.lemmas.Bool.Decides.{eqb_tells}
@@ -7,10 +7,10 @@ use Rattle.slab.specs.Slab.{Slab, Updates, get, slab_len}
 use Rattle.toll_server.proofs.RunLemmas.{all_but}
 use Rattle.toll_server.specs.RequestBuffers.{bytes_received, listener_of}
 use Rattle.toll_server.specs.Connections.{ClosesExpired, JoinsAt, KeepsQueue, KeepsTasks, OnlyAt, TakesTurn, connection_behind, queue_in, stays_after, tasks_in, unless_expired}
-use Rattle.toll_server.specs.Queues.{IsNext, IsWhatWaits, Waiting, behind, newly, queue_with, stays}
+use Rattle.toll_server.specs.Queues.{IsNext, IsWhatWaits, Waiting, queued_behind, newly, queue_with, waits_on}
 use Rattle.toll_server.specs.Runs.{Input, Request, Task, Yields}
 use Rattle.toll_server.specs.ConnectionStates.{last_poll, pending_task, state_behind, task_of, ticket_after, ticket_behind, ticket_of}
-use Rattle.toll_server.specs.Steps.{Asks, JoinsAs, moment_after, waiting_of, waiting_with}
+use Rattle.toll_server.specs.Steps.{AnswersOrResumes, JoinsAs, event_count_after, waiting_of, waiting_with}
 use Rattle.toll_server.specs.declared.request_buffer.RequestBuffer.{RequestBuffer}
 use Rattle.toll_server.specs.declared.listener.Listener.{Listener}
 use Rattle.toll_server.specs.declared.connection.Connection.{Connection}
@@ -22,47 +22,47 @@ use Rattle.toll_server.specs.declared.step_result.StepResult.{StepResult}
 use Rattle.toll_server.specs.declared.step_result.StepResult.TheVariants.{Waits, Joins, Answered, Failed}
 use Rattle.toll_server.specs.declared.ticket.Ticket.{Ticket}
 
-map_none : {A B : Type 0} (f : A → B) (o : Option A) → option_map f o ≡ None → o ≡ None
-map_none f None is = refl
-map_none f (Some x) is = absurd (cc)
+none_before_map : {A B : Type 0} (f : A → B) (o : Option A) → option_map f o ≡ None → o ≡ None
+none_before_map f None is = refl
+none_before_map f (Some x) is = absurd (cc)
 
 not_some : {A : Type 0} (o : Option A) → ¬ (IsSome o) → o ≡ None
 not_some None none = refl
 not_some (Some x) none = absurd (none refl)
 
 module _ {T P : Type 0} where
-  -- who has no place in the queue has no task
+  -- A connection without a place in the queue has no task.
   idle_task : (state : ConnectionState T P) → ticket_of state ≡ None → task_of state ≡ None
   idle_task Reading is = refl
   idle_task (Queued ticket) is = absurd (cc)
   idle_task (Working ticket task) is = absurd (cc)
   idle_task (Writing reply) is = refl
 
-  task_behind : (same : P → P → Bool) (party : P) (moment : ℕ) (state : ConnectionState T P) → task_of (state_behind same party moment state) ≡ task_of state
-  task_behind same party moment Reading = refl
-  task_behind same party moment (Queued ticket) = refl
-  task_behind same party moment (Working ticket task) = refl
-  task_behind same party moment (Writing reply) = refl
+  task_behind : (same : P → P → Bool) (party : P) (event_count : ℕ) (state : ConnectionState T P) → task_of (state_behind same party event_count state) ≡ task_of state
+  task_behind same party event_count Reading = refl
+  task_behind same party event_count (Queued ticket) = refl
+  task_behind same party event_count (Working ticket task) = refl
+  task_behind same party event_count (Writing reply) = refl
 
--- somebody's wait begins anew where it is of the party
-wait_behind : {P : Type 0} (same : P → P → Bool) (party : P) (moment : ℕ) (served : Waiting P) (request : RequestBuffer) (t : Ticket P) → served.party ≡ party
-    → waiting_with request (ticket_behind same party moment t) ≡ behind same (Some served) moment (waiting_with request t)
-wait_behind {P} same party moment served request t is = subst (λ p. waiting_with request (ticket_behind same p moment t) ≡ behind same (Some served) moment (waiting_with request t)) is
+-- A place's wait begins anew if it belongs to the party.
+wait_behind : {P : Type 0} (same : P → P → Bool) (party : P) (event_count : ℕ) (served : Waiting P) (request : RequestBuffer) (t : Ticket P) → served.party ≡ party
+    → waiting_with request (ticket_behind same party event_count t) ≡ queued_behind same (Some served) event_count (waiting_with request t)
+wait_behind {P} same party event_count served request t is = subst (λ p. waiting_with request (ticket_behind same p event_count t) ≡ queued_behind same (Some served) event_count (waiting_with request t)) is
     (each (same served.party t.party)) where
-      each : (b : Bool) → waiting_with request (if b then record { party = t.party; queued = t.queued; since = moment } else t)
-          ≡ (if b then record { party = t.party; listener = listener_of request; request = bytes_received request; queued = t.queued; since = moment } else waiting_with request t)
+      each : (b : Bool) → waiting_with request (if b then record { party = t.party; queued = t.queued; since = event_count } else t)
+          ≡ (if b then record { party = t.party; listener = listener_of request; request = bytes_received request; queued = t.queued; since = event_count } else waiting_with request t)
       each true = refl
       each false = refl
 
-module _ {T P : Type 0} (same : P → P → Bool) (party : P) (moment : ℕ) (served : Waiting P) (its : served.party ≡ party) (request : RequestBuffer) where
-  state_waits_behind : (state : ConnectionState T P) → option_map (waiting_with request) (ticket_of (state_behind same party moment state))
-      ≡ option_map (behind same (Some served) moment) (option_map (waiting_with request) (ticket_of state))
+module _ {T P : Type 0} (same : P → P → Bool) (party : P) (event_count : ℕ) (served : Waiting P) (its : served.party ≡ party) (request : RequestBuffer) where
+  state_waits_behind : (state : ConnectionState T P) → option_map (waiting_with request) (ticket_of (state_behind same party event_count state))
+      ≡ option_map (queued_behind same (Some served) event_count) (option_map (waiting_with request) (ticket_of state))
   state_waits_behind Reading = refl
-  state_waits_behind (Queued ticket) = ap Some (wait_behind same party moment served request ticket its)
-  state_waits_behind (Working ticket task) = ap Some (wait_behind same party moment served request ticket its)
+  state_waits_behind (Queued ticket) = ap Some (wait_behind same party event_count served request ticket its)
+  state_waits_behind (Working ticket task) = ap Some (wait_behind same party event_count served request ticket its)
   state_waits_behind (Writing reply) = refl
 
--- what waits with who has this place, is handed over
+-- The input that a connection with a ticket hands over.
 module _ {T P : Type 0} where
   abbrev handed_by : ConnectionState T P → RequestBuffer → Input T
   handed_by Reading request = Request (listener_of request) (bytes_received request)
@@ -78,16 +78,16 @@ module _ {T P : Type 0} where
   what_waits (Writing reply) request ticket is = absurd (cc)
 
   comes_to : {O : Type 0} (answers : O → Listener → List ℕ → Poll T → O → Type 0) (resumes : O → T → Poll T → O → Type 0) (state : ConnectionState T P) (request : RequestBuffer)
-      (poll : Poll T) (a b : O) → Asks answers resumes state request poll a b → Yields answers resumes a (handed_by state request) poll b
+      (poll : Poll T) (a b : O) → AnswersOrResumes answers resumes state request poll a b → Yields answers resumes a (handed_by state request) poll b
   comes_to answers resumes Reading request poll a b p = absurd p
   comes_to answers resumes (Queued t) request poll a b p = p
   comes_to answers resumes (Working t task) request poll a b p = p
   comes_to answers resumes (Writing reply) request poll a b p = absurd p
 
-  waits_after : (request : RequestBuffer) (poll : Poll T) (moment : ℕ) (ticket : Ticket P)
-      → option_map (waiting_with request) (ticket_after poll moment ticket) ≡ stays poll moment (waiting_with request ticket)
-  waits_after request (Ready text) moment ticket = refl
-  waits_after request (Pending task) moment ticket = refl
+  waits_after : (request : RequestBuffer) (poll : Poll T) (event_count : ℕ) (ticket : Ticket P)
+      → option_map (waiting_with request) (ticket_after poll event_count ticket) ≡ waits_on poll event_count (waiting_with request ticket)
+  waits_after request (Ready text) event_count ticket = refl
+  waits_after request (Pending task) event_count ticket = refl
 
 module _ {S T P : Type 0} where
   abbrev pub task_in : Option (Connection S T P) → Option T
@@ -96,7 +96,7 @@ module _ {S T P : Type 0} where
   abbrev pub wait_at : Option (Connection S T P) → Option (Waiting P)
   wait_at o = option_and_then waiting_of o
 
-  -- who reads has no task and no place
+  -- A connection that is reading has no task and no place in the queue.
   pub no_task_in : (o : Option (Connection S T P)) → IfSome o (λ connection. connection.state ≡ Reading) → task_in o ≡ None
   no_task_in None p = refl
   no_task_in (Some connection) p = ap task_of p
@@ -105,7 +105,7 @@ module _ {S T P : Type 0} where
   no_wait_in None p = refl
   no_wait_in (Some connection) p = ap (λ state. option_map (waiting_with connection.request) (ticket_of state)) p
 
-  -- only one of them changes, who had no task and has none
+  -- Only this connection changes. It had no task and has none.
   pub keeps_tasks : (key : ℕ) (old new : Slab (Connection S T P)) → OnlyAt key old new → tasks_in old key ≡ None → tasks_in new key ≡ None → KeepsTasks old new
   keeps_tasks key old new only was is = all_but key (tasks_in new) (tasks_in old) (is ∙ sym was) (λ other isnt. ap task_in (only other isnt))
 
@@ -118,17 +118,17 @@ module _ {S T P : Type 0} where
   stays_or_goes connection None true is = (refl, refl)
   stays_or_goes connection None false is = (sym (idle_task connection.state is), sym (ap (option_map (waiting_with connection.request)) is))
 
-  left : (now : ℕ) (o : Option (Connection S T P)) → (task_in (unless_expired now o) ≡ task_in o) × (wait_at (unless_expired now o) ≡ wait_at o)
-  left now None = (refl, refl)
-  left now (Some connection) = stays_or_goes connection (ticket_of connection.state) _ refl
+  left_unexpired : (now : ℕ) (o : Option (Connection S T P)) → (task_in (unless_expired now o) ≡ task_in o) × (wait_at (unless_expired now o) ≡ wait_at o)
+  left_unexpired now None = (refl, refl)
+  left_unexpired now (Some connection) = stays_or_goes connection (ticket_of connection.state) _ refl
 
   pub expired_closed : (now : ℕ) (old new : Slab (Connection S T P)) → ClosesExpired now old new → KeepsTasks old new
-  expired_closed now old new out key = ap task_in (out key) ∙ (left now (get old key)).0
+  expired_closed now old new out key = ap task_in (out key) ∙ (left_unexpired now (get old key)).0
 
   pub expired_queue : (now : ℕ) (old new : Slab (Connection S T P)) → ClosesExpired now old new → KeepsQueue old new
-  expired_queue now old new out key = ap wait_at (out key) ∙ (left now (get old key)).1
+  expired_queue now old new out key = ap wait_at (out key) ∙ (left_unexpired now (get old key)).1
 
-  -- who was taken out stays or goes by its step
+  -- A connection that was taken out is put back or closed, by its step.
   pub replaced : (old middle new : Slab (Connection S T P)) (key at : ℕ) (step : StepResult) (later : Connection S T P) → Updates old middle key None → at ≡ key
       → Updates middle new at (stays_after step later) → Updates old new key (stays_after step later)
   replaced old middle new key at step later out is back = record {
@@ -136,7 +136,7 @@ module _ {S T P : Type 0} where
     others = λ other isnt. back.others other (λ same. isnt (same ∙ is)) ∙ out.others other isnt;
   }
 
-  -- where it stays if it waits, nothing is lost
+  -- If a queued connection's step is Waits, its task and its place stay.
   stays_as : (step : StepResult) (later : Connection S T P) → (IsSome (ticket_of later.state) → step ≡ Waits)
       → (task_in (stays_after step later) ≡ task_of later.state) × (wait_at (stays_after step later) ≡ waiting_of later)
   stays_as Waits later pending = (refl, refl)
@@ -146,65 +146,66 @@ module _ {S T P : Type 0} where
   stays_as Failed later pending = let none = not_some (ticket_of later.state) (λ some. let e = pending some in absurd (cc)) in
       (sym (idle_task later.state none), sym (ap (option_map (waiting_with later.request)) none))
 
-  -- a connection that was heard joins the queue, or all wait as they did
-  pub joined_at : (is_by : Listener → List ℕ → P → Type 0) (moment now : ℕ) (old new : Slab (Connection S T P)) (key : ℕ) (step : StepResult) (connection later : Connection S T P) → get old key ≡ Some connection
-      → Updates old new key (stays_after step later) → now ≡ moment_after step moment → JoinsAs is_by moment connection later step → JoinsAt is_by key moment now old new
-  joined_at is_by moment now old new key Joins connection later there back is joins = let (none, one) = joins in let (party, by, some) = one in
+  -- A connection that was read joins the queue, or all keep their places.
+  pub joined_at : (is_by : Listener → List ℕ → P → Type 0) (event_count now : ℕ) (old new : Slab (Connection S T P)) (key : ℕ) (step : StepResult) (connection later : Connection S T P) → get old key ≡ Some connection
+      → Updates old new key (stays_after step later) → now ≡ event_count_after step event_count → JoinsAs is_by event_count connection later step → JoinsAt is_by key event_count now old new
+  joined_at is_by event_count now old new key Joins connection later there back is joins = let (none, one) = joins in let (party, by, some) = one in
       inr (listener_of later.request, bytes_received later.request, party, by, is, ap wait_at there ∙ none, each party some) where
-        each : (party : P) → waiting_of later ≡ Some (newly party (listener_of later.request) (bytes_received later.request) moment) → (whose : ℕ)
-            → queue_in new whose ≡ queue_with (queue_in old) key (newly party (listener_of later.request) (bytes_received later.request) moment) whose
+        each : (party : P) → waiting_of later ≡ Some (newly party (listener_of later.request) (bytes_received later.request) event_count) → (whose : ℕ)
+            → queue_in new whose ≡ queue_with (queue_in old) key (newly party (listener_of later.request) (bytes_received later.request) event_count) whose
         each party some whose = elim (eqb_tells whose key) [
           | inl (same, at) ↦ ap (queue_in new) at ∙ (ap wait_at back.changed ∙ (some
-              ∙ sym (ap (λ b. if b then Some (newly party (listener_of later.request) (bytes_received later.request) moment) else queue_in old whose) same)))
+              ∙ sym (ap (λ b. if b then Some (newly party (listener_of later.request) (bytes_received later.request) event_count) else queue_in old whose) same)))
           | inr (differ, isnt) ↦ ap wait_at (back.others whose isnt)
-              ∙ sym (ap (λ b. if b then Some (newly party (listener_of later.request) (bytes_received later.request) moment) else queue_in old whose) differ)
+              ∙ sym (ap (λ b. if b then Some (newly party (listener_of later.request) (bytes_received later.request) event_count) else queue_in old whose) differ)
         ]
-  joined_at is_by moment now old new key Waits connection later there back is joins =
+  joined_at is_by event_count now old new key Waits connection later there back is joins =
       inl (is, all_but key (queue_in new) (queue_in old) (ap wait_at back.changed ∙ (joins ∙ sym (ap wait_at there))) (λ other isnt. ap wait_at (back.others other isnt)))
-  joined_at is_by moment now old new key Answered connection later there back is joins =
+  joined_at is_by event_count now old new key Answered connection later there back is joins =
       inl (is, all_but key (queue_in new) (queue_in old) (ap wait_at back.changed ∙ sym (ap wait_at there ∙ joins.1)) (λ other isnt. ap wait_at (back.others other isnt)))
-  joined_at is_by moment now old new key Failed connection later there back is joins =
+  joined_at is_by event_count now old new key Failed connection later there back is joins =
       inl (is, all_but key (queue_in new) (queue_in old) (ap wait_at back.changed ∙ sym (ap wait_at there ∙ joins.1)) (λ other isnt. ap wait_at (back.others other isnt)))
 
   unqueued : (connection : Connection S T P) → waiting_of connection ≡ None → task_of connection.state ≡ None
-  unqueued connection none = idle_task connection.state (map_none (waiting_with connection.request) (ticket_of connection.state) none)
+  unqueued connection none = idle_task connection.state (none_before_map (waiting_with connection.request) (ticket_of connection.state) none)
 
-  -- and each has the task that it had
-  pub heard_tasks : (is_by : Listener → List ℕ → P → Type 0) (moment : ℕ) (old new : Slab (Connection S T P)) (key : ℕ) (step : StepResult) (connection later : Connection S T P) → get old key ≡ Some connection
-      → Updates old new key (stays_after step later) → last_poll later.state ≡ last_poll connection.state → JoinsAs is_by moment connection later step → KeepsTasks old new
-  heard_tasks is_by moment old new key step connection later there back same joins =
+  -- Each connection keeps its task.
+  pub heard_tasks : (is_by : Listener → List ℕ → P → Type 0) (event_count : ℕ) (old new : Slab (Connection S T P)) (key : ℕ) (step : StepResult) (connection later : Connection S T P) → get old key ≡ Some connection
+      → Updates old new key (stays_after step later) → last_poll later.state ≡ last_poll connection.state → JoinsAs is_by event_count connection later step → KeepsTasks old new
+  heard_tasks is_by event_count old new key step connection later there back same joins =
       all_but key (tasks_in new) (tasks_in old) (ap task_in back.changed ∙ (each step joins ∙ sym (ap task_in there))) (λ other isnt. ap task_in (back.others other isnt)) where
-        each : (step : StepResult) → JoinsAs is_by moment connection later step → task_in (stays_after step later) ≡ task_of connection.state
+        each : (step : StepResult) → JoinsAs is_by event_count connection later step → task_in (stays_after step later) ≡ task_of connection.state
         each Waits joins = ap (option_and_then pending_task) same
         each Joins joins = ap (option_and_then pending_task) same
         each Answered joins = sym (unqueued connection joins.1)
         each Failed joins = sym (unqueued connection joins.1)
 
-  behind_task : (same : P → P → Bool) (party : P) (moment : ℕ) (o : Option (Connection S T P)) → task_in (option_map (connection_behind same party moment) o) ≡ task_in o
-  behind_task same party moment None = refl
-  behind_task same party moment (Some connection) = task_behind same party moment connection.state
+  behind_task : (same : P → P → Bool) (party : P) (event_count : ℕ) (o : Option (Connection S T P)) → task_in (option_map (connection_behind same party event_count) o) ≡ task_in o
+  behind_task same party event_count None = refl
+  behind_task same party event_count (Some connection) = task_behind same party event_count connection.state
 
-  behind_wait : (same : P → P → Bool) (party : P) (moment : ℕ) (served : Waiting P) → served.party ≡ party → (o : Option (Connection S T P))
-      → wait_at (option_map (connection_behind same party moment) o) ≡ option_map (behind same (Some served) moment) (wait_at o)
-  behind_wait same party moment served its None = refl
-  behind_wait same party moment served its (Some connection) = state_waits_behind same party moment served its connection.request connection.state
+  behind_wait : (same : P → P → Bool) (party : P) (event_count : ℕ) (served : Waiting P) → served.party ≡ party → (o : Option (Connection S T P))
+      → wait_at (option_map (connection_behind same party event_count) o) ≡ option_map (queued_behind same (Some served) event_count) (wait_at o)
+  behind_wait same party event_count served its None = refl
+  behind_wait same party event_count served its (Some connection) = state_waits_behind same party event_count served its connection.request connection.state
 
--- who was taken out had the service take a turn for it, all of its party were put behind, and it was put back, if it stays
-pub record Turned {S T P O : Type 0} (answers : O → Listener → List ℕ → Poll T → O → Type 0) (resumes : O → T → Poll T → O → Type 0) (same : P → P → Bool) (moment : ℕ)
+-- One turn: a connection is taken out, the service takes a turn for it, the others of its party are put behind, and it is put back if it
+-- stays.
+pub record Turned {S T P O : Type 0} (answers : O → Listener → List ℕ → Poll T → O → Type 0) (resumes : O → T → Poll T → O → Type 0) (same : P → P → Bool) (event_count : ℕ)
     (old new : Slab (Connection S T P)) (key : ℕ) (connection later : Connection S T P) (ticket : Ticket P) (poll : Poll T) (step : StepResult) (a b : O) : Type 0 where
   pub there : get old key ≡ Some connection
   pub changed : get new key ≡ stays_after step later
-  pub others : (other : ℕ) → ¬ (other ≡ key) → get new other ≡ option_map (connection_behind same ticket.party moment) (get old other)
+  pub others : (other : ℕ) → ¬ (other ≡ key) → get new other ≡ option_map (connection_behind same ticket.party event_count) (get old other)
   pub its : ticket_of connection.state ≡ Some ticket
-  pub asks : Asks answers resumes connection.state connection.request poll a b
-  pub told : last_poll later.state ≡ Some poll
-  pub place : ticket_of later.state ≡ ticket_after poll moment ticket
+  pub asks : AnswersOrResumes answers resumes connection.state connection.request poll a b
+  pub reported : last_poll later.state ≡ Some poll
+  pub place : ticket_of later.state ≡ ticket_after poll event_count ticket
   pub pending : IsSome (ticket_of later.state) → step ≡ Waits
   pub request : later.request ≡ connection.request
 
-module _ {S T P O : Type 0} (answers : O → Listener → List ℕ → Poll T → O → Type 0) (resumes : O → T → Poll T → O → Type 0) (same : P → P → Bool) (moment : ℕ) where
+module _ {S T P O : Type 0} (answers : O → Listener → List ℕ → Poll T → O → Type 0) (resumes : O → T → Poll T → O → Type 0) (same : P → P → Bool) (event_count : ℕ) where
   pub turn_taken : (old new : Slab (Connection S T P)) (key : ℕ) (connection later : Connection S T P) (ticket : Ticket P) (poll : Poll T) (step : StepResult) (a b : O)
-      → Turned answers resumes same moment old new key connection later ticket poll step a b → IsNext (queue_in old) key → TakesTurn answers resumes same moment old new a b
+      → Turned answers resumes same event_count old new key connection later ticket poll step a b → IsNext (queue_in old) key → TakesTurn answers resumes same event_count old new a b
   turn_taken old new key connection later ticket poll step a b t next = record {
     turn = record { whose = key; input = handed_by connection.state connection.request; poll = poll };
     next = next;
@@ -213,31 +214,31 @@ module _ {S T P O : Type 0} (answers : O → Listener → List ℕ → Poll T �
     includes = subst (λ (o : Option (Connection S T P)). IfSome o (λ q. last_poll q.state ≡ Some poll)) (sym t.changed) (includes step);
     tasks = λ k. elim (eqb_tells k key) [
       | inl (same_key, at) ↦ ap (tasks_in new) at ∙ (task ∙ sym (ap (λ c. if c then pending_task poll else tasks_in old k) same_key))
-      | inr (differ, isnt) ↦ ap task_in (t.others k isnt) ∙ (behind_task same ticket.party moment (get old k) ∙ sym (ap (λ c. if c then pending_task poll else tasks_in old k) differ))
+      | inr (differ, isnt) ↦ ap task_in (t.others k isnt) ∙ (behind_task same ticket.party event_count (get old k) ∙ sym (ap (λ c. if c then pending_task poll else tasks_in old k) differ))
     ];
     queue = λ k. elim (eqb_tells k key) [
-      | inl (same_key, at) ↦ ap (queue_in new) at ∙ (place ∙ (sym (ap (λ j. option_and_then (stays poll moment) (queue_in old j)) at)
-          ∙ sym (ap (λ c. if c then option_and_then (stays poll moment) (queue_in old k) else option_map (behind same (queue_in old key) moment) (queue_in old k)) same_key)))
-      | inr (differ, isnt) ↦ ap wait_at (t.others k isnt) ∙ (behind_wait same ticket.party moment (waiting_with connection.request ticket) refl (get old k)
-          ∙ (sym (ap (λ w. option_map (behind same w moment) (queue_in old k)) was)
-          ∙ sym (ap (λ c. if c then option_and_then (stays poll moment) (queue_in old k) else option_map (behind same (queue_in old key) moment) (queue_in old k)) differ)))
+      | inl (same_key, at) ↦ ap (queue_in new) at ∙ (place ∙ (sym (ap (λ j. option_and_then (waits_on poll event_count) (queue_in old j)) at)
+          ∙ sym (ap (λ c. if c then option_and_then (waits_on poll event_count) (queue_in old k) else option_map (queued_behind same (queue_in old key) event_count) (queue_in old k)) same_key)))
+      | inr (differ, isnt) ↦ ap wait_at (t.others k isnt) ∙ (behind_wait same ticket.party event_count (waiting_with connection.request ticket) refl (get old k)
+          ∙ (sym (ap (λ w. option_map (queued_behind same w event_count) (queue_in old k)) was)
+          ∙ sym (ap (λ c. if c then option_and_then (waits_on poll event_count) (queue_in old k) else option_map (queued_behind same (queue_in old key) event_count) (queue_in old k)) differ)))
     ];
   } where
     was : queue_in old key ≡ Some (waiting_with connection.request ticket)
     was = ap wait_at t.there ∙ ap (option_map (waiting_with connection.request)) t.its
 
     includes : (s : StepResult) → IfSome (stays_after s later) (λ q. last_poll q.state ≡ Some poll)
-    includes Waits = t.told
-    includes Joins = t.told
+    includes Waits = t.reported
+    includes Joins = t.reported
     includes Answered = tt
     includes Failed = tt
 
     task : tasks_in new key ≡ pending_task poll
-    task = ap task_in t.changed ∙ ((stays_as step later t.pending).0 ∙ ap (option_and_then pending_task) t.told)
+    task = ap task_in t.changed ∙ ((stays_as step later t.pending).0 ∙ ap (option_and_then pending_task) t.reported)
 
-    place : queue_in new key ≡ option_and_then (stays poll moment) (queue_in old key)
+    place : queue_in new key ≡ option_and_then (waits_on poll event_count) (queue_in old key)
     place = ap wait_at t.changed ∙ ((stays_as step later t.pending).1 ∙ (ap (λ r. option_map (waiting_with r) (ticket_of later.state)) t.request
-        ∙ (ap (option_map (waiting_with connection.request)) t.place ∙ (waits_after connection.request poll moment ticket ∙ sym (ap (option_and_then (stays poll moment)) was)))))
+        ∙ (ap (option_map (waiting_with connection.request)) t.place ∙ (waits_after connection.request poll event_count ticket ∙ sym (ap (option_and_then (waits_on poll event_count)) was)))))
 
 module _ {S T P : Type 0} where
   pub no_connection : (connections : Slab (Connection S T P)) → slab_len connections ≡ 0 → (key : ℕ) → get connections key ≡ None
@@ -248,7 +249,7 @@ module _ {S T P : Type 0} where
     each (None ∷ slots) (suc key) none = each slots key none
     each (Some connection ∷ slots) key none = let more : 1 + count_by is_some slots ≡ 0 = sym (sum_by_from (λ o. cond (is_some o) 1 0) 1 slots) ∙ none in absurd (omega arith)
 
-  -- where nobody is there, nothing is left to do, and nobody waits
+  -- Without connections there is no task, and the queue is empty.
   pub empty_none : (connections : Slab (Connection S T P)) → slab_len connections ≡ 0 → (key : ℕ) → tasks_in connections key ≡ None
   empty_none connections none key = ap task_in (no_connection connections none key)
 

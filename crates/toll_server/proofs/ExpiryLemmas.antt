@@ -1,12 +1,12 @@
--- Looking through the connections by their keys.
+-- The loops that pass all connections by their keys.
 use Rattle.std.proofs.Common.{◌≡◌, ◌<◌, ◌≤◌, ℕ, ◌+◌, ◌∙◌, Option, None, Some, ap, length, refl, sym, subst, arith, below_more, inl, inr}
-use Rattle.std.specs.Prelude.{IfSome}
+use Rattle.std.specs.Prelude.{IfSome, OnSome}
 use Rattle.std.proofs.lemmas.Bool.{cases_lt}
 use Rattle.std.proofs.lemmas.List.{get_or_past}
 use Rattle.std.proofs.lemmas.Option.{same_Some}
-use Rattle.slab.specs.Slab.{Slab, get, slab_len}
+use Rattle.slab.specs.Slab.{Slab, Updates, get, slab_len}
 use Rattle.std.specs.Prelude.{Bool, option_and_then, option_map}
-use Rattle.toll_server.specs.Connections.{IsBefore, IsEarliest, IsIncluded, IsLonger, NobodyWaits, NoneIncluded, OnlyAt, connection_behind, queue_in, unless_expired, wait_in}
+use Rattle.toll_server.specs.Connections.{EvictsReader, IsBefore, IsEarliest, IsEvicted, IsIncluded, IsLonger, NobodyWaits, NoneIncluded, OnlyAt, connection_behind, queue_in, unless_expired, wait_in}
 use Rattle.toll_server.specs.Queues.{HasWaitedLonger, IsNext, Waiting}
 use Rattle.toll_server.specs.Steps.{waiting_of}
 use Rattle.toll_server.specs.declared.filter.Filter.{Filter}
@@ -16,7 +16,7 @@ use Rattle.toll_server.specs.declared.expiry.Next.{Next}
 use Rattle.toll_server.specs.declared.expiry.Wait.{Wait}
 
 module _ {S T P : Type 0} (filter : Filter) (connections : Slab (Connection S T P)) where
-  -- each of these connections with a key below the limit has time until then at least
+  -- No connection that the filter includes, with a key below the limit, has a deadline before this one.
   abbrev pub HaveTimeBelow : ℕ → ℕ → Type 0
   HaveTimeBelow limit deadline = (key : ℕ) → key < limit → IfSome (get connections key) (λ connection. IsIncluded filter connection → deadline ≤ connection.deadline)
 
@@ -34,7 +34,7 @@ module _ {S T P : Type 0} (filter : Filter) (connections : Slab (Connection S T 
   Found limit None = NoneBelow limit
   Found limit (Some f) = IsFirstBelow limit f.key f.deadline
 
-  -- nobody has this key
+  -- No connection has this key.
   pub passed : (limit : ℕ) (first : Option Earliest) → get connections limit ≡ None → Found limit first → Found (limit + 1) first
   passed limit None is p = below_more (λ k. IfSome (get connections k) (λ connection. ¬ (IsIncluded filter connection))) limit p
       (subst (λ (o : Option (Connection S T P)). IfSome o (λ connection. ¬ (IsIncluded filter connection))) (sym is) tt)
@@ -47,7 +47,7 @@ module _ {S T P : Type 0} (filter : Filter) (connections : Slab (Connection S T 
         (subst (λ (o : Option (Connection S T P)). IfSome o (λ connection. IsIncluded filter connection → f.deadline ≤ connection.deadline)) (sym is) tt);
   }
 
-  -- who has this key isn't one of them, or has more time
+  -- The connection with this key isn't included, or its deadline is no earlier.
   pub left_out : (limit : ℕ) (connection : Connection S T P) (first : Option Earliest) → get connections limit ≡ Some connection → ¬ (IsIncluded filter connection × IsBefore connection.deadline first)
       → Found limit first → Found (limit + 1) first
   left_out limit connection None is not p = below_more (λ k. IfSome (get connections k) (λ connection. ¬ (IsIncluded filter connection))) limit p
@@ -78,10 +78,10 @@ module _ {S T P : Type 0} (filter : Filter) (connections : Slab (Connection S T 
   time_before limit deadline None before p = none_time limit deadline p
   time_before limit deadline (Some f) before p = more_time limit deadline f.deadline (omega arith) p.first
 
-  -- who has this key has the least time so far
-  pub taken : (limit : ℕ) (connection : Connection S T P) (first : Option Earliest) → get connections limit ≡ Some connection → IsIncluded filter connection → IsBefore connection.deadline first
+  -- The connection with this key has the earliest deadline so far.
+  pub earliest_taken : (limit : ℕ) (connection : Connection S T P) (first : Option Earliest) → get connections limit ≡ Some connection → IsIncluded filter connection → IsBefore connection.deadline first
       → Found limit first → IsFirstBelow (limit + 1) limit connection.deadline
-  taken limit connection first is a before p = record {
+  earliest_taken limit connection first is a before p = record {
     connection = connection;
     there = is;
     among_them = a;
@@ -111,26 +111,32 @@ module _ {S T P : Type 0} (filter : Filter) (connections : Slab (Connection S T 
     | inr past ↦ subst (λ (o : Option (Connection S T P)). IfSome o (λ connection. ¬ (IsIncluded filter connection))) (sym (none_past limit key le past)) tt
   ]
 
+-- The connection that goes first was closed.
+pub evicted_so : {S T P : Type 0} (old new : Slab (Connection S T P)) (key deadline : ℕ) (taken : Option (Connection S T P)) → taken ≡ get old key → IsEvicted old key deadline → Updates old new key None
+    → OnSome taken (slab_len new + 1 ≡ slab_len old) → EvictsReader old new
+evicted_so old new key deadline None is goes out len = let (filter, first, earliest) = goes in let none = is ∙ earliest.there in absurd (cc)
+evicted_so old new key deadline (Some connection) is goes out len = record { key = key; deadline = deadline; goes = goes; out = out; one_less = len }
+
 module _ {S T P : Type 0} (now : ℕ) (old : Slab (Connection S T P)) where
-  -- those with a key below the limit have been looked at
+  -- The connections with a key below the limit are closed if their deadline is over.
   pub record ClosedBelow (limit : ℕ) (new : Slab (Connection S T P)) : Type 0 where
     pub done : (key : ℕ) → key < limit → get new key ≡ unless_expired now (get old key)
     pub rest : (key : ℕ) → limit ≤ key → get new key ≡ get old key
 
-module _ {S T P : Type 0} (same : P → P → Bool) (party : P) (moment : ℕ) (old : Slab (Connection S T P)) where
-  -- those with a key below the limit have been put behind
+module _ {S T P : Type 0} (same : P → P → Bool) (party : P) (event_count : ℕ) (old : Slab (Connection S T P)) where
+  -- The connections with a key below the limit are put behind if they are of the party.
   pub record PutBehind (limit : ℕ) (new : Slab (Connection S T P)) : Type 0 where
-    pub done : (key : ℕ) → key < limit → get new key ≡ option_map (connection_behind same party moment) (get old key)
+    pub done : (key : ℕ) → key < limit → get new key ≡ option_map (connection_behind same party event_count) (get old key)
     pub rest : (key : ℕ) → limit ≤ key → get new key ≡ get old key
     pub vacant : new.vacant_key ≡ old.vacant_key
     pub capacity : new.capacity ≡ old.capacity
     pub len : slab_len new ≡ slab_len old
 
-  pub put_more : (limit : ℕ) (middle new : Slab (Connection S T P)) → PutBehind limit middle → get new limit ≡ option_map (connection_behind same party moment) (get middle limit)
+  pub put_more : (limit : ℕ) (middle new : Slab (Connection S T P)) → PutBehind limit middle → get new limit ≡ option_map (connection_behind same party event_count) (get middle limit)
       → OnlyAt limit middle new → new.vacant_key ≡ middle.vacant_key → new.capacity ≡ middle.capacity → slab_len new ≡ slab_len middle → PutBehind (limit + 1) new
   put_more limit middle new p at only vacant capacity len = record {
-    done = below_more (λ k. get new k ≡ option_map (connection_behind same party moment) (get old k)) limit
-        (λ k lt. only k (λ is. omega (arith, lt, is)) ∙ p.done k lt) (at ∙ ap (option_map (connection_behind same party moment)) (p.rest limit (omega arith)));
+    done = below_more (λ k. get new k ≡ option_map (connection_behind same party event_count) (get old k)) limit
+        (λ k lt. only k (λ is. omega (arith, lt, is)) ∙ p.done k lt) (at ∙ ap (option_map (connection_behind same party event_count)) (p.rest limit (omega arith)));
     rest = λ k le. only k (λ is. omega (arith, le, is)) ∙ p.rest k (omega (arith, le));
     vacant = vacant ∙ p.vacant;
     capacity = capacity ∙ p.capacity;
@@ -138,7 +144,7 @@ module _ {S T P : Type 0} (same : P → P → Bool) (party : P) (moment : ℕ) (
   }
 
 module _ {P : Type 0} where
-  -- who waits no longer than the one, waits no longer than the other, who waits longer
+  -- If one waits no longer than a second, and a third waits longer than the second, the first waits no longer than the third.
   longest_still : (w v : Waiting P) (next : Next) → wait_in v ≡ next.wait → IsLonger (wait_in w) (Some next) → (u : Waiting P) → ¬ (HasWaitedLonger u v)
       → ¬ (HasWaitedLonger u w)
   longest_still w v next is before u not longer =
@@ -162,7 +168,7 @@ module _ {P : Type 0} where
       elim longer [ inl lt ↦ inl (omega (arith, lt, s)) | inr both ↦ inr (both.0 ∙ s, omega (arith, both.1, q)) ]
 
 module _ {S T P : Type 0} (connections : Slab (Connection S T P)) where
-  -- nobody with a key below the limit has waited longer
+  -- No connection with a key below the limit has waited longer.
   abbrev LongestBelow : ℕ → Waiting P → Type 0
   LongestBelow limit v = (key : ℕ) → key < limit → IfSome (queue_in connections key) (λ w. ¬ (HasWaitedLonger w v))
 
@@ -179,7 +185,7 @@ module _ {S T P : Type 0} (connections : Slab (Connection S T P)) where
   FoundNext limit None = NobodyBelow limit
   FoundNext limit (Some next) = IsNextBelow limit next
 
-  -- who has this key doesn't wait
+  -- The connection with this key isn't queued.
   pub next_passed : (limit : ℕ) (next : Option Next) → option_map wait_in (queue_in connections limit) ≡ None → FoundNext limit next → FoundNext (limit + 1) next
   next_passed limit next is p = which (queue_in connections limit) refl is next p where
     which : (o : Option (Waiting P)) → queue_in connections limit ≡ o → option_map wait_in o ≡ None → (next : Option Next) → FoundNext limit next → FoundNext (limit + 1) next
@@ -193,17 +199,17 @@ module _ {S T P : Type 0} (connections : Slab (Connection S T P)) where
           (subst (λ (o : Option (Waiting P)). IfSome o (λ w. ¬ (HasWaitedLonger w p.waiting))) (sym at) tt);
     }
 
-  waits_at : (limit : ℕ) (wait : Wait) → option_map wait_in (queue_in connections limit) ≡ Some wait → (w : Waiting P) × (queue_in connections limit ≡ Some w) × (wait_in w ≡ wait)
-  waits_at limit wait is = which (queue_in connections limit) refl is where
+  expiry_waits_at : (limit : ℕ) (wait : Wait) → option_map wait_in (queue_in connections limit) ≡ Some wait → (w : Waiting P) × (queue_in connections limit ≡ Some w) × (wait_in w ≡ wait)
+  expiry_waits_at limit wait is = which (queue_in connections limit) refl is where
     which : (o : Option (Waiting P)) → queue_in connections limit ≡ o → option_map wait_in o ≡ Some wait → (w : Waiting P) × (queue_in connections limit ≡ Some w) × (wait_in w ≡ wait)
     which None at is = absurd (cc)
     which (Some w) at is = (w, at, same_Some _ _ is)
 
-  -- who has this key has waited no longer
+  -- The connection with this key has waited no longer.
   pub next_left_out : (limit : ℕ) (wait : Wait) (next : Option Next) → option_map wait_in (queue_in connections limit) ≡ Some wait → ¬ (IsLonger wait next)
       → FoundNext limit next → FoundNext (limit + 1) next
   next_left_out limit wait None is not p = absurd (not tt)
-  next_left_out limit wait (Some n) is not p = let (w, at, its) = waits_at limit wait is in record {
+  next_left_out limit wait (Some n) is not p = let (w, at, its) = expiry_waits_at limit wait is in record {
     waiting = p.waiting;
     there = p.there;
     its = p.its;
@@ -212,10 +218,10 @@ module _ {S T P : Type 0} (connections : Slab (Connection S T P)) where
         (λ longer. not (subst (λ x. IsLonger x (Some n)) its (as_next w p.waiting n p.its longer))));
   }
 
-  -- who has this key has waited longest so far
+  -- The connection with this key has waited longest so far.
   pub next_taken : (limit : ℕ) (wait : Wait) (next : Option Next) → option_map wait_in (queue_in connections limit) ≡ Some wait → IsLonger wait next
       → FoundNext limit next → IsNextBelow (limit + 1) (record { key = limit; wait = wait })
-  next_taken limit wait next is longer p = let (w, at, its) = waits_at limit wait is in record {
+  next_taken limit wait next is longer p = let (w, at, its) = expiry_waits_at limit wait is in record {
     waiting = w;
     there = at;
     its = its;

@@ -8,3 +8,4 @@ pub mod StandLemmas
 pub mod AcceptLemmas
 pub mod ListenLemmas
 pub mod RoundLemmas
+pub mod ClosingLemmas

@@ -12,7 +12,7 @@ use Rattle.toll_server.specs.declared.connections.Connections.{Connections}
 use Rattle.toll_server.specs.declared.listener.Listener.{Listener}
 
 module _ {S : Type 0} where
-  -- at each wait so far it listened while owners were to come; and so it does now, once it was accepted so often
+  -- At each wait so far the network listened while owners were still to be accepted. After this many calls to accept, the same holds now.
   pub record ListensSoFar (count left accepts : ℕ) (t u : Tally S) : Type 0 where
     pub owners : u.owners + left ≡ t.owners + count
     pub wakes : List Wake
@@ -31,7 +31,7 @@ module _ {S : Type 0} where
     closed = λ never. absurd (omega (arith, never));
   })
 
-  -- others were accepted, and the listeners aren't closed yet
+  -- Connections were accepted, and the listeners aren't closed yet.
   pub accepted_listening : {A E : Type 0} (r : Result A E) (state : AcceptState) (count before left accepts : ℕ) (a b c : Option (Tally S)) → left ≤ before
       → Tallies (Accepts r state before left) b c → Tallies (λ t u. u.is_listening ≡ t.is_listening) b c → Tallies (ListensSoFar count before accepts) a b
       → Tallies (ListensSoFar count left 0) a c
@@ -46,7 +46,7 @@ module _ {S : Type 0} where
         closed = λ never. absurd (omega (arith, never));
       })
 
-  -- the listeners were closed, if no owner is to come any more
+  -- The listeners were closed if no further owner is to be accepted.
   pub stopped_listening : (count left accepts : ℕ) (a b c : Option (Tally S)) → Tallies (λ t u. ListensFor left t.is_listening u.is_listening) b c → Tallies OnlyListening b c
       → Tallies (ListensSoFar count left 0) a b → Tallies (ListensSoFar count left accepts) a c
   stopped_listening count left accepts a b c listens rest p =
@@ -60,7 +60,7 @@ module _ {S : Type 0} where
         closed = λ _ none. s.0.1 none;
       })
 
-  -- accepting failed while owners are still to come, so the listeners stay open
+  -- Accepting failed while owners were still to be accepted, so the listeners stay open.
   pub failed_listening : (count left accepts : ℕ) (a b : Option (Tally S)) → 0 < left → Tallies (ListensSoFar count left 0) a b → Tallies (ListensSoFar count left accepts) a b
   failed_listening count left accepts a b some p = tallies_weaker (ListensSoFar count left 0) (ListensSoFar count left accepts) a b p (λ t u q. record {
     owners = q.owners;
@@ -86,10 +86,10 @@ module _ {S : Type 0} where
     now = now_of count left t u u.owners u.is_listening q.owners refl q.opened (q.closed some);
   })
 
-  -- the network failed then
+  -- The network failed.
   pub broken_listening : (count left accepts : ℕ) (a b c : Option (Tally S)) → Tallies BreaksDown b c → Tallies (ListensSoFar count left accepts) a b → Tallies (ListensSoFar count left accepts) a c
   broken_listening count left accepts a b c breaks p = tallies_then (ListensSoFar count left accepts) BreaksDown (ListensSoFar count left accepts) a b c p breaks (λ t u v q r.
-      let (failed, arrivals, wakes, missed, owners, listens) = r in record {
+      let (failed, arrivals, wakes, missed, owners, listens, accepts) = r in record {
         owners = omega (arith, owners, q.owners);
         wakes = q.wakes;
         waited = wakes ∙ q.waited;
@@ -110,7 +110,7 @@ module _ {S : Type 0} where
       }))
 
 module _ {S T P : Type 0} (same : P → P → Bool) (is_by : Listener → List ℕ → P → Type 0) (from : source.Ghosts S) (to : sink.Ghosts S) where
-  -- a wait more
+  -- One more wait.
   pub waited_listening : (now count left later accepts : ℕ) (old new : Connections S T P) (a b c : Option (Tally S)) → 0 < accepts → later ≡ left → HasWaited same is_by from to now old new b c
       → Tallies (ListensSoFar count left accepts) a b → Tallies (ListensSoFar count later accepts) a c
   waited_listening now count left later accepts old new a b c some same_left w p = tallies_then (ListensSoFar count left accepts) _ (ListensSoFar count later accepts) a b c p

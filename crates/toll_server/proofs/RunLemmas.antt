@@ -1,13 +1,13 @@
--- Runs, one after another.
+-- Service runs, one after another.
 use Rattle.std.proofs.Common.{◌≡◌, ◌≢◌, ◌==◌, ◌∙◌, ℕ, List, [], ◌∷◌, ◌++◌, ap, refl, subst, sym, Option, inl, inr}
 use Rattle.std.proofs.lemmas.Bool.Decides.{eqb_tells}
 use Rattle.std.specs.Prelude.{if◌then◌else◌}
-use Rattle.toll_server.specs.Runs.{AreOwn, Yields, Input, IsOwn, IsRun, Runs, Tasks, Turn, after_turn, after_turns}
+use Rattle.toll_server.specs.Runs.{AreOwn, Yields, Input, IsOwnInput, IsServiceRun, TakesTurns, Tasks, Turn, after_turn, after_turns}
 use Rattle.toll_server.specs.ConnectionStates.{pending_task}
 use Rattle.toll_server.specs.declared.listener.Listener.{Listener}
 use Rattle.toll_server.specs.declared.poll.Poll.{Poll}
 
--- where all is as it was but for one of them
+-- Two functions are equal if they agree at one key and at all others.
 pub all_but : {A : Type 0} (key : ℕ) (p q : ℕ → A) → p key ≡ q key → ((other : ℕ) → other ≢ key → p other ≡ q other) → (whose : ℕ) → p whose ≡ q whose
 all_but key p q at others whose = elim (eqb_tells whose key) [
   | inl (same, is) ↦ subst (λ k. p k ≡ q k) (sym is) at
@@ -15,7 +15,7 @@ all_but key p q at others whose = elim (eqb_tells whose key) [
 ]
 
 module _ {T : Type 0} where
-  -- for nobody is less or more left to do
+  -- The same tasks are left.
   abbrev pub Agree : Tasks T → Tasks T → Type 0
   Agree left other = (whose : ℕ) → left whose ≡ other whose
 
@@ -29,7 +29,7 @@ module _ {T : Type 0} where
   pub own_same : (left other : Tasks T) (turns : List (Turn T)) → Agree left other → AreOwn other turns → AreOwn left turns
   own_same left other [] same own = tt
   own_same left other (t ∷ turns) same own =
-      (subst (λ task. IsOwn task t.input) (sym (same t.whose)) own.0, own_same (after_turn left t) (after_turn other t) turns (after_same left other t same) own.1)
+      (subst (λ task. IsOwnInput task t.input) (sym (same t.whose)) own.0, own_same (after_turn left t) (after_turn other t) turns (after_same left other t same) own.1)
 
   pub turns_append : (left : Tasks T) (ts us : List (Turn T)) → Agree (after_turns left (ts ++ us)) (after_turns (after_turns left ts) us)
   turns_append left [] us whose = refl
@@ -47,22 +47,22 @@ module _ {T : Type 0} where
   ]
 
 module _ {O T : Type 0} (answers : O → Listener → List ℕ → Poll T → O → Type 0) (resumes : O → T → Poll T → O → Type 0) where
-  pub Runs-append : (a b c : O) (ts us : List (Turn T)) → Runs answers resumes a ts b → Runs answers resumes b us c → Runs answers resumes a (ts ++ us) c
-  Runs-append a b c [] us p q = subst (λ o. Runs answers resumes o us c) p q
-  Runs-append a b c (t ∷ ts) us p q = let (middle, one, rest) = p in (middle, one, Runs-append middle b c ts us rest q)
+  pub TakesTurns-append : (a b c : O) (ts us : List (Turn T)) → TakesTurns answers resumes a ts b → TakesTurns answers resumes b us c → TakesTurns answers resumes a (ts ++ us) c
+  TakesTurns-append a b c [] us p q = subst (λ o. TakesTurns answers resumes o us c) p q
+  TakesTurns-append a b c (t ∷ ts) us p q = let (middle, one, rest) = p in (middle, one, TakesTurns-append middle b c ts us rest q)
 
-  -- the service took no turn
-  pub run_none : (a b : O) (left now_left : Tasks T) → b ≡ a → Agree now_left left → IsRun answers resumes a b left now_left
+  -- The service took no turn.
+  pub run_none : (a b : O) (left now_left : Tasks T) → b ≡ a → Agree now_left left → IsServiceRun answers resumes a b left now_left
   run_none a b left now_left same agree = record { turns = []; runs = same; own = tt; rest = λ whose. sym (agree whose) }
 
-  -- nothing more or less is left to do
-  abbrev pub run_kept : (a b : O) (left middle now_left : Tasks T) → IsRun answers resumes a b left middle → Agree now_left middle → IsRun answers resumes a b left now_left
+  -- The run stays when the same tasks are left.
+  abbrev pub run_kept : (a b : O) (left middle now_left : Tasks T) → IsServiceRun answers resumes a b left middle → Agree now_left middle → IsServiceRun answers resumes a b left now_left
   run_kept a b left middle now_left p agree = record { turns = p.turns; runs = p.runs; own = p.own; rest = λ whose. p.rest whose ∙ sym (agree whose) }
 
-  -- it took one
-  pub run_one : (key : ℕ) (a b : O) (left now_left : Tasks T) (input : Input T) (poll : Poll T) → IsOwn (left key) input
+  -- The service took one turn.
+  pub run_one : (key : ℕ) (a b : O) (left now_left : Tasks T) (input : Input T) (poll : Poll T) → IsOwnInput (left key) input
       → Yields answers resumes a input poll b → now_left key ≡ pending_task poll → ((other : ℕ) → other ≢ key → now_left other ≡ left other)
-      → IsRun answers resumes a b left now_left
+      → IsServiceRun answers resumes a b left now_left
   run_one key a b left now_left input poll own comes at others = record {
     turns = record { whose = key; input = input; poll = poll } ∷ [];
     runs = (b, comes, refl);
@@ -70,12 +70,12 @@ module _ {O T : Type 0} (answers : O → Listener → List ℕ → Poll T → O 
     rest = after_one key left now_left input poll at others;
   }
 
-  -- one run after another
-  abbrev pub run_more : (a b c : O) (left middle now_left : Tasks T) → IsRun answers resumes a b left middle → IsRun answers resumes b c middle now_left
-      → IsRun answers resumes a c left now_left
+  -- Two runs in a row are a run.
+  abbrev pub run_more : (a b c : O) (left middle now_left : Tasks T) → IsServiceRun answers resumes a b left middle → IsServiceRun answers resumes b c middle now_left
+      → IsServiceRun answers resumes a c left now_left
   run_more a b c left middle now_left p q = record {
     turns = p.turns ++ q.turns;
-    runs = Runs-append a b c p.turns q.turns p.runs q.runs;
+    runs = TakesTurns-append a b c p.turns q.turns p.runs q.runs;
     own = own_append left p.turns q.turns p.own (own_same (after_turns left p.turns) middle q.turns p.rest q.own);
     rest = λ whose. turns_append left p.turns q.turns whose ∙ (turns_same (after_turns left p.turns) middle q.turns p.rest whose ∙ q.rest whose);
   }

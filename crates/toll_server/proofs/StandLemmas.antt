@@ -1,6 +1,6 @@
--- Each connection stands at the key by which it came.
+-- Each connection stands under the key of its arrival.
 use Rattle.std.proofs.Common.{◌≡◌, ◌≢◌, ◌∙◌, ◌++◌, ℕ, inl, inr, List, [], ◌∷◌, Option, None, Some, ap, refl, subst, sym}
-use Rattle.std.specs.Prelude.{Bool, true, false, if◌then◌else◌, IfSome, IsSome, option_and_then, option_map}
+use Rattle.std.specs.Prelude.{Bool, true, false, if◌then◌else◌, IfSome, IsSome, option_and_then, option_map, slice_set}
 use Rattle.std.specs.List.{Contains}
 use Rattle.std.specs.Io.KnownBytes.{Consumes}
 use Rattle.std.proofs.KnownBytes.{Consumes-trans}
@@ -12,16 +12,17 @@ use Rattle.toll_protocol.specs.declared.streams.sink.Sink as sink
 use Rattle.toll_protocol.specs.declared.streams.source.Source as source
 use Rattle.toll_server.proofs.TallyLemmas.{keeps_more}
 use Rattle.toll_server.specs.ConnectionStates.{state_behind, task_of, ticket_of}
-use Rattle.toll_server.specs.Connections.{Adds, ClosesReaders, EvictsOldest, Hears, HearsAll, IsOf, KeepsQueue, KeepsRequests, KeepsSubmitted, KeepsTasks, MakesRoom, NoneNew, StandsByKey, connection_behind, queue_in, stays_after, unless_expired, ClosesExpired}
+use Rattle.toll_server.specs.Connections.{AddsConnection, ClosesReaders, EvictsOldest, GoesFirst, Hears, HearsAll, IsConnectionOf, IsIncluded, IsShed, StaysOrGoes, KeepsQueue, KeepsRequests, KeepsSubmitted, KeepsTasks, MakesRoom, NoneNew, StandsByKey, connection_behind, queue_in, stays_after, unless_expired, ClosesExpired}
 use Rattle.toll_server.specs.Networks.{Arrival}
 use Rattle.toll_server.specs.Queues.{Waiting, newly}
 use Rattle.toll_server.specs.RequestBuffers.{bytes_received, listener_of}
-use Rattle.toll_server.specs.Rounds.{IsAsked}
+use Rattle.toll_server.specs.Rounds.{IsSentBySome}
 use Rattle.toll_server.specs.Steps.{Advances, waiting_of, waiting_with}
 use Rattle.toll_server.specs.declared.connection.Connection.{Connection}
 use Rattle.toll_server.specs.declared.connection_state.ConnectionState.{ConnectionState}
 use Rattle.toll_server.specs.declared.connection_state.ConnectionState.TheVariants.{Reading, Queued, Working, Writing}
 use Rattle.toll_server.specs.declared.connections.AcceptState.{AcceptState}
+use Rattle.toll_server.specs.declared.filter.Filter.{Filter}
 use Rattle.toll_server.specs.declared.listener.Listener.{Listener}
 use Rattle.toll_server.specs.declared.request_buffer.RequestBuffer.{RequestBuffer}
 use Rattle.toll_server.specs.declared.step_result.StepResult.{StepResult}
@@ -38,9 +39,9 @@ fresh : (xs : Option (List ℕ)) → Consumes xs xs []
 fresh None = tt
 fresh (Some bytes) = refl
 
-mapped : {A B : Type 0} (f : A → B) (o : Option A) (y : B) → option_map f o ≡ Some y → (x : A) × (o ≡ Some x) × (y ≡ f x)
-mapped f None y is = absurd (cc)
-mapped f (Some x) y is = (x, refl, sym (same_Some _ _ is))
+network_mapped : {A B : Type 0} (f : A → B) (o : Option A) (y : B) → option_map f o ≡ Some y → (x : A) × (o ≡ Some x) × (y ≡ f x)
+network_mapped f None y is = absurd (cc)
+network_mapped f (Some x) y is = (x, refl, sym (same_Some _ _ is))
 
 module _ {S T P : Type 0} where
   pub same_new : (old new : Slab (Connection S T P)) → SameValues old new → NoneNew old new
@@ -54,12 +55,12 @@ module _ {S T P : Type 0} where
 
   pub evicted_new : (old new : Slab (Connection S T P)) → EvictsOldest old new → NoneNew old new
   evicted_new old new (inl none) = same_new old new none.1
-  evicted_new old new (inr one) = let (key, deadline, first, out, len) = one in removed_new old new key out
+  evicted_new old new (inr one) = removed_new old new one.key one.out
 
   pub room_new : (count now : ℕ) (old new : Slab (Connection S T P)) (state : AcceptState) → MakesRoom count now old new state → NoneNew old new
   room_new count now old new state (inl some) = same_new old new (λ key. ap (λ s. get s key) some.1)
-  room_new count now old new state (inr (inl none)) = same_new old new none.2
-  room_new count now old new state (inr (inr one)) = let (key, deadline, first, out, rest) = one.1 in removed_new old new key out
+  room_new count now old new state (inr (inl none)) = same_new old new (λ key. ap (λ s. get s key) none.2)
+  room_new count now old new state (inr (inr one)) = removed_new old new one.1.key one.1.out
 
   unless_new : (now : ℕ) (o : Option (Connection S T P)) (connection : Connection S T P) → unless_expired now o ≡ Some connection → o ≡ Some connection
   unless_new now None connection is = is
@@ -74,9 +75,9 @@ module _ {S T P : Type 0} where
   pub fewer_requests : (old new : Slab (Connection S T P)) → NoneNew old new → KeepsRequests old new
   fewer_requests old new none key = each_some (get new key) _ (λ later is. (later, the_some (get new key) _ later is (none key), refl, λ _. refl))
 
-  reading_behind : (same : P → P → Bool) (party : P) (moment : ℕ) (c : Connection S T P) → (connection_behind same party moment c).state ≡ Reading → connection_behind same party moment c ≡ c
-  reading_behind same party moment c is = ap (λ state. record c { state = state }) (each c.state is) where
-    each : (state : ConnectionState T P) → state_behind same party moment state ≡ Reading → state_behind same party moment state ≡ state
+  reading_behind : (same : P → P → Bool) (party : P) (event_count : ℕ) (c : Connection S T P) → (connection_behind same party event_count c).state ≡ Reading → connection_behind same party event_count c ≡ c
+  reading_behind same party event_count c is = ap (λ state. record c { state = state }) (each c.state is) where
+    each : (state : ConnectionState T P) → state_behind same party event_count state ≡ Reading → state_behind same party event_count state ≡ state
     each Reading is = refl
     each (Queued ticket) is = absurd (cc)
     each (Working ticket task) is = absurd (cc)
@@ -88,23 +89,28 @@ module _ {S T P : Type 0} where
   stays_is Answered later x is = absurd (cc)
   stays_is Failed later x is = absurd (cc)
 
-  -- who had a turn keeps its request, and all others too
-  pub turn_requests : (same : P → P → Bool) (party : P) (moment : ℕ) (old new : Slab (Connection S T P)) (key : ℕ) (connection later : Connection S T P) (step : StepResult)
-      → get old key ≡ Some connection → get new key ≡ stays_after step later → ((other : ℕ) → other ≢ key → get new other ≡ option_map (connection_behind same party moment) (get old other))
+  -- The connection that had a turn keeps its request, and so do all others.
+  pub turn_requests : (same : P → P → Bool) (party : P) (event_count : ℕ) (old new : Slab (Connection S T P)) (key : ℕ) (connection later : Connection S T P) (step : StepResult)
+      → get old key ≡ Some connection → get new key ≡ stays_after step later → ((other : ℕ) → other ≢ key → get new other ≡ option_map (connection_behind same party event_count) (get old other))
       → later.request ≡ connection.request → later.state ≢ Reading → KeepsRequests old new
-  turn_requests same party moment old new key connection later step there changed others request state k = each_some (get new k) _ (λ x is. elim (eqb_tells k key) [
+  turn_requests same party event_count old new key connection later step there changed others request state k = each_some (get new k) _ (λ x is. elim (eqb_tells k key) [
     | inl (_, at) ↦ let e : x ≡ later = stays_is step later x (sym changed ∙ (ap (get new) (sym at) ∙ is)) in
         (connection, ap (get old) at ∙ there, ap (λ c. c.request) e ∙ request, λ reads. absurd (state (sym (ap (λ c. c.state) e) ∙ reads)))
-    | inr (_, isnt) ↦ let (c, was, e) = mapped (connection_behind same party moment) (get old k) x (sym (others k isnt) ∙ is) in
-        (c, was, ap (λ c. c.request) e, λ reads. e ∙ reading_behind same party moment c (sym (ap (λ c. c.state) e) ∙ reads))
+    | inr (_, isnt) ↦ let (c, was, e) = network_mapped (connection_behind same party event_count) (get old k) x (sym (others k isnt) ∙ is) in
+        (c, was, ap (λ c. c.request) e, λ reads. e ∙ reading_behind same party event_count c (sym (ap (λ c. c.state) e) ∙ reads))
   ])
 
 module _ {S T P : Type 0} where
+  -- The connection that is closed was reading.
+  goes_reading : (connections : Slab (Connection S T P)) (filter : Filter) (connection : Connection S T P) → GoesFirst connections filter → IsIncluded filter connection → connection.state ≡ Reading
+  goes_reading connections filter connection (inl first) included = let p = subst (λ f. IsIncluded f connection) first included in p.0
+  goes_reading connections filter connection (inr rest) included = let p = subst (λ f. IsIncluded f connection) rest.1 included in p
+
   evicted_submitted : (old new : Slab (Connection S T P)) → EvictsOldest old new → KeepsSubmitted old new
   evicted_submitted old new (inl none) key = each_some (get old key) _ (λ connection there reads. none.1 key ∙ there)
-  evicted_submitted old new (inr one) key = let (gone, deadline, first, out, len) = one in each_some (get old key) _ (λ connection there isnt. elim (eqb_tells key gone) [
-    | inl (_, at) ↦ absurd (isnt (ap (λ c. c.state) (same_Some _ _ (sym there ∙ (ap (get old) at ∙ first.there))) ∙ first.among_them))
-    | inr (_, other) ↦ out.others key other ∙ there
+  evicted_submitted old new (inr one) key = let (filter, first, oldest) = one.goes in each_some (get old key) _ (λ connection there isnt. elim (eqb_tells key one.key) [
+    | inl (_, at) ↦ absurd (isnt (ap (λ c. c.state) (same_Some _ _ (sym there ∙ (ap (get old) at ∙ oldest.there))) ∙ goes_reading old filter oldest.connection first oldest.among_them))
+    | inr (_, other) ↦ one.out.others key other ∙ there
   ])
 
   pub closes_one : (old middle new : Slab (Connection S T P)) → KeepsSubmitted old middle × NoneNew old middle → EvictsOldest middle new → KeepsSubmitted old new × NoneNew old new
@@ -113,7 +119,7 @@ module _ {S T P : Type 0} where
     λ key. each_some (get new key) _ (λ connection is. the_some (get middle key) _ connection (the_some (get new key) _ connection is (evicted_new middle new evicts key)) (p.1 key)),
   )
 
-  -- who was reading had nothing to wait for or to be done
+  -- A connection that was reading had no place in the queue and no task.
   left_alone : {A : Type 0} (f : ConnectionState T P → RequestBuffer → Option A) → ((request : RequestBuffer) → f Reading request ≡ None) → (old new : Slab (Connection S T P)) → KeepsSubmitted old new → NoneNew old new
       → (key : ℕ) → option_and_then (λ connection. f connection.state connection.request) (get new key) ≡ option_and_then (λ connection. f connection.state connection.request) (get old key)
   left_alone f none old new submitted fewer key = each (get old key) (get new key) refl refl where
@@ -146,7 +152,7 @@ module _ {S T P : Type 0} (unread : S → Option (List ℕ)) where
   pub stands_fewer : (arrivals : List (Arrival S)) (old new : Slab (Connection S T P)) → NoneNew old new → StandsByKey unread arrivals old → StandsByKey unread arrivals new
   stands_fewer arrivals old new none p key = each_some (get new key) _ (λ connection is. the_some (get old key) _ connection (the_some (get new key) _ connection is (none key)) (p key))
 
-  kept_of : (came : Arrival S) (connection later : Connection S T P) → later.request ≡ connection.request → (later.state ≡ Reading → later ≡ connection) → IsOf unread came connection → IsOf unread came later
+  kept_of : (came : Arrival S) (connection later : Connection S T P) → later.request ≡ connection.request → (later.state ≡ Reading → later ≡ connection) → IsConnectionOf unread came connection → IsConnectionOf unread came later
   kept_of came connection later request same p = record {
     listener = p.listener ∙ sym (ap listener_of request);
     rest = p.rest;
@@ -160,13 +166,13 @@ module _ {S T P : Type 0} (unread : S → Option (List ℕ)) where
       let (came, among, at, its) = the_some (get old key) _ connection was (p key) in
       (came, among, at, kept_of came connection later request same its))
 
-  pub stands_added : (most now : ℕ) (arrivals : List (Arrival S)) (came : Arrival S) (old new : Slab (Connection S T P)) → Adds most now came old new → StandsByKey unread arrivals old
+  pub stands_added : (most now : ℕ) (arrivals : List (Arrival S)) (came : Arrival S) (old new : Slab (Connection S T P)) → AddsConnection most now came old new → StandsByKey unread arrivals old
       → StandsByKey unread (came ∷ arrivals) new
   stands_added most now arrivals came old new adds p = elim adds.shed [
     | inl as_is ↦ subst (StandsByKey unread (came ∷ arrivals)) (sym as_is.1) with_it
     | inr evicts ↦ stands_fewer (came ∷ arrivals) adds.«with» new (evicted_new adds.«with» new evicts.1) with_it
   ] where
-    its : IsOf unread came adds.connection
+    its : IsConnectionOf unread came adds.connection
     its = let (stream, bytes, listener, state, deadline) = adds.newcomer in record {
       listener = sym listener;
       rest = unread came.stream;
@@ -177,7 +183,7 @@ module _ {S T P : Type 0} (unread : S → Option (List ℕ)) where
     with_it : StandsByKey unread (came ∷ arrivals) adds.«with»
     with_it key = each_some (get adds.«with» key) _ (λ connection is. elim (eqb_tells key came.key) [
       | inl (_, at) ↦ let e : adds.connection ≡ connection = same_Some _ _ (sym adds.added.changed ∙ (ap (get adds.«with») (sym at) ∙ is)) in
-          (came, Contains-append_left (came ∷ []) arrivals came (Contains-push [] came), sym at, subst (IsOf unread came) e its)
+          (came, Contains-append_left (came ∷ []) arrivals came (Contains-push [] came), sym at, subst (IsConnectionOf unread came) e its)
       | inr (_, isnt) ↦ let (a, among, at, of) = the_some (get old key) _ connection (sym (adds.added.others key isnt) ∙ is) (p key) in
           (a, Contains-append_right (came ∷ []) arrivals a among, at, of)
     ])
@@ -187,16 +193,16 @@ module _ {S T P : Type 0} (unread : S → Option (List ℕ)) where
       (came, Contains-append_right (lost ∷ []) arrivals came among, at, its))
 
   queued_at : (connection : Connection S T P) (w : Waiting P) → waiting_of connection ≡ Some w → (listener_of connection.request ≡ w.listener) × (bytes_received connection.request ≡ w.request)
-  queued_at connection w is = let (t, its, e) = mapped (waiting_with connection.request) (ticket_of connection.state) w is in (sym (ap (λ x. x.listener) e), sym (ap (λ x. x.request) e))
+  queued_at connection w is = let (t, its, e) = network_mapped (waiting_with connection.request) (ticket_of connection.state) w is in (sym (ap (λ x. x.listener) e), sym (ap (λ x. x.request) e))
 
-  pub asked_at : (arrivals : List (Arrival S)) (slots : Slab (Connection S T P)) (key : ℕ) (listener : Listener) (request : List ℕ) (party : P) (moment : ℕ) → StandsByKey unread arrivals slots
-      → queue_in slots key ≡ Some (newly party listener request moment) → IsAsked unread arrivals (record { whose = key; listener = listener; request = request; party = party })
-  asked_at arrivals slots key listener request party moment p is = each (get slots key) refl is where
-    each : (o : Option (Connection S T P)) → get slots key ≡ o → option_and_then waiting_of o ≡ Some (newly party listener request moment)
-        → IsAsked unread arrivals (record { whose = key; listener = listener; request = request; party = party })
+  pub asked_at : (arrivals : List (Arrival S)) (slots : Slab (Connection S T P)) (key : ℕ) (listener : Listener) (request : List ℕ) (party : P) (event_count : ℕ) → StandsByKey unread arrivals slots
+      → queue_in slots key ≡ Some (newly party listener request event_count) → IsSentBySome unread arrivals (record { whose = key; listener = listener; request = request; party = party })
+  asked_at arrivals slots key listener request party event_count p is = each (get slots key) refl is where
+    each : (o : Option (Connection S T P)) → get slots key ≡ o → option_and_then waiting_of o ≡ Some (newly party listener request event_count)
+        → IsSentBySome unread arrivals (record { whose = key; listener = listener; request = request; party = party })
     each None there is = absurd (cc)
     each (Some connection) there is = let (came, among, at, its) = the_some (get slots key) _ connection there (p key) in
-        let (same_listener, same_request) = queued_at connection (newly party listener request moment) is in record {
+        let (same_listener, same_request) = queued_at connection (newly party listener request event_count) is in record {
           came = came;
           among = among;
           key = at;
@@ -212,12 +218,12 @@ unread_yet (Working ticket task) is some = absurd (cc)
 unread_yet (Writing reply) is some = absurd (cc)
 
 module _ {S T P : Type 0} (from : source.Ghosts S) (to : sink.Ghosts S) where
-  advanced_of : (came : Arrival S) (connection later : Connection S T P) (step : StepResult) → Advances from to connection later step → IsOf from.unread came connection → IsOf from.unread came later
+  advanced_of : (came : Arrival S) (connection later : Connection S T P) (step : StepResult) → Advances from to connection later step → IsConnectionOf from.unread came connection → IsConnectionOf from.unread came later
   advanced_of came connection later step a p = each connection.state refl where
-    stays : connection.state ≢ Reading → IsOf from.unread came later
+    stays : connection.state ≢ Reading → IsConnectionOf from.unread came later
     stays not = let (request, state) = a.request not in kept_of from.unread came connection later request (λ is. absurd (state is)) p
 
-    each : (state : ConnectionState T P) → connection.state ≡ state → IsOf from.unread came later
+    each : (state : ConnectionState T P) → connection.state ≡ state → IsConnectionOf from.unread came later
     each Reading is = let r = a.hears is in
         let before : Consumes (from.unread came.stream) (from.unread connection.stream) (bytes_received connection.request) =
         subst (λ o. Consumes (from.unread came.stream) o (bytes_received connection.request)) (sym (p.reads is)) p.begins in record {
@@ -230,29 +236,37 @@ module _ {S T P : Type 0} (from : source.Ghosts S) (to : sink.Ghosts S) where
     each (Working ticket task) is = stays (λ reading. let e = sym is ∙ reading in absurd (cc))
     each (Writing reply) is = stays (λ reading. let e = sym is ∙ reading in absurd (cc))
 
-  pub stands_heard : (arrivals : List (Arrival S)) (key : ℕ) (old new : Slab (Connection S T P)) → Hears from to key old new → StandsByKey from.unread arrivals old
+  -- It stayed after the step if it is still there.
+  stayed : (same : P → P → Bool) (most : ℕ) (others : List (Option (Connection S T P))) (later x : Connection S T P) (step : StepResult) (slot : Option (Connection S T P))
+      → StaysOrGoes same most others later step slot → slot ≡ Some x → x ≡ later
+  stayed same most others later x step slot (inl stays) is = stays_is step later x (sym stays.1 ∙ is)
+  stayed same most others later x step slot (inr goes) is = let none : None ≡ Some x = sym goes.1 ∙ is in absurd (cc)
+
+  pub stands_heard : (same : P → P → Bool) (most : ℕ) (arrivals : List (Arrival S)) (key : ℕ) (old new : Slab (Connection S T P)) → Hears same most from to key old new → StandsByKey from.unread arrivals old
       → StandsByKey from.unread arrivals new
-  stands_heard arrivals key old new h p k = each_some (get new k) _ (λ x is. elim (eqb_tells k key) [
+  stands_heard same most arrivals key old new h p k = each_some (get new k) _ (λ x is. elim (eqb_tells k key) [
     | inl (_, at) ↦ at_key (get old key) refl x k at is
     | inr (_, isnt) ↦ the_some (get old k) _ x (sym (h.others k isnt) ∙ is) (p k)
   ]) where
     at_key : (o : Option (Connection S T P)) → get old key ≡ o → (x : Connection S T P) (k : ℕ) → k ≡ key → get new k ≡ Some x
-        → (came : Arrival S) × Contains arrivals came × (came.key ≡ k) × IsOf from.unread came x
+        → (came : Arrival S) × Contains arrivals came × (came.key ≡ k) × IsConnectionOf from.unread came x
     at_key None was x k at is = let none : None ≡ Some x = sym (h.nobody was) ∙ (ap (get new) (sym at) ∙ is) in absurd (cc)
     at_key (Some connection) was x k at is = let (later, step, a, changed) = the_some (get old key) _ connection was h.went_on in
-        let e : x ≡ later = stays_is step later x (sym changed ∙ (ap (get new) (sym at) ∙ is)) in
+        let e : x ≡ later = stayed same most (slice_set old.slots key None) later x step (get new key) changed (ap (get new) (sym at) ∙ is) in
         let (came, among, its_key, its) = the_some (get old key) _ connection was (p key) in
-        (came, among, its_key ∙ sym at, subst (IsOf from.unread came) (sym e) (advanced_of came connection later step a its))
+        (came, among, its_key ∙ sym at, subst (IsConnectionOf from.unread came) (sym e) (advanced_of came connection later step a its))
 
-  pub heard_at : (key : ℕ) (old new : Slab (Connection S T P)) (connection later : Connection S T P) (step : StepResult) → get old key ≡ Some connection
-      → Updates old new key (stays_after step later) → Advances from to connection later step → Hears from to key old new
-  heard_at key old new connection later step there back steps = record {
+  pub heard_at : (same : P → P → Bool) (most key : ℕ) (old new : Slab (Connection S T P)) (connection later : Connection S T P) (step : StepResult) (slot : Option (Connection S T P)) → get old key ≡ Some connection
+      → Updates old new key slot → StaysOrGoes same most (slice_set old.slots key None) later step slot → Advances from to connection later step → Hears same most from to key old new
+  heard_at same most key old new connection later step slot there back stays steps = record {
     went_on = each_some (get old key) _ (λ x is. let e : connection ≡ x = same_Some _ _ (sym there ∙ is) in
-        subst (λ c. (later : Connection S T P) × (step : StepResult) × Advances from to c later step × (get new key ≡ stays_after step later)) e (later, step, steps, back.changed));
+        subst (λ c. (later : Connection S T P) × (step : StepResult) × Advances from to c later step × StaysOrGoes same most (slice_set old.slots key None) later step (get new key)) e
+        (later, step, steps, subst (StaysOrGoes same most (slice_set old.slots key None) later step) (sym back.changed) stays));
     nobody = λ none. let e : Some connection ≡ None = sym there ∙ none in absurd (cc);
     others = back.others;
   }
 
-  pub heard_more : (keys : List ℕ) (key : ℕ) (old middle new : Slab (Connection S T P)) → HearsAll from to keys old middle → Hears from to key middle new → HearsAll from to (keys ++ key ∷ []) old new
-  heard_more [] key old middle new all one = (new, subst (λ s. Hears from to key s new) all one, refl)
-  heard_more (k ∷ keys) key old middle new all one = let (next, first, rest) = all in (next, first, heard_more keys key next middle new rest one)
+  pub heard_more : (same : P → P → Bool) (most : ℕ) (keys : List ℕ) (key : ℕ) (old middle new : Slab (Connection S T P)) → HearsAll same most from to keys old middle → Hears same most from to key middle new
+      → HearsAll same most from to (keys ++ key ∷ []) old new
+  heard_more same most [] key old middle new all one = (new, subst (λ s. Hears same most from to key s new) all one, refl)
+  heard_more same most (k ∷ keys) key old middle new all one = let (next, first, rest) = all in (next, first, heard_more same most keys key next middle new rest one)

@@ -1,9 +1,9 @@
--- What a network has done, step by step; and who stays meanwhile.
+-- The tally, step by step; and which connections stay meanwhile.
 use Rattle.std.proofs.Common.{◌≡◌, ◌∙◌, ◌≢◌, ◌||◌, ℕ, inl, inr, ap, Bool, true, false, Option, None, Some, refl, sym, subst}
 use Rattle.std.specs.Prelude.{Err, IfSome, Ok, OnErr, OnOk, Result, is_err, option_map}
 use Rattle.slab.specs.Slab.{Slab, get}
 use Rattle.toll_server.specs.Connections.{KeepsSubmitted, TimesReply}
-use Rattle.toll_server.specs.Networks.{Shows, Tallies, Tally}
+use Rattle.toll_server.specs.Networks.{ShowsTime, Tallies, Tally}
 use Rattle.toll_server.specs.declared.connection.Connection.{Connection}
 use Rattle.toll_server.specs.declared.connection_state.ConnectionState.TheVariants.{Reading}
 
@@ -36,30 +36,30 @@ tallies_both P Q None b p q = tt
 tallies_both P Q (Some t) None p q = absurd p
 tallies_both P Q (Some t) (Some u) p q = (p, q)
 
--- the clock may have gone on, and nothing else was done
+-- At most the clock went on; nothing else changed.
 abbrev pub OnlyClock : {S : Type 0} → Tally S → Tally S → Type 0
 OnlyClock t u = u ≡ record t { clock = u.clock }
 
--- its listeners may have been closed, and nothing else was done
+-- At most the listeners were closed; nothing else changed.
 abbrev pub OnlyListening : {S : Type 0} → Tally S → Tally S → Type 0
 OnlyListening t u = u ≡ record t { is_listening = u.is_listening }
 
 pub clock_went_on : {S T P : Type 0} (old new : Slab (Connection S T P)) (a b : Option (Tally S)) → TimesReply old new a b → Tallies OnlyClock a b
 clock_went_on old new a b (now, inl none, times) = tallies_begin OnlyClock a b none.1 (λ t. refl)
 clock_went_on old new a b (now, inr shows, times) =
-    tallies_weaker (Shows now) OnlyClock a b shows (λ t u p. p.1 ∙ ap (λ n. record t { clock = n }) (sym (ap (λ x. x.clock) p.1)))
+    tallies_weaker (ShowsTime now) OnlyClock a b shows (λ t u p. p.1 ∙ ap (λ n. record t { clock = n }) (sym (ap (λ x. x.clock) p.1)))
 
 pub on_err : {A E X : Type 0} (r : Result A E) → is_err r ≡ true → OnErr r X → X
 on_err (Ok x) is p = absurd (cc)
 on_err (Err e) is p = p
 
-pub on_ok : {A E X : Type 0} (r : Result A E) → is_err r ≡ false → OnOk r X → X
-on_ok (Ok x) is p = p
-on_ok (Err e) is p = absurd (cc)
+pub on_ok_holds : {A E X : Type 0} (r : Result A E) → is_err r ≡ false → OnOk r X → X
+on_ok_holds (Ok x) is p = p
+on_ok_holds (Err e) is p = absurd (cc)
 
-pub or_true : (a b : Bool) → b ≡ true → (a || b) ≡ true
-or_true true b is = refl
-or_true false b is = is
+pub or_true_second : (a b : Bool) → b ≡ true → (a || b) ≡ true
+or_true_second true b is = refl
+or_true_second false b is = is
 
 module _ {S T P : Type 0} where
   keep_more : (key : ℕ) (old middle new : Option (Connection S T P)) → IfSome old (λ connection. connection.state ≢ Reading → middle ≡ Some connection)

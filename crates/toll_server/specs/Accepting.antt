@@ -1,4 +1,4 @@
--- What accepting those comes to that wait at the listeners.
+-- What accepting the connections that wait at the listeners does.
 use Rattle.std.specs.Prelude.{◌≡◌, ◌⊎◌, ◌+◌, ◌++◌, ◌∷◌, ℕ, List, length, OnOk, Option, Result}
 use Rattle.slab.specs.Slab.{Slab}
 use Rattle.toll_server.specs.Connections.{AddsAll, MakesRoom, StandsByKey}
@@ -8,23 +8,25 @@ use Rattle.toll_server.specs.declared.connections.AcceptState.TheVariants.{Open,
 use Rattle.toll_server.specs.declared.connections.Connections.{Connections}
 use Rattle.toll_server.specs.declared.connections.TheConstants.{MOST_ACCEPTS}
 
--- each stands by its key still, also those who came
+-- If each old connection stands under its key, so does each new one, including those just accepted.
 abbrev pub StandsStill : {S T P : Type 0} → (S → Option (List ℕ)) → Slab (Connection S T P) → Slab (Connection S T P) → Tally S → Tally S → Type 0
 StandsStill unread old new t u = StandsByKey unread t.arrivals old → StandsByKey unread u.arrivals new
 
 module _ {S T P : Type 0} where
-  -- there were no resources for the next one, or no memory for one that came
+  -- Accepting stopped because there were no resources for the next connection, or no memory for one that was accepted.
   abbrev pub EndsInWant : List (Arrival S) → Slab (Connection S T P) → Connections S T P → Tally S → Tally S → Type 0
   EndsInWant came middle new t u = (full : Slab (Connection S T P)) × (full.slots ≡ middle.slots) × MakesRoom (length came) u.clock full new.slots new.accept_state
       × (((u.arrivals ≡ came ++ t.arrivals) × (u.backlog ≡ Lacks)) ⊎ ((lost : Arrival S) × (u.arrivals ≡ lost ∷ (came ++ t.arrivals))))
 
 module _ {A E S T P : Type 0} where
-  -- where nothing lacked, all that came are there, and none waits any more, or as many were asked for as may be between two waits
+  -- All accepted connections are stored. Without an error, no further owner is to be accepted, or none waits, or MOST_ACCEPTS were asked
+  -- for, the most between two waits.
   abbrev pub EndsWell : Result A E → List (Arrival S) → Slab (Connection S T P) → Connections S T P → Tally S → Tally S → Type 0
   EndsWell r came middle new t u = (u.arrivals ≡ came ++ t.arrivals) × (new.slots ≡ middle)
       × OnOk r (((new.accept_state ≡ Open) × ((new.owners_left ≡ 0) ⊎ (u.backlog ≡ NoneWaits))) ⊎ ((new.accept_state ≡ Backlogged) × (u.accepts ≡ t.accepts + MOST_ACCEPTS)))
 
-  -- where accepting is paused still, nothing is done; and else all who came are there, timed from what the clock shows, until none waits or there was no room
+  -- While accepting is still paused, nothing changes. Otherwise all accepted connections are stored, with deadlines from the clock's time,
+  -- until none waits or resources are short.
   abbrev pub HasAccepted : Result A E → Connections S T P → Connections S T P → Tally S → Tally S → Type 0
   HasAccepted r old new t u =
       (IsPausedAt u.clock old.accept_state × (new ≡ old) × (u.arrivals ≡ t.arrivals))

@@ -1,22 +1,23 @@
 -- The open connections, by their keys.
-use Rattle.std.specs.Prelude.{◌≡◌, ◌≢◌, ◌≤◌, ◌<◌, ◌+◌, ◌-◌, ◌^◌, ◌⊎◌, ◌||◌, ℕ, Bool, List, [], ◌∷◌, min, Option, None, Some, IfSome, IsSome, ⊤, is_some, nat_lt, option_and_then, if◌then◌else◌}
+use Rattle.std.specs.Prelude.{◌≡◌, ◌≢◌, ◌≤◌, ◌<◌, ◌+◌, ◌-◌, ◌*◌, ◌^◌, ◌⊎◌, ◌||◌, ◌&&◌, ℕ, Bool, true, false, count_by, max, List, [], ◌∷◌, min, Option, None, Some, IfSome, IsSome, ⊤, is_some, is_none, nat_lt, not, slice_set, option_and_then, if◌then◌else◌}
 use Rattle.slab.specs.Slab.{SameValues, Slab, Updates, get, slab_len}
 use Rattle.std.specs.List.{Contains}
 use Rattle.std.specs.Io.KnownBytes.{Consumes}
 use Rattle.toll_protocol.specs.declared.streams.sink.Sink as sink
 use Rattle.toll_protocol.specs.declared.streams.source.Source as source
 use Rattle.toll_server.specs.RequestBuffers.{bytes_received, listener_of}
-use Rattle.toll_server.specs.Networks.{Arrival, Shows, Tallies, Tally}
-use Rattle.toll_server.specs.Queues.{IsNext, IsWhatWaits, Queue, Waiting, newly, queue_after, queue_with}
+use Rattle.toll_server.specs.Networks.{Arrival, ShowsTime, Tallies, Tally}
+use Rattle.toll_server.specs.Queues.{IsNext, IsWhatWaits, Queue, Waiting, is_of, newly, queue_after, queue_with}
 use Rattle.toll_server.specs.Runs.{Tasks, Turn, Yields, after_turn}
-use Rattle.toll_server.specs.ConnectionStates.{last_poll, reply_of, state_behind, task_of, ticket_of}
+use Rattle.toll_server.specs.ConnectionStates.{is_reading, last_poll, reply_in_state, state_behind, task_of, ticket_of}
 use Rattle.toll_server.specs.Steps.{Advances, deadline_after, deadline_from, waiting_of}
 use Rattle.toll_server.specs.declared.filter.Filter.{Filter}
-use Rattle.toll_server.specs.declared.filter.Filter.TheVariants.{Reading, Queued, Timed, Owners}
+use Rattle.toll_server.specs.declared.filter.Filter.TheVariants.{Reading, ReadingAt, Submitted, Queued, Timed, Owners}
 use Rattle.toll_server.specs.declared.listener.Listener.{Listener}
-use Rattle.toll_server.specs.declared.listener.Listener.TheVariants.{Owners as ForOwners}
+use Rattle.toll_server.specs.declared.listener.Listener.TheVariants.{Owners as ForOwners, Plant as ForPlant}
 use Rattle.toll_server.specs.declared.connections.AcceptState.{AcceptState}
-use Rattle.toll_server.specs.declared.connections.TheConstants.{PAUSE_MILLISECONDS}
+use Rattle.toll_server.specs.declared.connections.TheConstants.{PAUSE_MILLISECONDS, PLACES_FOR_EACH}
+use Rattle.toll_server.specs.declared.expiry.TheConstants.{PLANT_RESERVE}
 use Rattle.toll_server.specs.declared.connections.AcceptState.TheVariants.{Open, Backlogged, Paused}
 use Rattle.toll_server.specs.declared.connection.Connection.{Connection}
 use Rattle.toll_server.specs.declared.expiry.Earliest.{Earliest}
@@ -27,26 +28,74 @@ use Rattle.toll_server.specs.declared.connection_state.ConnectionState.TheVarian
 use Rattle.toll_server.specs.declared.step_result.StepResult.{StepResult}
 use Rattle.toll_server.specs.declared.step_result.StepResult.TheVariants.{Waits, Joins, Answered, Failed}
 
--- so long, or without an end
-abbrev pub IsWithin : Option ℕ → ℕ → Type 0
-IsWithin None spare = ⊥
-IsWithin (Some most) spare = most ≤ spare
+-- The wait may last this long; None means without an end.
+abbrev pub IsWithinLimit : Option ℕ → ℕ → Type 0
+IsWithinLimit None spare = ⊥
+IsWithinLimit (Some most) spare = most ≤ spare
+
+abbrev pub same_listener : Listener → Listener → Bool
+same_listener ForOwners ForOwners = true
+same_listener ForOwners ForPlant = false
+same_listener ForPlant ForOwners = false
+same_listener ForPlant ForPlant = true
+
+-- how many connections may have sent their requests when one at this listener joins them, if so many may be open at once: the plant's
+-- reserve is kept from owners
+abbrev pub most_submitted : ℕ → Listener → ℕ
+most_submitted most ForOwners = max (most - PLANT_RESERVE) 1
+most_submitted most ForPlant = most
 
 module _ {S T P : Type 0} where
   abbrev pub IsIncluded : Filter → Connection S T P → Type 0
   IsIncluded Reading connection = connection.state ≡ ReadingState
+  IsIncluded (ReadingAt listener) connection = (connection.state ≡ ReadingState) × (listener_of connection.request ≡ listener)
+  IsIncluded Submitted connection = connection.state ≢ ReadingState
   IsIncluded Queued connection = IsSome (ticket_of connection.state)
   IsIncluded Timed connection = ¬ (IsSome (ticket_of connection.state))
   IsIncluded Owners connection = listener_of connection.request ≡ ForOwners
 
-  -- each of these connections has time until then at least
+  -- whether the filter includes the connection
+  abbrev pub is_included : Filter → Connection S T P → Bool
+  is_included Reading connection = is_reading connection.state
+  is_included (ReadingAt listener) connection = is_reading connection.state && same_listener (listener_of connection.request) listener
+  is_included Submitted connection = not (is_reading connection.state)
+  is_included Queued connection = is_some (ticket_of connection.state)
+  is_included Timed connection = is_none (ticket_of connection.state)
+  is_included Owners connection = same_listener (listener_of connection.request) ForOwners
+
+  abbrev pub is_included_at : Filter → Option (Connection S T P) → Bool
+  is_included_at filter None = false
+  is_included_at filter (Some connection) = is_included filter connection
+
+  -- how many connections the filter includes
+  abbrev pub number_of : Filter → List (Option (Connection S T P)) → ℕ
+  number_of filter slots = count_by (is_included_at filter) slots
+
+  -- whether this connection is the party's, and waits for a turn
+  abbrev pub is_place_of : (P → P → Bool) → P → Option (Connection S T P) → Bool
+  is_place_of same party slot = is_of same party (option_and_then waiting_of slot)
+
+  -- how many places in the queue the party has
+  abbrev pub places_of : (P → P → Bool) → P → List (Option (Connection S T P)) → ℕ
+  places_of same party slots = count_by (is_place_of same party) slots
+
+  -- The party of this place has its share of the queue already: so many places for each connection that may still send a request.
+  abbrev pub IsOverShare : (P → P → Bool) → ℕ → List (Option (Connection S T P)) → Option (Waiting P) → Type 0
+  IsOverShare same most others None = ⊥
+  IsOverShare same most others (Some w) = PLACES_FOR_EACH * (most_submitted most w.listener - number_of Submitted others) ≤ places_of same w.party others
+
+  -- The connection is closed though its request is whole: beside these others, its party has its share of the queue already.
+  abbrev pub IsShed : (P → P → Bool) → ℕ → List (Option (Connection S T P)) → Connection S T P → StepResult → Type 0
+  IsShed same most others connection step = (step ≡ Joins) × IsOverShare same most others (waiting_of connection)
+
+  -- No connection that the filter includes has a deadline before this one.
   abbrev pub HaveTime : Filter → Slab (Connection S T P) → ℕ → Type 0
   HaveTime filter connections deadline = (key : ℕ) → IfSome (get connections key) (λ connection. IsIncluded filter connection → deadline ≤ connection.deadline)
 
   abbrev pub NoneIncluded : Filter → Slab (Connection S T P) → Type 0
   NoneIncluded filter connections = (key : ℕ) → IfSome (get connections key) (λ connection. ¬ (IsIncluded filter connection))
 
-  -- the connection with this key is one of these, and its time is over then, and no other's before
+  -- The filter includes the connection with this key, its deadline is this one, and none that the filter includes has an earlier one.
   pub record IsEarliest (filter : Filter) (connections : Slab (Connection S T P)) (key deadline : ℕ) : Type 0 where
     pub connection : Connection S T P
     pub there : get connections key ≡ Some connection
@@ -54,79 +103,104 @@ module _ {S T P : Type 0} where
     pub its : connection.deadline ≡ deadline
     pub first : HaveTime filter connections deadline
 
-  -- how long a connection may be waited for: not at all, where it waits for its turn
+  -- how long a wait may last for this connection: not at all if the connection is queued
   abbrev pub spare_of : ℕ → Connection S T P → ℕ
   spare_of now connection = if is_some (ticket_of connection.state) then 0 else connection.deadline - now
 
-  -- a wait of so many milliseconds is over before anybody's time is, and one without an end where nobody is there
+  -- A wait of at most this many milliseconds ends before any connection's deadline. A wait without an end needs that there is no
+  -- connection.
   abbrev pub IsInTime : Option ℕ → ℕ → Slab (Connection S T P) → Type 0
-  IsInTime most now connections = (key : ℕ) → IfSome (get connections key) (λ connection. IsWithin most (spare_of now connection))
+  IsInTime most now connections = (key : ℕ) → IfSome (get connections key) (λ connection. IsWithinLimit most (spare_of now connection))
 
-  -- the time of some connection is over then, and no other's before; or some connection waits for its turn
+  -- The wait lasts until the earliest deadline of a connection that isn't queued; or some connection is queued, and the wait takes no time.
   abbrev pub IsDueTo : Slab (Connection S T P) → ℕ → ℕ → Type 0
   IsDueTo connections now most =
       ((key : ℕ) × (deadline : ℕ) × IsEarliest Timed connections key deadline × (most ≡ deadline - now))
       ⊎ ((key : ℕ) × (deadline : ℕ) × IsEarliest Queued connections key deadline × (most ≡ 0))
 
-  -- the one is closed that has been reading longest, if one is reading
-  abbrev pub EvictsOldest : Slab (Connection S T P) → Slab (Connection S T P) → Type 0
-  EvictsOldest old new = (NoneIncluded Reading old × SameValues old new × (slab_len new ≡ slab_len old))
-      ⊎ ((key : ℕ) × (deadline : ℕ) × IsEarliest Reading old key deadline × Updates old new key None × (slab_len new + 1 ≡ slab_len old))
+  -- the listener whose connections are closed first, of those that are reading: the plant's if more than its reserve are, and otherwise the
+  -- owners'
+  abbrev pub evicted_first : List (Option (Connection S T P)) → Listener
+  evicted_first slots = if nat_lt PLANT_RESERVE (number_of (ReadingAt ForPlant) slots) then ForPlant else ForOwners
 
-  -- who waits for its turn or has its reply stays, as it is
+  -- Of the connections that the filter includes one is closed: those of the listener that goes first, or all if none of that is reading.
+  abbrev pub GoesFirst : Slab (Connection S T P) → Filter → Type 0
+  GoesFirst connections filter = (filter ≡ ReadingAt (evicted_first connections.slots))
+      ⊎ (NoneIncluded (ReadingAt (evicted_first connections.slots)) connections × (filter ≡ Reading))
+
+  -- The connection with this key has been reading longest, of those that go first.
+  abbrev pub IsEvicted : Slab (Connection S T P) → ℕ → ℕ → Type 0
+  IsEvicted connections key deadline = (filter : Filter) × GoesFirst connections filter × IsEarliest filter connections key deadline
+
+  -- That connection is closed.
+  pub record EvictsReader (old new : Slab (Connection S T P)) : Type 0 where
+    pub key : ℕ
+    pub deadline : ℕ
+    pub goes : IsEvicted old key deadline
+    pub out : Updates old new key None
+    pub one_less : slab_len new + 1 ≡ slab_len old
+
+  -- The same, if any is reading.
+  abbrev pub EvictsOldest : Slab (Connection S T P) → Slab (Connection S T P) → Type 0
+  EvictsOldest old new = (NoneIncluded Reading old × SameValues old new × (slab_len new ≡ slab_len old)) ⊎ EvictsReader old new
+
+  -- Connections that are queued or have a reply stay unchanged.
   abbrev pub KeepsSubmitted : Slab (Connection S T P) → Slab (Connection S T P) → Type 0
   KeepsSubmitted old new = (key : ℕ) → IfSome (get old key) (λ connection. connection.state ≢ ReadingState → get new key ≡ Some connection)
 
-  -- who is there was there before, as it is
+  -- Each connection was there before, unchanged.
   abbrev pub NoneNew : Slab (Connection S T P) → Slab (Connection S T P) → Type 0
   NoneNew old new = (key : ℕ) → IfSome (get new key) (λ connection. get old key ≡ Some connection)
 
-  -- nobody is reading any more, and all others are as they were
+  -- No connection is reading any more, and all others are unchanged.
   abbrev pub ClosesReaders : Slab (Connection S T P) → Slab (Connection S T P) → Type 0
   ClosesReaders old new = NoneIncluded Reading new × KeepsSubmitted old new × NoneNew old new
 
-  -- once no owner is to be accepted and none is connected, who is reading is closed; and before, nobody is
+  -- No further owner is to be accepted and none is connected, and all connections that are reading are closed; or an owner is still to come
+  -- or is connected, and nothing changes.
   abbrev pub WindsDown : ℕ → Slab (Connection S T P) → Slab (Connection S T P) → Type 0
-  WindsDown left old new = (left ≡ 0 → NoneIncluded Owners old → ClosesReaders old new) × (0 < left → new ≡ old)
-      × ((key : ℕ) → IfSome (get old key) (λ connection. IsIncluded Owners connection → new ≡ old))
+  WindsDown left old new = ((left ≡ 0) × NoneIncluded Owners old × ClosesReaders old new)
+      ⊎ ((new ≡ old) × ((0 < left) ⊎ ((key : ℕ) × (deadline : ℕ) × IsEarliest Owners old key deadline)))
 
-  -- what the service has left to do for each, by its key
+  -- the task that the service has left for each connection, by its key
   abbrev pub tasks_in : Slab (Connection S T P) → Tasks T
   tasks_in connections key = option_and_then (λ connection. task_of connection.state) (get connections key)
 
-  -- each has the task that it had, and nobody has another
+  -- Each connection keeps its task, and no other has one.
   abbrev pub KeepsTasks : Slab (Connection S T P) → Slab (Connection S T P) → Type 0
   KeepsTasks old new = (key : ℕ) → tasks_in new key ≡ tasks_in old key
 
-  -- who waits for its turn, by its key
+  -- the queued connections, by their keys
   abbrev pub queue_in : Slab (Connection S T P) → Queue P
   queue_in connections key = option_and_then waiting_of (get connections key)
 
-  -- each waits as it did, and nobody else
+  -- Each queued connection keeps its place, and no other joins.
   abbrev pub KeepsQueue : Slab (Connection S T P) → Slab (Connection S T P) → Type 0
   KeepsQueue old new = (key : ℕ) → queue_in new key ≡ queue_in old key
 
   abbrev pub NobodyWaits : Slab (Connection S T P) → Type 0
   NobodyWaits connections = (key : ℕ) → queue_in connections key ≡ None
 
-  -- where it is of the party that has a turn, its wait begins anew
+  -- If the connection is of the party that has the turn, its wait begins anew.
   abbrev pub connection_behind : (P → P → Bool) → P → ℕ → Connection S T P → Connection S T P
-  connection_behind same party moment connection = record { stream = connection.stream; request = connection.request; state = state_behind same party moment connection.state; deadline = connection.deadline }
+  connection_behind same party event_count connection = record { stream = connection.stream; request = connection.request; state = state_behind same party event_count connection.state; deadline = connection.deadline }
 
-  -- the request of the one with this key is whole, and it waits from now on, and all others as they did; or nothing joined the queue
+  -- The request of the connection with this key became whole and joined the queue, and all others keep their places; or nothing joined the
+  -- queue.
   abbrev pub JoinsAt : (Listener → List ℕ → P → Type 0) → ℕ → ℕ → ℕ → Slab (Connection S T P) → Slab (Connection S T P) → Type 0
-  JoinsAt is_by key moment later old new =
-      ((later ≡ moment) × KeepsQueue old new)
-      ⊎ ((listener : Listener) × (request : List ℕ) × (party : P) × is_by listener request party × (later ≡ moment + 1) × (queue_in old key ≡ None)
-      × ((whose : ℕ) → queue_in new whose ≡ queue_with (queue_in old) key (newly party listener request moment) whose))
+  JoinsAt is_by key event_count later old new =
+      ((later ≡ event_count) × KeepsQueue old new)
+      ⊎ ((listener : Listener) × (request : List ℕ) × (party : P) × is_by listener request party × (later ≡ event_count + 1) × (queue_in old key ≡ None)
+      × ((whose : ℕ) → queue_in new whose ≡ queue_with (queue_in old) key (newly party listener request event_count) whose))
 
-  -- nothing was received yet of this one
+  -- The connection was just accepted: it is reading, and nothing of its request was received.
   abbrev pub IsNewcomer : Listener → S → ℕ → Connection S T P → Type 0
   IsNewcomer listener stream now connection =
       (connection.stream ≡ stream) × (bytes_received connection.request ≡ []) × (listener_of connection.request ≡ listener) × (connection.state ≡ ReadingState) × (connection.deadline ≡ deadline_from now)
 
-  -- who came has a place by its key, which nobody had; and where it is one more than may be open, the one is closed that has been reading longest
-  pub record Adds (most now : ℕ) (came : Arrival S) (old new : Slab (Connection S T P)) : Type 0 where
+  -- The accepted connection is stored under its key, which no connection had. If it is one more than may be open, one that is reading is
+  -- closed.
+  pub record AddsConnection (most now : ℕ) (came : Arrival S) (old new : Slab (Connection S T P)) : Type 0 where
     pub connection : Connection S T P
     pub newcomer : IsNewcomer came.listener came.stream now connection
     pub vacant : get old came.key ≡ None
@@ -135,56 +209,57 @@ module _ {S T P : Type 0} where
     pub one_more : slab_len «with» ≡ slab_len old + 1
     pub shed : ((slab_len «with» ≤ most) × (new ≡ «with»)) ⊎ ((most < slab_len «with») × EvictsOldest «with» new)
 
-  -- so it is with this one, by the slab's next key
+  -- The same, with the slab's next key.
   abbrev pub AddsNext : ℕ → ℕ → Listener → S → Slab (Connection S T P) → Slab (Connection S T P) → Type 0
-  AddsNext most now listener stream old new = Adds most now (record { key = old.vacant_key; listener = listener; stream = stream }) old new
+  AddsNext most now listener stream old new = AddsConnection most now (record { key = old.vacant_key; listener = listener; stream = stream }) old new
 
-  -- so it is with each of these, one after another, the newest first
+  -- The same for each of these connections, one after another; the list has the newest first.
   abbrev pub AddsAll : ℕ → ℕ → List (Arrival S) → Slab (Connection S T P) → Slab (Connection S T P) → Type 0
   AddsAll most now [] old new = new ≡ old
-  AddsAll most now (came ∷ before) old new = (middle : Slab (Connection S T P)) × AddsAll most now before old middle × Adds most now came middle new
+  AddsAll most now (came ∷ before) old new = (middle : Slab (Connection S T P)) × AddsAll most now before old middle × AddsConnection most now came middle new
 
-  -- where there was nothing for one more: if some have just come, others may be accepted once those were heard; and else the one is closed that has been reading
-  -- longest, and others may be accepted then; where none is reading, nobody is for a while
+  -- There were no resources for one more connection. If connections were just accepted, accepting goes on after those were read. Otherwise
+  -- one that is reading is closed and accepting goes on then; if none is reading, accepting pauses.
   abbrev pub MakesRoom : ℕ → ℕ → Slab (Connection S T P) → Slab (Connection S T P) → AcceptState → Type 0
   MakesRoom count now old new state =
       ((0 < count) × (new ≡ old) × (state ≡ Backlogged))
-      ⊎ ((count ≡ 0) × NoneIncluded Reading old × SameValues old new × (state ≡ Paused (min (now + PAUSE_MILLISECONDS) (2 ^ 64 - 1))))
-      ⊎ ((count ≡ 0) × ((key : ℕ) × (deadline : ℕ) × IsEarliest Reading old key deadline × Updates old new key None × (state ≡ Backlogged)))
+      ⊎ ((count ≡ 0) × NoneIncluded Reading old × (new ≡ old) × (state ≡ Paused (min (now + PAUSE_MILLISECONDS) (2 ^ 64 - 1))))
+      ⊎ ((count ≡ 0) × EvictsReader old new × (state ≡ Backlogged))
 
-  -- the connection is that which came: at its listener, and what was received of it is what its stream gave, of which the rest is unread while it is reading
-  pub record IsOf (unread : S → Option (List ℕ)) (came : Arrival S) (connection : Connection S T P) : Type 0 where
+  -- The connection is this arrival: it came at its listener, and its request began its stream. While it is reading, the rest of the stream
+  -- is unread.
+  pub record IsConnectionOf (unread : S → Option (List ℕ)) (came : Arrival S) (connection : Connection S T P) : Type 0 where
     pub listener : came.listener ≡ listener_of connection.request
     pub rest : Option (List ℕ)
     pub begins : Consumes (unread came.stream) rest (bytes_received connection.request)
     pub reads : connection.state ≡ ReadingState → unread connection.stream ≡ rest
 
-  -- each stands at the key by which it came
+  -- Each connection's key is the key of its arrival.
   abbrev pub StandsByKey : (S → Option (List ℕ)) → List (Arrival S) → Slab (Connection S T P) → Type 0
   StandsByKey unread arrivals connections =
-      (key : ℕ) → IfSome (get connections key) (λ connection. (came : Arrival S) × Contains arrivals came × (came.key ≡ key) × IsOf unread came connection)
+      (key : ℕ) → IfSome (get connections key) (λ connection. (came : Arrival S) × Contains arrivals came × (came.key ≡ key) × IsConnectionOf unread came connection)
 
-  -- who is there was there before, with the request that it has, or as it is where it is reading
+  -- Each connection was there before with the same request. One that is reading is unchanged.
   abbrev pub KeepsRequests : Slab (Connection S T P) → Slab (Connection S T P) → Type 0
   KeepsRequests old new = (key : ℕ) → IfSome (get new key) (λ later.
       (connection : Connection S T P) × (get old key ≡ Some connection) × (later.request ≡ connection.request) × (later.state ≡ ReadingState → later ≡ connection))
 
-  -- a connection stays behind a step in which it waits
+  -- A connection stays after a step in which it waits or joins the queue.
   abbrev pub stays_after : StepResult → Connection S T P → Option (Connection S T P)
   stays_after Waits connection = Some connection
   stays_after Joins connection = Some connection
   stays_after Answered connection = None
   stays_after Failed connection = None
 
-  -- where the connection with this key was there and is there still, this holds of it
+  -- If the connection with this key was there and still is, P holds of it before and after.
   abbrev pub IfStays : ℕ → Slab (Connection S T P) → Slab (Connection S T P) → (Connection S T P → Connection S T P → Type 0) → Type 0
   IfStays key old new P = IfSome (get old key) (λ connection. IfSome (get new key) (λ later. P connection later))
 
-  -- the time for the reply begins when there is one, and no other time changes
+  -- The deadline of a reply begins when there is a reply; no other deadline changes.
   abbrev pub KeepsTime : ℕ → Connection S T P → Connection S T P → Type 0
-  KeepsTime now connection later = later.deadline ≡ deadline_after (reply_of connection.state) (reply_of later.state) connection.deadline now
+  KeepsTime now connection later = later.deadline ≡ deadline_after (reply_in_state connection.state) (reply_in_state later.state) connection.deadline now
 
-  -- those whose time is over are there no more, and all others are as they were; who waits for its turn has time
+  -- Connections whose deadline is over are closed, and all others are unchanged. A queued connection has no deadline.
   abbrev pub unless_expired : ℕ → Option (Connection S T P) → Option (Connection S T P)
   unless_expired now None = None
   unless_expired now (Some connection) = if is_some (ticket_of connection.state) || nat_lt now connection.deadline then Some connection else None
@@ -192,66 +267,73 @@ module _ {S T P : Type 0} where
   abbrev pub ClosesExpired : ℕ → Slab (Connection S T P) → Slab (Connection S T P) → Type 0
   ClosesExpired now old new = (key : ℕ) → get new key ≡ unless_expired now (get old key)
 
-  -- no connection with another key has changed, come or gone
+  -- No connection with another key changed, was added or was closed.
   abbrev pub OnlyAt : ℕ → Slab (Connection S T P) → Slab (Connection S T P) → Type 0
   OnlyAt key old new = (other : ℕ) → other ≢ key → get new other ≡ get old other
 
-  -- the connection with this key went on as far as its stream does, and no other: it stays where it waits, and is closed else
-  pub record Hears (from : source.Ghosts S) (to : sink.Ghosts S) (key : ℕ) (old new : Slab (Connection S T P)) : Type 0 where
-    pub went_on : IfSome (get old key) (λ connection. (later : Connection S T P) × (step : StepResult) × Advances from to connection later step × (get new key ≡ stays_after step later))
+  -- It stays if it waits, unless it is shed, and is closed otherwise.
+  abbrev pub StaysOrGoes : (P → P → Bool) → ℕ → List (Option (Connection S T P)) → Connection S T P → StepResult → Option (Connection S T P) → Type 0
+  StaysOrGoes same most others later step slot =
+      (¬ (IsShed same most others later step) × (slot ≡ stays_after step later)) ⊎ (IsShed same most others later step × (slot ≡ None))
+
+  -- The connection with this key advanced as far as its stream allows, and no other did. It stays or goes, as there are these others.
+  pub record Hears (same : P → P → Bool) (most : ℕ) (from : source.Ghosts S) (to : sink.Ghosts S) (key : ℕ) (old new : Slab (Connection S T P)) : Type 0 where
+    pub went_on : IfSome (get old key) (λ connection. (later : Connection S T P) × (step : StepResult) × Advances from to connection later step
+        × StaysOrGoes same most (slice_set old.slots key None) later step (get new key))
     pub nobody : get old key ≡ None → get new key ≡ None
     pub others : OnlyAt key old new
 
-  -- so it is with each of these, one after another
-  abbrev pub HearsAll : source.Ghosts S → sink.Ghosts S → List ℕ → Slab (Connection S T P) → Slab (Connection S T P) → Type 0
-  HearsAll from to [] old new = new ≡ old
-  HearsAll from to (key ∷ keys) old new = (middle : Slab (Connection S T P)) × Hears from to key old middle × HearsAll from to keys middle new
+  -- The same for each of these keys, one after another.
+  abbrev pub HearsAll : (P → P → Bool) → ℕ → source.Ghosts S → sink.Ghosts S → List ℕ → Slab (Connection S T P) → Slab (Connection S T P) → Type 0
+  HearsAll same most from to [] old new = new ≡ old
+  HearsAll same most from to (key ∷ keys) old new = (middle : Slab (Connection S T P)) × Hears same most from to key old middle × HearsAll same most from to keys middle new
 
-  -- there is a connection, and its time is over
+  -- There is a connection, and its deadline is over.
   abbrev pub IsExpired : ℕ → Option (Connection S T P) → Type 0
   IsExpired now None = ⊥
   IsExpired now (Some connection) = ¬ (IsSome (ticket_of connection.state)) × (connection.deadline ≤ now)
 
-  -- what a turn of the service did: it was of who had waited longest, of whom what waits was handed over, once; and what came of it is what that one has, if
-  -- it stays
+  -- One turn of the service. It was of the connection that had waited longest, which handed over its request or its task once. If that
+  -- connection stays, it has the turn's outcome.
   pub record TakesTurn {O : Type 0} (answers : O → Listener → List ℕ → Poll T → O → Type 0) (resumes : O → T → Poll T → O → Type 0) (same : P → P → Bool)
-      (moment : ℕ) (connections later : Slab (Connection S T P)) (old new : O) : Type 0 where
+      (event_count : ℕ) (connections later : Slab (Connection S T P)) (old new : O) : Type 0 where
     pub turn : Turn T
     pub next : IsNext (queue_in connections) turn.whose
     pub input : IsWhatWaits (queue_in connections turn.whose) (tasks_in connections turn.whose) turn.input
     pub comes : Yields answers resumes old turn.input turn.poll new
     pub includes : IfSome (get later turn.whose) (λ connection. last_poll connection.state ≡ Some turn.poll)
     pub tasks : (key : ℕ) → tasks_in later key ≡ after_turn (tasks_in connections) turn key
-    pub queue : (key : ℕ) → queue_in later key ≡ queue_after same (queue_in connections) turn moment key
+    pub queue : (key : ℕ) → queue_in later key ≡ queue_after same (queue_in connections) turn event_count key
 
-  -- the service took a turn, or nobody waits, and nothing was done
+  -- The service took a turn; or no connection is queued, and nothing was done.
   abbrev pub TakesNext : {O : Type 0} → (O → Listener → List ℕ → Poll T → O → Type 0) → (O → T → Poll T → O → Type 0) → (P → P → Bool) → ℕ → ℕ
       → Slab (Connection S T P) → Slab (Connection S T P) → O → O → Type 0
-  TakesNext answers resumes same moment now_moment connections later old new =
-      (NobodyWaits connections × (now_moment ≡ moment) × (later ≡ connections) × (new ≡ old))
-      ⊎ ((now_moment ≡ moment + 1) × TakesTurn answers resumes same moment connections later old new)
+  TakesNext answers resumes same event_count now_moment connections later old new =
+      (NobodyWaits connections × (now_moment ≡ event_count) × (later ≡ connections) × (new ≡ old))
+      ⊎ ((now_moment ≡ event_count + 1) × TakesTurn answers resumes same event_count connections later old new)
 
-  -- the time for a reply begins at a millisecond that the clock shows, and no other time changes; where nobody waits, the clock isn't asked
+  -- The deadline of a reply begins at a millisecond that the clock shows, and no other deadline changes. If no connection is queued, the
+  -- clock isn't read.
   abbrev pub TimesReply : Slab (Connection S T P) → Slab (Connection S T P) → Option (Tally S) → Option (Tally S) → Type 0
   TimesReply old new was is =
-      (now : ℕ) × ((NobodyWaits old × (is ≡ was)) ⊎ Tallies (Shows now) was is) × ((key : ℕ) → IfStays key old new (KeepsTime now))
+      (now : ℕ) × ((NobodyWaits old × (is ≡ was)) ⊎ Tallies (ShowsTime now) was is) × ((key : ℕ) → IfStays key old new (KeepsTime now))
 
--- connections may be accepted then
+-- Connections may be accepted again then.
 abbrev pub IsDueAt : AcceptState → ℕ → ℕ → Type 0
 IsDueAt Open now most = ⊥
 IsDueAt Backlogged now most = most ≡ 0
 IsDueAt (Paused deadline) now most = most ≡ deadline - now
 
--- a moment before the other one, if there is one
+-- The time is before the other one, if there is another.
 abbrev pub IsBefore : ℕ → Option Earliest → Type 0
 IsBefore deadline None = ⊤
 IsBefore deadline (Some first) = deadline < first.deadline
 
--- since when somebody waits, and when it joined the queue
+-- since when the connection waits, and when it joined the queue
 abbrev pub wait_in : {P : Type 0} → Waiting P → Wait
 wait_in w = record { since = w.since; queued = w.queued }
 
--- this wait is longer than that of the other one, if there is one
+-- This wait is longer than the other one, if there is another.
 abbrev pub IsLonger : Wait → Option Next → Type 0
 IsLonger wait None = ⊤
 IsLonger wait (Some next) = (wait.since < next.wait.since) ⊎ ((wait.since ≡ next.wait.since) × (wait.queued < next.wait.queued))

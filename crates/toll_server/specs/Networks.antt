@@ -1,4 +1,4 @@
--- What a network has done.
+-- The tally of a network: what it has done.
 use Rattle.std.specs.Prelude.{◌≡◌, ◌≤◌, ◌<◌, ◌+◌, ◌-◌, ◌^◌, ◌||◌, ℕ, Bool, true, false, is_err, List, [], ◌∷◌, ◌++◌, length, Option, None, Some, Result, Ok, Err, OnErr, ⊤}
 use Rattle.toll_server.specs.declared.listener.Listener.{Listener}
 use Rattle.toll_server.specs.declared.listener.Listener.TheVariants.{Owners, Plant}
@@ -10,14 +10,14 @@ use Rattle.toll_server.specs.declared.network.TheConstants.{MOST_READY}
 use Rattle.toll_server.specs.declared.serving.ServingEnd.{ServingEnd}
 use Rattle.toll_server.specs.declared.serving.ServingEnd.TheVariants.{All, Fault, Spent}
 
--- a connection that came: the key by which it is known from then on, the listener at which it came, and its stream
+-- a connection that was accepted: its key, the listener at which it came, and its stream
 pub record Arrival (S : Type 0) : Type 0 where
   pub key : ℕ
   pub listener : Listener
   pub stream : S
 
--- a wait: for how many milliseconds it might be at most, at which one it was over, and who might go on then, by their keys; how many owners' connections the
--- network had given by then, and whether it listened meanwhile
+-- a wait: its limit in milliseconds, the millisecond when it was over, and the keys of the connections that were ready then; how many
+-- owners' connections the network had accepted by then, and whether it listened during the wait
 pub record Wake : Type 0 where
   pub limit : Option ℕ
   pub at : ℕ
@@ -25,15 +25,16 @@ pub record Wake : Type 0 where
   pub owners : ℕ
   pub is_listening : Bool
 
--- what is known of those who wait at the listeners, by the latest call
+-- what the latest call reported of the connections that wait at the listeners
 pub data Backlog : Type 0 where
   MayWait : Backlog
   NoneWaits : Backlog
   Lacks : Backlog
 
--- how many owners' connections it gave, how often it was asked for one and how often waited for, and whether that has failed; all connections that it gave and
--- all its waits, the newest first; who may go on since the latest wait and was not handed out yet, and how many were not where it was waited for anew; what is
--- known of those who wait at the listeners; whether these are open; and the latest millisecond that its clock showed
+-- what a network has done: the number of owners' connections that it accepted, of calls to accept and of waits, and whether a call failed;
+-- all accepted connections and all waits, newest first; the ready connections of the latest wait that it hasn't handed out yet, and how
+-- many it never handed out before a later wait; what it knows of connections that wait at the listeners; whether the listeners are open;
+-- the latest millisecond that its clock showed
 pub record Tally (S : Type 0) : Type 0 where
   pub owners : ℕ
   pub accepts : ℕ
@@ -48,36 +49,36 @@ pub record Tally (S : Type 0) : Type 0 where
   pub clock : ℕ
 
 module _ {S : Type 0} where
-  -- a wait more: it was over no earlier than the clock showed before, and at most so many may go on
-  abbrev pub Waits : {E : Type 0} → Option ℕ → Result ℕ E → Tally S → Tally S → Type 0
-  Waits limit (Ok now) t u = (t.clock ≤ now) × ((ready : List ℕ) × (length ready ≤ MOST_READY) × (u ≡ record t {
+  -- One more wait. It was over no earlier than the clock showed before, and at most MOST_READY connections are ready.
+  abbrev pub WaitsOnce : {E : Type 0} → Option ℕ → Result ℕ E → Tally S → Tally S → Type 0
+  WaitsOnce limit (Ok now) t u = (t.clock ≤ now) × ((ready : List ℕ) × (length ready ≤ MOST_READY) × (u ≡ record t {
     waits = t.waits + 1;
     wakes = record { limit = limit; at = now; ready = ready; owners = t.owners; is_listening = t.is_listening } ∷ t.wakes;
     unheard = ready;
     missed = t.missed + length t.unheard;
     clock = now;
   }))
-  Waits limit (Err e) t u = u ≡ record t { waits = t.waits + 1; failed = true }
+  WaitsOnce limit (Err e) t u = u ≡ record t { waits = t.waits + 1; failed = true }
 
-  -- the next one of those who may go on was handed out, or there is no more
+  -- The next ready connection was handed out, or there is none left.
   abbrev pub HandsOut : Option ℕ → Tally S → Tally S → Type 0
   HandsOut None t u = (t.unheard ≡ []) × (u ≡ t)
   HandsOut (Some key) t u = (rest : List ℕ) × (t.unheard ≡ key ∷ rest) × (u ≡ record t { unheard = rest })
 
-  -- the clock shows this, and never less than before
-  abbrev pub Shows : ℕ → Tally S → Tally S → Type 0
-  Shows now t u = (t.clock ≤ now) × (u ≡ record t { clock = now })
+  -- The clock shows this time, which is no earlier than before.
+  abbrev pub ShowsTime : ℕ → Tally S → Tally S → Type 0
+  ShowsTime now t u = (t.clock ≤ now) × (u ≡ record t { clock = now })
 
--- it fails, and nobody has come nor been waited for
+-- The network failed. No connection was accepted, and there was no other wait.
 abbrev pub BreaksDown : {S : Type 0} → Tally S → Tally S → Type 0
 BreaksDown t u = (u.failed ≡ true) × (u.arrivals ≡ t.arrivals) × (u.wakes ≡ t.wakes) × (u.missed ≡ t.missed) × (u.owners ≡ t.owners)
-    × (u.is_listening ≡ t.is_listening)
+    × (u.is_listening ≡ t.is_listening) × (u.accepts ≡ t.accepts)
 
 abbrev pub owners_at : Listener → ℕ
 owners_at Owners = 1
 owners_at Plant = 0
 
--- how many owners' connections were taken
+-- how many owners' connections this call accepted
 abbrev pub owners_accepted : {S E : Type 0} → Result (Accepted S) E → ℕ
 owners_accepted (Ok (Connected listener stream)) = owners_at listener
 owners_accepted (Ok Aborted) = 0
@@ -85,7 +86,7 @@ owners_accepted (Ok NoneWaiting) = 0
 owners_accepted (Ok NoResources) = 0
 owners_accepted (Err e) = 0
 
--- who came, by this key
+-- the connections that this call accepted, under this key
 abbrev pub arrived : {S E : Type 0} → ℕ → Result (Accepted S) E → List (Arrival S)
 arrived key (Ok (Connected listener stream)) = record { key = key; listener = listener; stream = stream } ∷ []
 arrived key (Ok Aborted) = []
@@ -100,7 +101,7 @@ backlog_after (Ok NoneWaiting) = NoneWaits
 backlog_after (Ok NoResources) = Lacks
 backlog_after (Err e) = MayWait
 
--- one taking more, by this key
+-- the tally after one call to accept, with this key
 abbrev pub after_accept : {S E : Type 0} → ℕ → Result (Accepted S) E → Tally S → Tally S
 after_accept key r t = record t {
   owners = t.owners + owners_accepted r;
@@ -110,21 +111,22 @@ after_accept key r t = record t {
   backlog = backlog_after r;
 }
 
--- its listeners are closed
+-- the tally after its listeners were closed
 abbrev pub after_close : {S : Type 0} → Tally S → Tally S
 after_close t = record t { is_listening = false }
 
--- while so many owners are still to come, it listens as it did, and once none is, it does no longer
+-- While owners are still to be accepted, the network listens as it did; once none is, it doesn't listen.
 abbrev pub ListensFor : ℕ → Bool → Bool → Type 0
 ListensFor left was is = (0 < left → is ≡ was) × (left ≡ 0 → is ≡ false)
 
--- so many owners came, and there is no more to wait for; or the network failed; or it was waited for as often as can be counted
+-- Serving ended because all these owners were accepted, because the network failed, or because the number of waits can't be counted any
+-- further.
 abbrev pub EndsSo : {S : Type 0} → ServingEnd → ℕ → Tally S → Tally S → Type 0
 EndsSo All count t u = u.owners ≡ t.owners + count
 EndsSo Fault count t u = u.failed ≡ true
 EndsSo Spent count t u = u.waits ≡ t.waits + (2 ^ 64 - 1)
 
--- a network that tells its tally has this one where it had that
+-- If the network has a known tally, P holds of it before and after.
 abbrev pub Tallies : {S : Type 0} → (Tally S → Tally S → Type 0) → Option (Tally S) → Option (Tally S) → Type 0
 Tallies P None new = ⊤
 Tallies P (Some t) None = ⊥
@@ -140,9 +142,10 @@ IsPausedAt now Open = ⊥
 IsPausedAt now Backlogged = ⊥
 IsPausedAt now (Paused deadline) = now < deadline
 
--- as many owners as were accepted are no longer to be; and one was asked for, where one was to come and accepting was not paused
+-- The number of owners still to accept falls by those accepted. At least one was asked for if an owner was still to come and accepting
+-- wasn't paused.
 abbrev pub Accepts : {A E S : Type 0} → Result A E → AcceptState → ℕ → ℕ → Tally S → Tally S → Type 0
 Accepts r accept_state owners_left left t u =
     (u.owners + left ≡ t.owners + owners_left) × (u.waits ≡ t.waits) × (u.wakes ≡ t.wakes) × (u.unheard ≡ t.unheard) × (u.missed ≡ t.missed) × (t.clock ≤ u.clock)
     × OnErr r (u.failed ≡ true)
-    × (¬ (IsPaused accept_state) → 0 < owners_left → t.accepts < u.accepts)
+    × (¬ (IsPaused accept_state) → 0 < owners_left → t.accepts < u.accepts) × (t.accepts ≤ u.accepts)

@@ -1,4 +1,4 @@
--- What was received of a request.
+-- The part of a request that was received so far.
 use Rattle.std.specs.Prelude.{ℕ, List}
 use Rattle.toll_protocol.specs.Parsing.{IsSettled}
 use Rattle.toll_protocol.specs.Frames.{IsEnough}
@@ -13,12 +13,12 @@ abbrev pub bytes_received : RequestBuffer → List ℕ
 bytes_received (Owner http) = http
 bytes_received (Parcelled frame) = frame.bytes.items
 
--- at which listener it was accepted
+-- the listener that accepted its connection
 abbrev pub listener_of : RequestBuffer → Listener
 listener_of (Owner http) = Owners
 listener_of (Parcelled frame) = Plant
 
--- what comes behind it changes nothing
+-- Further bytes change nothing.
 abbrev pub IsComplete : RequestBuffer → Type 0
 IsComplete (Owner http) = IsSettled http
 IsComplete (Parcelled frame) = IsEnough MOST_CALL_BYTES frame.bytes.items

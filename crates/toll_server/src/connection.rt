@@ -1,8 +1,8 @@
 //! One connection, from its first byte to the last of its reply.
 ghost use Rattle.std.specs.Prelude.{◌≡◌, ◌≢◌, [], None, Some, IfNone, IfOk, IfSome, IsSome};
 ghost use Rattle.toll_server.specs.RequestBuffers.{bytes_received, listener_of};
-ghost use Rattle.toll_server.specs.ConnectionStates.{last_poll, reply_of, task_of, ticket_after, ticket_of};
-ghost use Rattle.toll_server.specs.Steps.{Advances, Asks, JoinsAs, Writes, deadline_after, deadline_from, handed_over};
+ghost use Rattle.toll_server.specs.ConnectionStates.{last_poll, reply_in_state, task_of, ticket_after, ticket_of};
+ghost use Rattle.toll_server.specs.Steps.{Advances, AnswersOrResumes, JoinsAs, Writes, deadline_after, deadline_from, handed_over};
 ghost use Rattle.toll_server.specs.declared.connection_state.ConnectionState.{ConnectionState};
 ghost use Rattle.toll_server.specs.declared.step_result.StepResult.{StepResult};
 
@@ -32,7 +32,7 @@ pub struct Connection<S, T, P> {
 
 /// The result of a turn of the service for the connection that had this place in the queue.
 #[derive(Drop)]
-pub struct Outcome<T, P> {
+pub struct TurnOutcome<T, P> {
     pub ticket: Ticket<P>,
     pub poll: Poll<T>,
 }
@@ -58,8 +58,8 @@ impl<S: Stream, T: Drop, P: Drop> Connection<S, T, P> {
 
     /// Advances as far as the stream does: reads on, and joins the queue for its service once its request is
     /// whole; or writes on. While the connection waits for its turn, nothing is read or written.
-    pub fn advance<O: Service<Task = T, Party = P>>(&mut self, moment: u128) -> StepResult
-        ensures joins { JoinsAs O.is_by moment self.old self.new result }
+    pub fn advance<O: Service<Task = T, Party = P>>(&mut self, event_count: u128) -> StepResult
+        ensures joins { JoinsAs O.is_by event_count self.old self.new result }
         ensures same { last_poll self.new.state ≡ last_poll self.old.state }
         ensures steps { Advances S.Source S.Sink self.old self.new result }
     {
@@ -71,7 +71,7 @@ impl<S: Stream, T: Drop, P: Drop> Connection<S, T, P> {
             ReadStatus::Failed => StepResult::Failed,
             ReadStatus::Complete => {
                 let party = O::party(self.request.listener(), self.request.bytes());
-                self.state = ConnectionState::Queued(Ticket::new(party, moment));
+                self.state = ConnectionState::Queued(Ticket::new(party, event_count));
                 StepResult::Joins
             }
         }
@@ -79,12 +79,12 @@ impl<S: Stream, T: Drop, P: Drop> Connection<S, T, P> {
 
     /// Has the service take a turn for the connection, if it waits for one: its request is answered, or its
     /// task is resumed. The outcome is to be [stored](Connection::store_poll).
-    pub fn ask<O: Service<Task = T, Party = P>>(
+    pub fn take_turn<O: Service<Task = T, Party = P>>(
         &mut self,
         alloc: Global,
         service: &mut O,
-    ) -> Option<Outcome<T, P>>
-        ensures asks { IfSome result (λ o. Asks O.answers O.resumes self.old.state self.old.request o.poll service.old service.new) }
+    ) -> Option<TurnOutcome<T, P>>
+        ensures asks { IfSome result (λ o. AnswersOrResumes O.answers O.resumes self.old.state self.old.request o.poll service.old service.new) }
         ensures ticket { IfSome result (λ o. ticket_of self.old.state ≡ Some o.ticket) }
         ensures taken { IfSome result (λ o. self.new ≡ handed_over self.old) }
         ensures none { IfNone result ((ticket_of self.old.state ≡ None) × (self.new ≡ self.old) × (service.new ≡ service.old)) }
@@ -93,11 +93,11 @@ impl<S: Stream, T: Drop, P: Drop> Connection<S, T, P> {
             ConnectionState::Queued(ticket) => {
                 let listener = self.request.listener();
                 let poll = service.answer(alloc, listener, self.request.bytes());
-                Some(Outcome { ticket, poll })
+                Some(TurnOutcome { ticket, poll })
             }
             ConnectionState::Working(ticket, task) => {
                 let poll = service.resume(alloc, task);
-                Some(Outcome { ticket, poll })
+                Some(TurnOutcome { ticket, poll })
             }
             state => {
                 self.state = state;
@@ -108,28 +108,33 @@ impl<S: Stream, T: Drop, P: Drop> Connection<S, T, P> {
 
     /// Stores the outcome of a turn of the service: begins to write the reply, if there is one, and otherwise
     /// waits for the next turn.
-    pub fn store_poll(&mut self, outcome: Outcome<T, P>, moment: u128, now: u64) -> StepResult
-        requires { reply_of self.old.state ≡ None }
+    pub fn store_poll(
+        &mut self,
+        outcome: TurnOutcome<T, P>,
+        event_count: u128,
+        now: u64,
+    ) -> StepResult
+        requires { reply_in_state self.old.state ≡ None }
         ensures taken { last_poll self.new.state ≡ Some outcome.poll }
-        ensures ticket { ticket_of self.new.state ≡ ticket_after outcome.poll moment outcome.ticket }
+        ensures ticket { ticket_of self.new.state ≡ ticket_after outcome.poll event_count outcome.ticket }
         ensures pending { IsSome (ticket_of self.new.state) → result ≡ StepResult.Waits }
         ensures request { self.new.request ≡ self.old.request }
         ensures writes { Writes S.Sink self.old self.new result }
-        ensures deadline { self.new.deadline ≡ deadline_after None (reply_of self.new.state) self.old.deadline now }
+        ensures deadline { self.new.deadline ≡ deadline_after None (reply_in_state self.new.state) self.old.deadline now }
     {
         if matches!(outcome.poll, Poll::Ready(_)) {
             self.deadline = now.saturating_add(MOST_MILLISECONDS);
         }
-        self.state = ConnectionState::after(outcome.poll, outcome.ticket, moment);
+        self.state = ConnectionState::after(outcome.poll, outcome.ticket, event_count);
         self.write_pending()
     }
 
     // Writes on, if there is a reply.
     fn write_pending(&mut self) -> StepResult
-        ensures idle { reply_of self.old.state ≡ None → (self.new ≡ self.old) × (result ≡ StepResult.Waits) }
+        ensures idle { reply_in_state self.old.state ≡ None → (self.new ≡ self.old) × (result ≡ StepResult.Waits) }
         ensures same { last_poll self.new.state ≡ last_poll self.old.state }
         ensures ticket { ticket_of self.new.state ≡ ticket_of self.old.state }
-        ensures answers { result ≢ StepResult.Waits → IsSome (reply_of self.new.state) }
+        ensures answers { result ≢ StepResult.Waits → IsSome (reply_in_state self.new.state) }
         ensures unjoined { result ≢ StepResult.Joins }
         ensures request { self.new.request ≡ self.old.request }
         ensures deadline { self.new.deadline ≡ self.old.deadline }

@@ -1,6 +1,6 @@
 //! The state of a connection.
 ghost use Rattle.std.specs.Prelude.{◌≡◌, Some, IfSome, option_copied};
-ghost use Rattle.toll_server.specs.ConnectionStates.{last_poll, reply_of, state_behind, ticket_after, ticket_of};
+ghost use Rattle.toll_server.specs.ConnectionStates.{last_poll, reply_in_state, state_behind, ticket_after, ticket_of};
 
 use crate::poll::Poll;
 use crate::ticket::Ticket;
@@ -22,15 +22,15 @@ pub enum ConnectionState<T, P> {
 impl<T: Drop, P: Drop> ConnectionState<T, P> {
     /// The state after a turn of the connection that had that place in the queue: its reply, or a place at
     /// the queue's end.
-    pub fn after(poll: Poll<T>, ticket: Ticket<P>, moment: u128) -> Self
+    pub fn after(poll: Poll<T>, ticket: Ticket<P>, event_count: u128) -> Self
         ensures poll { last_poll result ≡ Some poll }
-        ensures ticket { ticket_of result ≡ ticket_after poll moment ticket }
-        ensures begun { IfSome (reply_of result) (λ reply. reply.written ≡ 0) }
+        ensures ticket { ticket_of result ≡ ticket_after poll event_count ticket }
+        ensures begun { IfSome (reply_in_state result) (λ reply. reply.written ≡ 0) }
     {
         match poll {
             Poll::Ready(reply) => ConnectionState::Writing(ResponseWriter::new(reply)),
             Poll::Pending(task) => ConnectionState::Working(
-                Ticket::new(ticket.party, moment),
+                Ticket::new(ticket.party, event_count),
                 task,
             ),
         }
@@ -49,12 +49,12 @@ impl<T: Drop, P: Drop> ConnectionState<T, P> {
 
 impl<T: Drop, P: PartialEq + Drop> ConnectionState<T, P> {
     /// Notes that this party has a turn now.
-    pub fn put_behind(&mut self, party: &P, moment: u128)
-        ensures { self.new ≡ state_behind P.eq party.now moment self.old }
+    pub fn put_behind(&mut self, party: &P, event_count: u128)
+        ensures { self.new ≡ state_behind P.eq party.now event_count self.old }
     {
         match self {
-            ConnectionState::Queued(ticket) => ticket.put_behind(party, moment),
-            ConnectionState::Working(ticket, _) => ticket.put_behind(party, moment),
+            ConnectionState::Queued(ticket) => ticket.put_behind(party, event_count),
+            ConnectionState::Working(ticket, _) => ticket.put_behind(party, event_count),
             ConnectionState::Reading | ConnectionState::Writing(_) => {}
         }
     }

@@ -1,13 +1,18 @@
 //! The open connections.
 ghost use Rattle.std.specs.Prelude.{◌≡◌, ◌↔◌, ◌≤◌, ◌<◌, ◌+◌, ◌⊎◌, ◌^◌, None, IfSome, IsTrue, OnErr, OnOk};
 ghost use Rattle.slab.specs.Slab.{HasRoomFor, Updates, get, slab_len};
-ghost use Rattle.toll_server.specs.Connections.{AddsNext, ClosesExpired, Hears, IsDueAt, IsDueTo, IsInTime, JoinsAt, KeepsQueue, KeepsRequests, KeepsSubmitted, KeepsTasks, MakesRoom, NoneNew, TakesNext, TimesReply, WindsDown, stays_after};
+ghost use Rattle.toll_server.specs.Connections.{AddsNext, ClosesExpired, Hears, IsDueAt, IsDueTo, IsInTime, IsOverShare, IsShed, JoinsAt, KeepsQueue, KeepsRequests, KeepsSubmitted, KeepsTasks, MakesRoom, NoneNew, TakesNext, TimesReply, WindsDown, most_submitted, stays_after};
+ghost use Rattle.toll_server.specs.Closings.{GivesTurn};
+ghost use Rattle.toll_server.specs.Steps.{waiting_of};
 ghost use Rattle.toll_server.specs.Networks.{Accepts, IsPaused, IsPausedAt, ListensFor, Tallies, owners_at};
 ghost use Rattle.toll_server.specs.declared.listener.Listener.{Listener};
 ghost use Rattle.toll_server.specs.declared.network.TheConstants.{MOST_CONNECTIONS};
 
 use crate::connection::Connection;
-use crate::expiry::{close_expired, close_readers, earliest_of, evict_oldest, next_of, put_behind};
+use crate::expiry::{
+    PLANT_RESERVE, close_expired, close_readers, earliest_of, evict_oldest, next_of, number_of,
+    places_of, put_behind,
+};
 use crate::filter::Filter;
 use crate::listener::Listener;
 use crate::network::{Accepted, Network, NetworkFault};
@@ -24,6 +29,9 @@ const MOST_ACCEPTS: usize = 64;
 /// For how many milliseconds no connection is accepted after there were no resources, unless a connection
 /// closes before.
 const PAUSE_MILLISECONDS: u64 = 1000;
+
+/// How many places in the queue a party may have for each connection that may still send its request.
+const PLACES_FOR_EACH: usize = 2;
 
 /// Whether connections are accepted.
 #[derive(Clone, Copy, Debug, PartialEq, Eq)]
@@ -45,7 +53,7 @@ pub struct Connections<S, T, P> {
     pub most_open: usize,
     pub owners_left: u64,
     pub accept_state: AcceptState,
-    pub moment: u128,
+    pub event_count: u128,
     ghost least: { 1 ≤ most_open },
     ghost most: { most_open ≤ MOST_CONNECTIONS },
     ghost within: { slab_len slots ≤ most_open },
@@ -60,14 +68,15 @@ impl<S: Stream, T: Drop, P: Eq + Drop> Connections<S, T, P> {
         ensures empty { slab_len result.slots ≡ 0 }
         ensures most_open { IfSome (W.limit network.now) (λ most. result.most_open ≡ most) }
         ensures owners_left { result.owners_left ≡ owners_left }
-        ensures moment { result.moment ≡ 0 }
+        ensures event_count { result.event_count ≡ 0 }
+        ensures accept_state { result.accept_state ≡ AcceptState.Open }
     {
         Connections {
             slots: Slab::new(alloc),
             most_open: network.most_connections(),
             owners_left,
             accept_state: AcceptState::Open,
-            moment: 0,
+            event_count: 0,
         }
     }
 
@@ -116,7 +125,7 @@ impl<S: Stream, T: Drop, P: Eq + Drop> Connections<S, T, P> {
         ensures submitted { KeepsSubmitted self.old.slots self.new.slots }
         ensures tasks { KeepsTasks self.old.slots self.new.slots }
         ensures queue { KeepsQueue self.old.slots self.new.slots }
-        ensures moment { self.new.moment ≡ self.old.moment }
+        ensures event_count { self.new.event_count ≡ self.old.event_count }
         ensures most_open { self.new.most_open ≡ self.old.most_open }
     {
         let now = network.now();
@@ -186,7 +195,7 @@ impl<S: Stream, T: Drop, P: Eq + Drop> Connections<S, T, P> {
         ensures submitted { KeepsSubmitted self.old.slots self.new.slots }
         ensures tasks { KeepsTasks self.old.slots self.new.slots }
         ensures queue { KeepsQueue self.old.slots self.new.slots }
-        ensures moment { self.new.moment ≡ self.old.moment }
+        ensures event_count { self.new.event_count ≡ self.old.event_count }
         ensures most_open { self.new.most_open ≡ self.old.most_open }
         ensures accept_state { self.new.accept_state ≡ self.old.accept_state }
     {
@@ -206,7 +215,7 @@ impl<S: Stream, T: Drop, P: Eq + Drop> Connections<S, T, P> {
         requires { 0 < self.old.owners_left }
         ensures owners_left { self.new.owners_left + owners_at listener ≡ self.old.owners_left }
         ensures slots { self.new.slots ≡ self.old.slots }
-        ensures moment { self.new.moment ≡ self.old.moment }
+        ensures event_count { self.new.event_count ≡ self.old.event_count }
         ensures most_open { self.new.most_open ≡ self.old.most_open }
         ensures accept_state { self.new.accept_state ≡ self.old.accept_state }
     {
@@ -220,7 +229,7 @@ impl<S: Stream, T: Drop, P: Eq + Drop> Connections<S, T, P> {
     fn make_room(&mut self, came: usize, now: u64)
         ensures room { MakesRoom came now self.old.slots self.new.slots self.new.accept_state }
         ensures owners_left { self.new.owners_left ≡ self.old.owners_left }
-        ensures moment { self.new.moment ≡ self.old.moment }
+        ensures event_count { self.new.event_count ≡ self.old.event_count }
         ensures most_open { self.new.most_open ≡ self.old.most_open }
     {
         if came > 0 || evict_oldest(&mut self.slots) {
@@ -232,23 +241,49 @@ impl<S: Stream, T: Drop, P: Eq + Drop> Connections<S, T, P> {
 
     /// Advances the connection with this key as far as its stream goes. It is closed after its reply is
     /// written, or if a read or a write failed. It stays if a read or a write would wait, or if its request
-    /// is whole and waits for its turn.
+    /// is whole and waits for its turn. It is closed without an answer if its party has its share of the
+    /// queue already: two places for each connection that may still send its request. For owners these are
+    /// [`PLANT_RESERVE`] fewer, so some are left for the plant. So a party fills at most two thirds of the
+    /// queue, and leaves room for those that have less.
     pub fn advance<O: Service<Task = T, Party = P>>(&mut self, key: usize)
-        requires { self.old.moment + 1 < 2 ^ 128 }
-        ensures joins { JoinsAt O.is_by key self.old.moment self.new.moment self.old.slots self.new.slots }
-        ensures more { self.new.moment ≤ self.old.moment + 1 }
+        requires { self.old.event_count + 1 < 2 ^ 128 }
+        ensures joins { JoinsAt O.is_by key self.old.event_count self.new.event_count self.old.slots self.new.slots }
+        ensures more { self.new.event_count ≤ self.old.event_count + 1 }
         ensures most_open { self.new.most_open ≡ self.old.most_open }
         ensures tasks { KeepsTasks self.old.slots self.new.slots }
-        ensures hears { Hears S.Source S.Sink key self.old.slots self.new.slots }
+        ensures hears { Hears P.eq self.old.most_open S.Source S.Sink key self.old.slots self.new.slots }
         ensures fewer { slab_len self.new.slots ≤ slab_len self.old.slots }
         ensures owners_left { self.new.owners_left ≡ self.old.owners_left }
     {
         let Some(mut connection) = self.slots.try_remove(key) else {
             return;
         };
-        let step = connection.advance::<O>(self.moment);
-        self.moment = step.count(self.moment);
+        let step = connection.advance::<O>(self.event_count);
+        if self.is_shed(&connection, step) {
+            self.accept_state = AcceptState::Open;
+            return;
+        }
+        self.event_count = step.count(self.event_count);
         self.keep(connection, step);
+    }
+
+    // Whether the connection is closed after this step, though its request is whole.
+    fn is_shed(&self, connection: &Connection<S, T, P>, step: StepResult) -> bool
+        ensures { IsTrue result ↔ IsShed P.eq self.now.most_open self.now.slots.slots connection.now step }
+    {
+        step == StepResult::Joins && self.is_over_share(connection)
+    }
+
+    // Whether the party of this connection has its share of the queue already.
+    fn is_over_share(&self, connection: &Connection<S, T, P>) -> bool
+        ensures { IsTrue result ↔ IsOverShare P.eq self.now.most_open self.now.slots.slots (waiting_of connection.now) }
+    {
+        let Some(ticket) = connection.state.ticket() else {
+            return false;
+        };
+        let most = most_submitted(self.most_open, connection.request.listener());
+        let room = most.saturating_sub(number_of(&self.slots, Filter::Submitted));
+        places_of(&self.slots, &ticket.party) >= PLACES_FOR_EACH * room
     }
 
     /// Has the service take a turn for the connection that has waited longest, if one waits. A party's wait
@@ -261,9 +296,10 @@ impl<S: Stream, T: Drop, P: Eq + Drop> Connections<S, T, P> {
         network: &mut W,
         service: &mut O,
     )
-        requires { self.old.moment + 1 < 2 ^ 128 }
-        ensures turn { TakesNext O.answers O.resumes P.eq self.old.moment self.new.moment self.old.slots self.new.slots service.old service.new }
-        ensures more { self.new.moment ≤ self.old.moment + 1 }
+        requires { self.old.event_count + 1 < 2 ^ 128 }
+        ensures gives { (self.new.slots ≡ self.old.slots) ⊎ GivesTurn P.eq S.Sink self.old.slots self.new.slots }
+        ensures turn { TakesNext O.answers O.resumes P.eq self.old.event_count self.new.event_count self.old.slots self.new.slots service.old service.new }
+        ensures more { self.new.event_count ≤ self.old.event_count + 1 }
         ensures most_open { self.new.most_open ≡ self.old.most_open }
         ensures deadline { TimesReply self.old.slots self.new.slots (W.tally network.old) (W.tally network.new) }
         ensures requests { KeepsRequests self.old.slots self.new.slots }
@@ -276,12 +312,12 @@ impl<S: Stream, T: Drop, P: Eq + Drop> Connections<S, T, P> {
         let Some(mut connection) = self.slots.try_remove(next.key) else {
             return;
         };
-        let Some(outcome) = connection.ask(alloc, service) else {
+        let Some(outcome) = connection.take_turn(alloc, service) else {
             return;
         };
-        put_behind(&mut self.slots, &outcome.ticket.party, self.moment);
-        let step = connection.store_poll(outcome, self.moment, network.now());
-        self.moment += 1;
+        put_behind(&mut self.slots, &outcome.ticket.party, self.event_count);
+        let step = connection.store_poll(outcome, self.event_count, network.now());
+        self.event_count += 1;
         self.keep(connection, step);
     }
 
@@ -293,13 +329,16 @@ impl<S: Stream, T: Drop, P: Eq + Drop> Connections<S, T, P> {
         ensures tasks { KeepsTasks self.old.slots self.new.slots }
         ensures queue { KeepsQueue self.old.slots self.new.slots }
         ensures owners_left { self.new.owners_left ≡ self.old.owners_left }
-        ensures moment { self.new.moment ≡ self.old.moment }
+        ensures event_count { self.new.event_count ≡ self.old.event_count }
         ensures most_open { self.new.most_open ≡ self.old.most_open }
     {
-        if self.owners_left > 0 || earliest_of(&self.slots, Filter::Owners).is_some() {
+        if self.owners_left > 0 {
             return;
         }
-        close_readers(&mut self.slots);
+        match earliest_of(&self.slots, Filter::Owners) {
+            Some(_) => {}
+            None => close_readers(&mut self.slots),
+        }
     }
 
     // Puts back a connection that was taken out, if it waits, and closes it otherwise.
@@ -310,7 +349,7 @@ impl<S: Stream, T: Drop, P: Eq + Drop> Connections<S, T, P> {
         ensures kept { Updates self.old.slots self.new.slots self.old.slots.vacant_key (stays_after step connection) }
         ensures more { slab_len self.new.slots ≤ slab_len self.old.slots + 1 }
         ensures owners_left { self.new.owners_left ≡ self.old.owners_left }
-        ensures moment { self.new.moment ≡ self.old.moment }
+        ensures event_count { self.new.event_count ≡ self.old.event_count }
         ensures most_open { self.new.most_open ≡ self.old.most_open }
     {
         if matches!(step, StepResult::Waits | StepResult::Joins) {
@@ -324,7 +363,7 @@ impl<S: Stream, T: Drop, P: Eq + Drop> Connections<S, T, P> {
     pub fn close_expired(&mut self, now: u64)
         ensures gone { ClosesExpired now self.old.slots self.new.slots }
         ensures owners_left { self.new.owners_left ≡ self.old.owners_left }
-        ensures moment { self.new.moment ≡ self.old.moment }
+        ensures event_count { self.new.event_count ≡ self.old.event_count }
         ensures most_open { self.new.most_open ≡ self.old.most_open }
     {
         let before = self.slots.len();
@@ -332,5 +371,16 @@ impl<S: Stream, T: Drop, P: Eq + Drop> Connections<S, T, P> {
         if self.slots.len() < before {
             self.accept_state = AcceptState::Open;
         }
+    }
+}
+
+// How many connections may have sent their requests when one at this listener joins them.
+fn most_submitted(most_open: usize, listener: Listener) -> usize
+    ensures result { result ≡ most_submitted most_open listener }
+    ensures most { 1 ≤ most_open → result ≤ most_open }
+{
+    match listener {
+        Listener::Owners => most_open.saturating_sub(PLANT_RESERVE).max(1),
+        Listener::Plant => most_open,
     }
 }

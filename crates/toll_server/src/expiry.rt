@@ -1,14 +1,18 @@
 //! Searching the open connections.
 ghost use Rattle.std.specs.Prelude.{◌≡◌, ◌↔◌, ◌≤◌, ◌+◌, ℕ, IfSome, IfNone, IsTrue, option_map};
 ghost use Rattle.slab.specs.Slab.{get, slab_len};
-ghost use Rattle.toll_server.specs.Connections.{ClosesExpired, ClosesReaders, EvictsOldest, IsBefore, IsEarliest, IsExpired, IsLonger, NobodyWaits, NoneIncluded, OnlyAt, connection_behind, queue_in, wait_in};
+ghost use Rattle.toll_server.specs.Connections.{ClosesExpired, ClosesReaders, EvictsOldest, EvictsReader, IsBefore, IsEarliest, IsEvicted, IsExpired, IsLonger, NobodyWaits, NoneIncluded, OnlyAt, connection_behind, evicted_first, is_included_at, is_place_of, number_of, places_of, queue_in, wait_in};
 ghost use Rattle.toll_server.specs.Queues.{IsNext};
 ghost use Rattle.toll_server.specs.declared.filter.Filter.{Filter};
 
 use crate::connection::Connection;
 use crate::filter::Filter;
+use crate::listener::Listener;
 use slab::Slab;
 use toll_protocol::Stream;
+
+/// How many connections are kept for the plant, so that owners' connections close none of its.
+pub const PLANT_RESERVE: usize = 8;
 
 /// The connection with the least time left, and when its time is over.
 #[derive(Clone, Copy)]
@@ -83,17 +87,106 @@ fn is_expired<S: Stream, T: Drop, P: Drop>(
     }
 }
 
-/// Closes the connection that has been reading longest, if one is reading. Returns whether one was closed.
+/// How many connections the filter includes.
+pub fn number_of<S: Stream, T: Drop, P: Drop>(
+    connections: &Slab<Connection<S, T, P>>,
+    filter: Filter,
+) -> usize
+    ensures { result ≡ number_of filter connections.now.slots }
+{
+    let mut number = 0;
+    for key in 0..connections.capacity() {
+        if is_included(connections, key, filter) {
+            number += 1;
+        }
+    }
+    number
+}
+
+// Whether there is a connection with this key that the filter includes.
+fn is_included<S: Stream, T: Drop, P: Drop>(
+    connections: &Slab<Connection<S, T, P>>,
+    key: usize,
+    filter: Filter,
+) -> bool
+    ensures { result ≡ is_included_at filter (get connections.now key) }
+{
+    match connections.get(key) {
+        Some(connection) => filter.includes(connection),
+        None => false,
+    }
+}
+
+/// How many places in the queue the party has.
+pub fn places_of<S: Stream, T: Drop, P: PartialEq + Drop>(
+    connections: &Slab<Connection<S, T, P>>,
+    party: &P,
+) -> usize
+    ensures { result ≡ places_of P.eq party.now connections.now.slots }
+{
+    let mut number = 0;
+    for key in 0..connections.capacity() {
+        if is_place_of(connections, key, party) {
+            number += 1;
+        }
+    }
+    number
+}
+
+// Whether there is a connection of the party with this key that waits for its turn.
+fn is_place_of<S: Stream, T: Drop, P: PartialEq + Drop>(
+    connections: &Slab<Connection<S, T, P>>,
+    key: usize,
+    party: &P,
+) -> bool
+    ensures { result ≡ is_place_of P.eq party.now (get connections.now key) }
+{
+    let Some(connection) = connections.get(key) else {
+        return false;
+    };
+    match connection.state.ticket() {
+        Some(ticket) => *party == ticket.party,
+        None => false,
+    }
+}
+
+/// Closes a connection that is reading, if one is, and returns whether one was closed. It is the owners' that
+/// has been reading longest, or the plant's if no owner's is reading or more than [`PLANT_RESERVE`] of the
+/// plant's are. So neither listener's clients close those of the other.
 pub fn evict_oldest<S: Stream, T: Drop, P: Drop>(
     connections: &mut Slab<Connection<S, T, P>>,
 ) -> bool
     ensures evicts { EvictsOldest connections.old connections.new }
-    ensures some { IsTrue result → slab_len connections.new + 1 ≡ slab_len connections.old }
+    ensures some { IsTrue result → EvictsReader connections.old connections.new }
     ensures none { ¬ (IsTrue result) → NoneIncluded Filter.Reading connections.old × (connections.new ≡ connections.old) }
 {
-    match earliest_of(connections, Filter::Reading) {
+    match first_evicted(connections) {
         Some(first) => connections.try_remove(first.key).is_some(),
         None => false,
+    }
+}
+
+// The connection that is closed first, of those that are reading.
+fn first_evicted<S: Stream, T: Drop, P: Drop>(
+    connections: &Slab<Connection<S, T, P>>,
+) -> Option<Earliest>
+    ensures found { IfSome result (λ first. IsEvicted connections.now first.key first.deadline) }
+    ensures none { IfNone result (NoneIncluded Filter.Reading connections.now) }
+{
+    match earliest_of(connections, Filter::ReadingAt(evicted_first(connections))) {
+        Some(first) => Some(first),
+        None => earliest_of(connections, Filter::Reading),
+    }
+}
+
+// The listener whose connections are closed first, of those that are reading.
+fn evicted_first<S: Stream, T: Drop, P: Drop>(connections: &Slab<Connection<S, T, P>>) -> Listener
+    ensures { result ≡ evicted_first connections.now.slots }
+{
+    if number_of(connections, Filter::ReadingAt(Listener::Plant)) > PLANT_RESERVE {
+        Listener::Plant
+    } else {
+        Listener::Owners
     }
 }
 
@@ -173,15 +266,15 @@ fn is_longer(wait: Wait, next: Option<Next>) -> bool
 pub fn put_behind<S: Stream, T: Drop, P: PartialEq + Drop>(
     connections: &mut Slab<Connection<S, T, P>>,
     party: &P,
-    moment: u128,
+    event_count: u128,
 )
-    ensures behind { (key : ℕ) → get connections.new key ≡ option_map (connection_behind P.eq party.now moment) (get connections.old key) }
+    ensures behind { (key : ℕ) → get connections.new key ≡ option_map (connection_behind P.eq party.now event_count) (get connections.old key) }
     ensures vacant { connections.new.vacant_key ≡ connections.old.vacant_key }
     ensures capacity { connections.new.capacity ≡ connections.old.capacity }
     ensures len { slab_len connections.new ≡ slab_len connections.old }
 {
     for key in 0..connections.capacity() {
-        put_one_behind(connections, key, party, moment);
+        put_one_behind(connections, key, party, event_count);
     }
 }
 
@@ -190,15 +283,15 @@ fn put_one_behind<S: Stream, T: Drop, P: PartialEq + Drop>(
     connections: &mut Slab<Connection<S, T, P>>,
     key: usize,
     party: &P,
-    moment: u128,
+    event_count: u128,
 )
-    ensures behind { get connections.new key ≡ option_map (connection_behind P.eq party.now moment) (get connections.old key) }
+    ensures behind { get connections.new key ≡ option_map (connection_behind P.eq party.now event_count) (get connections.old key) }
     ensures others { OnlyAt key connections.old connections.new }
     ensures vacant { connections.new.vacant_key ≡ connections.old.vacant_key }
     ensures capacity { connections.new.capacity ≡ connections.old.capacity }
     ensures len { slab_len connections.new ≡ slab_len connections.old }
 {
     if let Some(connection) = connections.get_mut(key) {
-        connection.state.put_behind(party, moment);
+        connection.state.put_behind(party, event_count);
     }
 }

@@ -1,6 +1,6 @@
 //! Some of the open connections.
-ghost use Rattle.std.specs.Prelude.{◌↔◌, IsTrue};
-ghost use Rattle.toll_server.specs.Connections.{IsIncluded};
+ghost use Rattle.std.specs.Prelude.{◌≡◌, ◌↔◌, IsTrue};
+ghost use Rattle.toll_server.specs.Connections.{IsIncluded, is_included};
 
 use crate::connection::Connection;
 use crate::connection_state::ConnectionState;
@@ -11,6 +11,10 @@ use crate::listener::Listener;
 pub enum Filter {
     /// Connections whose requests are not whole.
     Reading,
+    /// The same, of those that were accepted at this listener.
+    ReadingAt(Listener),
+    /// Connections whose requests are whole.
+    Submitted,
     /// Connections that wait for a turn of the service.
     Queued,
     /// Connections whose time may be over: all that don't wait for a turn.
@@ -22,10 +26,16 @@ pub enum Filter {
 impl Filter {
     /// Whether this connection is one of them.
     pub fn includes<S, T, P>(self, connection: &Connection<S, T, P>) -> bool
-        ensures { IsTrue result ↔ IsIncluded self connection.now }
+        ensures includes { IsTrue result ↔ IsIncluded self connection.now }
+        ensures answer { result ≡ is_included self connection.now }
     {
         match self {
             Filter::Reading => matches!(connection.state, ConnectionState::Reading),
+            Filter::ReadingAt(listener) => {
+                matches!(connection.state, ConnectionState::Reading)
+                    && connection.request.listener() == listener
+            }
+            Filter::Submitted => !matches!(connection.state, ConnectionState::Reading),
             Filter::Queued => matches!(
                 connection.state,
                 ConnectionState::Queued(_) | ConnectionState::Working(_, _)

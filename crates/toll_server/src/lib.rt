@@ -16,7 +16,7 @@ mod serving;
 mod step_result;
 mod ticket;
 
-pub use connection::{Connection, MOST_MILLISECONDS, Outcome};
+pub use connection::{Connection, MOST_MILLISECONDS, TurnOutcome};
 pub use connection_state::ConnectionState;
 pub use listener::Listener;
 pub use network::{Accepted, MOST_CONNECTIONS, MOST_READY, Network, NetworkFault};

@@ -13,7 +13,7 @@ pub struct NetworkFault;
 pub enum Accepted<S> {
     /// This connection, at that listener.
     Connected(Listener, S),
-    /// A connection closed before it was accepted. Others may wait behind it.
+    /// A connection closed before it was accepted. Others may wait after it.
     Aborted,
     /// No connection waits at a listener.
     NoneWaiting,
@@ -31,7 +31,7 @@ pub const MOST_READY: usize = 4096;
 /// Streams, a clock and the waiting for both. No contract says what happens when.
 pub trait Network {
     ghost use Rattle.std.specs.Prelude.{◌≡◌, ◌≤◌, ℕ, Option, None, IfSome, option_map};
-    ghost use Rattle.toll_server.specs.Networks.{HandsOut, Shows, Tallies, Tally, Waits, after_accept, after_close};
+    ghost use Rattle.toll_server.specs.Networks.{HandsOut, ShowsTime, Tallies, Tally, WaitsOnce, after_accept, after_close};
 
     /// A connection. A read or a write of it that would wait fails with `WouldBlock`.
     type Stream: Stream;
@@ -53,7 +53,7 @@ pub trait Network {
     /// clock's time then. A connection advances until its reads and writes would wait, and is then reported
     /// again. A connection that waits at a listener and was not accepted need not be reported again.
     fn wait(&mut self, most: Option<u64>) -> Result<u64, NetworkFault>
-        ensures { Tallies (Waits most result) (tally self.old) (tally self.new) };
+        ensures { Tallies (WaitsOnce most result) (tally self.old) (tally self.new) };
 
     /// The next connection that may advance since the last wait, by its key. There are at most [`MOST_READY`]
     /// of them.
@@ -64,12 +64,12 @@ pub trait Network {
     fn accept_next(&mut self, key: usize) -> Result<Accepted<Self::Stream>, NetworkFault>
         ensures { tally self.new ≡ option_map (after_accept key result) (tally self.old) };
 
-    /// Closes the listeners. Who connects from then on is refused at once, and so is who waits to be accepted.
-    /// Connections that were accepted stay open. It has no effect if the listeners are closed already.
+    /// Closes the listeners. From then on each connection is refused at once, and so are those that wait to be
+    /// accepted. Connections that were accepted stay open. It has no effect if the listeners are closed already.
     fn close_listeners(&mut self)
         ensures { tally self.new ≡ option_map after_close (tally self.old) };
 
     /// The milliseconds since a fixed moment.
     fn now(&mut self) -> u64
-        ensures { Tallies (Shows result) (tally self.old) (tally self.new) };
+        ensures { Tallies (ShowsTime result) (tally self.old) (tally self.new) };
 }

@@ -19,11 +19,11 @@ pub trait Service {
     // This request, which came in at this listener, is of this party.
     ghost is_by: { Listener → List ℕ → Self.Party → Type 0 };
 
-    // This service answers such a request, which came in at this listener, with this result, and leaves such
-    // a service.
+    // The service before answers this request, from this listener, with this result, and becomes the service
+    // after.
     ghost answers: { Self → Listener → List ℕ → Poll Self.Task → Self → Type 0 };
 
-    // This service resumes such a task with this result, and leaves such a service.
+    // The service before resumes this task with this result, and becomes the service after.
     ghost resumes: { Self → Self.Task → Poll Self.Task → Self → Type 0 };
 
     /// The party of a request.

@@ -1,5 +1,6 @@
 //! Serving connections side by side.
 ghost use Rattle.std.specs.Prelude.{◌≡◌, ◌≤◌, ◌<◌, ◌+◌, ◌^◌, ℕ, OnErr, OnOk};
+ghost use Rattle.toll_server.specs.Closings.{AreClosedForCause};
 ghost use Rattle.toll_server.specs.Connections.{KeepsTasks};
 ghost use Rattle.toll_server.specs.Queues.{IsServedInTurn};
 ghost use Rattle.toll_server.specs.Rounds.{HasHeard, HasWaited, IsServedInRounds, ListensTill};
@@ -29,6 +30,9 @@ pub enum ServingEnd {
 /// another one waits. The service changes by nothing else. As soon as the last owner was accepted, the listeners
 /// are closed. After all owners were served, connections of the plant whose requests aren't whole are closed.
 ///
+/// A connection that came is answered, or closed because its client is late, gone or one too many, its party has
+/// its share of the queue, memory lacked, or all owners were served.
+///
 /// Before its turn a connection costs the reading of at most a whole request, and after it the writing of its
 /// reply, each in no more than [`MOST_MILLISECONDS`](crate::MOST_MILLISECONDS).
 pub fn serve<W: Network, O: Service>(
@@ -43,6 +47,9 @@ pub fn serve<W: Network, O: Service>(
         (W.tally network.old) (W.tally network.new) }
     ensures end { Tallies (EndsSo result count) (W.tally network.old) (W.tally network.new) }
     ensures listens { Tallies (ListensTill count) (W.tally network.old) (W.tally network.new) }
+    ensures closes { Tallies (AreClosedForCause O.Task O.Party.eq (W.limit network.old) W.Stream.Source W.Stream.Sink count (result ≡ ServingEnd.All))
+        (W.tally network.old) (W.tally network.new) }
+    ensures asks { Tallies (λ t u. 0 < count → t.accepts < u.accepts) (W.tally network.old) (W.tally network.new) }
 {
     let mut connections = Connections::new(alloc, network, count);
     for _ in 0..u64::MAX {
@@ -68,12 +75,12 @@ fn wait_and_advance<W: Network, O: Service>(
     network: &mut W,
     connections: &mut Connections<W::Stream, O::Task, O::Party>,
 ) -> Result<(), NetworkFault>
-    requires { connections.old.moment + MOST_READY < 2 ^ 128 }
+    requires { connections.old.event_count + MOST_READY < 2 ^ 128 }
     ensures waited { OnOk result ((now : ℕ) × HasWaited O.Party.eq O.is_by W.Stream.Source W.Stream.Sink now connections.old connections.new
         (W.tally network.old) (W.tally network.new)) }
     ensures fails { OnErr result (Tallies BreaksDown (W.tally network.old) (W.tally network.new)) }
     ensures tasks { KeepsTasks connections.old.slots connections.new.slots }
-    ensures moment { connections.new.moment ≤ connections.old.moment + MOST_READY }
+    ensures event_count { connections.new.event_count ≤ connections.old.event_count + MOST_READY }
     ensures owners_left { connections.new.owners_left ≡ connections.old.owners_left }
     ensures most_open { connections.new.most_open ≡ connections.old.most_open }
 {
@@ -89,10 +96,10 @@ fn advance_all<W: Network, O: Service>(
     network: &mut W,
     connections: &mut Connections<W::Stream, O::Task, O::Party>,
 )
-    requires { connections.old.moment + MOST_READY < 2 ^ 128 }
+    requires { connections.old.event_count + MOST_READY < 2 ^ 128 }
     ensures heard { HasHeard O.Party.eq O.is_by W.Stream.Source W.Stream.Sink connections.old connections.new (W.tally network.old) (W.tally network.new) }
     ensures tasks { KeepsTasks connections.old.slots connections.new.slots }
-    ensures moment { connections.new.moment ≤ connections.old.moment + MOST_READY }
+    ensures event_count { connections.new.event_count ≤ connections.old.event_count + MOST_READY }
     ensures owners_left { connections.new.owners_left ≡ connections.old.owners_left }
     ensures most_open { connections.new.most_open ≡ connections.old.most_open }
 {

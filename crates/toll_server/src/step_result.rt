@@ -1,6 +1,6 @@
 //! The result of a step of a connection.
 ghost use Rattle.std.specs.Prelude.{◌≡◌, ◌≢◌, ◌↔◌, ◌<◌, ◌+◌, ◌^◌};
-ghost use Rattle.toll_server.specs.Steps.{moment_after};
+ghost use Rattle.toll_server.specs.Steps.{event_count_after};
 ghost use Rattle.toll_protocol.specs.declared.streams.write_status.WriteStatus.{WriteStatus};
 
 use toll_protocol::WriteStatus;
@@ -33,13 +33,13 @@ impl StepResult {
     }
 
     /// The number of events after this result: a request that became whole adds one.
-    pub fn count(self, moment: u128) -> u128
-        requires { moment + 1 < 2 ^ 128 }
-        ensures { result ≡ moment_after self moment }
+    pub fn count(self, event_count: u128) -> u128
+        requires { event_count + 1 < 2 ^ 128 }
+        ensures { result ≡ event_count_after self event_count }
     {
         match self {
-            StepResult::Joins => moment + 1,
-            StepResult::Waits | StepResult::Answered | StepResult::Failed => moment,
+            StepResult::Joins => event_count + 1,
+            StepResult::Waits | StepResult::Answered | StepResult::Failed => event_count,
         }
     }
 }

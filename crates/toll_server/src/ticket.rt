@@ -14,26 +14,26 @@ pub struct Ticket<P> {
 
 impl<P: Drop> Ticket<P> {
     /// A place of this party at the queue's end.
-    pub fn new(party: P, moment: u128) -> Self
+    pub fn new(party: P, event_count: u128) -> Self
         ensures party { result.party ≡ party }
-        ensures queued { result.queued ≡ moment }
-        ensures since { result.since ≡ moment }
+        ensures queued { result.queued ≡ event_count }
+        ensures since { result.since ≡ event_count }
     {
         Ticket {
             party,
-            queued: moment,
-            since: moment,
+            queued: event_count,
+            since: event_count,
         }
     }
 }
 
 impl<P: PartialEq + Drop> Ticket<P> {
     /// Notes that this party has a turn now. If it is this ticket's party, the wait begins anew.
-    pub fn put_behind(&mut self, party: &P, moment: u128)
-        ensures { self.new ≡ ticket_behind P.eq party.now moment self.old }
+    pub fn put_behind(&mut self, party: &P, event_count: u128)
+        ensures { self.new ≡ ticket_behind P.eq party.now event_count self.old }
     {
         if *party == self.party {
-            self.since = moment;
+            self.since = event_count;
         }
     }
 }

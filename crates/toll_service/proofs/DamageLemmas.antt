@@ -1,9 +1,9 @@
--- What is known to meet damage.
+-- The damage that a server knows of.
 use Rattle.std.proofs.Common.{◌≡◌, ◌⊎◌, ℕ, Bool, List, [], true, Contains, sym, ◌∙◌, ap, subst, inl, inr, arith}
 use Rattle.std.specs.Prelude.{⊤}
 use Rattle.std.specs.List.{list_any}
 use Rattle.std.specs.Global.{Vec}
-use Rattle.toll_service.specs.Common.{Bytes, Meaning, Listener, Owners, Plant, Poll, Ready, ImportState, IsResponse, code_of, Failed}
+use Rattle.toll_service.specs.Common.{Bytes, Meaning, Listener, Owners, Plant, Poll, Ready, ImportState, IsResponse, exit_code, Failed}
 use Rattle.toll_service.specs.Damages.{AreCallsMet, AreOwnersFound, HasFoundDamage, IsKnown, IsNoted, StaysWhere, is_owner}
 use Rattle.toll_service.specs.Faults.{fault_text}
 use Rattle.toll_service.specs.Listeners.{IsReadyWith}
@@ -13,35 +13,35 @@ use Rattle.toll_service.specs.declared.office_fault.OfficeFault.TheVariants.{Dam
 use Rattle.toll_service.specs.declared.party.Party.{Party}
 use Rattle.toll_service.specs.declared.party.Party.TheVariants.{Owner}
 
-pub known_owner : (known : Damage) (listener : Listener) (asked : Bytes) (party : Party) (owner : Bytes) (b : Bool) → listener ≡ Owners → IsBy listener asked party → party ≡ Owner owner
-    → b ≡ list_any (is_owner owner) known.owners.items → b ≡ true → IsKnown known listener asked
-known_owner known Owners asked party owner b is by its found holds = (owner, subst (λ p. IsBy Owners asked p) its by, sym found ∙ holds)
-known_owner known Plant asked party owner b is by its found holds = absurd (cc is)
+pub known_owner : (known : Damage) (listener : Listener) (requested : Bytes) (party : Party) (owner : Bytes) (b : Bool) → listener ≡ Owners → IsBy listener requested party → party ≡ Owner owner
+    → b ≡ list_any (is_owner owner) known.owners.items → b ≡ true → IsKnown known listener requested
+known_owner known Owners requested party owner b is by its found holds = (owner, subst (λ p. IsBy Owners requested p) its by, sym found ∙ holds)
+known_owner known Plant requested party owner b is by its found holds = absurd (cc is)
 
--- a call that is noted was told that it met damage
-pub call_met : (before behind : Damage) (asked : Bytes) (poll : Poll ImportState) (told : Vec ℕ) (text : Bytes) → poll ≡ Ready told → text ≡ told.items
-    → IsResponse text (code_of Failed) [] (fault_text Damaged)
-    → ((c : Vec ℕ) → Contains behind.calls.items c → Contains before.calls.items c ⊎ (c.items ≡ asked)) → AreCallsMet before behind asked poll
-call_met before behind asked poll told text is same response noted = record {
+-- A call that is noted has a reply that reports damage.
+pub call_met : (before behind : Damage) (requested : Bytes) (poll : Poll ImportState) (reported : Vec ℕ) (text : Bytes) → poll ≡ Ready reported → text ≡ reported.items
+    → IsResponse text (exit_code Failed) [] (fault_text Damaged)
+    → ((c : Vec ℕ) → Contains behind.calls.items c → Contains before.calls.items c ⊎ (c.items ≡ requested)) → AreCallsMet before behind requested poll
+call_met before behind requested poll reported text is same response noted = record {
   met = λ call there. elim (noted call there) [
     | inl known ↦ inl known
     | inr its ↦ inr (
       its,
-      subst (λ p. IsReadyWith p (λ t. IsResponse t (code_of Failed) [] (fault_text Damaged))) (sym is)
-          (subst (λ t. IsResponse t (code_of Failed) [] (fault_text Damaged)) same response),
+      subst (λ p. IsReadyWith p (λ t. IsResponse t (exit_code Failed) [] (fault_text Damaged))) (sym is)
+          (subst (λ t. IsResponse t (exit_code Failed) [] (fault_text Damaged)) same response),
     )
   ];
 }
 
-none_there : {X : Type 0} (xs : List X) (x : X) → xs ≡ [] → Contains xs x → ⊥
-none_there {X} xs x empty there = let (k, less, is) = subst (λ ys. Contains ys x) empty there in absurd (omega (arith, less))
+none_in_empty : {X : Type 0} (xs : List X) (x : X) → xs ≡ [] → Contains xs x → ⊥
+none_in_empty {X} xs x empty there = let (k, less, is) = subst (λ ys. Contains ys x) empty there in absurd (omega (arith, less))
 
 module _ {K : Type 0} (meaning : Meaning K) (is_opened : K → Type 0) where
-  -- nobody was found
-  pub none_found : (known : Damage) (owner : Bytes) → AreOwnersFound meaning is_opened known known owner
-  none_found known owner = record { found = λ name there. inl there }
+  -- No owner was added.
+  pub damage_none_found : (known : Damage) (owner : Bytes) → AreOwnersFound meaning is_opened known known owner
+  damage_none_found known owner = record { found = λ name there. inl there }
 
-  -- who is noted was found
+  -- An owner that is noted was found damaged.
   pub noted_found : (before behind : Damage) (owner : Bytes) (b : Bool) → (b ≡ true → HasFoundDamage meaning is_opened)
       → ((name : Bytes) → Contains behind.owners.items name → Contains before.owners.items name ⊎ ((name ≡ owner) × (b ≡ true)))
       → AreOwnersFound meaning is_opened before behind owner
@@ -52,41 +52,41 @@ module _ {K : Type 0} (meaning : Meaning K) (is_opened : K → Type 0) where
     ];
   }
 
-  -- what is known is what was, where this is so, or nothing
-  pub noted_none : (IsSo : Type 0) (before behind : Damage) (listener : Listener) (asked : Bytes) (poll : Poll ImportState) → StaysWhere IsSo before behind
-      → IsNoted meaning is_opened IsSo before behind listener asked poll
-  noted_none IsSo before behind listener asked poll (inl (same, so)) = record {
+  -- Nothing new is noted if what is known is unchanged, or all of it is forgotten.
+  pub noted_none : (IsSo : Type 0) (before behind : Damage) (listener : Listener) (requested : Bytes) (poll : Poll ImportState) → StaysWhere IsSo before behind
+      → IsNoted meaning is_opened IsSo before behind listener requested poll
+  noted_none IsSo before behind listener requested poll (inl (same, so)) = record {
     owners = λ owner there. inl (subst (λ d. Contains d.owners.items owner) same there, so);
     calls = λ call there. inl (subst (λ d. Contains d.calls.items call) same there, so);
   }
-  noted_none IsSo before behind listener asked poll (inr (owners, sound, calls)) = record {
-    owners = λ owner there. absurd (none_there behind.owners.items owner owners there);
-    calls = λ call there. absurd (none_there behind.calls.items call calls there);
+  noted_none IsSo before behind listener requested poll (inr (owners, sound, calls)) = record {
+    owners = λ owner there. absurd (none_in_empty behind.owners.items owner owners there);
+    calls = λ call there. absurd (none_in_empty behind.calls.items call calls there);
   }
 
-  -- the owner of a request was found
-  pub noted_owner : (before behind : Damage) (listener : Listener) (asked owner : Bytes) (poll : Poll ImportState) → listener ≡ Owners → IsBy listener asked (Owner owner)
-      → AreOwnersFound meaning is_opened before behind owner → behind.calls ≡ before.calls → IsNoted meaning is_opened ⊤ before behind listener asked poll
-  noted_owner before behind listener asked owner poll is by found same = record {
+  -- The owner of the request was noted.
+  pub noted_owner : (before behind : Damage) (listener : Listener) (requested owner : Bytes) (poll : Poll ImportState) → listener ≡ Owners → IsBy listener requested (Owner owner)
+      → AreOwnersFound meaning is_opened before behind owner → behind.calls ≡ before.calls → IsNoted meaning is_opened ⊤ before behind listener requested poll
+  noted_owner before behind listener requested owner poll is by found same = record {
     owners = λ name there. elim (found.found name there) [
       | inl known ↦ inl (known, tt)
-      | inr (its, so) ↦ inr (is, subst (λ n. IsBy listener asked (Owner n)) (sym its) by, so)
+      | inr (its, so) ↦ inr (is, subst (λ n. IsBy listener requested (Owner n)) (sym its) by, so)
     ];
     calls = λ call there. inl (subst (λ calls. Contains calls.items call) same there, tt);
   }
 
-  -- a call met damage
-  pub noted_call : (before behind : Damage) (listener : Listener) (asked : Bytes) (poll : Poll ImportState) → listener ≡ Plant
-      → behind.owners ≡ before.owners → AreCallsMet before behind asked poll → IsNoted meaning is_opened ⊤ before behind listener asked poll
-  noted_call before behind listener asked poll is same met = record {
+  -- The call is noted because it met damage.
+  pub noted_call : (before behind : Damage) (listener : Listener) (requested : Bytes) (poll : Poll ImportState) → listener ≡ Plant
+      → behind.owners ≡ before.owners → AreCallsMet before behind requested poll → IsNoted meaning is_opened ⊤ before behind listener requested poll
+  noted_call before behind listener requested poll is same met = record {
     owners = λ owner there. inl (subst (λ owners. Contains owners.items owner) same there, tt);
-    calls = λ call there. elim (met.met call there) [ inl known ↦ inl (known, tt) | inr told ↦ inr (is, told.0, told.1) ];
+    calls = λ call there. elim (met.met call there) [ inl known ↦ inl (known, tt) | inr reported ↦ inr (is, reported.0, reported.1) ];
   }
 
-  -- what is noted behind what stayed or was forgotten
-  pub noted_behind : (IsSo : Type 0) (before middle behind : Damage) (listener : Listener) (asked : Bytes) (poll : Poll ImportState) → StaysWhere IsSo before middle
-      → IsNoted meaning is_opened ⊤ middle behind listener asked poll → IsNoted meaning is_opened IsSo before behind listener asked poll
-  noted_behind IsSo before middle behind listener asked poll (inl (same, so)) noted = record {
+  -- Noting after a step that kept or forgot what is known.
+  pub noted_behind : (IsSo : Type 0) (before middle behind : Damage) (listener : Listener) (requested : Bytes) (poll : Poll ImportState) → StaysWhere IsSo before middle
+      → IsNoted meaning is_opened ⊤ middle behind listener requested poll → IsNoted meaning is_opened IsSo before behind listener requested poll
+  noted_behind IsSo before middle behind listener requested poll (inl (same, so)) noted = record {
     owners = λ owner there. elim (noted.owners owner there) [
       | inl known ↦ inl (subst (λ d. Contains d.owners.items owner) same known.0, so)
       | inr found ↦ inr found
@@ -96,13 +96,13 @@ module _ {K : Type 0} (meaning : Meaning K) (is_opened : K → Type 0) where
       | inr met ↦ inr met
     ];
   }
-  noted_behind IsSo before middle behind listener asked poll (inr (owners, sound, calls)) noted = record {
+  noted_behind IsSo before middle behind listener requested poll (inr (owners, sound, calls)) noted = record {
     owners = λ owner there. elim (noted.owners owner there) [
-      | inl known ↦ absurd (none_there middle.owners.items owner owners known.0)
+      | inl known ↦ absurd (none_in_empty middle.owners.items owner owners known.0)
       | inr found ↦ inr found
     ];
     calls = λ call there. elim (noted.calls call there) [
-      | inl known ↦ absurd (none_there middle.calls.items call calls known.0)
+      | inl known ↦ absurd (none_in_empty middle.calls.items call calls known.0)
       | inr met ↦ inr met
     ];
   }

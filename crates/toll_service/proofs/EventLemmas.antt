@@ -1,35 +1,35 @@
--- What came in at the listeners is a run of events.
+-- The inputs at the listeners are a run of events.
 use Rattle.std.proofs.Common.{◌≡◌, Bool, List, [], ◌∷◌, ◌++◌, Option, drop, Result, Ok, Err, refl, sym, subst, ap, ◌∙◌, inl, inr}
 use Rattle.std.specs.Prelude.{if◌then◌else◌, take}
-use Rattle.toll_service.proofs.Common.{list_any, append-nil, Bytes, PlantCmd, Content, Meaning, Yields as TurnComesTo, Input, IsWholeRun, Request, Task, Turn, Listener, Owners, Plant, Poll, Ready, Pending, EndWith, HasValidValues, outcomes_in, is_fault, HasActed, ImportState, left_behind, GROUP_RECORDS, Outcome, Printout, AreServed, IsAnswered, Answer, Event}
+use Rattle.toll_service.proofs.Common.{list_any, append-nil, Bytes, PlantCmd, Content, Meaning, Yields as TurnComesTo, Input, IsWholeRun, Request, Task, Turn, Listener, Owners, Plant, Poll, Ready, Pending, EndWith, HasValidValues, outcomes_in, is_fault_outcome, HasActed, ImportState, left_behind, GROUP_RECORDS, Outcome, Printout, AreServed, IsAnswered, Answer, Event}
 use Rattle.toll_desk.specs.Reads.{Over}
 use Rattle.toll_keep.specs.declared.fault.KeepFault.{KeepFault}
 use Rattle.toll_plant.proofs.GroupChains.{all_take, calm_group, faulty_group, group_honest}
 use Rattle.toll_service.proofs.ImportRuns.{records_run}
-use Rattle.toll_service.proofs.Pieces.{run_behind, run_from, run_none}
-use Rattle.toll_service.specs.Listeners.{ImportResumed, ImportYields, IsDone, IsServedIfRoom}
+use Rattle.toll_service.proofs.Pieces.{run_behind, run_from, piece_run_none}
+use Rattle.toll_service.specs.Listeners.{ImportResumed, ImportYields, IsRequestedDone, IsServedIfRoom}
 use Rattle.toll_service.specs.Events.{AreAllEventsOf, AreEventsOf, AreGroupEvents, AreRecordEvents, AreTurnEvents, IsPrintoutOf}
 use Rattle.toll_service.specs.Serving.{AnswersOver, HasServed, IsRunAs, IsRunWhereAnswered, ResumesOver, RunsOver}
 use Rattle.toll_service.specs.Requested.{Requested, RunCommand, ImportFile, UnknownWords, requested_by_call}
-use Rattle.toll_wire.proofs.Serving.{all_honest, run_of, steps_of}
+use Rattle.toll_wire.proofs.Serving.{run_all_honest, events_run_of, run_steps_of}
 use Rattle.toll_wire.specs.declared.event.Answer.TheVariants.{Bytes as Reply, Plant as CommandReply}
 use Rattle.toll_wire.specs.declared.event.Event.TheVariants.{Owner, Plant as Command}
 
 module _ {K : Type 0} (meaning : Meaning K) (settled : (k : K) (c : Content) → meaning.is_honest k → meaning.is_live k → meaning.holds k c → meaning.leaves k (c ∷ [])) where
-  -- a keep that is honest now was so before, and from each lawful history there was a run of such events
+  -- A keep that is honest now was honest before. From each lawful history there is a run whose events and answers Are holds of.
   record Ran (old new : K) (Are : List Event → List Answer → Type 0) : Type 0 where
     honest : meaning.is_honest new → meaning.is_honest old
     run : Over meaning old new (λ c H. IsRunAs (meaning.holds new) H Are)
 
-  -- nothing happened
-  nothing : (old new : K) (Are : List Event → List Answer → Type 0) → new ≡ old → Are [] [] → Ran old new Are
-  nothing old new Are same are = record {
+  -- Nothing happened.
+  event_nothing : (old new : K) (Are : List Event → List Answer → Type 0) → new ≡ old → Are [] [] → Ran old new Are
+  event_nothing old new Are same are = record {
     honest = subst meaning.is_honest same;
     run = λ now c H held stands lawful.
-        record { events = []; answers = []; are = are; run = run_none (meaning.holds new) H c (subst (λ k. meaning.holds k c) (sym same) held) stands lawful };
+        record { events = []; answers = []; are = are; run = piece_run_none (meaning.holds new) H c (subst (λ k. meaning.holds k c) (sym same) held) stands lawful };
   }
 
-  -- the same events are others' too
+  -- A run serves any weaker relation of events and answers.
   so_are : (old new : K) (Are So : List Event → List Answer → Type 0) → ((events : List Event) (answers : List Answer) → Are events answers → So events answers) → Ran old new Are → Ran old new So
   so_are old new Are So so ran = record {
     honest = ran.honest;
@@ -37,35 +37,35 @@ module _ {K : Type 0} (meaning : Meaning K) (settled : (k : K) (c : Content) →
         let r = ran.run now c H held stands lawful in record { events = r.events; answers = r.answers; are = so r.events r.answers r.are; run = r.run };
   }
 
-  -- one event was served
+  -- One event was served.
   one_ran : (old new : K) (e : Event) (a : Answer) (Are : List Event → List Answer → Type 0) → AreServed meaning old (e ∷ []) (a ∷ []) new → Are (e ∷ []) (a ∷ []) → Ran old new Are
   one_ran old new e a Are served are = record {
-    honest = all_honest meaning old new (e ∷ []) (a ∷ []) served;
+    honest = run_all_honest meaning old new (e ∷ []) (a ∷ []) served;
     run = λ now c H held stands lawful. record {
       events = e ∷ [];
       answers = a ∷ [];
       are = are;
-      run = run_of meaning settled old new (e ∷ []) (a ∷ []) c H held stands lawful (steps_of meaning settled old new (e ∷ []) (a ∷ []) served now c H held stands lawful);
+      run = events_run_of meaning settled old new (e ∷ []) (a ∷ []) c H held stands lawful (run_steps_of meaning settled old new (e ∷ []) (a ∷ []) served now c H held stands lawful);
     };
   }
 
   -- ---- a request
 
-  done_ran : (old new : K) (wanted : Requested) (p : Printout) → IsDone meaning old new wanted p → Ran old new (λ events answers. IsPrintoutOf wanted events answers p)
-  done_ran old new (RunCommand command) p (reply, served, told) =
-      one_ran old new (Command command) (CommandReply reply) (λ events answers. IsPrintoutOf (RunCommand command) events answers p) (new, served, refl) (refl, told)
-  done_ran old new (ImportFile file) p (same, (fault, why, told)) =
-      nothing old new (λ events answers. IsPrintoutOf (ImportFile file) events answers p) same (Err fault, (refl, refl), told)
-  done_ran old new (UnknownWords words) p (same, usage) = nothing old new (λ events answers. IsPrintoutOf (UnknownWords words) events answers p) same usage
+  done_ran : (old new : K) (wanted : Requested) (p : Printout) → IsRequestedDone meaning old new wanted p → Ran old new (λ events answers. IsPrintoutOf wanted events answers p)
+  done_ran old new (RunCommand command) p (reply, served, reported) =
+      one_ran old new (Command command) (CommandReply reply) (λ events answers. IsPrintoutOf (RunCommand command) events answers p) (new, served, refl) (refl, reported)
+  done_ran old new (ImportFile file) p (same, (fault, why, reported)) =
+      event_nothing old new (λ events answers. IsPrintoutOf (ImportFile file) events answers p) same (Err fault, (refl, refl), reported)
+  done_ran old new (UnknownWords words) p (same, usage) = event_nothing old new (λ events answers. IsPrintoutOf (UnknownWords words) events answers p) same usage
 
-  asked_ran : (old new : K) (listener : Listener) (asked : Bytes) (poll : Poll ImportState) → IsServedIfRoom meaning old new listener asked poll → Ran old new (AreTurnEvents (Request listener asked) poll)
-  asked_ran old new Owners asked (Ready told) (inl (keep_usable, s)) =
-      one_ran old new (Owner s.request) (Reply s.out) (AreEventsOf Owners asked told.items) (new, subst (λ bytes. IsAnswered meaning old new bytes s.out) (sym s.same) s.answered, refl) (s.same, s.tells)
-  asked_ran old new Owners asked (Ready told) (inr (same, none)) = nothing old new (AreEventsOf Owners asked told.items) same none
-  asked_ran old new Owners asked (Pending import) (inl (keep_usable, never)) = absurd never
-  asked_ran old new Owners asked (Pending import) (inr (same, never)) = absurd never
-  asked_ran old new Plant asked (Ready told) (inl (keep_usable, inl s)) =
-      so_are old new (λ events answers. IsPrintoutOf (requested_by_call s.words s.file) events answers s.printout) (AreEventsOf Plant asked told.items)
+  asked_ran : (old new : K) (listener : Listener) (requested : Bytes) (poll : Poll ImportState) → IsServedIfRoom meaning old new listener requested poll → Ran old new (AreTurnEvents (Request listener requested) poll)
+  asked_ran old new Owners requested (Ready reported) (inl (keep_usable, s)) =
+      one_ran old new (Owner s.request) (Reply s.out) (AreEventsOf Owners requested reported.items) (new, subst (λ bytes. IsAnswered meaning old new bytes s.out) (sym s.same) s.answered, refl) (s.same, s.tells)
+  asked_ran old new Owners requested (Ready reported) (inr (same, none)) = event_nothing old new (AreEventsOf Owners requested reported.items) same none
+  asked_ran old new Owners requested (Pending import) (inl (keep_usable, never)) = absurd never
+  asked_ran old new Owners requested (Pending import) (inr (same, never)) = absurd never
+  asked_ran old new Plant requested (Ready reported) (inl (keep_usable, inl s)) =
+      so_are old new (λ events answers. IsPrintoutOf (requested_by_call s.words s.file) events answers s.printout) (AreEventsOf Plant requested reported.items)
       (λ events answers printed. inl (record {
         words = s.words;
         file = s.file;
@@ -75,47 +75,47 @@ module _ {K : Type 0} (meaning : Meaning K) (settled : (k : K) (c : Content) →
         tells = elim s.telling [ inl whole ↦ inl whole.0 | inr left ↦ inr left.0 ];
       }))
       (done_ran old new (requested_by_call s.words s.file) s.printout s.done)
-  asked_ran old new Plant asked (Ready told) (inl (keep_usable, inr (asks, same, none, on))) = nothing old new (AreEventsOf Plant asked told.items) same (inr (none, refl, refl))
-  asked_ran old new Plant asked (Ready told) (inr (same, none)) = nothing old new (AreEventsOf Plant asked told.items) same (inr (none, refl, refl))
-  asked_ran old new Plant asked (Pending import) (inl (keep_usable, (begins, same, on))) = nothing old new (AreTurnEvents (Request Plant asked) (Pending import)) same (begins, refl, refl)
-  asked_ran old new Plant asked (Pending import) (inr (same, never)) = absurd never
+  asked_ran old new Plant requested (Ready reported) (inl (keep_usable, inr (asks, same, none, on))) = event_nothing old new (AreEventsOf Plant requested reported.items) same (inr (none, refl, refl))
+  asked_ran old new Plant requested (Ready reported) (inr (same, none)) = event_nothing old new (AreEventsOf Plant requested reported.items) same (inr (none, refl, refl))
+  asked_ran old new Plant requested (Pending import) (inl (keep_usable, (begins, same, on))) = event_nothing old new (AreTurnEvents (Request Plant requested) (Pending import)) same (begins, refl, refl)
+  asked_ran old new Plant requested (Pending import) (inr (same, never)) = absurd never
 
   -- ---- an import that goes on
 
-  -- what is left behind a group, by what was told of it
-  left_of : (end : Result (Unit {0}) KeepFault) (told : List Outcome) (commands : List (Option PlantCmd)) → EndWith end told
-      → left_behind end commands ≡ (if list_any is_fault told then [] else commands)
-  left_of (Ok done) told commands ends = let calm = calm_group (Ok done) told ends refl in rw calm refl
-  left_of (Err fault) told commands ends = let faulty = faulty_group fault told ends in rw faulty refl
+  -- The outcomes of a group determine which records are left after it.
+  left_of : (end : Result (Unit {0}) KeepFault) (reported : List Outcome) (commands : List (Option PlantCmd)) → EndWith end reported
+      → left_behind end commands ≡ (if list_any is_fault_outcome reported then [] else commands)
+  left_of (Ok done) reported commands ends = let calm = calm_group (Ok done) reported ends refl in rw calm refl
+  left_of (Err fault) reported commands ends = let faulty = faulty_group fault reported ends in rw faulty refl
 
   acted_ran : (old new : K) (was now : ImportState) (poll : Poll ImportState) (keep_usable : Bool) → ImportYields now poll keep_usable → HasActed meaning old new was now → Ran old new (AreGroupEvents was poll)
   acted_ran old new was now poll keep_usable comes acted =
       let group = take GROUP_RECORDS was.left in
       record {
-        honest = group_honest meaning old new (record { commands = group; told = acted.told; end = acted.end }) acted.served;
+        honest = group_honest meaning old new (record { commands = group; reported = acted.reported; end = acted.end }) acted.served;
         run = λ honest c H held stands lawful.
             let done = (acted.served.done honest c H held stands lawful).run in
-            let r = records_run H group acted.told done.last (all_take HasValidValues GROUP_RECORDS was.left acted.valid) done.imported in
+            let r = records_run H group acted.reported done.last (all_take HasValidValues GROUP_RECORDS was.left acted.valid) done.imported in
             record {
               events = r.events;
               answers = r.answers;
               are = record {
                 now = now;
-                told = acted.told;
+                reported = acted.reported;
                 are = r.are;
                 said = acted.said;
-                left = acted.left ∙ left_of acted.end acted.told (drop GROUP_RECORDS was.left) acted.served.ends;
+                left = acted.left ∙ left_of acted.end acted.reported (drop GROUP_RECORDS was.left) acted.served.ends;
                 keep_usable = keep_usable;
                 comes = comes;
               };
-              run = run_from (meaning.holds new) H done.last r.events r.answers r.happenings r.told lawful r.shown r.valid r.run done.lawful done.left;
+              run = run_from (meaning.holds new) H done.last r.events r.answers r.happenings r.reported lawful r.shown r.valid r.run done.lawful done.left;
             };
       }
 
   none_left : (was : ImportState) (poll : Poll ImportState) (keep_usable : Bool) → was.left ≡ [] → ImportYields was poll keep_usable → AreGroupEvents was poll [] []
   none_left was poll keep_usable none comes = record {
     now = was;
-    told = [];
+    reported = [];
     are = subst (λ left. AreRecordEvents [] (take GROUP_RECORDS left) [] []) (sym none) tt;
     said = sym (append-nil (outcomes_in was.lines));
     left = subst (λ left. left ≡ drop GROUP_RECORDS left) (sym none) refl;
@@ -126,14 +126,14 @@ module _ {K : Type 0} (meaning : Meaning K) (settled : (k : K) (c : Content) →
   went_ran : (old new : K) (was : ImportState) (poll : Poll ImportState) (keep_usable : Bool) → ImportResumed meaning old new was poll keep_usable → Ran old new (AreGroupEvents was poll)
   went_ran old new was poll keep_usable w = elim w.resumed [
     | inl acted ↦ acted_ran old new was w.now poll keep_usable w.comes acted
-    | inr over ↦ nothing old new (AreGroupEvents was poll) over.1 (none_left was poll keep_usable over.0 (subst (λ now. ImportYields now poll keep_usable) over.2 w.comes))
+    | inr over ↦ event_nothing old new (AreGroupEvents was poll) over.1 (none_left was poll keep_usable over.0 (subst (λ now. ImportYields now poll keep_usable) over.2 w.comes))
   ]
 
   -- ---- all turns
 
   turn_ran : {O : Type 0} (keep : O → K) (old new : O) (input : Input ImportState) (poll : Poll ImportState)
       → TurnComesTo (AnswersOver meaning keep) (ResumesOver meaning keep) old input poll new → Ran (keep old) (keep new) (AreTurnEvents input poll)
-  turn_ran keep old new (Request listener asked) poll one = asked_ran (keep old) (keep new) listener asked poll one
+  turn_ran keep old new (Request listener requested) poll one = asked_ran (keep old) (keep new) listener requested poll one
   turn_ran keep old new (Task import) poll (keep_usable, resumed) = went_ran (keep old) (keep new) import poll keep_usable resumed
 
   one_part : (turn : Turn ImportState) (turns : List (Turn ImportState)) (events later : List Event) (answers behind : List Answer) → AreTurnEvents turn.input turn.poll events answers
@@ -147,7 +147,7 @@ module _ {K : Type 0} (meaning : Meaning K) (settled : (k : K) (c : Content) →
   }
 
   turns_ran : {O : Type 0} (keep : O → K) (old new : O) (turns : List (Turn ImportState)) → RunsOver meaning keep old turns new → Ran (keep old) (keep new) (AreAllEventsOf turns)
-  turns_ran keep old new [] same = nothing (keep old) (keep new) (AreAllEventsOf []) (ap keep same) (record { parts = []; are = tt; turns_are = refl; events_are = refl; answers_are = refl })
+  turns_ran keep old new [] same = event_nothing (keep old) (keep new) (AreAllEventsOf []) (ap keep same) (record { parts = []; are = tt; turns_are = refl; events_are = refl; answers_are = refl })
   turns_ran keep old new (turn ∷ turns) (middle, one, rest) =
       let first = turn_ran keep old middle turn.input turn.poll one in
       let others = turns_ran keep middle new turns rest in
@@ -164,10 +164,10 @@ module _ {K : Type 0} (meaning : Meaning K) (settled : (k : K) (c : Content) →
             };
       }
 
-  -- an office that has a keep is asked as the keep is
+  -- An office that has a keep answers as the keep does.
   turn_over : {O : Type 0} (keep : O → K) (old new : O) (input : Input ImportState) (poll : Poll ImportState) → TurnComesTo (AnswersOver meaning keep) (ResumesOver meaning keep) old input poll new
       → TurnComesTo (AnswersOver meaning (λ k. k)) (ResumesOver meaning (λ k. k)) (keep old) input poll (keep new)
-  turn_over keep old new (Request listener asked) poll one = one
+  turn_over keep old new (Request listener requested) poll one = one
   turn_over keep old new (Task import) poll one = one
 
   runs_over : {O : Type 0} (keep : O → K) (old new : O) (turns : List (Turn ImportState)) → RunsOver meaning keep old turns new → RunsOver meaning (λ k. k) (keep old) turns (keep new)

@@ -1,32 +1,32 @@
--- What came in while one office stood open.
+-- The inputs while one office stayed open.
 use Rattle.std.proofs.Common.{◌≡◌, ◌⊎◌, ◌∙◌, ◌≤◌, ◌+◌, ◌^◌, ◌-◌, Bool, ap, List, [], ◌∷◌, Option, None, Some, Result, refl, sym, subst, inl, inr, arith}
 use Rattle.std.specs.Prelude.{⊤}
 use Rattle.toll_keep.specs.Content.{Content}
 use Rattle.toll_keep.specs.Meaning.{Meaning}
-use Rattle.toll_service.specs.Openings.{IsOneOpened, IsOneRefused, IsUnasked, Openings}
+use Rattle.toll_service.specs.Openings.{IsOneOpened, IsOneRefused, IsNoneOpened, Openings}
 use Rattle.toll_service.specs.declared.file_stamps.LeftFiles.{LeftFiles}
 use Rattle.toll_service.specs.declared.office_fault.OfficeFault.{OfficeFault}
 use Rattle.toll_service.specs.declared.office_session.OfficeSession.{OfficeSession}
-use Rattle.toll_service.specs.Sessions.{AnswersBy, AreAsLeft, AreCounted, AreThoseTaken, HasReadAhead, IsAtHand, IsIdle, IsLeft, IsNew, IsOpenedAhead, IsSessionRun, IsTakenOver, IsToldBy, IsUnopened, IsUnserved, IsWithheld, ResumesBy, SessionState, state_of_session}
+use Rattle.toll_service.specs.Sessions.{AnswersBy, AreAsLeft, AreCounted, AreThoseTaken, HasReadAhead, IsAtHand, IsSessionIdle, IsLeftOpen, IsNewSession, IsOpenedAhead, IsSessionRun, IsTakenOver, IsToldBy, IsSessionUnopened, IsUnserved, IsWithheld, ResumesBy, SessionState, state_of_session}
 use Rattle.toll_service.specs.Listeners.{IsReadyWith}
-use Rattle.toll_server.specs.Runs.{Input, Request, Task, Yields, Runs, Turn}
+use Rattle.toll_server.specs.Runs.{Input, Request, Task, Yields, TakesTurns, Turn}
 use Rattle.toll_server.specs.declared.poll.Poll.{Poll}
 use Rattle.toll_plant.specs.ImportStates.{ImportState}
 use Rattle.toll_service.proofs.EventLemmas.{were_served}
 use Rattle.toll_service.specs.Serving.{AnswersOver, ResumesOver, RunsOver}
 
 module _ {K : Type 0} (meaning : Meaning K) (is_opened : K → Type 0) where
-  -- what was handed over came to this over an office, or no office could be asked, and that was told
-  abbrev IsToldOver : SessionState K → Input ImportState → Poll ImportState → SessionState K → Type 0
-  IsToldOver old input poll new = IsTakenOver meaning is_opened ⊤ old input poll new ⊎ (IsIdle old new × IsReadyWith poll (IsUnserved input))
+  -- The input was taken over an office, or no office was available and the response says so.
+  abbrev IsReportedOver : SessionState K → Input ImportState → Poll ImportState → SessionState K → Type 0
+  IsReportedOver old input poll new = IsTakenOver meaning is_opened ⊤ old input poll new ⊎ (IsSessionIdle old new × IsReadyWith poll (IsUnserved input))
 
-  -- each turn over what those before it left
+  -- Each turn acts on the session that the turns before it left.
   abbrev TurnsLead : SessionState K → List (Turn ImportState) → SessionState K → Type 0
   TurnsLead old [] new = new ≡ old
-  TurnsLead old (t ∷ turns) new = (middle : SessionState K) × IsToldOver old t.input t.poll middle × TurnsLead middle turns new
+  TurnsLead old (t ∷ turns) new = (middle : SessionState K) × IsReportedOver old t.input t.poll middle × TurnsLead middle turns new
 
-  some_is : {x y : K} → Some x ≡ Some y → x ≡ y
-  some_is h = (cc)
+  session_some_is : {x y : K} → Some x ≡ Some y → x ≡ y
+  session_some_is h = (cc)
 
   no_office : {x : K} {k : Option K} → k ≡ None → k ≡ Some x → ⊥
   no_office none some = absurd (cc (none, some))
@@ -35,53 +35,53 @@ module _ {K : Type 0} (meaning : Meaning K) (is_opened : K → Type 0) where
   more_or_same old middle first (inl (there, same, still)) = omega (arith, same)
   more_or_same old middle first (inr (opened, more)) = omega (arith, more)
 
-  -- offices are counted on
-  counts : (old new : SessionState K) (turns : List (Turn ImportState)) → TurnsLead old turns new → old.openings ≤ new.openings
-  counts old new [] same = let is : new.openings ≡ old.openings = ap (λ s. s.openings) same in omega (arith, is)
-  counts old new (t ∷ turns) (middle, inl one, rest) =
-      let behind = counts middle new turns rest in
+  -- The number of openings never falls.
+  session_counts : (old new : SessionState K) (turns : List (Turn ImportState)) → TurnsLead old turns new → old.openings ≤ new.openings
+  session_counts old new [] same = let is : new.openings ≡ old.openings = ap (λ s. s.openings) same in omega (arith, is)
+  session_counts old new (t ∷ turns) (middle, inl one, rest) =
+      let behind = session_counts middle new turns rest in
       let before = more_or_same old middle one.first one.begins in omega (arith, behind, before)
-  counts old new (t ∷ turns) (middle, inr (idle, turned), rest) =
-      let behind = counts middle new turns rest in omega (arith, behind, idle.1)
+  session_counts old new (t ∷ turns) (middle, inr (idle, turned), rest) =
+      let behind = session_counts middle new turns rest in omega (arith, behind, idle.1)
 
-  -- where none is open and none is opened, none is begun with
+  -- If no office is open and none is opened, none is used.
   not_begun : (old middle new : SessionState K) (first : K) → old.keep ≡ None → middle.openings ≤ new.openings → new.openings ≡ old.openings
       → IsAtHand is_opened ⊤ old middle first → ⊥
   not_begun old middle new first none behind count (inl (there, same, still)) = no_office none there
   not_begun old middle new first none behind count (inr (opened, more)) = omega (arith, behind, more, count)
 
-  -- where none is opened, it is the one that stood open
+  -- If none is opened, the office is the one that was open.
   same_office : (old middle new : SessionState K) (first begun : K) → old.keep ≡ Some first → middle.openings ≤ new.openings → new.openings ≡ old.openings
       → IsAtHand is_opened ⊤ old middle begun → (begun ≡ first) × (new.openings ≡ middle.openings)
-  same_office old middle new first begun there behind count (inl (is, same, still)) = (some_is (sym is ∙ there), omega (arith, same, count))
+  same_office old middle new first begun there behind count (inl (is, same, still)) = (session_some_is (sym is ∙ there), omega (arith, same, count))
   same_office old middle new first begun there behind count (inr (opened, more)) = absurd (omega (arith, behind, more, count))
 
   still_none : (old middle : SessionState K) → old.keep ≡ None → (middle.keep ≡ old.keep) ⊎ (middle.keep ≡ None) → middle.keep ≡ None
   still_none old middle none (inl same) = same ∙ none
   still_none old middle none (inr closed) = closed
 
-  -- then all are turned away
+  -- Then all inputs are turned away.
   all_turned : (old new : SessionState K) (turns : List (Turn ImportState)) → TurnsLead old turns new → old.keep ≡ None → new.openings ≡ old.openings
       → AreThoseTaken turns [] × (new.keep ≡ None)
   all_turned old new [] same none count = (refl, ap (λ s. s.keep) same ∙ none)
   all_turned old new (t ∷ turns) (middle, inl one, rest) none count =
-      absurd (not_begun old middle new one.first none (counts middle new turns rest) count one.begins)
+      absurd (not_begun old middle new one.first none (session_counts middle new turns rest) count one.begins)
   all_turned old new (t ∷ turns) (middle, inr (idle, turned), rest) none count =
       let more = all_turned middle new turns rest (still_none old middle none idle.0) (omega (arith, count, idle.1)) in (inl (turned, more.0), more.1)
 
-  -- those that were asked, one after another over the office
+  -- the inputs that used the office, one after another
   record Sat (first : K) (turns : List (Turn ImportState)) (new : SessionState K) : Type 0 where
     last : K
     taken : List (Turn ImportState)
     those : AreThoseTaken turns taken
     runs : RunsOver meaning (λ keep. keep) first taken last
-    left : IsLeft last new
+    left : IsLeftOpen last new
 
   sat : (old new : SessionState K) (turns : List (Turn ImportState)) (first : K) → TurnsLead old turns new → old.keep ≡ Some first → new.openings ≡ old.openings → Sat first turns new
   sat old new [] first same there count =
       record { last = first; taken = []; those = refl; runs = refl; left = inl (ap (λ s. s.keep) same ∙ there) }
   sat old new (t ∷ turns) first (middle, inl one, rest) there count =
-      let behind = counts middle new turns rest in
+      let behind = session_counts middle new turns rest in
       let same = same_office old middle new first one.first there behind count one.begins in
       let from = one.taken in
       let comes = subst (λ k. Yields (AnswersOver meaning (λ keep. keep)) (ResumesOver meaning (λ keep. keep)) k t.input t.poll from.last) same.0 from.comes in
@@ -104,7 +104,7 @@ module _ {K : Type 0} (meaning : Meaning K) (is_opened : K → Type 0) where
             record { last = first; taken = []; those = inl (turned, all.0); runs = refl; left = inr all.1 }
       ]
 
-  -- whatever is so where an office stood open
+  -- The condition on an office that was open may be dropped.
   taken_over : (IsSo : Type 0) (old new : SessionState K) (input : Input ImportState) (poll : Poll ImportState)
       → IsTakenOver meaning is_opened IsSo old input poll new → IsTakenOver meaning is_opened ⊤ old input poll new
   taken_over IsSo old new input poll one = record {
@@ -114,33 +114,33 @@ module _ {K : Type 0} (meaning : Meaning K) (is_opened : K → Type 0) where
   }
 
   module _ (is_found : LeftFiles → Result Bool OfficeFault → Type 0) where
-    told_so : (IsSo : Type 0) (old new : OfficeSession K) (before behind : Option Openings) (input : Input ImportState) (poll : Poll ImportState)
-        → IsToldBy meaning is_opened is_found IsSo old before behind input poll new → IsToldOver (state_of_session old) input poll (state_of_session new)
-    told_so IsSo old new before behind input poll (inl (one, so)) =
+    session_served_so : (IsSo : Type 0) (old new : OfficeSession K) (before behind : Option Openings) (input : Input ImportState) (poll : Poll ImportState)
+        → IsToldBy meaning is_opened is_found IsSo old before behind input poll new → IsReportedOver (state_of_session old) input poll (state_of_session new)
+    session_served_so IsSo old new before behind input poll (inl (one, so)) =
         inl (taken_over (AreAsLeft is_found old) (state_of_session old) (state_of_session new) input poll one)
-    told_so IsSo old new before behind input poll (inr away) = inr (away.idle, away.told)
+    session_served_so IsSo old new before behind input poll (inr away) = inr (away.idle, away.reported)
 
-    told_by : {O : Type 0} (session : O → OfficeSession K) (tally : O → Option Openings) (old new : O) (input : Input ImportState) (poll : Poll ImportState)
+    reported_by : {O : Type 0} (session : O → OfficeSession K) (tally : O → Option Openings) (old new : O) (input : Input ImportState) (poll : Poll ImportState)
         → Yields (AnswersBy meaning is_opened is_found session tally) (ResumesBy meaning is_opened is_found session tally) old input poll new
-        → IsToldOver (state_of_session (session old)) input poll (state_of_session (session new))
-    told_by session tally old new (Request listener asked) poll one = told_so _ (session old) (session new) (tally old) (tally new) (Request listener asked) poll one
-    told_by session tally old new (Task import) poll one = told_so _ (session old) (session new) (tally old) (tally new) (Task import) poll one
+        → IsReportedOver (state_of_session (session old)) input poll (state_of_session (session new))
+    reported_by session tally old new (Request listener requested) poll one = session_served_so _ (session old) (session new) (tally old) (tally new) (Request listener requested) poll one
+    reported_by session tally old new (Task import) poll one = session_served_so _ (session old) (session new) (tally old) (tally new) (Task import) poll one
 
     told_over : {O : Type 0} (session : O → OfficeSession K) (tally : O → Option Openings) (old new : O) (turns : List (Turn ImportState))
-        → Runs (AnswersBy meaning is_opened is_found session tally) (ResumesBy meaning is_opened is_found session tally) old turns new
+        → TakesTurns (AnswersBy meaning is_opened is_found session tally) (ResumesBy meaning is_opened is_found session tally) old turns new
         → TurnsLead (state_of_session (session old)) turns (state_of_session (session new))
     told_over session tally old new [] same = ap (λ o. state_of_session (session o)) same
     told_over session tally old new (t ∷ turns) (middle, one, rest) =
-        (state_of_session (session middle), told_by session tally old middle t.input t.poll one, told_over session tally middle new turns rest)
+        (state_of_session (session middle), reported_by session tally old middle t.input t.poll one, told_over session tally middle new turns rest)
 
-    -- what came in while one office stood open was a run over it
+    -- The inputs while one office stayed open are a run over it.
     pub sitting : {O : Type 0} → ((k : K) (c : Content) → meaning.is_honest k → meaning.is_live k → meaning.holds k c → meaning.leaves k (c ∷ []))
         → (session : O → OfficeSession K) (tally : O → Option Openings) (old new : O) (turns : List (Turn ImportState)) (first : K)
-        → Runs (AnswersBy meaning is_opened is_found session tally) (ResumesBy meaning is_opened is_found session tally) old turns new
+        → TakesTurns (AnswersBy meaning is_opened is_found session tally) (ResumesBy meaning is_opened is_found session tally) old turns new
         → (state_of_session (session old)).keep ≡ Some first → (state_of_session (session new)).openings ≡ (state_of_session (session old)).openings
         → IsSessionRun meaning first turns (state_of_session (session new))
-    sitting settled session tally old new turns first told there count =
-        let over = sat (state_of_session (session old)) (state_of_session (session new)) turns first (told_over session tally old new turns told) there count in
+    sitting settled session tally old new turns first reported there count =
+        let over = sat (state_of_session (session old)) (state_of_session (session new)) turns first (told_over session tally old new turns reported) there count in
         record {
           last = over.last;
           taken = over.taken;
@@ -149,19 +149,19 @@ module _ {K : Type 0} (meaning : Meaning K) (is_opened : K → Type 0) where
           left = over.left;
         }
 
--- an office that is opened ahead
+-- An office that is opened ahead.
 module _ {K : Type 0} (meaning : Meaning K) (is_opened : K → Type 0) where
-  -- it was opened now, since none stood open
-  pub opened_ahead : (IsSo : Type 0) (old middle new : SessionState K) (first then : K) (before behind last : Option Openings) → IsUnopened old → IsAtHand is_opened IsSo old middle first
-      → AreCounted old middle before behind → HasReadAhead meaning first then → IsLeft then new → new.openings ≡ middle.openings → last ≡ behind → IsOpenedAhead meaning is_opened before last new
+  -- It was opened now, because none was open.
+  pub opened_ahead : (IsSo : Type 0) (old middle new : SessionState K) (first then : K) (before behind last : Option Openings) → IsSessionUnopened old → IsAtHand is_opened IsSo old middle first
+      → AreCounted old middle before behind → HasReadAhead meaning first then → IsLeftOpen then new → new.openings ≡ middle.openings → last ≡ behind → IsOpenedAhead meaning is_opened before last new
   opened_ahead IsSo old middle new first then before behind last (none, zero) (inl (there, same, still)) counted read left count tally = absurd (cc (none, there))
   opened_ahead IsSo old middle new first then before behind last (none, zero) (inr (opened, more)) (inl (same, unasked)) read left count tally = absurd (omega (arith, more, same))
   opened_ahead IsSo old middle new first then before behind last (none, zero) (inr (opened, more)) (inr (more_too, once)) read left count tally =
       inr (first, then, opened, read, left, omega (arith, count, more, zero), tally ∙ once)
 
-  -- or one was refused
-  pub refused_ahead : (is_found : LeftFiles → Result Bool OfficeFault → Type 0) (old new : OfficeSession K) (before behind : Option Openings) → IsNew old
-      → IsIdle (state_of_session old) (state_of_session new) → IsWithheld is_found old before behind → IsOpenedAhead meaning is_opened before behind (state_of_session new)
+  -- An opening was refused.
+  pub refused_ahead : (is_found : LeftFiles → Result Bool OfficeFault → Type 0) (old new : OfficeSession K) (before behind : Option Openings) → IsNewSession old
+      → IsSessionIdle (state_of_session old) (state_of_session new) → IsWithheld is_found old before behind → IsOpenedAhead meaning is_opened before behind (state_of_session new)
   refused_ahead is_found old new before behind fresh idle why =
       let none : (state_of_session new).keep ≡ None = elim (idle.0) [ inl same ↦ same ∙ fresh.unopened.0 | inr closed ↦ closed ] in
       let zero : (state_of_session new).openings ≡ 0 = idle.1 ∙ fresh.unopened.1 in

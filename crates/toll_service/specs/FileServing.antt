@@ -14,11 +14,12 @@ use Rattle.toll_service.specs.declared.office_fault.OfficeFault.{OfficeFault}
 use Rattle.toll_service.specs.declared.office_service.OfficeService.{OfficeService}
 use Rattle.toll_service.specs.declared.party.Party.{Party}
 
--- the openings that a service's opener has counted
+-- the tally of a service's opener
 abbrev pub openings_of : {K O : Type 0} → (O → Option Openings) → OfficeService K O → Option Openings
 openings_of openings service = openings service.office_path.opener
 
--- nobody was served yet: none was opened, or one ahead, whose rows may have been read, by an opener that had counted so many before; no damage is known, and no import is under way
+-- The service has answered nothing yet. Either no office was opened, or one was opened ahead and its rows may have been read. No damage is
+-- known, and no import is under way.
 pub record IsFresh {K O : Type 0} (meaning : Meaning K) (is_opened : K → Type 0) (openings : O → Option Openings) (before : Option Openings) (service : OfficeService K O) : Type 0 where
   pub begins : IsOpenedAhead meaning is_opened before (openings_of openings service) (state_of_session service.session)
   pub unknown : KnowsNothing service.session.damage
@@ -26,17 +27,17 @@ pub record IsFresh {K O : Type 0} (meaning : Meaning K) (is_opened : K → Type 
   pub lock : IsLockKept service.session
 
 module _ {K O : Type 0} (meaning : Meaning K) (is_opened : K → Type 0) (is_found : LeftFiles → Result Bool OfficeFault → Type 0) (openings : O → Option Openings) where
-  -- the service of an office in a file answers by its session
+  -- The service of an office in a file answers by its session.
   abbrev pub Answers : OfficeService K O → Listener → Bytes → Poll ImportState → OfficeService K O → Type 0
   Answers = AnswersBy meaning is_opened is_found (λ service. service.session) (openings_of openings)
 
-  -- and goes on with an import by it
+  -- The service goes on with an import by its session.
   abbrev pub Resumes : OfficeService K O → ImportState → Poll ImportState → OfficeService K O → Type 0
   Resumes = ResumesBy meaning is_opened is_found (λ service. service.session) (openings_of openings)
 
-  -- from a service that had served nobody, all was served by turns and by nothing else: in turn, and in rounds over the network; each import was gone on with
-  -- for whom it was left, and where all has ended, none is left
-  pub record IsPlaceServed {S : Type 0} (same : Party → Party → Bool) (unread : S → Option (List ℕ)) (opener : O) (before behind : Option (Tally S)) (IsOver : Type 0) : Type 0 where
+  -- The service had answered nothing at first and changed by turns alone: in order, and in rounds over the network. Each import was
+  -- continued for the client that began it, and once everything is over, none is left.
+  pub record IsFileServed {S : Type 0} (same : Party → Party → Bool) (unread : S → Option (List ℕ)) (opener : O) (before behind : Option (Tally S)) (IsOver : Type 0) : Type 0 where
     pub first : OfficeService K O
     pub last : OfficeService K O
     pub fresh : IsFresh meaning is_opened openings (openings opener) first

@@ -1,13 +1,13 @@
 -- What is answered at the two listeners of a server, over a keep.
 use Rattle.std.specs.Prelude.{◌≡◌, ◌≢◌, ◌⊎◌, ◌==◌, ℕ, Bool, true, false, not, List, [], Option, Ok, Err}
 use Rattle.std.specs.Global.{Vec}
-use Rattle.toll_service.specs.Common.{Bytes, Meaning, IsCall, IsResponse, Listener, Owners, Plant, Poll, Ready, Pending, AreNumbered, IsResumed, IsBegun, ImportState, ImportFault, ImportReport, code_of, IsImportTold, Printout, Failed, Unread, out_bytes}
+use Rattle.toll_service.specs.Common.{Bytes, Meaning, IsCall, IsResponse, Listener, Owners, Plant, Poll, Ready, Pending, AreNumberedFrom, IsResumed, IsBegun, ImportState, ImportFault, ImportReport, exit_code, IsImportPrintout, Printout, Failed, Usage, out_bytes}
 use Rattle.toll_plant.specs.ImportFaults.{IsRefusedFor}
-use Rattle.toll_plant.specs.Table.{plant_lines}
+use Rattle.toll_plant.specs.Table.{command_lines}
 use Rattle.toll_plant.specs.Usages.{usage_text}
 use Rattle.toll_plant.specs.declared.report.ImportLine.{ImportLine}
 use Rattle.toll_programs.specs.Done.{IsCommandDone}
-use Rattle.toll_programs.specs.Outputs.{IsStoppedImportTold, on_error, refused_file}
+use Rattle.toll_programs.specs.Outputs.{IsStoppedImportPrintout, on_error, refused_file}
 use Rattle.toll_service.specs.Unwritten.{unwritten}
 use Rattle.toll_service.specs.Requested.{Requested, RunCommand, ImportFile, UnknownWords, requested_by_call}
 use Rattle.toll_wire.specs.Steps.{IsAnswered}
@@ -16,115 +16,116 @@ use Rattle.toll_wire.specs.declared.outgoing.Out.TheVariants.{Text, Unavailable}
 
 -- ---- what is printed
 
--- how these words' command is written, or how all are
+-- the usage of these words' command, or of all commands
 abbrev pub usage_printout : List Bytes → Printout
-usage_printout words = on_error Unread (usage_text plant_lines words)
+usage_printout words = on_error Usage (usage_text command_lines words)
 
--- the frame tells this
-abbrev pub Tells : (told : Bytes) → Printout → Type 0
-Tells told p = IsResponse told p.status p.output p.error
+-- The frame carries this printout.
+abbrev pub IsResponseOf : (reported : Bytes) → Printout → Type 0
+IsResponseOf reported p = IsResponse reported p.status p.output p.error
 
--- and the keep goes on but after a failure
-abbrev pub IsTelling : (keep_usable : Bool) → Printout → (told : Bytes) → Type 0
-IsTelling keep_usable p told = Tells told p × (keep_usable ≡ not (p.status == code_of Failed))
+-- The frame carries this printout, and the keep stays usable unless the status is that of a failure.
+abbrev pub IsFrameResponse : (keep_usable : Bool) → Printout → (reported : Bytes) → Type 0
+IsFrameResponse keep_usable p reported = IsResponseOf reported p × (keep_usable ≡ not (p.status == exit_code Failed))
 
--- this is so of a printout, or where there is no memory for so much, of what is left of it where the program can write nothing
+-- IsSo holds of the printout. If there is no memory for so much, it holds of what is left of it when the program can write nothing.
 abbrev pub IfRoom : (Printout → Type 0) → Printout → Type 0
 IfRoom IsSo p = IsSo p ⊎ IsSo (unwritten p)
 
-abbrev pub IsTellingIfRoom : (keep_usable : Bool) → Printout → (told : Bytes) → Type 0
-IsTellingIfRoom keep_usable p told = IfRoom (λ left. IsTelling keep_usable left told) p
+abbrev pub IsFrameResponseIfRoom : (keep_usable : Bool) → Printout → (reported : Bytes) → Type 0
+IsFrameResponseIfRoom keep_usable p reported = IfRoom (λ left. IsFrameResponse keep_usable left reported) p
 
--- this is so of what is told, and no import is left
+-- The turn ends with a response for which IsSo holds, and leaves no import.
 abbrev pub IsReadyWith : Poll ImportState → (Bytes → Type 0) → Type 0
-IsReadyWith (Ready told) IsSo = IsSo told.items
+IsReadyWith (Ready reported) IsSo = IsSo reported.items
 IsReadyWith (Pending import) IsSo = ⊥
 
 -- ---- an import
 
--- the import of a file begins; or why there is none is told
-abbrev pub BeginsOrTells : (file : Bytes) → Poll ImportState → (keep_usable : Bool) → Type 0
-BeginsOrTells file (Pending import) keep_usable = IsBegun file import × (keep_usable ≡ true)
-BeginsOrTells file (Ready told) keep_usable = (fault : ImportFault) × IsRefusedFor file fault × IsTellingIfRoom keep_usable (refused_file fault) told.items
+-- The import of a file begins, or the response reports why it doesn't.
+abbrev pub BeginsOrRefuses : (file : Bytes) → Poll ImportState → (keep_usable : Bool) → Type 0
+BeginsOrRefuses file (Pending import) keep_usable = IsBegun file import × (keep_usable ≡ true)
+BeginsOrRefuses file (Ready reported) keep_usable = (fault : ImportFault) × IsRefusedFor file fault × IsFrameResponseIfRoom keep_usable (refused_file fault) reported.items
 
--- the frame asks for the import of a file, of which all records are left
-pub record BeginsImport (asked : Bytes) (import : ImportState) : Type 0 where
+-- The frame asks for the import of a file, and all of its records are left.
+pub record BeginsImport (requested : Bytes) (import : ImportState) : Type 0 where
   pub words : List Bytes
   pub sent : Option Bytes
-  pub asks : IsCall asked words sent
+  pub asks : IsCall requested words sent
   pub file : Bytes
   pub wants : requested_by_call words sent ≡ ImportFile file
   pub begun : IsBegun file import
 
--- the report of an import with these lines is told; the keep goes on but after a failure
-pub record IsReportTelling (lines : List ImportLine) (told : Bytes) (keep_usable : Bool) : Type 0 where
+-- The response is the report of an import with these lines. The keep stays usable unless the status is that of a failure.
+pub record IsReportResponse (lines : List ImportLine) (reported : Bytes) (keep_usable : Bool) : Type 0 where
   pub report : ImportReport
   pub its : report.lines.items ≡ lines
-  pub numbered : AreNumbered 1 lines
+  pub numbered : AreNumberedFrom 1 lines
   pub printout : Printout
-  pub printed : IsImportTold (Ok report) printout
-  pub telling : IsTellingIfRoom keep_usable printout told
+  pub printed : IsImportPrintout (Ok report) printout
+  pub telling : IsFrameResponseIfRoom keep_usable printout reported
 
--- what came of the records so far is told, and why no more act, with the exit status of a failure
-abbrev pub IsImportAborted : List ImportLine → (why told : Bytes) → (keep_usable : Bool) → Type 0
-IsImportAborted lines why told keep_usable = (p : Printout) × IsStoppedImportTold lines why p × IsTellingIfRoom keep_usable p told
+-- The response reports the outcomes of the records so far and why no more act, with the exit status of a failure.
+abbrev pub IsImportAborted : List ImportLine → (why reported : Bytes) → (keep_usable : Bool) → Type 0
+IsImportAborted lines why reported keep_usable = (p : Printout) × IsStoppedImportPrintout lines why p × IsFrameResponseIfRoom keep_usable p reported
 
--- where records are left so is the import, and else its report is told
+-- If records are left, the import goes on; otherwise its report is the response.
 abbrev pub ImportYields : ImportState → Poll ImportState → (keep_usable : Bool) → Type 0
 ImportYields import (Pending task) keep_usable = (import.left ≢ []) × (task ≡ import) × (keep_usable ≡ true)
-ImportYields import (Ready told) keep_usable = (import.left ≡ []) × IsReportTelling import.lines told.items keep_usable
+ImportYields import (Ready reported) keep_usable = (import.left ≡ []) × IsReportResponse import.lines reported.items keep_usable
 
 -- ---- the two listeners
 
--- a reply there is but 503
+-- whether the reply has a text: each reply but 503 has one
 abbrev pub has_text : Out → Bool
 has_text (Text text) = true
 has_text Unavailable = false
 
--- the bytes ask nothing of the office: they are no frame, or one that was cut
-abbrev pub AsksNothing : Bytes → Type 0
-AsksNothing asked = (words : List Bytes) (file : Option Bytes) → ¬ (IsCall asked words file)
+-- The bytes ask nothing of the office: they are no frame, or a frame that was cut.
+abbrev pub HasNoCall : Bytes → Type 0
+HasNoCall requested = (words : List Bytes) (file : Option Bytes) → ¬ (IsCall requested words file)
 
 module _ {K : Type 0} (meaning : Meaning K) (old new : K) where
-  -- the request was answered over the keep, and all of that answer is the reply; the keep goes on but after 503
-  pub record IsOwnerServed (asked told : Bytes) (keep_usable : Bool) : Type 0 where
+  -- The request was answered over the keep, and the response is that whole answer. The keep stays usable unless the reply is 503.
+  pub record IsOwnerServed (requested reported : Bytes) (keep_usable : Bool) : Type 0 where
     -- the request, as an event has it
     pub request : Vec ℕ
-    pub same : request.items ≡ asked
+    pub same : request.items ≡ requested
     pub out : Out
-    pub answered : IsAnswered meaning old new asked out
-    pub tells : told ≡ out_bytes out
+    pub answered : IsAnswered meaning old new requested out
+    pub tells : reported ≡ out_bytes out
     pub goes : keep_usable ≡ has_text out
 
-  -- what is wanted was done, once and nothing else, and this tells it; of an import only why there is none
-  abbrev pub IsDone : Requested → Printout → Type 0
-  IsDone (RunCommand command) p = IsCommandDone meaning old new command p
-  IsDone (ImportFile file) p = (new ≡ old) × ((fault : ImportFault) × IsRefusedFor file fault × IsImportTold (Err fault) p)
-  IsDone (UnknownWords words) p = (new ≡ old) × (p ≡ usage_printout words)
+  -- The request of the plant was done, once and nothing else, and the printout reports it. For an import, the printout only reports why
+  -- there is none.
+  abbrev pub IsRequestedDone : Requested → Printout → Type 0
+  IsRequestedDone (RunCommand command) p = IsCommandDone meaning old new command p
+  IsRequestedDone (ImportFile file) p = (new ≡ old) × ((fault : ImportFault) × IsRefusedFor file fault × IsImportPrintout (Err fault) p)
+  IsRequestedDone (UnknownWords words) p = (new ≡ old) × (p ≡ usage_printout words)
 
-  -- what the frame asks for was done, and what the program would have printed of it is told, with its exit status
-  pub record IsPlantServed (asked told : Bytes) (keep_usable : Bool) : Type 0 where
+  -- The request in the frame was done. The response has what the program would have printed, with its exit status.
+  pub record IsFrameServed (requested reported : Bytes) (keep_usable : Bool) : Type 0 where
     pub words : List Bytes
     pub file : Option Bytes
-    pub asks : IsCall asked words file
+    pub asks : IsCall requested words file
     pub printout : Printout
-    pub done : IsDone (requested_by_call words file) printout
-    pub telling : IsTellingIfRoom keep_usable printout told
+    pub done : IsRequestedDone (requested_by_call words file) printout
+    pub telling : IsFrameResponseIfRoom keep_usable printout reported
 
-  -- what came in at the listener was answered over the keep, or an import begins; bytes that ask nothing of the plant's listener do nothing, and are told
-  -- nothing
-  abbrev pub IsServed : Listener → (asked : Bytes) → Poll ImportState → (keep_usable : Bool) → Type 0
-  IsServed Owners asked (Ready told) keep_usable = IsOwnerServed asked told.items keep_usable
-  IsServed Owners asked (Pending import) keep_usable = ⊥
-  IsServed Plant asked (Ready told) keep_usable =
-      IsPlantServed asked told.items keep_usable ⊎ (AsksNothing asked × (new ≡ old) × (told.items ≡ []) × (keep_usable ≡ true))
-  IsServed Plant asked (Pending import) keep_usable = BeginsImport asked import × (new ≡ old) × (keep_usable ≡ true)
+  -- The input at the listener was answered over the keep, or an import begins. Bytes that ask nothing of the plant's listener do nothing
+  -- and get an empty response.
+  abbrev pub IsInputServed : Listener → (requested : Bytes) → Poll ImportState → (keep_usable : Bool) → Type 0
+  IsInputServed Owners requested (Ready reported) keep_usable = IsOwnerServed requested reported.items keep_usable
+  IsInputServed Owners requested (Pending import) keep_usable = ⊥
+  IsInputServed Plant requested (Ready reported) keep_usable =
+      IsFrameServed requested reported.items keep_usable ⊎ (HasNoCall requested × (new ≡ old) × (reported.items ≡ []) × (keep_usable ≡ true))
+  IsInputServed Plant requested (Pending import) keep_usable = BeginsImport requested import × (new ≡ old) × (keep_usable ≡ true)
 
-  -- so it was, or there was no memory, and nothing was done or told
-  abbrev pub IsServedIfRoom : Listener → (asked : Bytes) → Poll ImportState → Type 0
-  IsServedIfRoom listener asked poll = ((keep_usable : Bool) × IsServed listener asked poll keep_usable) ⊎ ((new ≡ old) × IsReadyWith poll (λ told. told ≡ []))
+  -- The same; or there was no memory, nothing was done, and the response is empty.
+  abbrev pub IsServedIfRoom : Listener → (requested : Bytes) → Poll ImportState → Type 0
+  IsServedIfRoom listener requested poll = ((keep_usable : Bool) × IsInputServed listener requested poll keep_usable) ⊎ ((new ≡ old) × IsReadyWith poll (λ reported. reported ≡ []))
 
-  -- the import went on over the keep, and this is what it came to
+  -- The import went on over the keep, with this outcome.
   pub record ImportResumed (was : ImportState) (poll : Poll ImportState) (keep_usable : Bool) : Type 0 where
     pub now : ImportState
     pub resumed : IsResumed meaning old new was now

@@ -1,4 +1,4 @@
--- Whose turn a request takes.
+-- The party whose turn a request takes.
 use Rattle.std.specs.Prelude.{◌≡◌, Option, None, Some, if◌then◌else◌}
 use Rattle.toll_base.specs.Bytes.{Bytes}
 use Rattle.toll_base.specs.Values.{is_name}
@@ -8,17 +8,17 @@ use Rattle.toll_server.specs.declared.listener.Listener.TheVariants.{Owners, Pla
 use Rattle.toll_service.specs.declared.party.Party.{Party}
 use Rattle.toll_service.specs.declared.party.Party.TheVariants.{Plant as ThePlant, Owner, Nobody}
 
--- the owner that a request claims to be of, if it claims one
-abbrev pub claimed : ParseResult → Option Bytes
-claimed (refused failure) = None
-claimed (request verb target owner key body) = owner
+-- the owner that a request claims, if it claims one
+abbrev pub claimed_owner : ParseResult → Option Bytes
+claimed_owner (refused failure) = None
+claimed_owner (request verb target owner key body) = owner
 
--- that of an owner with this name; what is no name is nobody's
+-- the party of the owner with this name; bytes that are no name belong to nobody
 abbrev pub party_named : Option Bytes → Party
 party_named None = Nobody
 party_named (Some bytes) = if is_name bytes then Owner bytes else Nobody
 
--- what came in at the plant's listener is the plant's, and any other of the owner that it claims
+-- Requests at the plant's listener are the plant's. Any other is of the owner that it claims.
 abbrev pub IsBy : Listener → Bytes → Party → Type 0
-IsBy Plant asked party = party ≡ ThePlant
-IsBy Owners asked party = (o : ParseResult) × IsParsedAs asked o × (party ≡ party_named (claimed o))
+IsBy Plant requested party = party ≡ ThePlant
+IsBy Owners requested party = (o : ParseResult) × IsParsedAs requested o × (party ≡ party_named (claimed_owner o))

@@ -11,25 +11,25 @@ pub data Requested : Type 0 where
   ImportFile : (file : Bytes) → Requested
   UnknownWords : (words : List Bytes) → Requested
 
--- the first word is `import`
+-- whether the first word is `import`
 abbrev pub is_import : List Bytes → Bool
 is_import [] = false
 is_import (first ∷ words) = bytes_eq first (codes "import")
 
--- the command of words, if they are one
+-- the request of a command, or of words that are none
 abbrev pub requested_command : List Bytes → Option PlantCmd → Requested
 requested_command words None = UnknownWords words
 requested_command words (Some command) = RunCommand command
 
--- words without a file
+-- the request of words without a file
 abbrev pub requested_by_words : List Bytes → Requested
 requested_by_words words = requested_command words (command_of_words words)
 
--- words of which the first is `import`, where a file came with them, ask for its import, and all others for a command or a question
+-- the request of words with a file: an import if the first word is `import`, and a command or question otherwise
 abbrev pub requested_by_call : List Bytes → Option Bytes → Requested
 requested_by_call words None = requested_by_words words
 requested_by_call words (Some file) = if is_import words then ImportFile file else requested_by_words words
 
--- what was read of a frame asks for
+-- the request that was read in a frame
 abbrev pub requested_in : Call → Requested
-requested_in asked = requested_by_call (map (λ word. word.now) asked.words.items) (option_map (λ file. file.now) asked.file)
+requested_in requested = requested_by_call (map (λ word. word.now) requested.words.items) (option_map (λ file. file.now) requested.file)

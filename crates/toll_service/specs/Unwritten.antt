@@ -1,14 +1,14 @@
--- How the program ends where it can write nothing.
+-- How the program ends if it can write nothing.
 use Rattle.std.specs.Prelude.{ℕ, [], ◌∷◌}
 use Rattle.toll_programs.specs.Outputs.{Printout}
-use Rattle.toll_service.specs.Common.{Bytes, code_of, Failed}
+use Rattle.toll_service.specs.Common.{Bytes, exit_code, Failed}
 
--- a failure where something would go to standard output; standard error changes nothing
+-- A failure if something should go to standard output; standard error changes nothing.
 abbrev pub status_unwritten : (output : Bytes) (status : ℕ) → ℕ
 status_unwritten [] status = status
-status_unwritten (b ∷ output) status = code_of Failed
+status_unwritten (b ∷ output) status = exit_code Failed
 
--- nothing is printed
+-- a printout without text
 abbrev pub status_alone : ℕ → Printout
 status_alone status = record { status = status; output = []; error = [] }
 

@@ -1,14 +1,14 @@
 //! Answering requests at the two listeners.
 ghost use Rattle.std.specs.Prelude.{◌≡◌, IfOk, OnErr};
 ghost use Rattle.toll_server.specs.declared.listener.Listener.{Listener};
-ghost use Rattle.toll_service.specs.Listeners.{IsOwnerServed, IsReadyWith, IsServed};
+ghost use Rattle.toll_service.specs.Listeners.{IsOwnerServed, IsReadyWith, IsInputServed};
 
 use crate::plant::answer_plant;
 use crate::turn_result::TurnResult;
 use std::alloc::{AllocError, Global};
 use toll_keep::Keep;
 use toll_server::{Listener, Poll};
-use toll_wire::{OfficeRouter, Out, answer_with_router};
+use toll_wire::{OfficeRouter, Out, reply_by_router};
 
 /// Answers the bytes that a client sent to a listener, over a keep.
 ///
@@ -31,14 +31,14 @@ pub fn answer_at<K: Keep>(
     router: &mut OfficeRouter,
     keep: &mut K,
     listener: Listener,
-    asked: &[u8],
+    bytes: &[u8],
 ) -> Result<TurnResult, AllocError>
     ensures err { OnErr result (keep.new ≡ keep.old) }
-    ensures served { IfOk result (λ reply. IsServed K.meaning keep.old keep.new listener asked.now reply.poll reply.keep_usable) }
+    ensures served { IfOk result (λ reply. IsInputServed K.meaning keep.old keep.new listener bytes.now reply.poll reply.keep_usable) }
 {
     match listener {
-        Listener::Owners => answer_owner(alloc, router, keep, asked),
-        Listener::Plant => answer_plant(alloc, keep, asked),
+        Listener::Owners => answer_owner(alloc, router, keep, bytes),
+        Listener::Plant => answer_plant(alloc, keep, bytes),
     }
 }
 
@@ -47,13 +47,13 @@ fn answer_owner<K: Keep>(
     alloc: Global,
     router: &mut OfficeRouter,
     keep: &mut K,
-    asked: &[u8],
+    bytes: &[u8],
 ) -> Result<TurnResult, AllocError>
     ensures err { OnErr result (keep.new ≡ keep.old) }
-    ensures served { IfOk result (λ reply. IsReadyWith reply.poll (λ told. IsOwnerServed K.meaning keep.old keep.new asked.now told reply.keep_usable)) }
+    ensures served { IfOk result (λ reply. IsReadyWith reply.poll (λ reported. IsOwnerServed K.meaning keep.old keep.new bytes.now reported reply.keep_usable)) }
 {
     let unavailable = Vec::from_slice(alloc, Out::Unavailable.bytes())?;
-    match answer_with_router(alloc, router, keep, asked) {
+    match reply_by_router(alloc, router, keep, bytes) {
         Out::Text(text) => Ok(TurnResult {
             poll: Poll::Ready(text),
             keep_usable: true,

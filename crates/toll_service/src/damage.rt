@@ -51,27 +51,27 @@ impl Damage {
 
     /// Whether a request or call at a listener is known to meet damage: a request of an owner whose rows are
     /// damaged, or a call that met damage.
-    pub fn is_known(&self, listener: Listener, asked: &[u8]) -> bool
-        ensures { result ≡ true → IsKnown self.now listener asked.now }
+    pub fn is_known(&self, listener: Listener, bytes: &[u8]) -> bool
+        ensures { result ≡ true → IsKnown self.now listener bytes.now }
     {
         match listener {
             Listener::Owners if self.owners.is_empty() => false,
-            Listener::Owners => match Party::of(listener, asked) {
+            Listener::Owners => match Party::of(listener, bytes) {
                 Party::Owner(owner) => has(&self.owners, &owner),
                 Party::Plant | Party::Nobody => false,
             },
-            Listener::Plant => self.has_call(asked),
+            Listener::Plant => self.has_call(bytes),
         }
     }
 
-    fn has_call(&self, asked: &[u8]) -> bool
-        ensures { result ≡ list_any (is_call asked.now) self.now.calls.items }
+    fn has_call(&self, bytes: &[u8]) -> bool
+        ensures { result ≡ list_any (is_call bytes.now) self.now.calls.items }
     {
-        self.calls.iter().any(|call| call.as_slice() == asked)
+        self.calls.iter().any(|call| call.as_slice() == bytes)
     }
 
     /// Whether it is known that the owner's rows were read, and are damaged or sound.
-    pub fn was_looked_at(&self, owner: &Name) -> bool
+    pub fn was_probed(&self, owner: &Name) -> bool
         ensures { result ≡ (list_any (is_owner owner.now) self.now.owners.items || list_any (is_owner owner.now) self.now.sound.items) }
     {
         has(&self.owners, owner) || has(&self.sound, owner)
@@ -91,15 +91,15 @@ impl Damage {
     }
 
     /// Notes a call that met damage, if it is short and there is room.
-    pub fn note_call(&mut self, alloc: Global, asked: &[u8])
+    pub fn note_call(&mut self, alloc: Global, bytes: &[u8])
         ensures owners { self.new.owners ≡ self.old.owners }
         ensures sound { self.new.sound ≡ self.old.sound }
-        ensures calls { (c : Held ℕ) → Contains self.new.calls.items c → Contains self.old.calls.items c ⊎ (c.items ≡ asked.now) }
+        ensures calls { (c : Held ℕ) → Contains self.new.calls.items c → Contains self.old.calls.items c ⊎ (c.items ≡ bytes.now) }
     {
-        if self.calls.len() >= MOST || asked.len() > MOST_CALL_BYTES {
+        if self.calls.len() >= MOST || bytes.len() > MOST_CALL_BYTES {
             return;
         }
-        if let Ok(call) = Vec::from_slice(alloc, asked) {
+        if let Ok(call) = Vec::from_slice(alloc, bytes) {
             let _ = self.calls.push(call);
         }
     }

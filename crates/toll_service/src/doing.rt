@@ -43,7 +43,7 @@ pub fn answer_once<K: Keep, O: KeepOpener<K>>(
         ensures { IsAnswered K.meaning keep.old keep.new request.entry.now result }
     { answer(alloc, keep, request) };
     match with_keep(office_path, act) {
-        Ok(told) => told,
+        Ok(reported) => reported,
         Err(_) => Out::Unavailable,
     }
 }

@@ -16,10 +16,10 @@ pub enum ServingFault {
     Unavailable,
     /// The socket file of the plant could not be made.
     #[error("Door")]
-    Door,
+    PlantSocket,
     /// There was no descriptor, or no memory, to take a connection.
     #[error("Room")]
-    Room,
+    NoResources,
 }
 
 /// The fault that a server has now, if it has one.

@@ -1,6 +1,6 @@
 //! How an office's files have changed since a server left them.
 ghost use Rattle.std.specs.Prelude.{◌≡◌, ◌↔◌, true, IfErr, IfOk, IfSome};
-ghost use Rattle.toll_service.specs.FileChanges.{AreUntouched, HadSomething, HasContentOf, IsLost, IsUntouched};
+ghost use Rattle.toll_service.specs.FileChanges.{AreUntouched, HadSomething, HasContentOf, AreCommitsLost, IsStampUnchanged};
 
 use crate::office_fault::OfficeFault;
 use std::fs::File;
@@ -59,7 +59,7 @@ impl Stamp {
 
     // Whether neither the file nor its name or mode changed either.
     fn is_same(&self, other: &Stamp) -> bool
-        ensures { (result ≡ true) ↔ IsUntouched self.now other.now }
+        ensures { (result ≡ true) ↔ IsStampUnchanged self.now other.now }
     {
         self.has_content_of(other) && self.changed == other.changed
     }
@@ -105,7 +105,7 @@ pub struct LeftFiles {
 impl LeftFiles {
     /// The state of the files now. The log is read only if it has changed since `before`.
     pub fn of(rt: &HostRuntime, path: &str, before: &Option<LeftFiles>) -> io::Result<Self>
-        ensures { IfOk result (λ left. IfSome before.now (λ known. IsUntouched known.stamps.log left.stamps.log → left.has_commits ≡ known.has_commits)) }
+        ensures { IfOk result (λ left. IfSome before.now (λ known. IsStampUnchanged known.stamps.log left.stamps.log → left.has_commits ≡ known.has_commits)) }
     {
         let stamps = FileStamps::of(rt, path)?;
         let has_commits = match before {
@@ -144,7 +144,7 @@ impl LeftFiles {
     /// What other programs did if the files have these stamps now.
     pub fn change_to(&self, found: &FileStamps) -> FileChange
         ensures same { (result ≡ FileChange.Same) ↔ AreUntouched self.now.stamps found.now }
-        ensures lost { (result ≡ FileChange.NotOurs) ↔ IsLost self.now found.now }
+        ensures lost { (result ≡ FileChange.NotOurs) ↔ AreCommitsLost self.now found.now }
     {
         if self.is_lost(found) {
             FileChange::NotOurs
@@ -164,7 +164,7 @@ impl LeftFiles {
 
     // Whether committed changes are gone.
     fn is_lost(&self, found: &FileStamps) -> bool
-        ensures { (result ≡ true) ↔ IsLost self.now found.now }
+        ensures { (result ≡ true) ↔ AreCommitsLost self.now found.now }
     {
         let is_database_kept = found.database.has_content_of(&self.stamps.database);
         let is_log_kept = found.log.has_content_of(&self.stamps.log);

@@ -41,15 +41,15 @@ impl<K: Keep> Service for KeepService<K> {
 
     ghost resumes = { ResumesOver K.meaning (λ service. service.keep) };
 
-    fn party(listener: Listener, asked: &[u8]) -> Party
-        ensures { IsBy listener asked.now result }
+    fn party(listener: Listener, bytes: &[u8]) -> Party
+        ensures { IsBy listener bytes.now result }
     {
-        Party::of(listener, asked)
+        Party::of(listener, bytes)
     }
 
     /// The reply, or the import that is left. No bytes if there was no memory; nothing was done then.
-    fn answer(&mut self, alloc: Global, listener: Listener, asked: &[u8]) -> Poll<PendingImport> {
-        match answer_at(alloc, &mut self.router, &mut self.keep, listener, asked) {
+    fn answer(&mut self, alloc: Global, listener: Listener, bytes: &[u8]) -> Poll<PendingImport> {
+        match answer_at(alloc, &mut self.router, &mut self.keep, listener, bytes) {
             Ok(reply) => reply.poll,
             Err(AllocError) => Poll::Ready(Vec::new(alloc)),
         }

@@ -35,8 +35,8 @@ pub use fault_log::{FaultLog, ServingFault};
 pub use file_stamps::{FileChange, FileStamps, LeftFiles, Stamp};
 pub use keep_service::KeepService;
 pub use laws::{
-    what_is_served_between_two_openings_is_a_run, what_one_asks_is_all_of_its_turns,
-    what_peers_ask_over_a_keep_is_a_run,
+    turns_between_two_openings_are_a_run, turns_of_a_request_are_all_of_it,
+    turns_over_a_keep_are_a_run,
 };
 pub use lock::{FILE_MODE, take_lock};
 pub use office_fault::OfficeFault;
@@ -44,7 +44,7 @@ pub use office_path::{KeepOpener, OfficePath};
 pub use office_service::OfficeService;
 pub use party::Party;
 pub use pending_import::PendingImport;
-pub use serving::{Announcing, serve_keep, serve_place};
+pub use serving::{Announcing, serve_file, serve_keep};
 pub use toll_wire::Out;
 pub use turn_result::TurnResult;
 pub use words::{do_file, do_words};

@@ -25,7 +25,7 @@ impl Notes {
         Notes { dropped: 0 }
     }
 
-    /// Writes the line, or drops and counts it. No dropped line is left to tell of once one is written.
+    /// Writes the line, or drops and counts it. Once a line is written, no dropped one is left to report.
     pub fn write(&mut self, rt: &HostRuntime, line: impl Display + Drop)
         ensures { (self.new.dropped ≡ 0) ⊎ (self.new.dropped ≡ min (self.old.dropped + 1) (2 ^ 64 - 1)) }
     {

@@ -2,7 +2,7 @@
 ghost use Rattle.std.specs.Prelude.{◌≡◌};
 ghost use Rattle.toll_service.specs.Parties.{IsBy};
 ghost use Rattle.toll_service.specs.FileServing.{Answers, IsFresh, Resumes};
-ghost use Rattle.toll_service.specs.Sessions.{IsNew, IsTurnedAway};
+ghost use Rattle.toll_service.specs.Sessions.{IsNewSession, IsTurnedAway};
 
 use crate::fault_log::{FaultLog, ServingFault};
 use crate::office_fault::OfficeFault;
@@ -42,7 +42,7 @@ impl<'a, K: Keep + Drop, O: KeepOpener<K>> OfficeService<'a, K, O> {
     /// A service of the office at this path, which is opened for the first request, unless it is opened
     /// ahead.
     pub fn new(office_path: OfficePath<'a, O>) -> Self
-        ensures session { IsNew result.session }
+        ensures session { IsNewSession result.session }
         ensures office_path { result.office_path ≡ office_path.entry }
     {
         let alloc = office_path.rt.alloc();
@@ -56,7 +56,7 @@ impl<'a, K: Keep + Drop, O: KeepOpener<K>> OfficeService<'a, K, O> {
     /// Opens the office before the first request, reads its rows and makes the owners' genealogies, if its file is
     /// there. If that fails, the fault is reported to the operator, and each request tries to open it again.
     pub fn open_ahead(&mut self)
-        ensures { IsNew self.old.session → IsFresh K.meaning O.is_opened O.openings (O.openings self.old.office_path.opener) self.new }
+        ensures { IsNewSession self.old.session → IsFresh K.meaning O.is_opened O.openings (O.openings self.old.office_path.opener) self.new }
     {
         let OfficePath { rt, path, .. } = self.office_path;
         if fs::metadata(rt, path).is_err() {
@@ -111,29 +111,29 @@ impl<K: Keep + Drop, O: KeepOpener<K>> Service for OfficeService<'_, K, O> {
 
     ghost resumes = { Resumes K.meaning O.is_opened O.is_found O.openings };
 
-    fn party(listener: Listener, asked: &[u8]) -> Party
-        ensures { IsBy listener asked.now result }
+    fn party(listener: Listener, bytes: &[u8]) -> Party
+        ensures { IsBy listener bytes.now result }
     {
-        Party::of(listener, asked)
+        Party::of(listener, bytes)
     }
 
     // A client of the plant's listener that asked nothing only looked whether a server is there. A request or
     // call that is known to meet damage gets that reply without asking the keep.
-    fn answer(&mut self, alloc: Global, listener: Listener, asked: &[u8]) -> Poll<PendingImport> {
-        if listener == Listener::Plant && asked.is_empty() {
+    fn answer(&mut self, alloc: Global, listener: Listener, bytes: &[u8]) -> Poll<PendingImport> {
+        if listener == Listener::Plant && bytes.is_empty() {
             return Poll::Ready(Vec::new(alloc));
         }
         if self
             .session
-            .is_damaged(&mut self.office_path, listener, asked)
+            .is_damaged(&mut self.office_path, listener, bytes)
         {
             return Poll::Ready(refusal(alloc, listener, OfficeFault::Damaged));
         }
-        match self.session.answer(&mut self.office_path, listener, asked) {
+        match self.session.answer(&mut self.office_path, listener, bytes) {
             Ok(reply) => {
                 if !reply.keep_usable {
                     self.session
-                        .note_damage(&mut self.office_path, listener, asked, &reply.poll);
+                        .note_damage(&mut self.office_path, listener, bytes, &reply.poll);
                 }
                 self.logged(reply)
             }
@@ -165,12 +165,12 @@ fn refusal(alloc: Global, listener: Listener, fault: OfficeFault) -> Vec<u8>
             Err(_) => Vec::new(alloc),
         },
         Listener::Plant => {
-            let told = Response {
+            let response = Response {
                 status: Status::Failed.code(),
                 output: b"",
                 error: fault.line(),
             };
-            match told.encode(alloc) {
+            match response.encode(alloc) {
                 Ok(bytes) => bytes,
                 Err(_) => Vec::new(alloc),
             }

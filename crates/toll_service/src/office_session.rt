@@ -5,9 +5,9 @@ ghost use Rattle.toll_service.specs.Damages.{AreCallsMet, AreOwnersFound, HasFou
 ghost use Rattle.toll_service.specs.Faults.{fault_text};
 ghost use Rattle.toll_service.specs.FileChanges.{AreFound, AreFoundLost};
 ghost use Rattle.toll_service.specs.Listeners.{IsServedIfRoom};
-ghost use Rattle.toll_service.specs.Openings.{IsOneOpened, IsOneRefused, IsRefusedAfter, IsUnasked};
-ghost use Rattle.toll_service.specs.Sessions.{AreAsLeft, AreCounted, IsAtHand, IsIdle, IsLeft, IsLockKept, IsLost, IsNew, IsOpenedAhead, IsWithheld, Takes, begun, ended, state_of_session};
-ghost use Rattle.toll_programs.specs.Statuses.{code_of};
+ghost use Rattle.toll_service.specs.Openings.{IsOneOpened, IsOneRefused, IsRefusedAfter, IsNoneOpened};
+ghost use Rattle.toll_service.specs.Sessions.{AreAsLeft, AreCounted, IsAtHand, IsSessionIdle, IsLeftOpen, IsLockKept, IsFoundLost, IsNewSession, IsOpenedAhead, IsWithheld, TakesInput, imports_if_begun, imports_if_ended, state_of_session};
+ghost use Rattle.toll_programs.specs.Statuses.{exit_code};
 ghost use Rattle.toll_programs.specs.declared.status.Status.TheVariants.{Failed};
 ghost use Rattle.toll_protocol.specs.PlantMessages.{IsResponse};
 
@@ -67,7 +67,7 @@ impl<K: Drop> Drop for OfficeSession<K> {
 impl<K: Keep + Drop> OfficeSession<K> {
     /// No file is open yet.
     pub fn new(alloc: Global) -> Self
-        ensures { IsNew result }
+        ensures { IsNewSession result }
     {
         OfficeSession {
             opened: None,
@@ -87,15 +87,15 @@ impl<K: Keep + Drop> OfficeSession<K> {
         &mut self,
         office_path: &mut OfficePath<'_, O>,
     ) -> Result<(), OfficeFault>
-        ensures ahead { IsNew self.old → IsOpenedAhead K.meaning O.is_opened (O.openings office_path.old.opener) (O.openings office_path.new.opener) (state_of_session self.new) }
+        ensures ahead { IsNewSession self.old → IsOpenedAhead K.meaning O.is_opened (O.openings office_path.old.opener) (O.openings office_path.new.opener) (state_of_session self.new) }
         ensures imports { self.new.imports ≡ self.old.imports }
         ensures damage { KnowsNoMore self.old.damage self.new.damage }
         ensures lock { IsLockKept self.old → IsLockKept self.new }
     {
-        match self.take(office_path) {
+        match self.check_out(office_path) {
             Ok(mut opened) => {
                 let read = read_ahead(office_path.rt.alloc(), &mut opened.keep);
-                self.leave(office_path, opened, read.is_ok());
+                self.check_in(office_path, opened, read.is_ok());
                 Ok(())
             }
             Err(fault) => {
@@ -112,30 +112,30 @@ impl<K: Keep + Drop> OfficeSession<K> {
         &mut self,
         office_path: &mut OfficePath<'_, O>,
         listener: Listener,
-        asked: &[u8],
+        bytes: &[u8],
     ) -> Result<TurnResult, OfficeFault>
-        ensures ok { IfOk result (λ reply. Takes K.meaning O.is_opened O.is_found self.old (Request listener asked.now) reply.poll self.new) }
+        ensures ok { IfOk result (λ reply. TakesInput K.meaning O.is_opened O.is_found self.old (Request listener bytes.now) reply.poll self.new) }
         ensures closed { IfOk result (λ reply. reply.keep_usable ≡ false → self.new.opened ≡ None) }
-        ensures imports { IfOk result (λ reply. self.new.imports ≡ begun reply.poll self.old.imports) }
-        ensures err { OnErr result (IsIdle (state_of_session self.old) (state_of_session self.new) × (self.new.imports ≡ self.old.imports)) }
+        ensures imports { IfOk result (λ reply. self.new.imports ≡ imports_if_begun reply.poll self.old.imports) }
+        ensures err { OnErr result (IsSessionIdle (state_of_session self.old) (state_of_session self.new) × (self.new.imports ≡ self.old.imports)) }
         ensures refused { OnErr result (IsWithheld O.is_found self.old (O.openings office_path.old.opener) (O.openings office_path.new.opener)) }
         ensures damage { OnOk result (StaysWhere (AreAsLeft O.is_found self.old) self.old.damage self.new.damage) }
         ensures stays { OnErr result ((self.new.left ≡ self.old.left) × KnowsNoMore self.old.damage self.new.damage) }
         ensures lock { IsLockKept self.old → IsLockKept self.new }
     {
-        match self.take(office_path) {
+        match self.check_out(office_path) {
             Ok(mut opened) => {
                 let reply = reply_over(
                     office_path.rt.alloc(),
                     &mut self.router,
                     &mut opened.keep,
                     listener,
-                    asked,
+                    bytes,
                 );
                 if let Poll::Pending(_) = &reply.poll {
                     self.imports = self.imports.saturating_add(1);
                 }
-                self.leave(office_path, opened, reply.keep_usable);
+                self.check_in(office_path, opened, reply.keep_usable);
                 Ok(reply)
             }
             Err(fault) => {
@@ -153,23 +153,23 @@ impl<K: Keep + Drop> OfficeSession<K> {
         office_path: &mut OfficePath<'_, O>,
         import: PendingImport,
     ) -> Result<TurnResult, StoppedImport>
-        ensures ok { IfOk result (λ reply. Takes K.meaning O.is_opened O.is_found self.old (Task import) reply.poll self.new) }
+        ensures ok { IfOk result (λ reply. TakesInput K.meaning O.is_opened O.is_found self.old (Task import) reply.poll self.new) }
         ensures closed { IfOk result (λ reply. reply.keep_usable ≡ false → self.new.opened ≡ None) }
-        ensures imports { IfOk result (λ reply. self.new.imports ≡ ended reply.poll self.old.imports) }
-        ensures err { OnErr result (IsIdle (state_of_session self.old) (state_of_session self.new)) }
+        ensures imports { IfOk result (λ reply. self.new.imports ≡ imports_if_ended reply.poll self.old.imports) }
+        ensures err { OnErr result (IsSessionIdle (state_of_session self.old) (state_of_session self.new)) }
         ensures refused { OnErr result (IsWithheld O.is_found self.old (O.openings office_path.old.opener) (O.openings office_path.new.opener)) }
         ensures damage { OnOk result (StaysWhere (AreAsLeft O.is_found self.old) self.old.damage self.new.damage) }
         ensures stays { OnErr result ((self.new.left ≡ self.old.left) × KnowsNoMore self.old.damage self.new.damage) }
         ensures stopped { IfErr result (λ stopped. (stopped.import ≡ import) × (self.new.imports ≡ self.old.imports - 1)) }
         ensures lock { IsLockKept self.old → IsLockKept self.new }
     {
-        match self.take(office_path) {
+        match self.check_out(office_path) {
             Ok(mut opened) => {
                 let reply = import.resume(office_path.rt.alloc(), &mut opened.keep);
                 if let Poll::Ready(_) = &reply.poll {
                     self.imports = self.imports.saturating_sub(1);
                 }
-                self.leave(office_path, opened, reply.keep_usable);
+                self.check_in(office_path, opened, reply.keep_usable);
                 Ok(reply)
             }
             Err(fault) => {
@@ -181,14 +181,14 @@ impl<K: Keep + Drop> OfficeSession<K> {
     }
 
     // The office as it was left, or opened anew, under the lock.
-    fn take<O: KeepOpener<K>>(
+    fn check_out<O: KeepOpener<K>>(
         &mut self,
         office_path: &mut OfficePath<'_, O>,
     ) -> Result<OpenOffice<K>, OfficeFault>
         ensures ok { IfOk result (λ o. IsAtHand O.is_opened (AreAsLeft O.is_found self.old) (state_of_session self.old) (state_of_session self.new) o.keep) }
         ensures counted { OnOk result (AreCounted (state_of_session self.old) (state_of_session self.new)
             (O.openings office_path.old.opener) (O.openings office_path.new.opener)) }
-        ensures err { OnErr result (IsIdle (state_of_session self.old) (state_of_session self.new)) }
+        ensures err { OnErr result (IsSessionIdle (state_of_session self.old) (state_of_session self.new)) }
         ensures refused { OnErr result (IsWithheld O.is_found self.old (O.openings office_path.old.opener) (O.openings office_path.new.opener)) }
         ensures imports { self.new.imports ≡ self.old.imports }
         ensures damage { OnOk result (StaysWhere (AreAsLeft O.is_found self.old) self.old.damage self.new.damage) }
@@ -197,7 +197,7 @@ impl<K: Keep + Drop> OfficeSession<K> {
         ensures lock { OnOk result (IsSome self.new.lock) }
         ensures kept { IsSome self.old.lock → IsSome self.new.lock }
     {
-        match self.take_left(office_path) {
+        match self.check_out_left(office_path) {
             Ok(Some(opened)) => Ok(opened),
             Ok(None) => self.open(office_path),
             Err(fault) => Err(fault),
@@ -206,17 +206,17 @@ impl<K: Keep + Drop> OfficeSession<K> {
 
     // The office as it was left, under the lock, if one was left open and no other program has changed it. If
     // another program has changed it, the known damage is forgotten.
-    fn take_left<O: KeepOpener<K>>(
+    fn check_out_left<O: KeepOpener<K>>(
         &mut self,
         office_path: &mut OfficePath<'_, O>,
     ) -> Result<Option<OpenOffice<K>>, OfficeFault>
         ensures left { IfOk result (λ left. IfSome left (λ o. ((state_of_session self.old).keep ≡ Some o.keep) × AreAsLeft O.is_found self.old)) }
         ensures ok { OnOk result ((self.new.opened ≡ None) × IsSome self.new.lock) }
-        ensures err { OnErr result (IsIdle (state_of_session self.old) (state_of_session self.new)) }
+        ensures err { OnErr result (IsSessionIdle (state_of_session self.old) (state_of_session self.new)) }
         ensures kept { IsSome self.old.lock → IsSome self.new.lock }
         ensures refused { OnErr result (IsOneRefused (O.openings office_path.old.opener) (O.openings office_path.new.opener)
-            ⊎ IsLost O.is_found self.old (O.openings office_path.old.opener) (O.openings office_path.new.opener)) }
-        ensures unasked { OnOk result (IsUnasked (O.openings office_path.old.opener) (O.openings office_path.new.opener)) }
+            ⊎ IsFoundLost O.is_found self.old (O.openings office_path.old.opener) (O.openings office_path.new.opener)) }
+        ensures unasked { OnOk result (IsNoneOpened (O.openings office_path.old.opener) (O.openings office_path.new.opener)) }
         ensures openings { self.new.openings ≡ self.old.openings }
         ensures imports { self.new.imports ≡ self.old.imports }
         ensures damage { OnOk result (StaysWhere (AreAsLeft O.is_found self.old) self.old.damage self.new.damage) }
@@ -244,7 +244,7 @@ impl<K: Keep + Drop> OfficeSession<K> {
         &self,
         office_path: &mut OfficePath<'_, O>,
     ) -> Result<bool, OfficeFault>
-        ensures unasked { IsUnasked (O.openings office_path.old.opener) (O.openings office_path.new.opener) }
+        ensures unasked { IsNoneOpened (O.openings office_path.old.opener) (O.openings office_path.new.opener) }
         ensures found { result ≡ Ok true → AreFound O.is_found self.now.left (Ok true) }
         ensures lost { OnErr result (AreFoundLost O.is_found self.now.left) }
     {
@@ -287,15 +287,15 @@ impl<K: Keep + Drop> OfficeSession<K> {
 
     // Keeps the office open if it can still be used, and releases it to other programs if no import is under
     // way.
-    fn leave<O: KeepOpener<K>>(
+    fn check_in<O: KeepOpener<K>>(
         &mut self,
         office_path: &mut OfficePath<'_, O>,
         opened: OpenOffice<K>,
         keep_usable: bool,
     )
-        ensures left { IsLeft opened.keep (state_of_session self.new) }
+        ensures left { IsLeftOpen opened.keep (state_of_session self.new) }
         ensures closed { keep_usable ≡ false → self.new.opened ≡ None }
-        ensures unasked { IsUnasked (O.openings office_path.old.opener) (O.openings office_path.new.opener) }
+        ensures unasked { IsNoneOpened (O.openings office_path.old.opener) (O.openings office_path.new.opener) }
         ensures openings { self.new.openings ≡ self.old.openings }
         ensures imports { self.new.imports ≡ self.old.imports }
         ensures damage { self.new.damage ≡ self.old.damage }
@@ -363,18 +363,18 @@ impl<K: Keep + Drop> OfficeSession<K> {
         &self,
         office_path: &mut OfficePath<'_, O>,
         listener: Listener,
-        asked: &[u8],
+        bytes: &[u8],
     ) -> bool
-        ensures known { result ≡ true → IsKnown self.now.damage listener asked.now × AreAsLeft O.is_found self.now }
-        ensures unasked { IsUnasked (O.openings office_path.old.opener) (O.openings office_path.new.opener) }
+        ensures known { result ≡ true → IsKnown self.now.damage listener bytes.now × AreAsLeft O.is_found self.now }
+        ensures unasked { IsNoneOpened (O.openings office_path.old.opener) (O.openings office_path.new.opener) }
     {
-        self.damage.is_known(listener, asked)
+        self.damage.is_known(listener, bytes)
             && (self.lock.is_some() || self.are_files_as_left(office_path))
     }
 
     fn are_files_as_left<O: KeepOpener<K>>(&self, office_path: &mut OfficePath<'_, O>) -> bool
         ensures found { result ≡ true → AreFound O.is_found self.now.left (Ok true) }
-        ensures unasked { IsUnasked (O.openings office_path.old.opener) (O.openings office_path.new.opener) }
+        ensures unasked { IsNoneOpened (O.openings office_path.old.opener) (O.openings office_path.new.opener) }
     {
         matches!(self.is_as_left(office_path), Ok(true))
     }
@@ -386,40 +386,40 @@ impl<K: Keep + Drop> OfficeSession<K> {
         &mut self,
         office_path: &mut OfficePath<'_, O>,
         listener: Listener,
-        asked: &[u8],
+        bytes: &[u8],
         poll: &Poll<PendingImport>,
     )
         ensures state { state_of_session self.new ≡ state_of_session self.old }
         ensures imports { self.new.imports ≡ self.old.imports }
-        ensures noted { IsNoted K.meaning O.is_opened ⊤ self.old.damage self.new.damage listener asked.now poll.now }
+        ensures noted { IsNoted K.meaning O.is_opened ⊤ self.old.damage self.new.damage listener bytes.now poll.now }
         ensures files { (self.new.left ≡ self.old.left) ⊎ AreAsLeft O.is_found self.old }
         ensures lock { IsLockKept self.old → IsLockKept self.new }
     {
         match listener {
             Listener::Owners => {
-                if let Party::Owner(owner) = Party::of(listener, asked) {
-                    self.look_at(office_path, owner);
+                if let Party::Owner(owner) = Party::of(listener, bytes) {
+                    self.probe_owner(office_path, owner);
                 }
             }
-            Listener::Plant => self.note_call(office_path.rt.alloc(), asked, poll),
+            Listener::Plant => self.note_call(office_path.rt.alloc(), bytes, poll),
         }
     }
 
     // Notes a call of the plant whose reply reports damage.
-    fn note_call(&mut self, alloc: Global, asked: &[u8], poll: &Poll<PendingImport>)
+    fn note_call(&mut self, alloc: Global, bytes: &[u8], poll: &Poll<PendingImport>)
         ensures beside { self.new ≡ record self.old { damage = self.new.damage } }
         ensures owners { self.new.damage.owners ≡ self.old.damage.owners }
-        ensures calls { AreCallsMet self.old.damage self.new.damage asked.now poll.now }
+        ensures calls { AreCallsMet self.old.damage self.new.damage bytes.now poll.now }
     {
-        if let Poll::Ready(told) = poll {
-            if tells_damage(alloc, told) {
-                self.damage.note_call(alloc, asked);
+        if let Poll::Ready(reported) = poll {
+            if reports_damage(alloc, reported) {
+                self.damage.note_call(alloc, bytes);
             }
         }
     }
 
     // Reads an owner's rows, if that wasn't done yet and the files are as they were left.
-    fn look_at<O: KeepOpener<K>>(&mut self, office_path: &mut OfficePath<'_, O>, owner: Name)
+    fn probe_owner<O: KeepOpener<K>>(&mut self, office_path: &mut OfficePath<'_, O>, owner: Name)
         ensures state { state_of_session self.new ≡ state_of_session self.old }
         ensures imports { self.new.imports ≡ self.old.imports }
         ensures owners { AreOwnersFound K.meaning O.is_opened self.old.damage self.new.damage owner }
@@ -427,17 +427,17 @@ impl<K: Keep + Drop> OfficeSession<K> {
         ensures files { (self.new.left ≡ self.old.left) ⊎ AreAsLeft O.is_found self.old }
         ensures lock { IsLockKept self.old → IsLockKept self.new }
     {
-        if self.damage.was_looked_at(&owner) {
+        if self.damage.was_probed(&owner) {
             return;
         }
-        if self.relock(office_path) {
-            self.learn(office_path, owner);
+        if self.lock_unchanged(office_path) {
+            self.probe_rows(office_path, owner);
         }
         self.unlock();
     }
 
     // Takes the lock, if it isn't kept. Returns whether it is held and the files are as they were left.
-    fn relock<O: KeepOpener<K>>(&mut self, office_path: &mut OfficePath<'_, O>) -> bool
+    fn lock_unchanged<O: KeepOpener<K>>(&mut self, office_path: &mut OfficePath<'_, O>) -> bool
         ensures beside { self.new ≡ record self.old { lock = self.new.lock } }
         ensures kept { IsSome self.old.lock → IsSome self.new.lock }
         ensures found { result ≡ true → AreAsLeft O.is_found self.old }
@@ -453,12 +453,12 @@ impl<K: Keep + Drop> OfficeSession<K> {
     }
 
     // Opens the file, only to read an owner's rows, and closes it.
-    fn learn<O: KeepOpener<K>>(&mut self, office_path: &mut OfficePath<'_, O>, owner: Name)
+    fn probe_rows<O: KeepOpener<K>>(&mut self, office_path: &mut OfficePath<'_, O>, owner: Name)
         ensures beside { self.new ≡ record self.old { left = self.new.left; damage = self.new.damage; notes = self.new.notes } }
         ensures owners { AreOwnersFound K.meaning O.is_opened self.old.damage self.new.damage owner }
         ensures calls { self.new.damage.calls ≡ self.old.damage.calls }
     {
-        let is_damaged = finds_damage(office_path, &owner);
+        let is_damaged = has_damaged_rows(office_path, &owner);
         self.damage.note_owner(owner, is_damaged);
         self.note_rows(office_path.rt, &owner, is_damaged);
         self.note_files(office_path.rt, office_path.path);
@@ -467,10 +467,10 @@ impl<K: Keep + Drop> OfficeSession<K> {
     /// Closes the file, if it is open and the lock is taken. All answered changes are in the file whether or
     /// not it is closed.
     pub fn close<O: KeepOpener<K>>(mut self, office_path: &mut OfficePath<'_, O>)
-        ensures { IsUnasked (O.openings office_path.old.opener) (O.openings office_path.new.opener)
+        ensures { IsNoneOpened (O.openings office_path.old.opener) (O.openings office_path.new.opener)
             ⊎ IsOneRefused (O.openings office_path.old.opener) (O.openings office_path.new.opener) }
     {
-        if let Ok(Some(opened)) = self.take_left(office_path) {
+        if let Ok(Some(opened)) = self.check_out_left(office_path) {
             opened.close(&mut office_path.opener);
         }
         if let Some(lock) = self.lock.take() {
@@ -485,11 +485,11 @@ fn reply_over<K: Keep>(
     router: &mut OfficeRouter,
     keep: &mut K,
     listener: Listener,
-    asked: &[u8],
+    bytes: &[u8],
 ) -> TurnResult
-    ensures { IsServedIfRoom K.meaning keep.old keep.new listener asked.now result.poll }
+    ensures { IsServedIfRoom K.meaning keep.old keep.new listener bytes.now result.poll }
 {
-    match answer_at(alloc, router, keep, listener, asked) {
+    match answer_at(alloc, router, keep, listener, bytes) {
         Ok(reply) => reply,
         Err(AllocError) => TurnResult {
             poll: Poll::Ready(Vec::new(alloc)),
@@ -499,7 +499,7 @@ fn reply_over<K: Keep>(
 }
 
 // Whether an office that is opened for it finds damage in an owner's rows.
-fn finds_damage<K: Keep + Drop, O: KeepOpener<K>>(
+fn has_damaged_rows<K: Keep + Drop, O: KeepOpener<K>>(
     office_path: &mut OfficePath<'_, O>,
     owner: &Name,
 ) -> bool
@@ -514,8 +514,8 @@ fn finds_damage<K: Keep + Drop, O: KeepOpener<K>>(
 }
 
 // Whether the reply to the plant reports damage, and nothing else.
-fn tells_damage(alloc: Global, told: &[u8]) -> bool
-    ensures { result ≡ true → IsResponse told.now (code_of Failed) [] (fault_text OfficeFault.Damaged) }
+fn reports_damage(alloc: Global, reported: &[u8]) -> bool
+    ensures { result ≡ true → IsResponse reported.now (exit_code Failed) [] (fault_text OfficeFault.Damaged) }
 {
     let wanted = Response {
         status: Status::Failed.code(),
@@ -523,7 +523,7 @@ fn tells_damage(alloc: Global, told: &[u8]) -> bool
         error: OfficeFault::Damaged.line(),
     };
     match wanted.encode(alloc) {
-        Ok(bytes) => bytes.as_slice() == told,
+        Ok(bytes) => bytes.as_slice() == reported,
         Err(_) => false,
     }
 }

@@ -1,6 +1,6 @@
 //! An office that was opened.
 ghost use Rattle.std.specs.Prelude.{◌≡◌, IfOk, IfSome, OnErr, OnOk};
-ghost use Rattle.toll_service.specs.Openings.{IsOneOpened, IsOneRefused, IsUnasked};
+ghost use Rattle.toll_service.specs.Openings.{IsOneOpened, IsOneRefused, IsNoneOpened};
 
 use crate::office_fault::OfficeFault;
 use crate::office_path::{KeepOpener, OfficePath};
@@ -43,7 +43,7 @@ impl<K: Drop> OpenOffice<K> {
     /// Releases the files to other programs. The office is closed if they can't be released.
     pub fn release<O: KeepOpener<K>>(self, office_path: &mut OfficePath<'_, O>) -> Option<Self>
         ensures released { IfSome result (λ released. released.keep ≡ self.keep) }
-        ensures unasked { IsUnasked (O.openings office_path.old.opener) (O.openings office_path.new.opener) }
+        ensures unasked { IsNoneOpened (O.openings office_path.old.opener) (O.openings office_path.new.opener) }
     {
         let is_released = match &self.files {
             Some(Files { database, log }) => database.unlock().is_ok() && log.unlock().is_ok(),
@@ -66,7 +66,7 @@ impl<K: Drop> OpenOffice<K> {
 
     /// Closes them.
     pub fn close<O: KeepOpener<K>>(self, opener: &mut O)
-        ensures { IsUnasked (O.openings opener.old) (O.openings opener.new) }
+        ensures { IsNoneOpened (O.openings opener.old) (O.openings opener.new) }
     {
         let OpenOffice { keep, files: _ } = self;
         opener.close(keep);

@@ -1,7 +1,7 @@
 //! The party whose turn a request takes.
 ghost use Rattle.std.specs.Prelude.{◌≡◌, option_map};
 ghost use Rattle.toll_protocol.specs.Parsing.{IsParsedAs, ParseResult};
-ghost use Rattle.toll_service.specs.Parties.{IsBy, claimed, party_named};
+ghost use Rattle.toll_service.specs.Parties.{IsBy, claimed_owner, party_named};
 
 use toll_base::Name;
 use toll_protocol::parse_http;
@@ -19,21 +19,21 @@ pub enum Party {
 impl Party {
     /// The party whose turn a request takes that came in by this listener. The owner that a request claims is
     /// believed here: its key is checked in the turn.
-    pub fn of(listener: Listener, asked: &[u8]) -> Self
-        ensures { IsBy listener asked.now result }
+    pub fn of(listener: Listener, bytes: &[u8]) -> Self
+        ensures { IsBy listener bytes.now result }
     {
         match listener {
             Listener::Plant => Party::Plant,
-            Listener::Owners => claimed_by(asked),
+            Listener::Owners => claimed_by(bytes),
         }
     }
 }
 
 // The party of the owner that a request claims.
-fn claimed_by(asked: &[u8]) -> Party
-    ensures { (o : ParseResult) × IsParsedAs asked.now o × (result ≡ party_named (claimed o)) }
+fn claimed_by(bytes: &[u8]) -> Party
+    ensures { (o : ParseResult) × IsParsedAs bytes.now o × (result ≡ party_named (claimed_owner o)) }
 {
-    match parse_http(asked) {
+    match parse_http(bytes) {
         Ok(arrival) => named(arrival.owner),
         Err(_) => Party::Nobody,
     }

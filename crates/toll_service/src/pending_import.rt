@@ -46,7 +46,7 @@ impl PendingImport {
         if self.import.is_over() {
             let report = self.import.into_report();
             self.reserved
-                .tell(alloc, &output_of_import(alloc, Ok(report)))
+                .write(alloc, &output_of_import(alloc, Ok(report)))
         } else {
             TurnResult {
                 poll: Poll::Pending(self),
@@ -59,10 +59,10 @@ impl PendingImport {
     /// of the records so far, the line of the fault on standard error, and the exit status of a failure.
     /// Output for which there is no memory is left out.
     pub fn abort(self, alloc: Global, fault: OfficeFault) -> TurnResult
-        ensures { IsReadyWith result.poll (λ told. IsImportAborted self.lines (fault_text fault) told result.keep_usable) }
+        ensures { IsReadyWith result.poll (λ reported. IsImportAborted self.lines (fault_text fault) reported result.keep_usable) }
     {
         let report = self.import.into_report();
         let done = output_of_stopped_import(alloc, &report, fault.line());
-        self.reserved.tell(alloc, &done)
+        self.reserved.write(alloc, &done)
     }
 }

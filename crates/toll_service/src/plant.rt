@@ -2,7 +2,7 @@
 ghost use Rattle.std.specs.Prelude.{◌≡◌, map, IfNone, IfOk, IfSome, OnErr};
 ghost use Rattle.toll_programs.specs.Outputs.{printout_of};
 ghost use Rattle.toll_server.specs.declared.listener.Listener.{Listener};
-ghost use Rattle.toll_service.specs.Listeners.{BeginsOrTells, IsDone, IsServed};
+ghost use Rattle.toll_service.specs.Listeners.{BeginsOrRefuses, IsRequestedDone, IsInputServed};
 ghost use Rattle.toll_service.specs.Requested.{ImportFile, is_import, requested_by_words, requested_in};
 
 use crate::pending_import::PendingImport;
@@ -21,60 +21,60 @@ use toll_server::Poll;
 pub fn answer_plant<K: Keep>(
     alloc: Global,
     keep: &mut K,
-    asked: &[u8],
+    bytes: &[u8],
 ) -> Result<TurnResult, AllocError>
     ensures err { OnErr result (keep.new ≡ keep.old) }
-    ensures served { IfOk result (λ reply. IsServed K.meaning keep.old keep.new Listener.Plant asked.now reply.poll reply.keep_usable) }
+    ensures served { IfOk result (λ reply. IsInputServed K.meaning keep.old keep.new Listener.Plant bytes.now reply.poll reply.keep_usable) }
 {
-    let Some(asked) = Call::read(alloc, asked)? else {
+    let Some(call) = Call::read(alloc, bytes)? else {
         return Ok(TurnResult {
             poll: Poll::Ready(Vec::new(alloc)),
             keep_usable: true,
         });
     };
     let reserved = ReservedReply::new(alloc)?;
-    match import_in(&asked) {
+    match import_in(&call) {
         Some(file) => Ok(begin(alloc, file, reserved)),
         None => {
-            let done = execute_words(alloc, keep, &asked.words)?;
-            Ok(reserved.tell(alloc, &done))
+            let done = execute_words(alloc, keep, &call.words)?;
+            Ok(reserved.write(alloc, &done))
         }
     }
 }
 
 // The file whose import is asked for.
-fn import_in<'a>(asked: &Call<'a>) -> Option<&'a [u8]>
-    ensures some { IfSome result (λ file. requested_in asked.now ≡ ImportFile file.now) }
-    ensures none { IfNone result (requested_in asked.now ≡ requested_by_words (map (λ w. w.now) asked.now.words.items)) }
+fn import_in<'a>(call: &Call<'a>) -> Option<&'a [u8]>
+    ensures some { IfSome result (λ file. requested_in call.now ≡ ImportFile file.now) }
+    ensures none { IfNone result (requested_in call.now ≡ requested_by_words (map (λ w. w.now) call.now.words.items)) }
 {
-    match asked.file {
-        Some(file) if is_import(&asked.words) => Some(file),
+    match call.file {
+        Some(file) if is_import(&call.words) => Some(file),
         _ => None,
     }
 }
 
 // Begins an import, or replies why there is none.
 fn begin(alloc: Global, file: &[u8], reserved: ReservedReply) -> TurnResult
-    ensures { BeginsOrTells file.now result.poll result.keep_usable }
+    ensures { BeginsOrRefuses file.now result.poll result.keep_usable }
 {
     match Import::of(alloc, file) {
         Ok(import) => TurnResult {
             poll: Poll::Pending(PendingImport::new(import, reserved)),
             keep_usable: true,
         },
-        Err(fault) => reserved.tell(alloc, &output_of_import(alloc, Err(fault))),
+        Err(fault) => reserved.write(alloc, &output_of_import(alloc, Err(fault))),
     }
 }
 
 // Does what words ask for, except an import, once they are read.
 fn execute_words<K: Keep>(alloc: Global, keep: &mut K, words: &[&str]) -> Result<Output, AllocError>
     ensures err { OnErr result (keep.new ≡ keep.old) }
-    ensures done { IfOk result (λ done. IsDone K.meaning keep.old keep.new (requested_by_words (map (λ w. w.now) words.now)) (printout_of done)) }
+    ensures done { IfOk result (λ done. IsRequestedDone K.meaning keep.old keep.new (requested_by_words (map (λ w. w.now) words.now)) (printout_of done)) }
 {
     match command_of(alloc, words) {
         Ok(command) => Ok(execute(alloc, keep, &command)),
         Err(WordsFault::Usage(usage)) => Ok(Output::on_stderr(
-            Status::Unread,
+            Status::Usage,
             CowSlice::Owned(usage),
         )),
         Err(WordsFault::Memory) => Err(AllocError),

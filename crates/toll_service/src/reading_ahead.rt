@@ -1,6 +1,6 @@
 //! Reading an office's rows before the first request.
-ghost use Rattle.toll_keep.specs.Goes.{IsReading};
-ghost use Rattle.toll_keep.specs.Reads.{ReadsOn};
+ghost use Rattle.toll_keep.specs.CallEffects.{IsReading};
+ghost use Rattle.toll_keep.specs.Reads.{ReadsOneMore};
 
 use std::alloc::Global;
 use toll_base::{LotId, Name, OwnerRow};
@@ -20,7 +20,7 @@ pub fn read_ahead<K: Keep>(alloc: Global, keep: &mut K) -> Result<(), KeepFault>
 
 // Reads the rows of these owners and of HOUSE, and traces over their batches.
 fn read_each<K: Keep>(alloc: Global, keep: &mut K, owners: &[OwnerRow]) -> Result<(), KeepFault>
-    ensures { ReadsOn K.meaning keep.old keep.new result }
+    ensures { ReadsOneMore K.meaning keep.old keep.new result }
 {
     for row in owners {
         read_owner(alloc, keep, &row.owner)?;
@@ -30,7 +30,7 @@ fn read_each<K: Keep>(alloc: Global, keep: &mut K, owners: &[OwnerRow]) -> Resul
 
 // Reads the rows of an owner, and traces over its batches.
 fn read_owner<K: Keep>(alloc: Global, keep: &mut K, owner: &Name) -> Result<(), KeepFault>
-    ensures { ReadsOn K.meaning keep.old keep.new result }
+    ensures { ReadsOneMore K.meaning keep.old keep.new result }
 {
     read_rows(alloc, keep, owner)?;
     trace_once(alloc, keep, owner)
@@ -38,7 +38,7 @@ fn read_owner<K: Keep>(alloc: Global, keep: &mut K, owner: &Name) -> Result<(), 
 
 // Reads the rows of an owner.
 fn read_rows<K: Keep>(alloc: Global, keep: &mut K, owner: &Name) -> Result<(), KeepFault>
-    ensures { ReadsOn K.meaning keep.old keep.new result }
+    ensures { ReadsOneMore K.meaning keep.old keep.new result }
 {
     match keep.slice(alloc, owner) {
         Ok(_rows) => Ok(()),
@@ -48,7 +48,7 @@ fn read_rows<K: Keep>(alloc: Global, keep: &mut K, owner: &Name) -> Result<(), K
 
 // Traces over an owner's batches, from whatever lot.
 fn trace_once<K: Keep>(alloc: Global, keep: &mut K, owner: &Name) -> Result<(), KeepFault>
-    ensures { ReadsOn K.meaning keep.old keep.new result }
+    ensures { ReadsOneMore K.meaning keep.old keep.new result }
 {
     let anywhere = LotId {
         owner: *owner,

@@ -8,7 +8,7 @@ use toll_programs::{Output, Status};
 use toll_protocol::Response;
 use toll_server::Poll;
 
-/// The place of the exit status in a frame: behind its length.
+/// The place of the exit status in a frame: after its length.
 const STATUS_PLACE: usize = 4;
 
 /// A frame with an exit status and no output, in which the status can be replaced without memory.
@@ -21,7 +21,7 @@ pub struct ReservedReply {
 impl ReservedReply {
     ghost use Rattle.std.specs.Prelude.{◌≡◌};
     ghost use Rattle.toll_programs.specs.Outputs.{printout_of};
-    ghost use Rattle.toll_service.specs.Listeners.{IsReadyWith, IsTelling, IsTellingIfRoom};
+    ghost use Rattle.toll_service.specs.Listeners.{IsReadyWith, IsFrameResponse, IsFrameResponseIfRoom};
     ghost use Rattle.toll_service.specs.Unwritten.{status_alone, status_unwritten};
 
     /// Takes the memory.
@@ -39,21 +39,21 @@ impl ReservedReply {
 
     /// The reply to the plant. If there is no memory for all of the output, it is the exit status alone, as
     /// of a program that can write nothing.
-    pub fn tell(self, alloc: Global, done: &Output) -> TurnResult
-        ensures { IsReadyWith result.poll (IsTellingIfRoom result.keep_usable (printout_of done.now)) }
+    pub fn write(self, alloc: Global, done: &Output) -> TurnResult
+        ensures { IsReadyWith result.poll (IsFrameResponseIfRoom result.keep_usable (printout_of done.now)) }
     {
         match done.as_response().encode(alloc) {
             Ok(frame) => TurnResult {
                 poll: Poll::Ready(frame),
                 keep_usable: done.status.code() != Status::Failed.code(),
             },
-            Err(_) => self.tell_status(ReservedReply::code_unwritten(done)),
+            Err(_) => self.write_status(ReservedReply::code_unwritten(done)),
         }
     }
 
     // The reply with this exit status and no output.
-    fn tell_status(self, status: u8) -> TurnResult
-        ensures { IsReadyWith result.poll (IsTelling result.keep_usable (status_alone status)) }
+    fn write_status(self, status: u8) -> TurnResult
+        ensures { IsReadyWith result.poll (IsFrameResponse result.keep_usable (status_alone status)) }
     {
         let ReservedReply { mut frame } = self;
         frame[STATUS_PLACE] = status;

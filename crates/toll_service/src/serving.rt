@@ -1,10 +1,12 @@
 //! Serving over a keep, and over an office in a file.
-ghost use Rattle.std.specs.Prelude.{◌≡◌, IfOk, OnErr, OnOk};
+ghost use Rattle.std.specs.Prelude.{◌≡◌, ◌<◌, IfOk, OnErr, OnOk};
+ghost use Rattle.toll_server.specs.Closings.{AreClosedForCause};
 ghost use Rattle.toll_server.specs.Networks.{EndsSo, Tallies};
 ghost use Rattle.toll_server.specs.Queues.{IsServedInTurn};
 ghost use Rattle.toll_server.specs.Rounds.{IsServedInRounds, ListensTill};
+ghost use Rattle.toll_service.specs.Common.{ImportState};
 ghost use Rattle.toll_service.specs.Parties.{IsBy};
-ghost use Rattle.toll_service.specs.FileServing.{IsPlaceServed};
+ghost use Rattle.toll_service.specs.FileServing.{IsFileServed};
 ghost use Rattle.toll_service.specs.Serving.{AnswersOver, HasServed, ResumesOver};
 
 use crate::keep_service::KeepService;
@@ -19,7 +21,8 @@ use toll_server::{Network, ServingEnd, serve};
 /// Serves this number of owners side by side over a keep, and the plant meanwhile. The plant's imports go on
 /// group by group, with other turns in between. All that clients ask is a list of events, in the order in
 /// which they were done, and nothing else changes the keep. So it is a run, in which each owner's replies are
-/// those that its own events give by themselves.
+/// those that its own events give by themselves. Only tests call it: the program serves a file, with
+/// [`serve_file`].
 pub fn serve_keep<W: Network, K: Keep>(
     alloc: Global,
     world: &mut W,
@@ -34,6 +37,9 @@ pub fn serve_keep<W: Network, K: Keep>(
     ensures served { HasServed K.meaning service.old.keep service.new.keep (result ≡ ServingEnd.All) }
     ensures end { Tallies (EndsSo result count) (W.tally world.old) (W.tally world.new) }
     ensures listens { Tallies (ListensTill count) (W.tally world.old) (W.tally world.new) }
+    ensures closes { Tallies (AreClosedForCause ImportState ⟦<Party as PartialEq>⟧.eq (W.limit world.old)
+        W.Stream.Source W.Stream.Sink count (result ≡ ServingEnd.All)) (W.tally world.old) (W.tally world.new) }
+    ensures asks { Tallies (λ t u. 0 < count → t.accepts < u.accepts) (W.tally world.old) (W.tally world.new) }
 {
     serve(alloc, world, service, count)
 }
@@ -49,15 +55,18 @@ pub trait Announcing: Network {
 /// first request. It stays open between requests while no other program changes it, and is closed in the end.
 /// All that clients ask is served by turns of an [`OfficeService`] that had served nobody before, each in turn,
 /// and by nothing else. An `Err` if the network can't announce that it listens: no client was served.
-pub fn serve_place<W: Announcing, K: Keep + Drop, O: KeepOpener<K>>(
+pub fn serve_file<W: Announcing, K: Keep + Drop, O: KeepOpener<K>>(
     world: &mut W,
     office_path: OfficePath<'_, O>,
     count: u64,
 ) -> io::Result<ServingEnd>
-    ensures served { IfOk result (λ end. IsPlaceServed K.meaning O.is_opened O.is_found O.openings ⟦<Party as PartialEq>⟧.eq W.Stream.Source.unread
+    ensures served { IfOk result (λ end. IsFileServed K.meaning O.is_opened O.is_found O.openings ⟦<Party as PartialEq>⟧.eq W.Stream.Source.unread
         office_path.entry.opener (W.tally world.old) (W.tally world.new) (end ≡ ServingEnd.All)) }
     ensures end { IfOk result (λ end. Tallies (EndsSo end count) (W.tally world.old) (W.tally world.new)) }
     ensures listens { OnOk result (Tallies (ListensTill count) (W.tally world.old) (W.tally world.new)) }
+    ensures closes { IfOk result (λ end. Tallies (AreClosedForCause ImportState ⟦<Party as PartialEq>⟧.eq (W.limit world.old)
+        W.Stream.Source W.Stream.Sink count (end ≡ ServingEnd.All)) (W.tally world.old) (W.tally world.new)) }
+    ensures asks { OnOk result (Tallies (λ t u. 0 < count → t.accepts < u.accepts) (W.tally world.old) (W.tally world.new)) }
     ensures err { OnErr result (world.new ≡ world.old) }
 {
     let rt = office_path.rt;

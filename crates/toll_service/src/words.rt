@@ -2,14 +2,14 @@
 ghost use Rattle.std.specs.Prelude.{map};
 ghost use Rattle.toll_programs.specs.Outputs.{printout_of};
 ghost use Rattle.toll_programs.specs.StreamOutput.{streams_of};
-ghost use Rattle.toll_service.specs.Doing.{AreWordsOver, IsAsked, IsFileOver, IsOperationDone};
+ghost use Rattle.toll_service.specs.Doing.{AreWordsOver, IsDoneByServerOrHere, IsFileOver, IsOperationDone};
 
 use crate::doing::with_keep;
 use crate::office_path::{KeepOpener, OfficePath};
 use crate::operation::Operation;
 use toll_keep::Keep;
 use toll_plant::{WordsFault, command_of};
-use toll_programs::{Connector, Output, Status, TracksReads, tell, try_server};
+use toll_programs::{Connector, Output, Status, TracksReads, report, try_server};
 use toll_protocol::Sink;
 
 /// Does what these words of the plant ask for, and gives the exit status. If the office has a server, the
@@ -37,7 +37,7 @@ pub fn do_words<
     match command_of(office_path.rt.alloc(), words) {
         Ok(command) => {
             let operation = Operation::Command(&command);
-            ask(
+            serve_or_do(
                 office_path,
                 connector,
                 words,
@@ -47,7 +47,7 @@ pub fn do_words<
                 error,
             )
         }
-        Err(WordsFault::Usage(usage)) => tell(error, &usage, Status::Unread),
+        Err(WordsFault::Usage(usage)) => report(error, &usage, Status::Usage),
         Err(WordsFault::Memory) => Output::fault(b"fault Memory\n").print(output, error),
     }
 }
@@ -67,7 +67,7 @@ pub fn do_file<K: Keep, O: KeepOpener<K>, S: TracksReads + Drop, C: Connector<S>
         (streams_of W.Sink E.Sink output.old output.new error.old error.new) result }
 {
     let operation = Operation::Import(actuals);
-    ask(
+    serve_or_do(
         office_path,
         connector,
         &["import"],
@@ -79,7 +79,7 @@ pub fn do_file<K: Keep, O: KeepOpener<K>, S: TracksReads + Drop, C: Connector<S>
 }
 
 // Has the server do what these words and the file with them ask for, or does it over a keep.
-fn ask<K: Keep, O: KeepOpener<K>, S: TracksReads + Drop, C: Connector<S>, W: Sink, E: Sink>(
+fn serve_or_do<K: Keep, O: KeepOpener<K>, S: TracksReads + Drop, C: Connector<S>, W: Sink, E: Sink>(
     office_path: &mut OfficePath<'_, O>,
     connector: &mut C,
     words: &[&str],
@@ -88,7 +88,7 @@ fn ask<K: Keep, O: KeepOpener<K>, S: TracksReads + Drop, C: Connector<S>, W: Sin
     output: &mut W,
     error: &mut E,
 ) -> u64
-    ensures { IsAsked O.is_opened (O.openings office_path.old.opener) (O.openings office_path.new.opener)
+    ensures { IsDoneByServerOrHere O.is_opened (O.openings office_path.old.opener) (O.openings office_path.new.opener)
         (IsOperationDone K.meaning operation.entry) (streams_of W.Sink E.Sink output.old output.new error.old error.new) result }
 {
     if let Some(status) = try_server(

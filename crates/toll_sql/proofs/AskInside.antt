@@ -1,16 +1,16 @@
--- A query within a transaction, whatever the schema is; and what it finds where the tables are those of version 1.
+-- A query within a transaction, on any schema; and its result if the tables are those of version 1.
 use Rattle.std.proofs.Common.{◌≡◌, ◌⊎◌, inl, inr, ℕ, true, false, cond, List, [], Option, None, Some, Ok, Err, Result, IsTrue, IfOk, IfErr, OnOk, refl, sym, ap, subst, ◌∙◌}
 use Rattle.toll_sql.proofs.Common.{IsPlain, command_of, never_commits, survives_weaker, understood, reads_listing, Row, State, CommitsShowing, FailsToQuery, IsUnchanged, HasCleanDisk, IsTooLate, KeepsCommit, Shown, ShowsRows, Survives, Error, Compiled, Returning, everything}
-use Rattle.toll_sql.specs.Causes.{IsCaused}
+use Rattle.toll_sql.specs.Causes.{IsErrorCaused}
 use Rattle.toll_sql.specs.First.{first_ours}
-use Rattle.toll_sql.specs.Opening.{IsAskedInside, IsLeft}
+use Rattle.toll_sql.specs.Opening.{IsQueryInside, LeavesTables}
 use Rattle.toll_sql.specs.Rows.{AreAll}
-use Rattle.toll_sql.specs.Tables.{select_text}
+use Rattle.toll_sql.specs.Schema.{select_text}
 use Rattle.toll_sql.specs.declared.table_kind.TableKind.TheVariants.{Meta}
 use Rattle.toll_sql.proofs.AskLemmas.{all_selected_in}
 use Rattle.toll_sql.proofs.Calls.{shown_same}
 use Rattle.toll_sql.proofs.QueryLemmas.{query_fails}
-use Rattle.toll_sql.proofs.SelectTexts.{selecting}
+use Rattle.toll_sql.proofs.SelectTexts.{select_table}
 
 module _ (old new : State) (inside : IsTrue old.in_transaction) where
   shows_kept : (sql : List ℕ) (c : Compiled) (params : Row) (rows : List Row) (r : Option Returning) → ShowsRows old new sql c params rows r → KeepsCommit old new
@@ -33,14 +33,14 @@ module _ {X : Type 0} (items : X → List Row) (sql : List ℕ) (params : Row) (
   asked_kept (Err e) inside settled ok (inl h) = fails_kept old new inside sql params e settled h
   asked_kept (Err e) inside settled ok (inr late) = absurd (let f : false ≡ true = sym late.3 ∙ inside in cc)
 
-  asked_fault : (r : Result X Error) → IfErr r (λ e. FailsToQuery sql params old new e ⊎ IsTooLate sql params old new e) → IfErr r (IsCaused old new)
+  asked_fault : (r : Result X Error) → IfErr r (λ e. FailsToQuery sql params old new e ⊎ IsTooLate sql params old new e) → IfErr r (IsErrorCaused old new)
   asked_fault (Ok x) err = tt
   asked_fault (Err e) (inl h) = (query_fails old new sql params e h).1
   asked_fault (Err e) (inr late) = λ disk. absurd (let f = late.4 in cc)
 
-  pub asked : (r : Result X Error) → (HasCleanDisk new → IfOk r (λ x. Shown sql params old new (items x))) → (HasCleanDisk new → IfErr r (λ e. FailsToQuery sql params old new e ⊎ IsTooLate sql params old new e))
-      → Survives old new (λ _. ⊥) → IsAskedInside old new r
-  asked r ok err survives = record {
+  pub query_leaves_store : (r : Result X Error) → (HasCleanDisk new → IfOk r (λ x. Shown sql params old new (items x))) → (HasCleanDisk new → IfErr r (λ e. FailsToQuery sql params old new e ⊎ IsTooLate sql params old new e))
+      → Survives old new (λ _. ⊥) → IsQueryInside old new r
+  query_leaves_store r ok err survives = record {
     kept = λ clean inside settled. asked_kept r inside settled (ok clean) (err clean);
     fault = λ clean. asked_fault r (err clean);
     survives = survives;
@@ -48,7 +48,7 @@ module _ {X : Type 0} (items : X → List Row) (sql : List ℕ) (params : Row) (
 
 -- ---- the tables of version 1
 
-first_is : (command_of (understood first_ours (select_text Meta)) ≡ selecting Meta) × (reads_listing first_ours (select_text Meta) ≡ false)
+first_is : (command_of (understood first_ours (select_text Meta)) ≡ select_table Meta) × (reads_listing first_ours (select_text Meta) ≡ false)
 unfolding understood everything
 first_is = (refl, refl)
 
@@ -59,10 +59,10 @@ first_plain = (refl, refl)
 pub first_rows : (old new : State) → old.now.schema ≡ first_ours → (rows : List Row) → Shown (select_text Meta) [] old new rows → AreAll Meta old.now.trees rows
 first_rows old new has rows h = all_selected_in Meta old new first_ours has first_is first_plain refl rows h
 
--- a query on them, outside a transaction
+-- a query on these tables, outside a transaction
 module _ {X : Type 0} (items : X → List Row) (old new : State) (auto : old.in_transaction ≡ false) (settled : IsTrue old.is_open → old.now ≡ old.committed) (has : old.now.schema ≡ first_ours) where
-  under : IsPlain (understood old.now.schema (select_text Meta))
-  under = subst (λ s. IsPlain (understood s (select_text Meta))) (sym has) first_plain
+  inside_under : IsPlain (understood old.now.schema (select_text Meta))
+  inside_under = subst (λ s. IsPlain (understood s (select_text Meta))) (sym has) first_plain
 
   abbrev IsShown : Result X Error → Type 0
   IsShown r = IfOk r (λ x. Shown (select_text Meta) [] old new (items x))
@@ -71,26 +71,26 @@ module _ {X : Type 0} (items : X → List Row) (old new : State) (auto : old.in_
   IsFailed r = IfErr r (FailsToQuery (select_text Meta) [] old new)
 
   pub asked_same : (r : Result X Error) → IsShown r → OnOk r (IsUnchanged old new)
-  asked_same (Ok x) ok = shown_same (select_text Meta) [] old new (items x) under ok
+  asked_same (Ok x) ok = shown_same (select_text Meta) [] old new (items x) inside_under ok
   asked_same (Err e) ok = tt
 
-  same : (r : Result X Error) → IsShown r → IsFailed r → IsTrue new.is_open → (new.now ≡ old.now) × (new.committed ≡ old.committed)
-  same (Ok x) ok err live = let u = shown_same (select_text Meta) [] old new (items x) under ok in (u.0.now_is, u.0.committed_is)
-  same (Err e) ok err live = let stays = (query_fails old new (select_text Meta) [] e err).0 in stays.same live (settled (stays.was_open live))
+  inside_same : (r : Result X Error) → IsShown r → IsFailed r → IsTrue new.is_open → (new.now ≡ old.now) × (new.committed ≡ old.committed)
+  inside_same (Ok x) ok err live = let u = shown_same (select_text Meta) [] old new (items x) inside_under ok in (u.0.now_is, u.0.committed_is)
+  inside_same (Err e) ok err live = let stays = (query_fails old new (select_text Meta) [] e err).0 in stays.same live (settled (stays.was_open live))
 
   was_live : (r : Result X Error) → IsShown r → IsFailed r → IsTrue new.is_open → IsTrue old.is_open
-  was_live (Ok x) ok err live = (shown_same (select_text Meta) [] old new (items x) under ok).0.was_open
+  was_live (Ok x) ok err live = (shown_same (select_text Meta) [] old new (items x) inside_under ok).0.was_open
   was_live (Err e) ok err live = (query_fails old new (select_text Meta) [] e err).0.was_open live
 
-  caused : (r : Result X Error) → IsFailed r → IfErr r (IsCaused old new)
-  caused (Ok x) err = tt
-  caused (Err e) err = (query_fails old new (select_text Meta) [] e err).1
+  inside_caused : (r : Result X Error) → IsFailed r → IfErr r (IsErrorCaused old new)
+  inside_caused (Ok x) err = tt
+  inside_caused (Err e) err = (query_fails old new (select_text Meta) [] e err).1
 
-  pub asked_first : (r : Result X Error) → (HasCleanDisk new → IsShown r) → (HasCleanDisk new → IsFailed r) → (old.in_transaction ≡ false → new.in_transaction ≡ false) → Survives old new (CommitsShowing (select_text Meta) [] old) → IsLeft old new r
+  pub asked_first : (r : Result X Error) → (HasCleanDisk new → IsShown r) → (HasCleanDisk new → IsFailed r) → (old.in_transaction ≡ false → new.in_transaction ≡ false) → Survives old new (CommitsShowing (select_text Meta) [] old) → LeavesTables old new r
   asked_first r ok err mode survives = record {
     ended = mode auto;
-    same = λ clean. same r (ok clean) (err clean);
+    same = λ clean. inside_same r (ok clean) (err clean);
     live = λ clean. was_live r (ok clean) (err clean);
-    fault = λ clean. caused r (err clean);
-    survives = survives_weaker old new _ (λ _. ⊥) (λ _ db h. never_commits (select_text Meta) [] old db under h) survives;
+    fault = λ clean. inside_caused r (err clean);
+    survives = survives_weaker old new _ (λ _. ⊥) (λ _ db h. never_commits (select_text Meta) [] old db inside_under h) survives;
   }

@@ -1,16 +1,16 @@
--- What stands behind the office's tables, by itself.
+-- What follows the office's tables in a schema, by itself.
 use Rattle.std.proofs.Common.{◌≡◌, List, ◌++◌, ap₂}
 use Rattle.toll_sql.proofs.Common.{Schema, Table, Index}
 use Rattle.sqlite_schema.specs.declared.schema.View.{View}
 use Rattle.toll_sql.specs.Others.{HasOurs}
-use Rattle.toll_sql.specs.Tables.{made_all}
+use Rattle.toll_sql.specs.Schema.{made_all}
 
 pub record Others : Type 0 where
   pub tables : List Table
   pub indexes : List Index
   pub views : List View
 
--- the office's tables and the indexes of their keys, and these behind them: what a text means over it can be computed
+-- the office's tables and the indexes of their keys, and these after them; what a text means over it can be computed
 abbrev pub ours_and : Others → Schema
 ours_and others = record { tables = made_all.tables ++ others.tables; indexes = made_all.indexes ++ others.indexes; views = others.views }
 

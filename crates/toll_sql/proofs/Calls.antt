@@ -1,4 +1,4 @@
--- What a call on a text that is understood may answer.
+-- The possible answers of a call on a text that compiles.
 use Rattle.std.proofs.Common.{◌≡◌, inl, inr, ℕ, false, List, length, Ok, Err, Result, sym, ap, subst, subst₂, ◌∙◌, arith}
 use Rattle.toll_sql.proofs.Common.{Row, Compiled, CompileError, Command, Error, understood, reads_listing, IsSourceOf, RefusesToRead, timed, State, Shown, IsUnchanged, IsNotRun, Fails, FailsToQuery, IsNoStatement, command_of, IsPlain}
 use Rattle.toll_sql.specs.Given.{IsGiven}
@@ -29,7 +29,7 @@ unfolding IsNotRun
 not_run sql params old new e given (inl h) = absurd (is_statement sql params old e given h.0)
 not_run sql params old new e given (inr h) = h
 
--- where the query is typed, cannot overflow and no limit is set, only the store fails it
+-- If the query is typed and can't overflow, and there is no limit, only the store can fail it.
 pub fails_as : (sql : List ℕ) (params : Row) (old new : State) (e : Error) (command : Command) → IsGiven sql (length params) (understood old.now.schema sql) → command_of (understood old.now.schema sql) ≡ command
     → reads_listing old.now.schema sql ≡ false → ¬ RefusesToRead old.step_limit command old.now params e → FailsToQuery sql params old new e → Fails old new ⊥ e
 unfolding FailsToQuery

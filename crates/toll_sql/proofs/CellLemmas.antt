@@ -10,9 +10,9 @@ pub later_columns : (at n : ℕ) (v : Value) (row : Row) → columns_from (suc a
 later_columns at zero v row = refl
 later_columns at (suc n) v row = ap (λ cells. column row at ∷ cells) (later_columns (suc at) n v row)
 
-pub all_columns : (row : Row) → columns_from 0 (length row) row ≡ row
-all_columns [] = refl
-all_columns (v ∷ row) = ap (λ cells. v ∷ cells) (later_columns 0 (length row) v row ∙ all_columns row)
+pub every_column : (row : Row) → columns_from 0 (length row) row ≡ row
+every_column [] = refl
+every_column (v ∷ row) = ap (λ cells. v ∷ cells) (later_columns 0 (length row) v row ∙ every_column row)
 
 pub fit_length : (columns : List Column) (cells : Row) → fit columns cells ≡ true → length cells ≡ length columns
 fit_length [] [] h = refl
@@ -20,7 +20,7 @@ fit_length [] (v ∷ cells) h = absurd (false≢true h)
 fit_length (c ∷ columns) [] h = absurd (false≢true h)
 fit_length (c ∷ columns) (v ∷ cells) h = ap suc (fit_length columns cells (and_parts _ _ h).1)
 
--- a cell of the column's kind is not changed where it is stored
+-- A cell of the column's kind isn't changed when it is stored.
 cast_one : (k : Kind) (v : Value) → is_of_kind k v ≡ true → cast k v ≡ v
 cast_one kind.Text (Text t) h = refl
 cast_one kind.Integer (Int n) h = cast_int n

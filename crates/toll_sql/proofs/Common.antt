@@ -1,4 +1,4 @@
--- Words that several proofs here use.
+-- Definitions and lemmas that several proofs here use.
 pub use Rattle.sqlite.proofs.Callers.{IsPlain, command_of, never_commits, one_permutation, one_step, reads_as, runs_as, statement_of}
 pub use Rattle.sqlite.proofs.InsideLemmas.{inside_keeps, keeps_then}
 pub use Rattle.sqlite.proofs.StateLemmas.{survives_then, survives_weaker}
@@ -88,9 +88,9 @@ pub use Rattle.toll_base.specs.declared.decision.Change.{Change}
 pub use Rattle.toll_base.specs.declared.decision.Change.TheVariants.{Owner, Put, Unit}
 pub use Rattle.toll_base.specs.declared.lot.Edge.{Edge}
 pub use Rattle.toll_base.specs.declared.role.Role.TheVariants.{Consumed, Produced}
-pub use Rattle.toll_keep.specs.Content.{ContentKeepsRules, after, knows, slice_of}
+pub use Rattle.toll_keep.specs.Content.{ContentKeepsRules, content_after, knows, slice_of}
 pub use Rattle.toll_keep.specs.Holding.{IsEdgeOfSome, IsHolder, is_on}
-pub use Rattle.toll_sql.specs.Common.{Actual, AllByRecursion, BatchRow, Binary, Bytes, Closed, Column, Compiled, Content, Damaged, Database, Disk, Error, HasCleanDisk, Held, Index, Int, IsAscending, IsClean, IsShaped, KeepFault, KeepsCommit, KeepsRows, LotRow, MaterialRow, Memory, Move, MoveRow, Null, OrderRow, OwnerRow, Receive, RecipeRow, RefusesToRead, RequirementRow, ResultRow, Role, Row, Schema, Scrap, Ship, Slice, Split, SqliteFailure, State, SublotRow, Survives, Table, TestRow, Text, Trees, UnitRow, VoidRow, agree, bytes_cmp, column, guards, indexed, is_eq, is_lt, is_name, is_used, match_ordering, nothing, on, plain, row_cmp, same_bytes, with_row}
+pub use Rattle.toll_sql.specs.Common.{Actual, AllByRecursion, BatchRow, Binary, Bytes, Closed, Column, Compiled, Content, Damaged, Database, Disk, Error, HasCleanDisk, Held, Index, Int, IsAscending, IsClean, IsShaped, KeepFault, KeepsCommit, KeepsRows, LotRow, MaterialRow, Memory, Move, MoveRow, Null, OrderRow, OwnerRow, Receive, RecipeRow, RefusesToRead, RequirementRow, ResultRow, Role, Row, Schema, Scrap, Ship, Slice, Split, SqliteFailure, State, SublotRow, Survives, Table, TestRow, Text, Trees, UnitRow, VoidRow, agree, bytes_cmp, column, guards, indexed, is_eq, is_lt, is_name, is_used, match_ordering, empty_content, on, plain, row_cmp, same_bytes, with_row}
 pub use Rattle.toll_trace.proofs.Drawn.{member_of_row, row_of_member}
 pub use Rattle.toll_trace.proofs.Members.{Contains-cases, Contains-filter, Contains-flat_map, Contains-from_filter, Contains-from_flat_map, Contains-from_map, Contains-here, Contains-later, Contains-map, Contains-none, kept_in_order, member_of_all}
 pub use Rattle.toll_trace.specs.Edges.{AreEdges, IsActual, IsEdge, Stands}

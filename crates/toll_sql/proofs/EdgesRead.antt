@@ -4,7 +4,7 @@ use Rattle.std.specs.Prelude.{Contains}
 use Rattle.toll_sql.proofs.Common.{AllByRecursion, IfOk-weaker, Row, column, bytes, bytes_cmp, Slice, Edge, MoveRow, member_of_row, Contains-map, Contains-from_map, kept_in_order, member_of_all, AreEdges, IsEdge}
 use Rattle.toll_base.specs.Lots.{edge_cmp}
 use Rattle.toll_sql.specs.Cells.{columns_from}
-use Rattle.toll_sql.specs.EdgeRows.{AreReadFrom, HasNoEdge, IsNamedEdge, ShowEdges, edge_cells}
+use Rattle.toll_sql.specs.EdgeRows.{AreEdgesReadFrom, HasNoEdge, IsNamedEdge, ShowEdges, edge_cells}
 use Rattle.toll_sql.specs.Valid.{IsMove, IsMovement}
 use Rattle.toll_trace.proofs.Orders.{edges_exact}
 
@@ -12,7 +12,7 @@ edge_same : (e f : Edge) → edge_cells e ≡ edge_cells f → e ≡ f
 edge_same e f h = ap (λ r. record { from = record { owner = bytes (column r 0); lot = bytes (column r 1) }; to = record { owner = bytes (column r 2); lot = bytes (column r 3) } }) h
 
 module _ (is_edge : Edge → Type 0) (rows : List Row) (shown : ShowEdges is_edge rows) where
-  edges_read : (edges : List Edge) → AreReadFrom rows edges → AreEdges is_edge edges
+  edges_read : (edges : List Edge) → AreEdgesReadFrom rows edges → AreEdges is_edge edges
   edges_read edges from = record {
     only = λ e i.
         let r = Contains-from_map (columns_from 0 4) rows (edge_cells e) (subst (λ xs. Contains xs (edge_cells e)) from.cells (Contains-map edge_cells from.read e (from.in_order.none_new e i))) in
@@ -31,10 +31,10 @@ module _ (is_edge : Edge → Type 0) (rows : List Row) (shown : ShowEdges is_edg
       let f = shown.only bad.0 bad.1 in
       bad.2 f.0 (named f.0 f.1) (ap (columns_from 0 4) f.2)
 
-  pub read_from : {E Y : Type 0} (items : Y → List Edge) (r : Result Y E) → IfOk r (λ edges. AreReadFrom rows (items edges)) → IfOk r (λ edges. AreEdges is_edge (items edges))
+  pub read_from : {E Y : Type 0} (items : Y → List Edge) (r : Result Y E) → IfOk r (λ edges. AreEdgesReadFrom rows (items edges)) → IfOk r (λ edges. AreEdges is_edge (items edges))
   read_from items r h = IfOk-weaker r _ _ (λ edges from. edges_read (items edges) from) h
 
--- ---- the edges of rows whose values are values of their kinds
+-- ---- the edges of rows with valid values
 
 pub edge_named : (s : Slice) → AllByRecursion IsMovement s.moves → (e : Edge) → IsEdge s e → IsNamedEdge e
 edge_named s valid e d =

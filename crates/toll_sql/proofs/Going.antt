@@ -3,23 +3,23 @@ use Rattle.std.proofs.Common.{◌≡◌, List, [], ◌∷◌, refl, ◌∙◌}
 use Rattle.toll_sql.proofs.Common.{State, Trees, Change}
 use Rattle.toll_sql.specs.Stores.{IsReady, MakesAll, MakesPut, PutsAll}
 
--- so far: what the changes that are left make of the trees, all changes make of the first
+-- So far: the changes that are left make of the trees what all changes make of the first trees.
 pub record GoesOn (all rest : List Change) (old now : State) : Type 0 where
   pub ready : IsReady now
   pub schema : now.now.schema ≡ old.now.schema
   pub committed : now.committed ≡ old.committed
   pub rest_puts : (last : Trees) → PutsAll rest now.now.trees last → PutsAll all old.now.trees last
 
-pub begun : (all : List Change) (old : State) → IsReady old → GoesOn all all old old
-begun all old ready = record { ready = ready; schema = refl; committed = refl; rest_puts = λ last h. h }
+pub goes_on_from_start : (all : List Change) (old : State) → IsReady old → GoesOn all all old old
+goes_on_from_start all old ready = record { ready = ready; schema = refl; committed = refl; rest_puts = λ last h. h }
 
-pub one_more : (all rest : List Change) (change : Change) (old now next : State) → GoesOn all (change ∷ rest) old now → MakesPut change now next → GoesOn all rest old next
-one_more all rest change old now next so h = record {
+pub one_put_more : (all rest : List Change) (change : Change) (old now next : State) → GoesOn all (change ∷ rest) old now → MakesPut change now next → GoesOn all rest old next
+one_put_more all rest change old now next so h = record {
   ready = h.ready;
   schema = h.schema ∙ so.schema;
   committed = h.committed ∙ so.committed;
   rest_puts = λ last more. so.rest_puts last (next.now.trees, h.put, more);
 }
 
-pub all_made : (all : List Change) (old new : State) → GoesOn all [] old new → MakesAll all old new
-all_made all old new so = record { put = so.rest_puts new.now.trees refl; ready = so.ready; schema = so.schema; committed = so.committed }
+pub makes_all_at_end : (all : List Change) (old new : State) → GoesOn all [] old new → MakesAll all old new
+makes_all_at_end all old new so = record { put = so.rest_puts new.now.trees refl; ready = so.ready; schema = so.schema; committed = so.committed }

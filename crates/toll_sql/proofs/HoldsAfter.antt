@@ -1,6 +1,6 @@
--- What changes that are put make of a content that the tables hold.
+-- The effect of changes on a content that the tables hold.
 use Rattle.std.proofs.Common.{◌≡◌, ◌≢◌, ◌⊎◌, inl, inr, ◌+◌, ◌≤◌, Bool, true, false, List, [], ◌∷◌, map, length, refl, sym, ap, subst, ◌∙◌, arith}
-use Rattle.toll_sql.proofs.Common.{false≢true, nat_list_cmp_total, AllByRecursion, is_eq, and_parts, IsPermutation-map, Row, column, value_cmp, Trees, Text, all-permutation, Bytes, bytes_cmp, same_bytes, Slice, with_row, Change, Owner, Unit as UnitAdded, Put, OwnerRow, UnitRow, is_eq-then, same_bytes-exact, same_bytes-refl, Content, after}
+use Rattle.toll_sql.proofs.Common.{false≢true, nat_list_cmp_total, AllByRecursion, is_eq, and_parts, IsPermutation-map, Row, column, value_cmp, Trees, Text, all-permutation, Bytes, bytes_cmp, same_bytes, Slice, with_row, Change, Owner, Unit as UnitAdded, Put, OwnerRow, UnitRow, is_eq-then, same_bytes-exact, same_bytes-refl, Content, content_after}
 use Rattle.std.specs.Prelude.{if◌then◌else◌}
 use Rattle.toll_base.specs.declared.rows.Row.{Row as OfficeRow}
 use Rattle.toll_base.specs.declared.rows.Row.TheVariants as of
@@ -8,36 +8,36 @@ use Rattle.toll_sql.specs.Bag.{place, all_cells, owned_by}
 use Rattle.toll_sql.specs.Cells.{cells_of, fill, key_order}
 use Rattle.toll_sql.specs.Encode.{meta_cells, owner_cells, unit_cells, table_for, cells_for, rows_for}
 use Rattle.toll_sql.specs.Holds.{HasRows, Holds, HoldsAll, HoldsEach, HoldsSlice, NamesOwner, version}
-use Rattle.toll_sql.specs.Put.{IsReplaced, IsAdded}
-use Rattle.toll_sql.specs.Stores.{PutsAll, PutsChange, PutsRow, has_key}
-use Rattle.toll_sql.specs.Tables.{tree_of, keys_of, table_of, width_of, is_owned}
+use Rattle.toll_sql.specs.Put.{ReplacesOrAdds, IsRowAdded}
+use Rattle.toll_sql.specs.Stores.{PutsAll, PutsChange, PutsRow, has_row_key}
+use Rattle.toll_sql.specs.Schema.{tree_of, key_columns, table_of, width_of, is_owned}
 use Rattle.toll_sql.specs.Valid.{IsOwner, IsRow, IsUnit}
 use Rattle.toll_sql.specs.declared.table_kind.TableKind.{TableKind}
 use Rattle.toll_sql.specs.declared.table_kind.TableKind.TheVariants.{Meta, Owners, Units}
 use Rattle.toll_sql.proofs.Bags.{placed_in}
 use Rattle.toll_sql.proofs.CellLemmas.{fit_length}
 use Rattle.toll_sql.proofs.ChangeLemmas.{fills}
-use Rattle.toll_sql.proofs.Keyed.{behind, cells_are, has_key_is}
+use Rattle.toll_sql.proofs.Keyed.{column_behind_rowid, cells_are, has_key_is}
 use Rattle.toll_sql.proofs.Orders.{key_order_total, owners_order, units_order}
-use Rattle.toll_sql.proofs.Parts.{owns, own_part, other_part}
+use Rattle.toll_sql.proofs.Parts.{owns_row, own_part, other_part}
 use Rattle.toll_sql.proofs.Placing.{place_rises, put_placed}
-use Rattle.toll_sql.proofs.PutCommon.{is_text, texts_equal}
-use Rattle.toll_sql.proofs.PutTexts.{number_of, same_table, columns_are}
-use Rattle.toll_sql.proofs.Rowwise.{all_put, owner_first, placed, untouched, valid_with}
+use Rattle.toll_sql.proofs.PutCommon.{compares_text_only, texts_equal}
+use Rattle.toll_sql.proofs.PutTexts.{table_number, same_table, columns_are}
+use Rattle.toll_sql.proofs.Rowwise.{all_put, owner_first, row_placed, other_table_untouched, valid_with}
 use Rattle.toll_sql.proofs.WriteLemmas.{at_table}
 
 -- ---- tables and their trees
 
-keys_fit : (k : TableKind) → length (keys_of k) ≤ width_of k
+keys_fit : (k : TableKind) → length (key_columns k) ≤ width_of k
 keys_fit Meta = omega arith
 keys_fit _ = omega arith
 
-tree_number : (k : TableKind) → tree_of k ≡ number_of k + number_of k
+tree_number : (k : TableKind) → tree_of k ≡ table_number k + table_number k
 tree_number Meta = refl
 tree_number _ = refl
 
-pub apart : (j k : TableKind) → (number_of j ≡ number_of k → ⊥) → tree_of j ≢ tree_of k
-apart j k other same = other (omega (arith, tree_number j, tree_number k, same))
+pub trees_apart : (j k : TableKind) → (table_number j ≡ table_number k → ⊥) → tree_of j ≢ tree_of k
+trees_apart j k other same = other (omega (arith, tree_number j, tree_number k, same))
 
 first_equal : (k : TableKind) (a b : Row) → is_eq (key_order k a b) ≡ true → is_eq (value_cmp (column a 0) (column b 0)) ≡ true
 first_equal Meta a b h = (and_parts _ _ (sym (is_eq-then (value_cmp (column a 0) (column b 0)) _) ∙ h)).0
@@ -46,23 +46,23 @@ first_equal _ a b h = (and_parts _ _ (sym (is_eq-then (value_cmp (column a 0) (c
 -- ---- the table of the row, and the others
 
 abbrev IsPut : (k : TableKind) (cells : Row) (old new : List Row) → Type 0
-IsPut k cells old new = IsReplaced (has_key k cells) cells old new ⊎ IsAdded (has_key k cells) cells old new
+IsPut k cells old new = ReplacesOrAdds (has_row_key k cells) cells old new ⊎ IsRowAdded (has_row_key k cells) cells old new
 
 module _ (k : TableKind) (cells : Row) (fits : fill k cells ≡ true) where
-  key_is : (row : Row) → has_key k cells row ≡ is_eq (key_order k (cells_of row) cells)
-  key_is = has_key_is k cells (omega (arith, keys_fit k, fit_length (table_of k).columns cells fits, columns_are k)) (cells_are (table_of k).columns cells fits)
+  after_key_is : (row : Row) → has_row_key k cells row ≡ is_eq (key_order k (cells_of row) cells)
+  after_key_is = has_key_is k cells (omega (arith, keys_fit k, fit_length (table_of k).columns cells fits, columns_are k)) (cells_are (table_of k).columns cells fits)
 
-  pub rows_after : (rows old new : List Row) → HasRows k rows old → IsPut k cells old new → HasRows k (place (key_order k) cells rows) new
-  rows_after rows old new h put = record {
-    same = placed_in (key_order k) (key_order_total k) cells (has_key k cells) key_is rows old new h.rising h.same put;
+  pub rows_held_after : (rows old new : List Row) → HasRows k rows old → IsPut k cells old new → HasRows k (place (key_order k) cells rows) new
+  rows_held_after rows old new h put = record {
+    same = placed_in (key_order k) (key_order_total k) cells (has_row_key k cells) after_key_is rows old new h.rising h.same put;
     rising = place_rises (key_order k) (key_order_total k) cells rows h.rising;
   }
 
-  -- the row with the key is of the same owner
-  same_owner : (o : Bytes) → column cells 0 ≡ Text o → (row : Row) → has_key k cells row ≡ true → column row 1 ≡ Text o
+  -- The row with the key is of the same owner.
+  same_owner : (o : Bytes) → column cells 0 ≡ Text o → (row : Row) → has_row_key k cells row ≡ true → column row 1 ≡ Text o
   same_owner o first row has =
-      let equal = first_equal k (cells_of row) cells (sym (key_is row) ∙ has) in
-      behind row 0 ∙ is_text (column (cells_of row) 0) o (subst (λ v. is_eq (value_cmp (column (cells_of row) 0) v) ≡ true) first equal)
+      let equal = first_equal k (cells_of row) cells (sym (after_key_is row) ∙ has) in
+      column_behind_rowid row 0 ∙ compares_text_only (column (cells_of row) 0) o (subst (λ v. is_eq (value_cmp (column (cells_of row) 0) v) ≡ true) first equal)
 
   owned_after : (old new : List Row) → NamesOwner cells → IsPut k cells old new → AllByRecursion NamesOwner (all_cells old) → AllByRecursion NamesOwner (all_cells new)
   owned_after old new named (inl h) all =
@@ -70,8 +70,8 @@ module _ (k : TableKind) (cells : Row) (fits : fill k cells ≡ true) where
       all-permutation NamesOwner (cells ∷ all_cells h.1) (all_cells new) h.4 (named, rest.1)
   owned_after old new named (inr h) all = all-permutation NamesOwner (cells ∷ all_cells old) (all_cells new) h.1 (named, all)
 
-pub other_tree : (j k : TableKind) (cells : Row) (old new : Trees) → (number_of j ≡ number_of k → ⊥) → PutsRow k cells old new → new (tree_of j) ≡ old (tree_of j)
-other_tree j k cells old new other put = at_table (λ tree. tree ≢ tree_of k → new tree ≡ old tree) j put.others (apart j k other)
+pub other_tree : (j k : TableKind) (cells : Row) (old new : Trees) → (table_number j ≡ table_number k → ⊥) → PutsRow k cells old new → new (tree_of j) ≡ old (tree_of j)
+other_tree j k cells old new other put = at_table (λ tree. tree ≢ tree_of k → new tree ≡ old tree) j put.others (trees_apart j k other)
 
 -- ---- an owner's rows
 
@@ -82,21 +82,21 @@ module _ (o q : Bytes) (row : OfficeRow) (s : Slice) (old new : Trees) (put : Pu
   cells_fit : fill k (cells_for o row) ≡ true
   cells_fit = fills (Put o row)
 
-  its : (row' : Row) → has_key k (cells_for o row) row' ≡ true → column row' 1 ≡ Text o
-  its = same_owner k (cells_for o row) cells_fit o (owner_first o row)
+  after_its : (row' : Row) → has_row_key k (cells_for o row) row' ≡ true → column row' 1 ≡ Text o
+  after_its = same_owner k (cells_for o row) cells_fit o (owner_first o row)
 
-  own_rows : HoldsSlice old q s → o ≡ q → (j : TableKind) → is_owned j ≡ true → HasRows j (rows_for j (with_row s row)) (owned_by q (new (tree_of j)))
-  own_rows h at j owned = elim (same_table j k) [
+  own_rows_after : HoldsSlice old q s → o ≡ q → (j : TableKind) → is_owned j ≡ true → HasRows j (rows_for j (with_row s row)) (owned_by q (new (tree_of j)))
+  own_rows_after h at j owned = elim (same_table j k) [
     | inl same ↦ subst (λ j. HasRows j (rows_for j (with_row s row)) (owned_by q (new (tree_of j)))) (sym same) (
         let own_o : s.owner ≡ o = h.named ∙ sym at in
         let has = h.stored k (subst (λ j. is_owned j ≡ true) same owned) in
-        let mine : owns q (cells_for o row) ≡ true = ap (λ v. is_eq (value_cmp v (Text q))) (owner_first o row) ∙ texts_equal o q ∙ ap (λ p. same_bytes p q) at ∙ same_bytes-refl q in
-        let here = own_part q (has_key k (cells_for o row)) (cells_for o row) (old (tree_of k)) (new (tree_of k)) mine
-        (λ row' has. ap (λ v. is_eq (value_cmp v (Text q))) (its row' has) ∙ texts_equal o q ∙ ap (λ p. same_bytes p q) at ∙ same_bytes-refl q) put.here in
-        let made = rows_after k (cells_for o row) cells_fit (rows_for k s) (owned_by q (old (tree_of k))) (owned_by q (new (tree_of k))) has here in
-        subst (λ rows. HasRows k rows (owned_by q (new (tree_of k)))) (sym (placed s row has.rising ∙ ap (λ p. place (key_order k) (cells_for p row) (rows_for k s)) own_o)) made
+        let mine : owns_row q (cells_for o row) ≡ true = ap (λ v. is_eq (value_cmp v (Text q))) (owner_first o row) ∙ texts_equal o q ∙ ap (λ p. same_bytes p q) at ∙ same_bytes-refl q in
+        let here = own_part q (has_row_key k (cells_for o row)) (cells_for o row) (old (tree_of k)) (new (tree_of k)) mine
+        (λ row' has. ap (λ v. is_eq (value_cmp v (Text q))) (after_its row' has) ∙ texts_equal o q ∙ ap (λ p. same_bytes p q) at ∙ same_bytes-refl q) put.here in
+        let made = rows_held_after k (cells_for o row) cells_fit (rows_for k s) (owned_by q (old (tree_of k))) (owned_by q (new (tree_of k))) has here in
+        subst (λ rows. HasRows k rows (owned_by q (new (tree_of k)))) (sym (row_placed s row has.rising ∙ ap (λ p. place (key_order k) (cells_for p row) (rows_for k s)) own_o)) made
         )
-    | inr other ↦ subst (λ rows. HasRows j rows (owned_by q (new (tree_of j)))) (sym (untouched j s row other))
+    | inr other ↦ subst (λ rows. HasRows j rows (owned_by q (new (tree_of j)))) (sym (other_table_untouched j s row other))
         (subst (λ tree. HasRows j (rows_for j s) (owned_by q tree)) (sym (other_tree j k (cells_for o row) old new other put)) (h.stored j owned))
   ]
 
@@ -104,8 +104,8 @@ module _ (o q : Bytes) (row : OfficeRow) (s : Slice) (old new : Trees) (put : Pu
   others_rows h differ j owned = elim (same_table j k) [
     | inl same ↦ subst (λ j. HasRows j (rows_for j s) (owned_by q (new (tree_of j)))) (sym same) (
         let has = h.stored k (subst (λ j. is_owned j ≡ true) same owned) in
-        let mine : owns q (cells_for o row) ≡ false = ap (λ v. is_eq (value_cmp v (Text q))) (owner_first o row) ∙ texts_equal o q ∙ differ in
-        let here = other_part q (has_key k (cells_for o row)) (cells_for o row) (old (tree_of k)) (new (tree_of k)) mine (λ row' has. ap (λ v. is_eq (value_cmp v (Text q))) (its row' has) ∙ texts_equal o q ∙ differ) put.here in
+        let mine : owns_row q (cells_for o row) ≡ false = ap (λ v. is_eq (value_cmp v (Text q))) (owner_first o row) ∙ texts_equal o q ∙ differ in
+        let here = other_part q (has_row_key k (cells_for o row)) (cells_for o row) (old (tree_of k)) (new (tree_of k)) mine (λ row' has. ap (λ v. is_eq (value_cmp v (Text q))) (after_its row' has) ∙ texts_equal o q ∙ differ) put.here in
         record { same = λ f. has.same f ∙ here f; rising = has.rising }
         )
     | inr other ↦ subst (λ tree. HasRows j (rows_for j s) (owned_by q tree)) (sym (other_tree j k (cells_for o row) old new other put)) (h.stored j owned)
@@ -114,7 +114,7 @@ module _ (o q : Bytes) (row : OfficeRow) (s : Slice) (old new : Trees) (put : Pu
   slice_after : IsRow row → HoldsSlice old q s → (b : Bool) → same_bytes o q ≡ b → HoldsSlice new q (if b then with_row s row else s)
   slice_after valid h true e = record {
     named = named_with row s ∙ h.named;
-    stored = own_rows h (same_bytes-exact o q e);
+    stored = own_rows_after h (same_bytes-exact o q e);
     valid = λ j owned. valid_with j s row valid (h.valid j owned);
   }
     where
@@ -129,45 +129,45 @@ is_owned_for : (row : OfficeRow) → is_owned (table_for row) ≡ true
 is_owned_for (of.Material x) = refl
 is_owned_for _ = refl
 
--- a table that owners do not part is not the row's
-pub unowned_apart : (j k : TableKind) → is_owned j ≡ false → is_owned k ≡ true → number_of j ≡ number_of k → ⊥
+-- A table that isn't divided by owner isn't the row's.
+pub unowned_apart : (j k : TableKind) → is_owned j ≡ false → is_owned k ≡ true → table_number j ≡ table_number k → ⊥
 unowned_apart j k free owned same = elim (same_table j k) [
   | inl is ↦ false≢true (sym free ∙ ap is_owned is ∙ owned)
   | inr other ↦ other same
 ]
 
--- a table as it was has the rows that it had
+-- An unchanged table has the rows that it had.
 pub same_all : {X : Type 0} (k : TableKind) (cells : X → Row) (is_valid : X → Type 0) (old new : Trees) (l : List X) → new (tree_of k) ≡ old (tree_of k) → HoldsAll k cells is_valid old l → HoldsAll k cells is_valid new l
 same_all k cells is_valid old new l same h = record { stored = subst (HasRows k (map cells l)) (sym same) h.stored; valid = h.valid }
 
--- a slice whose owner's tables are as they were
+-- A slice whose owner's tables are unchanged.
 same_slice : (old new : Trees) (q : Bytes) (s : Slice) → ((j : TableKind) → is_owned j ≡ true → new (tree_of j) ≡ old (tree_of j)) → HoldsSlice old q s → HoldsSlice new q s
 same_slice old new q s same h = record { named = h.named; stored = λ j owned. subst (λ tree. HasRows j (rows_for j s) (owned_by q tree)) (sym (same j owned)) (h.stored j owned); valid = h.valid }
 
--- so with those of all owners
+-- The same for the slices of all owners.
 pub same_each : (old new : Trees) (rows : Bytes → Slice) → ((j : TableKind) → is_owned j ≡ true → new (tree_of j) ≡ old (tree_of j)) → HoldsEach is_owned old rows → HoldsEach is_owned new rows
 same_each old new rows same h = record {
   slices = λ o. same_slice old new o (rows o) same (h.slices o);
   owned = λ j owned. subst (λ tree. AllByRecursion NamesOwner (all_cells tree)) (sym (same j owned)) (h.owned j owned);
 }
 
-holds_one : (change : Change) (c : Content) (old new : Trees) → Holds old c → PutsChange change old new → Holds new (after (change ∷ []) c)
+holds_one : (change : Change) (c : Content) (old new : Trees) → Holds old c → PutsChange change old new → Holds new (content_after (change ∷ []) c)
 holds_one (Owner x) c old new h p =
-    let other = λ (j : TableKind) (differ : number_of j ≡ number_of Owners → ⊥). other_tree j Owners (owner_cells x) old new differ p.put in
+    let other = λ (j : TableKind) (differ : table_number j ≡ table_number Owners → ⊥). other_tree j Owners (owner_cells x) old new differ p.put in
     let tables = λ (j : TableKind) (owned : is_owned j ≡ true). other j (λ same. unowned_apart Owners j refl owned (sym same)) in
     record {
       meta = subst (λ tree. HasRows Meta (meta_cells version ∷ []) tree) (sym (other Meta (λ e. absurd (omega (arith, e))))) h.meta;
       owners = record {
         stored =
             subst (λ rows. HasRows Owners rows (new (tree_of Owners))) (sym (put_placed bytes_cmp nat_list_cmp_total (λ (row : OwnerRow). row.owner) owner_cells (key_order Owners) owners_order x c.owners h.owners.stored.rising))
-            (rows_after Owners (owner_cells x) (fills (Owner x)) (map owner_cells c.owners) (old (tree_of Owners)) (new (tree_of Owners)) h.owners.stored p.put.here);
+            (rows_held_after Owners (owner_cells x) (fills (Owner x)) (map owner_cells c.owners) (old (tree_of Owners)) (new (tree_of Owners)) h.owners.stored p.put.here);
         valid = all_put (λ (row : OwnerRow). row.owner) _ x p.valid bytes_cmp c.owners h.owners.valid;
       };
       units = same_all Units unit_cells IsUnit old new c.units (other Units (λ e. absurd (omega (arith, e)))) h.units;
       each = same_each old new c.rows tables h.each;
     }
 holds_one (UnitAdded x) c old new h p =
-    let other = λ (j : TableKind) (differ : number_of j ≡ number_of Units → ⊥). other_tree j Units (unit_cells x) old new differ p.put in
+    let other = λ (j : TableKind) (differ : table_number j ≡ table_number Units → ⊥). other_tree j Units (unit_cells x) old new differ p.put in
     let tables = λ (j : TableKind) (owned : is_owned j ≡ true). other j (λ same. unowned_apart Units j refl owned (sym same)) in
     record {
       meta = subst (λ tree. HasRows Meta (meta_cells version ∷ []) tree) (sym (other Meta (λ e. absurd (omega (arith, e))))) h.meta;
@@ -175,7 +175,7 @@ holds_one (UnitAdded x) c old new h p =
       units = record {
         stored =
             subst (λ rows. HasRows Units rows (new (tree_of Units))) (sym (put_placed bytes_cmp nat_list_cmp_total (λ (row : UnitRow). row.unit) unit_cells (key_order Units) units_order x c.units h.units.stored.rising))
-            (rows_after Units (unit_cells x) (fills (UnitAdded x)) (map unit_cells c.units) (old (tree_of Units)) (new (tree_of Units)) h.units.stored p.put.here);
+            (rows_held_after Units (unit_cells x) (fills (UnitAdded x)) (map unit_cells c.units) (old (tree_of Units)) (new (tree_of Units)) h.units.stored p.put.here);
         valid = all_put (λ (row : UnitRow). row.unit) _ x p.valid bytes_cmp c.units h.units.valid;
       };
       each = same_each old new c.rows tables h.each;
@@ -200,8 +200,8 @@ holds_one (Put o row) c old new h p =
       };
     }
 
-pub holds_all : (changes : List Change) (c : Content) (old new : Trees) → Holds old c → PutsAll changes old new → Holds new (after changes c)
+pub holds_all : (changes : List Change) (c : Content) (old new : Trees) → Holds old c → PutsAll changes old new → Holds new (content_after changes c)
 holds_all [] c old new h p = subst (λ db. Holds db c) (sym p) h
-holds_all (Owner x ∷ more) c old new h p = holds_all more (after (Owner x ∷ []) c) p.0 new (holds_one (Owner x) c old p.0 h p.1) p.2
-holds_all (UnitAdded x ∷ more) c old new h p = holds_all more (after (UnitAdded x ∷ []) c) p.0 new (holds_one (UnitAdded x) c old p.0 h p.1) p.2
-holds_all (Put o row ∷ more) c old new h p = holds_all more (after (Put o row ∷ []) c) p.0 new (holds_one (Put o row) c old p.0 h p.1) p.2
+holds_all (Owner x ∷ more) c old new h p = holds_all more (content_after (Owner x ∷ []) c) p.0 new (holds_one (Owner x) c old p.0 h p.1) p.2
+holds_all (UnitAdded x ∷ more) c old new h p = holds_all more (content_after (UnitAdded x ∷ []) c) p.0 new (holds_one (UnitAdded x) c old p.0 h p.1) p.2
+holds_all (Put o row ∷ more) c old new h p = holds_all more (content_after (Put o row ∷ []) c) p.0 new (holds_one (Put o row) c old p.0 h p.1) p.2

@@ -1,16 +1,16 @@
--- A stored row has the key of some cells just where the order of the key finds them equal.
+-- A stored row has the key of some cells if and only if the order of the key finds them equal.
 use Rattle.std.proofs.Common.{◌≡◌, ◌≤◌, ℕ, zero, suc, ◌+◌, pos, true, ◌&&◌, List, [], ◌∷◌, length, refl, sym, ap, ap₂, ◌∙◌, arith}
 use Rattle.toll_sql.proofs.Common.{false≢true, AllByRecursion, is_eq, and_parts, Kind, Row, column, row_cmp, value_cmp, Value, Int, Text, agree, equal, Column, first_key-plain, plain, first_key, is_eq-then}
 use Rattle.sqlite.specs.Kind.TheVariants as kind
 use Rattle.toll_sql.specs.Cells.{columns_from, cells_of, fit, is_of_kind, key_order}
-use Rattle.toll_sql.specs.Stores.{has_key}
-use Rattle.toll_sql.specs.Tables.{keys_of}
+use Rattle.toll_sql.specs.Stores.{has_row_key}
+use Rattle.toll_sql.specs.Schema.{key_columns}
 use Rattle.toll_sql.specs.declared.table_kind.TableKind.{TableKind}
 use Rattle.toll_sql.specs.declared.table_kind.TableKind.TheVariants.{Meta}
 use Rattle.toll_sql.proofs.PutCommon.{key_equals}
 use Rattle.toll_sql.proofs.UpsertLemmas.{equals_int}
 
--- a text or a whole number
+-- The cell is a text or a whole number.
 abbrev pub IsCell : Value → Type 0
 IsCell (Text t) = Unit {0}
 IsCell (Int n) = Unit {0}
@@ -21,21 +21,21 @@ equal_cells v (Text t) h = key_equals v t
 equal_cells v (Int n) h = rw first_key-plain (equals_int v n)
 equal_cells v _ h = absurd h
 
--- numbers one after another
+-- consecutive numbers
 upto : ℕ → ℕ → List ℕ
 upto from zero = []
 upto from (suc n) = from ∷ upto (suc from) n
 
-pub behind : (row : Row) (at : ℕ) → column row (suc at) ≡ column (cells_of row) at
-behind [] at = refl
-behind (v ∷ row) at = refl
+pub column_behind_rowid : (row : Row) (at : ℕ) → column row (suc at) ≡ column (cells_of row) at
+column_behind_rowid [] at = refl
+column_behind_rowid (v ∷ row) at = refl
 
 agree_is : (at n : ℕ) (row cells : Row) (v : Value) → AllByRecursion IsCell (columns_from at n cells)
     → agree plain (upto (suc at) n) row (upto (suc at) n) (v ∷ cells) ≡ is_eq (row_cmp (columns_from at n (cells_of row)) (columns_from at n cells))
 unfolding upto
 agree_is at zero row cells v h = refl
 agree_is at (suc n) row cells v h =
-    ap₂ (λ a b. a && b) (equal_cells (column row (suc at)) (column cells at) h.0 ∙ ap (λ x. is_eq (value_cmp x (column cells at))) (behind row at)) (agree_is (suc at) n row cells v h.1)
+    ap₂ (λ a b. a && b) (equal_cells (column row (suc at)) (column cells at) h.0 ∙ ap (λ x. is_eq (value_cmp x (column cells at))) (column_behind_rowid row at)) (agree_is (suc at) n row cells v h.1)
     ∙ sym (is_eq-then (value_cmp (column (cells_of row) at) (column cells at)) (row_cmp (columns_from (suc at) n (cells_of row)) (columns_from (suc at) n cells)))
 
 -- ---- cells that fill the columns
@@ -62,13 +62,13 @@ some_cells at (suc n) row le all = (column_is row at (omega (arith, le)) all, so
 
 -- ---- the key of a table
 
-keys_are : (k : TableKind) → keys_of k ≡ upto 1 (length (keys_of k))
+keys_are : (k : TableKind) → key_columns k ≡ upto 1 (length (key_columns k))
 unfolding upto
 keys_are Meta = refl
 keys_are _ = refl
 
-module _ (k : TableKind) (cells : Row) (long : length (keys_of k) ≤ length cells) (all : AllByRecursion IsCell cells) where
-  pub has_key_is : (row : Row) → has_key k cells row ≡ is_eq (key_order k (cells_of row) cells)
+module _ (k : TableKind) (cells : Row) (long : length (key_columns k) ≤ length cells) (all : AllByRecursion IsCell cells) where
+  pub has_key_is : (row : Row) → has_row_key k cells row ≡ is_eq (key_order k (cells_of row) cells)
   has_key_is row =
       ap (λ keys. agree plain keys row keys (Int (pos 0) ∷ cells)) (keys_are k)
-      ∙ agree_is 0 (length (keys_of k)) row cells (Int (pos 0)) (some_cells 0 (length (keys_of k)) cells (omega (arith, long)) all)
+      ∙ agree_is 0 (length (key_columns k)) row cells (Int (pos 0)) (some_cells 0 (length (key_columns k)) cells (omega (arith, long)) all)

@@ -1,34 +1,34 @@
--- A store that is asked whether it lies open.
+-- A store that is asked whether it is open.
 use Rattle.std.proofs.Common.{◌≡◌, ◌⊎◌, inl, inr, ℕ, false, List, [], Ok, Err, Result, IsTrue, refl, arith}
 use Rattle.toll_sql.proofs.Common.{survives_weaker, Row, State, HasCleanDisk, IsNotRun, IsUnchanged, Survives, Error, KeepFault, Memory, Disk, Damaged, Closed}
 use Rattle.toll_sql.specs.Asking.{IsFinding}
 use Rattle.toll_sql.specs.Causes.{is_disk_fault}
-use Rattle.toll_sql.proofs.CauseLemmas.{not_run}
+use Rattle.toll_sql.proofs.CauseLemmas.{cause_not_run}
 use Rattle.toll_sql.proofs.QueryLemmas.{missed}
 
--- what an error is told as
-abbrev pub IsToldAs : Error → KeepFault → Type 0
-IsToldAs e fault = ((fault ≡ Memory) × (is_disk_fault e ≡ false)) ⊎ ((fault ≡ Disk) × IsTrue (is_disk_fault e))
+-- This fault reports the error.
+abbrev pub IsKeepFaultOf : Error → KeepFault → Type 0
+IsKeepFaultOf e fault = ((fault ≡ Memory) × (is_disk_fault e ≡ false)) ⊎ ((fault ≡ Disk) × IsTrue (is_disk_fault e))
 
-abbrev found : Result (Unit {0}) KeepFault
-found = Ok tt
+abbrev found_ok : Result (Unit {0}) KeepFault
+found_ok = Ok tt
 
-abbrev unfound : KeepFault → Result (Unit {0}) KeepFault
-unfound fault = Err fault
+abbrev found_fault : KeepFault → Result (Unit {0}) KeepFault
+found_fault fault = Err fault
 
-disk_told : (e : Error) (fault : KeepFault) → IsToldAs e fault → fault ≡ Disk → IsTrue (is_disk_fault e)
-disk_told e fault (inl memory) is = absurd (let m = memory.0 in cc)
-disk_told e fault (inr disk) is = disk.1
+disk_of_keep_fault : (e : Error) (fault : KeepFault) → IsKeepFaultOf e fault → fault ≡ Disk → IsTrue (is_disk_fault e)
+disk_of_keep_fault e fault (inl memory) is = absurd (let m = memory.0 in cc)
+disk_of_keep_fault e fault (inr disk) is = disk.1
 
-never_told : (e : Error) (fault : KeepFault) → IsToldAs e fault → (fault ≡ Closed) ⊎ (fault ≡ Damaged) → ⊥
-never_told e fault (inl memory) (inl is) = let m = memory.0 in cc
-never_told e fault (inl memory) (inr is) = let m = memory.0 in cc
-never_told e fault (inr disk) (inl is) = let d = disk.0 in cc
-never_told e fault (inr disk) (inr is) = let d = disk.0 in cc
+never_reported : (e : Error) (fault : KeepFault) → IsKeepFaultOf e fault → (fault ≡ Closed) ⊎ (fault ≡ Damaged) → ⊥
+never_reported e fault (inl memory) (inl is) = let m = memory.0 in cc
+never_reported e fault (inl memory) (inr is) = let m = memory.0 in cc
+never_reported e fault (inr disk) (inl is) = let d = disk.0 in cc
+never_reported e fault (inr disk) (inr is) = let d = disk.0 in cc
 
--- what was not asked stays as it is
-still : (s : State) → Survives s s (λ _. ⊥)
-still s = record {
+-- A store that wasn't used stays unchanged.
+survives_itself : (s : State) → Survives s s (λ _. ⊥)
+survives_itself s = record {
   clean = omega arith;
   shield = λ h. h;
   counts = omega arith;
@@ -37,7 +37,7 @@ still s = record {
   crash = λ _ db may. inl may;
 }
 
-pub found_still : (s : State) → (HasCleanDisk s → IsTrue s.is_open) → IsFinding s s found
+pub found_still : (s : State) → (HasCleanDisk s → IsTrue s.is_open) → IsFinding s s found_ok
 found_still s is = record {
   looks = record {
     asks = record {
@@ -45,18 +45,18 @@ found_still s is = record {
       shown = is;
       same = λ _ _ _ _. (refl, refl);
       mode = λ outside. outside;
-      survives = survives_weaker s s (λ _. ⊥) _ (λ _ db h. absurd h) (still s);
+      survives = survives_weaker s s (λ _. ⊥) _ (λ _ db h. absurd h) (survives_itself s);
     };
     cause = λ _ is. (cc);
     unclosed = λ is. (cc);
     damaged = λ _ is. (cc);
   };
   undamaged = λ is. (cc);
-  survives = still s;
+  survives = survives_itself s;
 }
 
 module _ (old new : State) (mode : old.in_transaction ≡ false → new.in_transaction ≡ false) (survives : Survives old new (λ _. ⊥)) where
-  pub found_open : (HasCleanDisk new → IsUnchanged old new) → IsFinding old new found
+  pub found_open : (HasCleanDisk new → IsUnchanged old new) → IsFinding old new found_ok
   found_open same = record {
     looks = record {
       asks = record {
@@ -74,8 +74,8 @@ module _ (old new : State) (mode : old.in_transaction ≡ false → new.in_trans
     survives = survives;
   }
 
-  pub not_found : (sql : List ℕ) (e : Error) (fault : KeepFault) → IsToldAs e fault → (HasCleanDisk new → (params : Row) → IsNotRun old new sql params e) → IsFinding old new (unfound fault)
-  not_found sql e fault told not = record {
+  pub not_found : (sql : List ℕ) (e : Error) (fault : KeepFault) → IsKeepFaultOf e fault → (HasCleanDisk new → (params : Row) → IsNotRun old new sql params e) → IsFinding old new (found_fault fault)
+  not_found sql e fault reported not = record {
     looks = record {
       asks = record {
         live = λ clean live. (missed old new sql [] e (not clean [])).was_open live;
@@ -84,10 +84,10 @@ module _ (old new : State) (mode : old.in_transaction ≡ false → new.in_trans
         mode = mode;
         survives = survives_weaker old new (λ _. ⊥) _ (λ _ db h. absurd h) survives;
       };
-      cause = λ clean is. not_run old new sql [] e (not clean []) (disk_told e fault told (let same : fault ≡ Disk = cc in same));
-      unclosed = λ is. never_told e fault told (inl (let same : fault ≡ Closed = cc in same));
-      damaged = λ _ is. absurd (never_told e fault told (inr (let same : fault ≡ Damaged = cc in same)));
+      cause = λ clean is. cause_not_run old new sql [] e (not clean []) (disk_of_keep_fault e fault reported (let same : fault ≡ Disk = cc in same));
+      unclosed = λ is. never_reported e fault reported (inl (let same : fault ≡ Closed = cc in same));
+      damaged = λ _ is. absurd (never_reported e fault reported (inr (let same : fault ≡ Damaged = cc in same)));
     };
-    undamaged = λ is. never_told e fault told (inr (let same : fault ≡ Damaged = cc in same));
+    undamaged = λ is. never_reported e fault reported (inr (let same : fault ≡ Damaged = cc in same));
     survives = survives;
   }

@@ -8,31 +8,31 @@ push : {X : Type 0} (b : Bool) (y : X) (l r : List X) → y ∷ cond b l r ≡ c
 push true y l r = refl
 push false y l r = refl
 
--- ---- a row put by its key is one placed in the order of the keys
+-- ---- a row put by its key is placed in the order of the keys
 
 module _ {K R : Type 0} (cmp : K → K → Ordering) (o : IsTotalOrder cmp) (key : R → K) where
   abbrev pub by_key : R → R → Ordering
   by_key a b = cmp (key a) (key b)
 
-  absent : (k y : K) (ys : List R) → cmp k y ≡ Less → AllByRecursion (λ j. cmp y j ≡ Less) (map key ys) → row_at cmp key ys k ≡ None
+  placing_absent : (k y : K) (ys : List R) → cmp k y ≡ Less → AllByRecursion (λ j. cmp y j ≡ Less) (map key ys) → row_at cmp key ys k ≡ None
   unfolding row_at
-  absent k y [] low h = refl
-  absent k y (z ∷ ys) low h = rw (o.trans k y (key z) low h.0) (absent k y ys low h.1)
+  placing_absent k y [] low h = refl
+  placing_absent k y (z ∷ ys) low h = rw (o.trans k y (key z) low h.0) (placing_absent k y ys low h.1)
 
-  placed_at : (x y : R) (ys : List R) (r s : Ordering) → r ≡ ordering_reverse s → (s ≡ Less → row_at cmp key ys (key x) ≡ None)
+  order_placed_at : (x y : R) (ys : List R) (r s : Ordering) → r ≡ ordering_reverse s → (s ≡ Less → row_at cmp key ys (key x) ≡ None)
       → place by_key x ys ≡ cond (is_some (row_at cmp key ys (key x))) (replace_row cmp key ys x) (insert_row cmp key ys x)
       → match_ordering r (y ∷ place by_key x ys) (x ∷ ys) (x ∷ y ∷ ys)
       ≡ cond (is_some (if is_eq s then Some y else row_at cmp key ys (key x))) (if is_eq s then x ∷ ys else y ∷ replace_row cmp key ys x) (if is_lt s then x ∷ y ∷ ys else y ∷ insert_row cmp key ys x)
-  placed_at x y ys r Less e none h = rw (e, none refl)
-  placed_at x y ys r Equal e none h = rw e
-  placed_at x y ys r Greater e none h = rw e (ap (λ l. y ∷ l) h ∙ push (is_some (row_at cmp key ys (key x))) y _ _)
+  order_placed_at x y ys r Less e none h = rw (e, none refl)
+  order_placed_at x y ys r Equal e none h = rw e
+  order_placed_at x y ys r Greater e none h = rw e (ap (λ l. y ∷ l) h ∙ push (is_some (row_at cmp key ys (key x))) y _ _)
 
   pub place_is : (x : R) (l : List R) → IsInKeyOrder cmp key l → place by_key x l ≡ put_row cmp key l x
   unfolding row_at put_row IsStrictlySortedBy
   place_is x [] h = refl
-  place_is x (y ∷ ys) h = placed_at x y ys (cmp (key y) (key x)) (cmp (key x) (key y)) (o.antisymm (key y) (key x)) (λ low. absent (key x) (key y) ys low h.0) (place_is x ys h.1)
+  place_is x (y ∷ ys) h = order_placed_at x y ys (cmp (key y) (key x)) (cmp (key x) (key y)) (o.antisymm (key y) (key x)) (λ low. placing_absent (key x) (key y) ys low h.0) (place_is x ys h.1)
 
-  -- ---- and so are the cells of it
+  -- ---- the cells of the row are placed likewise
 
   module _ (encode : R → Row) (order : Row → Row → Ordering) (same : (a b : R) → order (encode a) (encode b) ≡ cmp (key a) (key b)) where
     all_keys : (x : R) (ys : List R) → AllByRecursion (λ c. order (encode x) c ≡ Less) (map encode ys) → AllByRecursion (λ k. cmp (key x) k ≡ Less) (map key ys)
@@ -59,7 +59,7 @@ module _ {K R : Type 0} (cmp : K → K → Ordering) (o : IsTotalOrder cmp) (key
     pub put_placed : (x : R) (l : List R) → Rises order (map encode l) → map encode (put_row cmp key l x) ≡ place order (encode x) (map encode l)
     put_placed x l rises = ap (map encode) (sym (place_is x l (in_key_order l rises))) ∙ cells_placed x l
 
--- ---- what rises goes on rising
+-- ---- a rising list still rises
 
 module _ {X : Type 0} (cmp : X → X → Ordering) (o : IsTotalOrder cmp) where
   all_placed_at : (P : X → Type 0) (x y : X) (ys : List X) (r : Ordering) → P x → P y → AllByRecursion P ys → AllByRecursion P (place cmp x ys) → AllByRecursion P (match_ordering r (y ∷ place cmp x ys) (x ∷ ys) (x ∷ y ∷ ys))
@@ -75,16 +75,16 @@ module _ {X : Type 0} (cmp : X → X → Ordering) (o : IsTotalOrder cmp) where
   as_low x y [] e all = tt
   as_low x y (b ∷ ys) e all = (sym (o.congr y x b e) ∙ all.0, as_low x y ys e all.1)
 
-  lower : (x y : X) (ys : List X) → cmp x y ≡ Less → AllByRecursion (λ b. cmp y b ≡ Less) ys → AllByRecursion (λ b. cmp x b ≡ Less) ys
-  lower x y [] low all = tt
-  lower x y (b ∷ ys) low all = (o.trans x y b low all.0, lower x y ys low all.1)
+  placing_lower : (x y : X) (ys : List X) → cmp x y ≡ Less → AllByRecursion (λ b. cmp y b ≡ Less) ys → AllByRecursion (λ b. cmp x b ≡ Less) ys
+  placing_lower x y [] low all = tt
+  placing_lower x y (b ∷ ys) low all = (o.trans x y b low all.0, placing_lower x y ys low all.1)
 
   rises_at : (x y : X) (ys : List X) (r : Ordering) → cmp y x ≡ r → Rises cmp (y ∷ ys) → Rises cmp (place cmp x ys) → Rises cmp (match_ordering r (y ∷ place cmp x ys) (x ∷ ys) (x ∷ y ∷ ys))
   rises_at x y ys Less e rises more = (all_placed (λ b. cmp y b ≡ Less) x ys e rises.0, more)
   rises_at x y ys Equal e rises more = (as_low x y ys e rises.0, rises.1)
   rises_at x y ys Greater e rises more =
       let low : cmp x y ≡ Less = o.antisymm x y ∙ ap ordering_reverse e in
-      ((low, lower x y ys low rises.0), rises)
+      ((low, placing_lower x y ys low rises.0), rises)
 
   pub place_rises : (x : X) (l : List X) → Rises cmp l → Rises cmp (place cmp x l)
   place_rises x [] rises = (tt, tt)

@@ -9,17 +9,17 @@ use Rattle.toll_base.specs.declared.rows.Row.TheVariants as of
 use Rattle.toll_sql.specs.Cells.{cells_of}
 use Rattle.toll_sql.specs.Encode.{sublot_cells}
 use Rattle.toll_sql.specs.LastPuts.{IsSublotValid, are_putting, is_put_again, is_same, key_for, last_puts, sublot_cmp, sublot_put}
-use Rattle.toll_sql.specs.Stores.{IsValid, IsWriting, MakesAll, PutsAll, PutsChange, cells_of_change, has_key, table_of_change}
-use Rattle.toll_sql.specs.Tables.{made_all, tree_of}
+use Rattle.toll_sql.specs.Stores.{IsValidChange, IsWriting, MakesAll, PutsAll, PutsChange, cells_of_change, has_row_key, table_of_change}
+use Rattle.toll_sql.specs.Schema.{made_all, tree_of}
 use Rattle.toll_sql.specs.Valid.{IsStorable, IsSublot}
 use Rattle.toll_sql.specs.declared.last_puts.SublotKey.{SublotKey}
 use Rattle.toll_sql.specs.declared.table_kind.TableKind.TheVariants.{Sublots}
-use Rattle.toll_sql.proofs.HoldsAfter.{apart, other_tree}
-use Rattle.toll_sql.proofs.PutCommon.{key_equals, text_is, texts_equal}
-use Rattle.toll_sql.proofs.PutTexts.{number_of}
-use Rattle.toll_sql.proofs.TreePuts.{put_aside, put_before, put_first}
+use Rattle.toll_sql.proofs.HoldsAfter.{trees_apart, other_tree}
+use Rattle.toll_sql.proofs.PutCommon.{key_equals, equal_text_only, texts_equal}
+use Rattle.toll_sql.proofs.PutTexts.{table_number}
+use Rattle.toll_sql.proofs.TreePuts.{put_aside, put_before, tree_put_first}
 
--- ---- what names a sublot
+-- ---- the name of a sublot
 
 sublot_cmp_total : IsTotalOrder sublot_cmp
 sublot_cmp_total = then_total (on_total (λ (k : SublotKey). k.owner) nat_list_cmp_total) (then_total (on_total (λ (k : SublotKey). k.lot) nat_list_cmp_total) (on_total (λ (k : SublotKey). k.sublot) nat_list_cmp_total))
@@ -42,26 +42,26 @@ same_exact a b h =
 storable : (o : Bytes) (row : SublotRow) → IsStorable row.amount → sublot_put (Put o (of.Sublot row)) ≡ Some (key_for o row)
 storable o row lt = let fits : nat_lt row.amount (2 ^ 63) ≡ true = grind (arith, nat_tests, lt) in ap (λ (b : Bool). if b then Some (key_for o row) else None) fits
 
--- ---- its row
+-- ---- the row of the sublot
 
-abbrev is_text : Value → Bytes → Bool
-is_text v t = equal (first_key plain).collation v (Text t)
+abbrev is_equal_text : Value → Bytes → Bool
+is_equal_text v t = equal (first_key plain).collation v (Text t)
 
 abbrev names : SublotKey → Row → Bool
-names key cells = is_text (column cells 0) key.owner && (is_text (column cells 1) key.lot && (is_text (column cells 2) key.sublot && true))
+names key cells = is_equal_text (column cells 0) key.owner && (is_equal_text (column cells 1) key.lot && (is_equal_text (column cells 2) key.sublot && true))
 
-reads : (o : Bytes) (row : SublotRow) (r : Row) → has_key Sublots (sublot_cells o row) r ≡ names (key_for o row) (cells_of r)
-reads o row [] = refl
-reads o row (v ∷ r) = refl
+has_key_reads : (o : Bytes) (row : SublotRow) (r : Row) → has_row_key Sublots (sublot_cells o row) r ≡ names (key_for o row) (cells_of r)
+has_key_reads o row [] = refl
+has_key_reads o row (v ∷ r) = refl
 
-itself : (t : Bytes) → is_text (Text t) t ≡ true
-itself t = key_equals (Text t) t ∙ texts_equal t t ∙ same_bytes-refl t
+again_itself : (t : Bytes) → is_equal_text (Text t) t ≡ true
+again_itself t = key_equals (Text t) t ∙ texts_equal t t ∙ same_bytes-refl t
 
-named : (o : Bytes) (row : SublotRow) → names (key_for o row) (sublot_cells o row) ≡ true
-named o row = rw (itself o, itself row.lot, itself row.sublot) refl
+row_is_named : (o : Bytes) (row : SublotRow) → names (key_for o row) (sublot_cells o row) ≡ true
+row_is_named o row = rw (again_itself o, again_itself row.lot, again_itself row.sublot) refl
 
-texts_one : (v : Value) (s t : Bytes) → is_text v s ≡ true → is_text v t ≡ true → s ≡ t
-texts_one v s t a b = let same : Text s ≡ Text t = sym (text_is v s a) ∙ text_is v t b in cc
+texts_one : (v : Value) (s t : Bytes) → is_equal_text v s ≡ true → is_equal_text v t ≡ true → s ≡ t
+texts_one v s t a b = let same : Text s ≡ Text t = sym (equal_text_only v s a) ∙ equal_text_only v t b in cc
 
 one_named : (a b : SublotKey) (cells : Row) → names a cells ≡ true → names b cells ≡ true → a ≡ b
 one_named a b cells h g =
@@ -71,53 +71,53 @@ one_named a b cells h g =
     let g1 = and_parts _ _ g0.1 in
     one_key a b (texts_one (column cells 0) a.owner b.owner h0.0 g0.0) (texts_one (column cells 1) a.lot b.lot h1.0 g1.0) (texts_one (column cells 2) a.sublot b.sublot (and_parts _ _ h1.1).0 (and_parts _ _ g1.1).0)
 
--- ---- a put of it before others
+-- ---- a put of the sublot before other changes
 
 module _ (o : Bytes) (row : SublotRow) (valid : IsTrue (is_name o) × IsSublot row) where
-  abbrev first : Change
-  first = Put o (of.Sublot row)
+  abbrev first_put : Change
+  first_put = Put o (of.Sublot row)
 
-  abbrev key : SublotKey
-  key = key_for o row
+  abbrev first_key_put : SublotKey
+  first_key_put = key_for o row
 
   abbrev Between : Change → Trees → Trees → Type 0
-  Between e old new = (mid : Trees) × PutsChange first old mid × PutsChange e mid new
+  Between e old new = (mid : Trees) × PutsChange first_put old mid × PutsChange e mid new
 
-  -- one that puts it again
-  again : (e : Change) (old new : Trees) → is_same key (sublot_put e) ≡ true → PutsChange e old new → Between e old new
-  again (Put p (of.Sublot y)) old new same one =
-      let its : key_for p y ≡ key = same_exact key (key_for p y) (ap (is_same key) (sym (storable p y one.valid.1.amount)) ∙ same) in
-      let it = put_before made_all (tree_of Sublots) (has_key Sublots (sublot_cells o row)) (has_key Sublots (sublot_cells p y)) (names key) (reads o row) (λ r. reads p y r ∙ ap (λ k. names k (cells_of r)) its) (sublot_cells o row) (sublot_cells p y) (named o row) old new one.put in
+  -- a change that puts the sublot again
+  puts_again : (e : Change) (old new : Trees) → is_same first_key_put (sublot_put e) ≡ true → PutsChange e old new → Between e old new
+  puts_again (Put p (of.Sublot y)) old new same one =
+      let its : key_for p y ≡ first_key_put = same_exact first_key_put (key_for p y) (ap (is_same first_key_put) (sym (storable p y one.valid.1.amount)) ∙ same) in
+      let it = put_before made_all (tree_of Sublots) (has_row_key Sublots (sublot_cells o row)) (has_row_key Sublots (sublot_cells p y)) (names first_key_put) (has_key_reads o row) (λ r. has_key_reads p y r ∙ ap (λ k. names k (cells_of r)) its) (sublot_cells o row) (sublot_cells p y) (row_is_named o row) old new one.put in
       (it.0, record { valid = valid; put = it.1 }, record { valid = one.valid; put = it.2 })
-  again (Put p (of.Material y)) old new same one = absurd (false≢true same)
-  again _ old new same one = absurd (false≢true same)
+  puts_again (Put p (of.Material y)) old new same one = absurd (false≢true same)
+  puts_again _ old new same one = absurd (false≢true same)
 
-  -- one into another table
-  elsewhere : (e : Change) → (number_of (table_of_change e) ≡ number_of Sublots → ⊥) → (old mid new : Trees) → PutsChange e old mid → PutsChange first mid new → Between e old new
+  -- a change of another table
+  elsewhere : (e : Change) → (table_number (table_of_change e) ≡ table_number Sublots → ⊥) → (old mid new : Trees) → PutsChange e old mid → PutsChange first_put mid new → Between e old new
   elsewhere e differ old mid new one two =
       let k = table_of_change e in
       let kept = other_tree Sublots k (cells_of_change e) old mid (λ same. differ (sym same)) one.put in
       let stays = other_tree k Sublots (sublot_cells o row) mid new differ two.put in
-      let it = put_aside made_all (tree_of Sublots) (tree_of k) (apart k Sublots differ) (has_key k (cells_of_change e)) (has_key Sublots (sublot_cells o row)) (cells_of_change e) (sublot_cells o row) old mid new kept stays one.put two.put in
+      let it = put_aside made_all (tree_of Sublots) (tree_of k) (trees_apart k Sublots differ) (has_row_key k (cells_of_change e)) (has_row_key Sublots (sublot_cells o row)) (cells_of_change e) (sublot_cells o row) old mid new kept stays one.put two.put in
       (it.0, record { valid = valid; put = it.1 }, record { valid = one.valid; put = it.2 })
 
-  -- one that puts another row
-  beside : (e : Change) (old mid new : Trees) → is_same key (sublot_put e) ≡ false → PutsChange e old mid → PutsChange first mid new → Between e old new
+  -- a change that puts another sublot
+  beside : (e : Change) (old mid new : Trees) → is_same first_key_put (sublot_put e) ≡ false → PutsChange e old mid → PutsChange first_put mid new → Between e old new
   beside (Put p (of.Sublot y)) old mid new other one two =
-      let differ : is_same key (Some (key_for p y)) ≡ false = ap (is_same key) (sym (storable p y one.valid.1.amount)) ∙ other in
-      let parted = λ (cells : Row) (a : names (key_for p y) cells ≡ true) (b : names key cells ≡ true). false≢true (sym differ ∙ same_is key (key_for p y) (one_named key (key_for p y) cells b a)) in
+      let differ : is_same first_key_put (Some (key_for p y)) ≡ false = ap (is_same first_key_put) (sym (storable p y one.valid.1.amount)) ∙ other in
+      let parted = λ (cells : Row) (a : names (key_for p y) cells ≡ true) (b : names first_key_put cells ≡ true). false≢true (sym differ ∙ same_is first_key_put (key_for p y) (one_named first_key_put (key_for p y) cells b a)) in
       let it =
-      put_first made_all (tree_of Sublots) (has_key Sublots (sublot_cells p y)) (has_key Sublots (sublot_cells o row)) (names (key_for p y)) (names key) (reads p y) (reads o row) parted (sublot_cells p y) (sublot_cells o row) (named p y) (named o row) old mid new one.put two.put in
+      tree_put_first made_all (tree_of Sublots) (has_row_key Sublots (sublot_cells p y)) (has_row_key Sublots (sublot_cells o row)) (names (key_for p y)) (names first_key_put) (has_key_reads p y) (has_key_reads o row) parted (sublot_cells p y) (sublot_cells o row) (row_is_named p y) (row_is_named o row) old mid new one.put two.put in
       (it.0, record { valid = valid; put = it.1 }, record { valid = one.valid; put = it.2 })
   beside (Put p (of.Material y)) old mid new other one two = elsewhere (Put p (of.Material y)) (λ same. absurd (omega (arith, same))) old mid new one two
   beside e old mid new other one two = elsewhere e (λ same. absurd (omega (arith, same))) old mid new one two
 
-  pub before : (later : List Change) (old new : Trees) → are_putting later key ≡ true → PutsAll later old new → PutsAll (first ∷ later) old new
-  before [] old new some puts = absurd (false≢true some)
-  before (e ∷ later) old new some puts = elim (cases_Bool (is_same key (sublot_put e))) [
-    | inl same ↦ (let it = again e old puts.0 same puts.1 in (it.0, it.1, (puts.0, it.2, puts.2)))
+  pub may_come_before : (later : List Change) (old new : Trees) → are_putting later first_key_put ≡ true → PutsAll later old new → PutsAll (first_put ∷ later) old new
+  may_come_before [] old new some puts = absurd (false≢true some)
+  may_come_before (e ∷ later) old new some puts = elim (cases_Bool (is_same first_key_put (sublot_put e))) [
+    | inl same ↦ (let it = puts_again e old puts.0 same puts.1 in (it.0, it.1, (puts.0, it.2, puts.2)))
     | inr other ↦ (
-        let rest = before later puts.0 new (ap (λ b. b || are_putting later key) (sym other) ∙ some) puts.2 in
+        let rest = may_come_before later puts.0 new (ap (λ b. b || are_putting later first_key_put) (sym other) ∙ some) puts.2 in
         let it = beside e old puts.0 rest.0 other puts.1 rest.1 in
         (it.0, it.1, (rest.0, it.2, rest.2))
         )
@@ -125,29 +125,29 @@ module _ (o : Bytes) (row : SublotRow) (valid : IsTrue (is_name o) × IsSublot r
 
 -- ---- all changes
 
-left_out : (change : Change) (later : List Change) (old new : Trees) → IsSublotValid change → is_put_again later (sublot_put change) ≡ true → PutsAll later old new → PutsAll (change ∷ later) old new
-left_out (Put o (of.Sublot row)) later old new valid some puts = elim (cases_Bool (nat_lt row.amount (2 ^ 63))) [
-  | inl fits ↦ (let is = rw fits at valid in before o row is later old new (rw fits at some) puts)
+put_left_out : (change : Change) (later : List Change) (old new : Trees) → IsSublotValid change → is_put_again later (sublot_put change) ≡ true → PutsAll later old new → PutsAll (change ∷ later) old new
+put_left_out (Put o (of.Sublot row)) later old new valid some puts = elim (cases_Bool (nat_lt row.amount (2 ^ 63))) [
+  | inl fits ↦ (let is = rw fits at valid in may_come_before o row is later old new (rw fits at some) puts)
   | inr long ↦ absurd (false≢true (rw long at some))
 ]
-left_out (Put o (of.Material row)) later old new valid some puts = absurd (false≢true some)
-left_out _ later old new valid some puts = absurd (false≢true some)
+put_left_out (Put o (of.Material row)) later old new valid some puts = absurd (false≢true some)
+put_left_out _ later old new valid some puts = absurd (false≢true some)
 
-pub all_made : (changes : List Change) (old new : Trees) → AllByRecursion IsSublotValid changes → PutsAll (last_puts changes) old new → PutsAll changes old new
-all_made [] old new valid puts = puts
-all_made (change ∷ later) old new valid puts = elim (cases_Bool (is_put_again later (sublot_put change))) [
-  | inl some ↦ left_out change later old new valid.0 some (all_made later old new valid.1 (rw some at puts))
-  | inr last ↦ (let it = rw last at puts in (it.0, it.1, all_made later it.0 new valid.1 it.2))
+pub last_puts_suffice : (changes : List Change) (old new : Trees) → AllByRecursion IsSublotValid changes → PutsAll (last_puts changes) old new → PutsAll changes old new
+last_puts_suffice [] old new valid puts = puts
+last_puts_suffice (change ∷ later) old new valid puts = elim (cases_Bool (is_put_again later (sublot_put change))) [
+  | inl some ↦ put_left_out change later old new valid.0 some (last_puts_suffice later old new valid.1 (rw some at puts))
+  | inr last ↦ (let it = rw last at puts in (it.0, it.1, last_puts_suffice later it.0 new valid.1 it.2))
 ]
 
--- ---- which are the last ones
+-- ---- the last puts
 
 if_some : {X : Type 0} (P : Type 0) (x : Option X) → P → IfSome x (λ _. P)
 if_some P (Some x) h = h
 if_some P None h = tt
 
-pub always_valid : (change : Change) → IsValid change → IsSublotValid change
-always_valid change valid = if_some (IsValid change) (sublot_put change) valid
+pub always_valid : (change : Change) → IsValidChange change → IsSublotValid change
+always_valid change valid = if_some (IsValidChange change) (sublot_put change) valid
 
 pub cond_or : (a b : Bool) → cond a true b ≡ (a || b)
 cond_or true b = refl
@@ -166,18 +166,18 @@ module _ (change : Change) (later : List Change) (b : Bool) (is : b ≡ not (is_
     | inr none ↦ ap (λ l. l ++ change ∷ []) so_far ∙ sym (reverse-append (change ∷ []) (last_puts later)) ∙ ap (λ (p : Bool). reverse (if p then last_puts later else change ∷ last_puts later)) (sym none)
   ]
 
-  pub one_left : b ≡ false → last ≡ reverse (last_puts (change ∷ later))
-  one_left old = elim (cases_Bool (is_put_again later (sublot_put change))) [
+  pub last_left : b ≡ false → last ≡ reverse (last_puts (change ∷ later))
+  last_left old = elim (cases_Bool (is_put_again later (sublot_put change))) [
     | inl some ↦ so_far ∙ ap (λ (p : Bool). reverse (if p then last_puts later else change ∷ last_puts later)) (sym some)
     | inr none ↦ absurd (false≢true (sym old ∙ is ∙ ap not none))
   ]
 
--- ---- so the last ones alone may be made
+-- ---- the last puts alone may be made
 
 pub made_all_of : {X : Type 0} (changes last : List Change) → last ≡ last_puts changes → AllByRecursion IsSublotValid changes → (old new : State) (r : Result X Error) → IsWriting (MakesAll last) old new r → IsWriting (MakesAll changes) old new r
 made_all_of changes last is valid old new r w = record {
   makes = λ clean ready. on_ok_weaker r (λ (h : MakesAll last old new). record {
-    put = all_made changes old.now.trees new.now.trees valid (subst (λ l. PutsAll l old.now.trees new.now.trees) is h.put);
+    put = last_puts_suffice changes old.now.trees new.now.trees valid (subst (λ l. PutsAll l old.now.trees new.now.trees) is h.put);
     ready = h.ready;
     schema = h.schema;
     committed = h.committed;

@@ -1,71 +1,71 @@
--- What the texts that put rows mean.
+-- The meaning of the texts that put rows.
 use Rattle.std.proofs.Common.{◌≡◌, ◌⊎◌, inl, inr, ℕ, zero, suc, nat_eq, List, [], ◌∷◌, ◌++◌, length, codes, Some, Ok, slice_get, get_or, refl, sym, ap, ◌∙◌}
 use Rattle.std.specs.Fmt.{decimal}
 use Rattle.toll_sql.proofs.Common.{cases_Bool, eqb-true, eq-eqb, command_of, Binary, Command, InsertOr, understood, Query, Values, Term, lit, col, op2, Null, Abort, compiled, Compare, Eq, everything}
 use Rattle.toll_sql.specs.Given.{IsGiven}
 use Rattle.toll_sql.specs.Select.{plain_query}
-use Rattle.toll_sql.specs.Tables.{made_all, every_table, table_of, tree_of, keys_of, width_of, put_text}
+use Rattle.toll_sql.specs.Schema.{made_all, every_table, table_of, tree_of, key_columns, width_of, put_text}
 use Rattle.toll_sql.specs.declared.table_kind.TableKind.{TableKind}
 use Rattle.toll_sql.specs.declared.table_kind.TableKind.TheVariants.{Meta, Owners, Units, Materials, Tests, Recipes, Requirements, Orders, Batches, Lots, Sublots, Moves, Results, Voids}
 use Rattle.toll_sql.proofs.Beside.{Others, ours_and}
-use Rattle.toll_sql.proofs.TextLemmas.{one_statement, command_is, given}
+use Rattle.toll_sql.proofs.TextLemmas.{one_statement, command_is, statement_given}
 
--- so many columns of a row, from this one on
+-- this many columns of a row, from this one on
 abbrev pub terms_from : ℕ → ℕ → ℕ → List Term
 terms_from slot at zero = []
 terms_from slot at (suc n) = col slot at ∷ terms_from slot (suc at) n
 
--- what is inserted: no rowid, and the parameters
-abbrev pub inserted : ℕ → List Term
-inserted width = lit Null ∷ terms_from 0 0 width
+-- the inserted values: no rowid, and the parameters
+abbrev pub put_inserted : ℕ → List Term
+put_inserted width = lit Null ∷ terms_from 0 0 width
 
--- what the row with the key becomes: its rowid twice, and the parameters
+-- the new values of the row with the key: its rowid twice, and the parameters
 abbrev pub becomes : ℕ → List Term
 becomes width = col 1 0 ∷ col 1 0 ∷ terms_from 0 0 width
 
 abbrev pub update : ℕ → ℕ → Query
 update tree width = plain_query tree (op2 (Compare Eq Binary) (col 1 0) (col 0 width) ∷ []) (becomes width) []
 
--- which one of the schema's tables it is, in the order in which they are made
-abbrev pub number_of : TableKind → ℕ
-number_of Meta = 0
-number_of Owners = 1
-number_of Units = 2
-number_of Materials = 3
-number_of Tests = 4
-number_of Recipes = 5
-number_of Requirements = 6
-number_of Orders = 7
-number_of Batches = 8
-number_of Lots = 9
-number_of Sublots = 10
-number_of Moves = 11
-number_of Results = 12
-number_of Voids = 13
+-- the table's number in the order in which the tables are made
+abbrev pub table_number : TableKind → ℕ
+table_number Meta = 0
+table_number Owners = 1
+table_number Units = 2
+table_number Materials = 3
+table_number Tests = 4
+table_number Recipes = 5
+table_number Requirements = 6
+table_number Orders = 7
+table_number Batches = 8
+table_number Lots = 9
+table_number Sublots = 10
+table_number Moves = 11
+table_number Results = 12
+table_number Voids = 13
 
 pub columns_are : (k : TableKind) → length (table_of k).columns ≡ width_of k
 columns_are Meta = refl
 columns_are _ = refl
 
 -- the table with a number
-abbrev pub numbered : ℕ → TableKind
-numbered n = get_or every_table n Voids
+abbrev pub table_numbered : ℕ → TableKind
+table_numbered n = get_or every_table n Voids
 
-told : (k : TableKind) → numbered (number_of k) ≡ k
-told Meta = refl
-told _ = refl
+numbered_table_number : (k : TableKind) → table_numbered (table_number k) ≡ k
+numbered_table_number Meta = refl
+numbered_table_number _ = refl
 
--- tables with one number are one
-pub same_table : (j k : TableKind) → (j ≡ k) ⊎ (number_of j ≡ number_of k → ⊥)
-same_table j k = elim (cases_Bool (nat_eq (number_of j) (number_of k))) [
-  | inl equal ↦ inl (sym (told j) ∙ ap numbered (eqb-true (number_of j) (number_of k) equal) ∙ told k)
-  | inr other ↦ inr (λ same. absurd (let e = sym other ∙ eq-eqb (number_of j) (number_of k) same in cc))
+-- Tables with the same number are equal.
+pub same_table : (j k : TableKind) → (j ≡ k) ⊎ (table_number j ≡ table_number k → ⊥)
+same_table j k = elim (cases_Bool (nat_eq (table_number j) (table_number k))) [
+  | inl equal ↦ inl (sym (numbered_table_number j) ∙ ap table_numbered (eqb-true (table_number j) (table_number k) equal) ∙ numbered_table_number k)
+  | inr other ↦ inr (λ same. absurd (let e = sym other ∙ eq-eqb (table_number j) (table_number k) same in cc))
 ]
 
--- it is that one
-pub listed : (k : TableKind) → slice_get made_all.tables (number_of k) ≡ Some (table_of k)
-listed Meta = refl
-listed _ = refl
+-- The table with this number is that one.
+pub table_listed : (k : TableKind) → slice_get made_all.tables (table_number k) ≡ Some (table_of k)
+table_listed Meta = refl
+table_listed _ = refl
 
 pub tree_is : (k : TableKind) → (table_of k).tree ≡ tree_of k
 tree_is Meta = refl
@@ -73,9 +73,9 @@ tree_is _ = refl
 
 -- a row is inserted, or the row with its key is changed to it
 abbrev pub putting : TableKind → Command
-putting k = InsertOr (number_of k) Abort (Values (inserted (width_of k)) (suc (width_of k))) (record { target = Some (keys_of k); update = Some (record { lets = []; body = update (tree_of k) (width_of k) }) } ∷ [])
+putting k = InsertOr (table_number k) Abort (Values (put_inserted (width_of k)) (suc (width_of k))) (record { target = Some (key_columns k); update = Some (record { lets = []; body = update (tree_of k) (width_of k) }) } ∷ [])
 
--- so many parameters, from this number on
+-- this many parameters, from this number on
 abbrev slots_from : ℕ → ℕ → List (List ℕ)
 slots_from at zero = []
 slots_from at (suc n) = (codes "?" ++ decimal at) ∷ slots_from (suc at) n
@@ -87,7 +87,7 @@ slots_are : (at n : ℕ) → length (slots_from at n) ≡ n
 slots_are at zero = refl
 slots_are at (suc n) = ap suc (slots_are (suc at) n)
 
--- (from here on no text is compiled again: all else follows)
+-- (no text is compiled again from here on)
 put_compiles : (others : Others) (k : TableKind) → compiled (ours_and others) (put_text k) ≡ Ok (one_statement (putting k) (slots_of k) (put_text k))
 unfolding everything
 put_compiles others Meta = refl
@@ -97,4 +97,4 @@ pub put_is : (others : Others) (k : TableKind) → command_of (understood (ours_
 put_is others k = command_is (ours_and others) (put_text k) (put_compiles others k)
 
 pub put_given : (others : Others) (k : TableKind) → IsGiven (put_text k) (width_of k) (understood (ours_and others) (put_text k))
-put_given others k = given (ours_and others) (put_text k) (put_compiles others k) (slots_are 1 (width_of k))
+put_given others k = statement_given (ours_and others) (put_text k) (put_compiles others k) (slots_are 1 (width_of k))

@@ -1,8 +1,8 @@
--- What a query does to a connection, whatever its text and the schema are.
+-- The effect of a query on a connection, for any text and schema.
 use Rattle.std.proofs.Common.{◌≡◌, inl, inr, ℕ, true, false, List, Option, None, Some, Ok, Err, Result, IsTrue, IfOk, IfErr, OnOk, sym, ◌∙◌}
 use Rattle.toll_sql.proofs.Common.{Error, Row, Returning, Compiled, State, Fails, IsNotRun, RunsCommand, FailsToQuery, FailsToShow, IsUnchanged, Shown, ShowsRows}
-use Rattle.toll_sql.specs.Causes.{IsCaused}
-use Rattle.toll_sql.proofs.CauseLemmas.{not_run, command}
+use Rattle.toll_sql.specs.Causes.{IsErrorCaused}
+use Rattle.toll_sql.proofs.CauseLemmas.{cause_not_run, command_caused}
 use Rattle.toll_sql.proofs.Refusals.{reading}
 
 module _ (old new : State) where
@@ -17,34 +17,34 @@ module _ (old new : State) where
   unfolding Shown
   shown_open sql params rows h = shows_open sql h.0 _ rows h.0.returning h.2
 
-  -- a call that failed leaves what was there, if the connection lies open still
+  -- A call that failed leaves what was there, if the connection is still open.
   pub record Stays : Type 0 where
     pub was_open : IsTrue new.is_open → IsTrue old.is_open
     pub same : IsTrue new.is_open → old.now ≡ old.committed → (new.now ≡ old.now) × (new.committed ≡ old.committed)
 
-  unchanged : IsUnchanged old new → Stays
-  unchanged h = record { was_open = λ _. h.0.was_open; same = λ _ _. (h.0.now_is, h.0.committed_is) }
+  query_unchanged : IsUnchanged old new → Stays
+  query_unchanged h = record { was_open = λ _. h.0.was_open; same = λ _ _. (h.0.now_is, h.0.committed_is) }
 
-  failed : (U : Type 0) (e : Error) → Fails old new U e → Stays
-  failed U e h = record { was_open = h.3.was_open; same = λ live idle. ((h.3.undone live).0 ∙ sym idle, (h.3.undone live).1) }
+  query_failed : (U : Type 0) (e : Error) → Fails old new U e → Stays
+  query_failed U e h = record { was_open = h.3.was_open; same = λ live idle. ((h.3.undone live).0 ∙ sym idle, (h.3.undone live).1) }
 
-  stopped : (sql : List ℕ) (c : Compiled) (params : Row) (e : Error) → RunsCommand old new sql c params (Err e) → Stays
-  stopped sql c params e (inl h) = unchanged h.1
-  stopped sql c params e (inr h) = failed _ e h
+  query_stopped : (sql : List ℕ) (c : Compiled) (params : Row) (e : Error) → RunsCommand old new sql c params (Err e) → Stays
+  query_stopped sql c params e (inl h) = query_unchanged h.1
+  query_stopped sql c params e (inr h) = query_failed _ e h
 
-  unshown : (sql : List ℕ) (c : Compiled) (params : Row) (e : Error) (r : Option Returning) → FailsToShow old new sql c params e r → Stays × IsCaused old new e
-  unshown sql c params e None h = (unchanged h.3, λ d. absurd (let f : false ≡ true = sym (reading old.step_limit c.command h.0 params e h.2) ∙ d in cc))
-  unshown sql c params e (Some what) h = (stopped sql c params e h, command old new sql params e c h)
+  query_unshown : (sql : List ℕ) (c : Compiled) (params : Row) (e : Error) (r : Option Returning) → FailsToShow old new sql c params e r → Stays × IsErrorCaused old new e
+  query_unshown sql c params e None h = (query_unchanged h.3, λ d. absurd (let f : false ≡ true = sym (reading old.step_limit c.command h.0 params e h.2) ∙ d in cc))
+  query_unshown sql c params e (Some what) h = (query_stopped sql c params e h, command_caused old new sql params e c h)
 
   pub missed : (sql : List ℕ) (params : Row) (e : Error) → IsNotRun old new sql params e → Stays
   unfolding IsNotRun
-  missed sql params e (inl h) = unchanged h.1
-  missed sql params e (inr h) = failed ⊥ e h
+  missed sql params e (inl h) = query_unchanged h.1
+  missed sql params e (inr h) = query_failed ⊥ e h
 
-  pub query_fails : (sql : List ℕ) (params : Row) (e : Error) → FailsToQuery sql params old new e → Stays × IsCaused old new e
+  pub query_fails : (sql : List ℕ) (params : Row) (e : Error) → FailsToQuery sql params old new e → Stays × IsErrorCaused old new e
   unfolding FailsToQuery
-  query_fails sql params e (inl h) = (missed sql params e h, not_run old new sql params e h)
-  query_fails sql params e (inr h) = unshown sql h.0 _ e h.0.returning h.2
+  query_fails sql params e (inl h) = (missed sql params e h, cause_not_run old new sql params e h)
+  query_fails sql params e (inr h) = query_unshown sql h.0 _ e h.0.returning h.2
 
   module _ (X : Type 0) (items : X → List Row) (sql : List ℕ) (params : Row) where
     pub live_of : (r : Result X Error) → IfOk r (λ x. Shown sql params old new (items x)) → IfErr r (FailsToQuery sql params old new) → IsTrue new.is_open → IsTrue old.is_open

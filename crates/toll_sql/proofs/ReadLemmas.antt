@@ -1,5 +1,5 @@
--- What a query in the order of the key answers is the list of rows that the table has.
-use Rattle.std.proofs.Common.{◌≡◌, ◌⊎◌, ℕ, zero, suc, ◌+◌, ◌<◌, ◌≤◌, Bool, true, false, ◌&&◌, ◌||◌, cond, inl, inr, List, [], ◌∷◌, map, length, get_or, refl, sym, ap, ap₂, subst, ◌∙◌, arith, Ordering, Less, Equal}
+-- A query in the order of the key returns the rows of the table as a list.
+use Rattle.std.proofs.Common.{◌≡◌, ◌⊎◌, ℕ, zero, suc, ◌+◌, ◌<◌, ◌≤◌, Bool, true, false, ◌&&◌, ◌||◌, cond, inl, inr, List, [], ◌∷◌, map, length, get_or, refl, sym, ap, ap₂, subst, ◌∙◌, arith, Ordering, Less}
 use Rattle.toll_sql.proofs.Common.{false≢true, IsTotalOrder, AllByRecursion, is_eq, is_lt, int_cmp, and_parts, cases_Bool, tied_itself, int_cmp_total, sorted_far, ranks_by, Row, column, IsAscending, Value, Null, Int, Text, all_has, Has, same_bytes-exact, same_bytes-refl, same_bytes}
 use Rattle.std.specs.FinMap.{int_cmp-IsAntisymmetric}
 use Rattle.std.specs.Prelude.{IsSorted}
@@ -7,31 +7,28 @@ use Rattle.toll_sql.specs.Bag.{Rises, NeverFalls, SameBag, total}
 use Rattle.toll_sql.specs.Cells.{cells_of, columns_from, fill, key_order}
 use Rattle.toll_sql.specs.Holds.{HasRows}
 use Rattle.toll_sql.specs.Rows.{AreSorted}
-use Rattle.toll_sql.specs.Tables.{table_of, width_of}
+use Rattle.toll_sql.specs.Schema.{table_of, width_of}
 use Rattle.toll_sql.specs.declared.table_kind.TableKind.{TableKind}
 use Rattle.toll_sql.proofs.Bags.{total_permuted, total_map}
-use Rattle.toll_sql.proofs.Keyed.{IsCell, behind, cells_are}
+use Rattle.toll_sql.proofs.Keyed.{IsCell, column_behind_rowid, cells_are}
 use Rattle.toll_sql.proofs.Orders.{key_order_total}
 use Rattle.toll_sql.proofs.WriteLemmas.{whole_row}
+use Rattle.toll_sql.proofs.JoinTests.{and_both}
+use Rattle.toll_sql.proofs.PutCommon.{equal_only}
 
 -- ---- rows are compared
 
-abbrev same_value : Value → Value → Bool
-same_value (Text s) (Text t) = same_bytes s t
-same_value (Int m) (Int n) = is_eq (int_cmp m n)
-same_value _ _ = false
+abbrev is_same_value : Value → Value → Bool
+is_same_value (Text s) (Text t) = same_bytes s t
+is_same_value (Int m) (Int n) = is_eq (int_cmp m n)
+is_same_value _ _ = false
 
-tied : (r : Ordering) → is_eq r ≡ true → r ≡ Equal
-tied Less h = absurd (false≢true h)
-tied Equal h = refl
-tied _ h = absurd (false≢true h)
-
-value_exact : (a b : Value) → same_value a b ≡ true → a ≡ b
+value_exact : (a b : Value) → is_same_value a b ≡ true → a ≡ b
 value_exact (Text s) (Text t) h = ap Text (same_bytes-exact s t h)
-value_exact (Int m) (Int n) h = ap Int (int_cmp-IsAntisymmetric m n (tied _ h))
+value_exact (Int m) (Int n) h = ap Int (int_cmp-IsAntisymmetric m n (equal_only _ h))
 value_exact _ _ h = absurd (false≢true h)
 
-value_itself : (v : Value) → IsCell v → same_value v v ≡ true
+value_itself : (v : Value) → IsCell v → is_same_value v v ≡ true
 value_itself (Text t) h = same_bytes-refl t
 value_itself (Int n) h = ap is_eq (tied_itself int_cmp_total n)
 value_itself _ h = absurd h
@@ -40,7 +37,7 @@ abbrev pub same_row : Row → Row → Bool
 same_row [] [] = true
 same_row [] (b ∷ bs) = false
 same_row (a ∷ more) [] = false
-same_row (a ∷ more) (b ∷ bs) = same_value a b && same_row more bs
+same_row (a ∷ more) (b ∷ bs) = is_same_value a b && same_row more bs
 
 pub row_exact : (a b : Row) → same_row a b ≡ true → a ≡ b
 row_exact [] [] h = refl
@@ -48,27 +45,24 @@ row_exact [] (b ∷ bs) h = absurd (false≢true h)
 row_exact (a ∷ more) [] h = absurd (false≢true h)
 row_exact (a ∷ more) (b ∷ bs) h = let parts = and_parts _ _ h in ap₂ (λ x xs. x ∷ xs) (value_exact a b parts.0) (row_exact more bs parts.1)
 
-both : (a b : Bool) → a ≡ true → b ≡ true → (a && b) ≡ true
-both a b p q = ap₂ (λ x y. x && y) p q
-
 pub row_itself : (row : Row) → AllByRecursion IsCell row → same_row row row ≡ true
 row_itself [] h = refl
-row_itself (v ∷ row) h = both (same_value v v) (same_row row row) (value_itself v h.0) (row_itself row h.1)
+row_itself (v ∷ row) h = and_both (is_same_value v v) (same_row row row) (value_itself v h.0) (row_itself row h.1)
 
--- ---- two lists with the same bag, of which one never falls and the other rises
+-- ---- two lists with the same bag, one of which never falls while the other rises
 
 abbrev pub IsItself : Row → Type 0
 IsItself row = same_row row row ≡ true
 
 module _ (cmp : Row → Row → Ordering) where
-  abbrev at : Row → Row → ℕ
-  at x v = cond (same_row v x) 1 0
+  abbrev count_at : Row → Row → ℕ
+  count_at x v = cond (same_row v x) 1 0
 
-  pub found : (x : Row) (ys : List Row) (n : ℕ) → suc n ≡ total (at x) ys → Has ys x
-  found x [] n h = absurd (omega (arith, h))
-  found x (y ∷ ys) n h = elim (cases_Bool (same_row y x)) [
+  pub read_found : (x : Row) (ys : List Row) (n : ℕ) → suc n ≡ total (count_at x) ys → Has ys x
+  read_found x [] n h = absurd (omega (arith, h))
+  read_found x (y ∷ ys) n h = elim (cases_Bool (same_row y x)) [
     | inl hit ↦ inl (sym (row_exact y x hit))
-    | inr miss ↦ (let out : at x y ≡ 0 = ap (λ b. cond b 1 0) miss in inr (found x ys n (omega (arith, h, out))))
+    | inr miss ↦ (let out : count_at x y ≡ 0 = ap (λ b. cond b 1 0) miss in inr (read_found x ys n (omega (arith, h, out))))
   ]
 
   heads : (x y : Row) (xs ys : List Row) → NeverFalls cmp (x ∷ xs) → Rises cmp (y ∷ ys) → Has (y ∷ ys) x → Has (x ∷ xs) y → x ≡ y
@@ -84,10 +78,10 @@ module _ (cmp : Row → Row → Ordering) where
   same_list [] (y ∷ ys) own other falls rises same = absurd (omega (arith, same (λ _. 1)))
   same_list (x ∷ xs) [] own other falls rises same = absurd (omega (arith, same (λ _. 1)))
   same_list (x ∷ xs) (y ∷ ys) own other falls rises same =
-      let one : at x x ≡ 1 = ap (λ b. cond b 1 0) own.0 in
-      let two : at y y ≡ 1 = ap (λ b. cond b 1 0) other.0 in
-      let there = found x (y ∷ ys) (total (at x) xs) (omega (arith, same (at x), one)) in
-      let here = found y (x ∷ xs) (total (at y) ys) (omega (arith, same (at y), two)) in
+      let one : count_at x x ≡ 1 = ap (λ b. cond b 1 0) own.0 in
+      let two : count_at y y ≡ 1 = ap (λ b. cond b 1 0) other.0 in
+      let there = read_found x (y ∷ ys) (total (count_at x) xs) (omega (arith, same (count_at x), one)) in
+      let here = read_found y (x ∷ xs) (total (count_at y) ys) (omega (arith, same (count_at y), two)) in
       let head : x ≡ y = heads x y xs ys falls rises there here in
       let rest : xs ≡ ys = same_list xs ys own.1 other.1 falls.1 rises.1 (λ f. omega (arith, same f, ap f head)) in
       rw (head, rest) refl
@@ -143,10 +137,10 @@ none_stray ls (row ∷ some) within own =
     let it : stray ls row ≡ 0 = ap (λ b. cond b 0 1) (has_among ls row (within row (inl refl)) own.0) in
     omega (arith, it, none_stray ls some (λ r has. within r (inr has)) own.1)
 
-all_itself : (ls rows : List Row) → AllByRecursion IsItself ls → total (stray ls) rows ≡ 0 → AllByRecursion IsItself rows
-all_itself ls [] own h = tt
-all_itself ls (row ∷ rows) own h = elim (cases_Bool (among ls row)) [
-  | inl hit ↦ (among_itself ls row own hit, all_itself ls rows own (omega (arith, h)))
+rows_themselves : (ls rows : List Row) → AllByRecursion IsItself ls → total (stray ls) rows ≡ 0 → AllByRecursion IsItself rows
+rows_themselves ls [] own h = tt
+rows_themselves ls (row ∷ rows) own h = elim (cases_Bool (among ls row)) [
+  | inl hit ↦ (among_itself ls row own hit, rows_themselves ls rows own (omega (arith, h)))
   | inr miss ↦ (let one : stray ls row ≡ 1 = ap (λ b. cond b 0 1) miss in absurd (omega (arith, h, one)))
 ]
 
@@ -156,9 +150,9 @@ total_alike : {X : Type 0} (f g : X → ℕ) → ((x : X) → f x ≡ g x) → (
 total_alike f g p [] = refl
 total_alike f g p (x ∷ xs) = ap₂ (λ a b. a + b) (p x) (total_alike f g p xs)
 
-all_alike : {X : Type 0} (f g : X → ℕ) (P : X → Type 0) → ((x : X) → P x → f x ≡ g x) → (xs : List X) → AllByRecursion P xs → total f xs ≡ total g xs
-all_alike f g P p [] all = refl
-all_alike f g P p (x ∷ xs) all = ap₂ (λ a b. a + b) (p x all.0) (all_alike f g P p xs all.1)
+read_all_alike : {X : Type 0} (f g : X → ℕ) (P : X → Type 0) → ((x : X) → P x → f x ≡ g x) → (xs : List X) → AllByRecursion P xs → total f xs ≡ total g xs
+read_all_alike f g P p [] all = refl
+read_all_alike f g P p (x ∷ xs) all = ap₂ (λ a b. a + b) (p x all.0) (read_all_alike f g P p xs all.1)
 
 cells_shown : (at n : ℕ) (row : Row) → columns_from (suc at) n row ≡ columns_from at n (cells_of row)
 cells_shown at n [] = no_columns at n
@@ -182,13 +176,13 @@ module _ (k : TableKind) (stored rows ls : List Row) (read : AreSorted k stored 
       ∙ total_alike (λ row. f (columns_from 1 w row)) (λ row. F (cells_of row)) (λ row. ap f (cells_shown 0 w row)) stored
       ∙ sym (total_map cells_of F stored)
       ∙ sym (has.same F)
-      ∙ all_alike F f (λ cells. fill k cells ≡ true) (λ cells fits. ap f (whole_row k cells fits)) ls fit
+      ∙ read_all_alike F f (λ cells. fill k cells ≡ true) (λ cells fits. ap f (whole_row k cells fits)) ls fit
 
-  own : (ls : List Row) → AllByRecursion (λ cells. fill k cells ≡ true) ls → AllByRecursion IsItself ls
-  own [] all = tt
-  own (cells ∷ ls) all = (row_itself cells (cells_are (table_of k).columns cells all.0), own ls all.1)
+  each_itself : (ls : List Row) → AllByRecursion (λ cells. fill k cells ≡ true) ls → AllByRecursion IsItself ls
+  each_itself [] all = tt
+  each_itself (cells ∷ ls) all = (row_itself cells (cells_are (table_of k).columns cells all.0), each_itself ls all.1)
 
-  pub rows_read : rows ≡ ls
-  rows_read =
-      let itself = own ls fit in
-      same_list (key_order k) rows ls (all_itself ls rows itself (bags (stray ls) ∙ none_stray ls ls (λ row has. has) itself)) itself (never_falls (key_order k) (key_order_total k) rows read.sorted) has.rising bags
+  pub read_rows : rows ≡ ls
+  read_rows =
+      let itself = each_itself ls fit in
+      same_list (key_order k) rows ls (rows_themselves ls rows itself (bags (stray ls) ∙ none_stray ls ls (λ row has. has) itself)) itself (never_falls (key_order k) (key_order_total k) rows read.sorted) has.rising bags

@@ -1,15 +1,15 @@
--- Readings one after another.
+-- Reading calls in a row.
 use Rattle.std.proofs.Common.{◌≡◌, ◌<◌, ℕ, suc, ◌+◌, true, List, [], ◌∷◌, ◌++◌, take, drop, length, get_or, inl, inr, Ok, Err, Result, OnOk, IsTrue, refl, sym, ap, subst, subst₂, ◌∙◌, arith}
 use Rattle.toll_sql.proofs.Common.{false≢true, length-map, on_ok_weaker, AllByRecursion, Database, Row, State, HasCleanDisk, Survives, Trees, Bytes, Slice, KeepFault, Disk, Damaged, Closed, Memory}
 use Rattle.toll_base.specs.declared.rows.Row.{Row as OfficeRow}
-use Rattle.toll_sql.specs.Asking.{Asks, IsLooking}
+use Rattle.toll_sql.specs.Asking.{LeavesStore, IsLooking}
 use Rattle.toll_sql.specs.Encode.{rows_for}
-use Rattle.toll_sql.specs.Fronts.{front, past}
+use Rattle.toll_sql.specs.Fronts.{front_slice, slice_past_table}
 use Rattle.toll_sql.specs.Others.{HasOurs}
 use Rattle.toll_sql.specs.Reading.{AreAllTaken, LacksRoomIn, OverIdle, ReadsKind, ReadsNext, ReadsOn, next_of}
-use Rattle.toll_sql.specs.Shown.{AreRowsIn, Shows, tables_of_owners}
-use Rattle.toll_sql.specs.StoredLaws.{StandIn}
-use Rattle.toll_sql.specs.Tables.{is_owned}
+use Rattle.toll_sql.specs.Shown.{AreRowsIn, ShowsOwnRows, tables_of_owners}
+use Rattle.toll_sql.specs.StoredLaws.{AreStoredOfOwner}
+use Rattle.toll_sql.specs.Schema.{is_owned}
 use Rattle.toll_sql.specs.declared.table_kind.TableKind.{TableKind}
 use Rattle.toll_sql.specs.declared.table_kind.TableKind.TheVariants.{Meta, Owners, Units, Materials}
 use Rattle.toll_sql.proofs.CauseLemmas.{reason_before}
@@ -17,13 +17,13 @@ use Rattle.toll_sql.proofs.LookLemmas.{held_on}
 use Rattle.toll_sql.proofs.OpenLemmas.{found_still}
 use Rattle.toll_sql.proofs.Taken.{all_taken_then, lacks_in_before, lacks_in_then}
 
--- ---- two looks are one
+-- ---- two reading calls in a row are one
 
 module _ (a b c : State) where
   pub clean_before : {P : Trees → Type 0} → Survives b c P → HasCleanDisk c → HasCleanDisk b
   clean_before s clean = omega (arith, clean, s.clean)
 
-  asks_then : {X Y E F : Type 0} (x : X) (r : Result Y F) → Asks {X = X} {E = E} a b (Ok x) → Asks b c r → Asks a c r
+  asks_then : {X Y E F : Type 0} (x : X) (r : Result Y F) → LeavesStore {X = X} {E = E} a b (Ok x) → LeavesStore b c r → LeavesStore a c r
   asks_then x r p q = record {
     live = λ clean live. p.live (clean_before q.survives clean) (q.live clean live);
     shown = q.shown;
@@ -63,7 +63,7 @@ module _ (a b c : State) where
     damaged = q.damaged;
   }
 
--- a look whose answer is turned into another one
+-- A reading call with another answer.
 pub looks_as : {X Y : Type 0} (a b : State) (r : Result X KeepFault) (t : Result Y KeepFault) → IsLooking a b r → (OnOk r (IsTrue b.is_open) → OnOk t (IsTrue b.is_open)) → (t ≡ Err Disk → r ≡ Err Disk) → (t ≡ Err Closed → r ≡ Err Closed) → (t ≡ Err Damaged → r ≡ Err Damaged)
     → IsLooking a b t
 looks_as a b r t p shown disk closed damaged = record {
@@ -79,14 +79,14 @@ all_append : {X : Type 0} (P : X → Type 0) (xs ys : List X) → AllByRecursion
 all_append P [] ys all more = more
 all_append P (x ∷ xs) ys all more = (all.0, all_append P xs ys all.1 more)
 
-pub shows_then : {X Y : Type 0} (kinds others : List TableKind) (o : Bytes) (a b c : State) (x : X) (r : Result Y KeepFault) → IsLooking {X = X} a b (Ok x) → Shows {X = X} kinds o a b (Ok x) → IsLooking b c r → Shows others o b c r → Shows (kinds ++ others) o a c r
+pub shows_then : {X Y : Type 0} (kinds others : List TableKind) (o : Bytes) (a b c : State) (x : X) (r : Result Y KeepFault) → IsLooking {X = X} a b (Ok x) → ShowsOwnRows {X = X} kinds o a b (Ok x) → IsLooking b c r → ShowsOwnRows others o b c r → ShowsOwnRows (kinds ++ others) o a c r
 shows_then kinds others o a b c x r p shown q more = λ clean has idle.
     let before = clean_before a b c q.asks.survives clean in
     let same = p.asks.same before has (p.asks.shown before) idle in
     let behind = more clean (subst (λ (db : Database). HasOurs db.schema) (sym same.0) has) (same.0 ∙ idle ∙ sym same.1) in
     on_ok_weaker r (λ all. all_append (AreRowsIn o a.now.trees) kinds others (shown before has idle) (subst (λ (db : Database). AllByRecursion (AreRowsIn o db.trees) others) same.0 all)) behind
 
--- what the tables had before a look that succeeded, they have after it
+-- What the tables had before reading that succeeded, they still have after it.
 over_then : {X Y : Type 0} (a b c : State) (x : X) (r : Result Y KeepFault) (P : Trees → Type 0) → IsLooking {X = X} a b (Ok x) → IsLooking b c r → OverIdle b c P → OverIdle a c P
 over_then a b c x r P p q over = λ clean has idle.
     let before = clean_before a b c q.asks.survives clean in
@@ -94,8 +94,8 @@ over_then a b c x r P p q over = λ clean has idle.
     subst (λ (db : Database). P db.trees) same.0 (over clean (subst (λ (db : Database). HasOurs db.schema) (sym same.0) has) (same.0 ∙ idle ∙ sym same.1))
 
 module _ (f g h : Slice → Slice) {kinds others : List TableKind} (o : Bytes) where
-  pub reads_then : {X Y : Type 0} (a b c : State) (s t u : Slice) (x : X) (r : Result Y KeepFault) → ReadsOn f g kinds o {X = X} a b s t (Ok x) → ReadsOn g h others o b c t u r → ReadsOn f h (kinds ++ others) o a c s u r
-  reads_then a b c s t u x r p q = record {
+  pub read_then : {X Y : Type 0} (a b c : State) (s t u : Slice) (x : X) (r : Result Y KeepFault) → ReadsOn f g kinds o {X = X} a b s t (Ok x) → ReadsOn g h others o b c t u r → ReadsOn f h (kinds ++ others) o a c s u r
+  read_then a b c s t u x r p q = record {
     looks = looks_then a b c x r p.looks q.looks;
     shows = shows_then kinds others o a b c x r p.looks p.shows q.looks q.shows;
     reads = λ clean slice held first.
@@ -112,7 +112,7 @@ module _ (f g h : Slice → Slice) {kinds others : List TableKind} (o : Bytes) w
         lacks_in_then o a.now.trees kinds others s t u so_far (over_then a b c x r (λ db. r ≡ Err Memory → LacksRoomIn others o db t u) p.looks q.looks q.lacks clean has idle is);
   }
 
-  -- one that failed read nothing
+  -- A call that failed read nothing.
   pub reads_not : {X Y : Type 0} (more : List TableKind) → kinds ++ more ≡ others → (a b : State) (s t : Slice) (e : KeepFault) → ReadsOn f g kinds o {X = X} a b s t (Err e) → ReadsOn f h others o {X = Y} a b s t (Err e)
   reads_not more all a b s t e p = record {
     looks = record {
@@ -131,53 +131,53 @@ module _ (f g h : Slice → Slice) {kinds others : List TableKind} (o : Bytes) w
       same_error : {Z : Type 0} {d e : KeepFault} → ◌≡◌ {A = Result Z KeepFault} (Err d) (Err e) → d ≡ e
       same_error is = cc
 
--- ---- a table that is read whole is behind
+-- ---- a table that was read completely is done
 
 take_all : {X : Type 0} (xs : List X) → take (length xs) xs ≡ xs
 take_all [] = refl
 take_all (x ∷ xs) = ap (λ ys. x ∷ ys) (take_all xs)
 
-behind : (k : TableKind) (s : Slice) → is_owned k ≡ true → front k (length (rows_for k s)) s ≡ front (next_of k) 0 s
-behind Meta s owned = absurd (false≢true owned)
-behind Owners s owned = absurd (false≢true owned)
-behind Units s owned = absurd (false≢true owned)
-behind _ s owned = simp (length-map, take_all) refl
+front_of_next : (k : TableKind) (s : Slice) → is_owned k ≡ true → front_slice k (length (rows_for k s)) s ≡ front_slice (next_of k) 0 s
+front_of_next Meta s owned = absurd (false≢true owned)
+front_of_next Owners s owned = absurd (false≢true owned)
+front_of_next Units s owned = absurd (false≢true owned)
+front_of_next _ s owned = simp (length-map, take_all) refl
 
--- so what was read this far was read up to there
+-- What was read up to one place was read up to an equal one.
 pub reads_up_to : {X : Type 0} (f g h : Slice → Slice) {kinds : List TableKind} (o : Bytes) (a b : State) (s t : Slice) (r : Result X KeepFault) → ((s : Slice) → g s ≡ h s) → ReadsOn f g kinds o a b s t r → ReadsOn f h kinds o a b s t r
 reads_up_to f g h {kinds} o a b s t r same p = subst (λ (g : Slice → Slice). ReadsOn f g kinds o a b s t r) (λ i. λ s. same s i) p
 
--- ---- each table behind the one before it
+-- ---- each table after the one before it
 
-pub read_next : {X Y : Type 0} (table k : TableKind) {cells : Bytes → X → Row} {is_valid : X → Type 0} {row : X → OfficeRow} {listed : Slice → List X} (o : Bytes) (a b : State) (s t : Slice) (r : Result Y KeepFault) → StandIn k cells is_valid row listed → table ≡ k
+pub read_next : {X Y : Type 0} (table k : TableKind) {cells : Bytes → X → Row} {is_valid : X → Type 0} {row : X → OfficeRow} {listed : Slice → List X} (o : Bytes) (a b : State) (s t : Slice) (r : Result Y KeepFault) → AreStoredOfOwner k cells is_valid row listed → table ≡ k
     → ReadsKind k cells is_valid row listed o a b s t r → ReadsNext table o a b s t r
-read_next table k {cells} {is_valid} {row} {listed} o a b s t r stand is reads = subst (λ k. ReadsNext k o a b s t r) (sym is) (reads_up_to _ (past k listed) (front (next_of k) 0) o a b s t r all (reads stand))
+read_next table k {cells} {is_valid} {row} {listed} o a b s t r stand is reads = subst (λ k. ReadsNext k o a b s t r) (sym is) (reads_up_to _ (slice_past_table k listed) (front_slice (next_of k) 0) o a b s t r all (reads stand))
   where
-    all : (s : Slice) → past k listed s ≡ front (next_of k) 0 s
-    all s = ap (λ n. front k n s) (sym (ap length (stand.its_rows s) ∙ length-map (listed s) (cells s.owner))) ∙ behind k s stand.owned
+    all : (s : Slice) → slice_past_table k listed s ≡ front_slice (next_of k) 0 s
+    all s = ap (λ n. front_slice k n s) (sym (ap length (stand.its_rows s) ∙ length-map (listed s) (cells s.owner))) ∙ front_of_next k s stand.owned
 
--- the table with this number, and the first so many
+-- the table with this number, and the first tables
 abbrev pub kind_at : ℕ → TableKind
 kind_at n = get_or tables_of_owners n Meta
 
-pub step_at : (i : ℕ) → i < 11 → (is_owned (kind_at i) ≡ true) × (next_of (kind_at i) ≡ kind_at (i + 1)) × (take i tables_of_owners ++ kind_at i ∷ [] ≡ take (i + 1) tables_of_owners) × (take (i + 1) tables_of_owners ++ drop (i + 1) tables_of_owners ≡ tables_of_owners)
-step_at (suc (suc (suc (suc (suc (suc (suc (suc (suc (suc (suc i))))))))))) low = absurd (omega (arith, low))
-step_at _ low = (refl, refl, refl, refl)
+pub owners_table_step : (i : ℕ) → i < 11 → (is_owned (kind_at i) ≡ true) × (next_of (kind_at i) ≡ kind_at (i + 1)) × (take i tables_of_owners ++ kind_at i ∷ [] ≡ take (i + 1) tables_of_owners) × (take (i + 1) tables_of_owners ++ drop (i + 1) tables_of_owners ≡ tables_of_owners)
+owners_table_step (suc (suc (suc (suc (suc (suc (suc (suc (suc (suc (suc i))))))))))) low = absurd (omega (arith, low))
+owners_table_step _ low = (refl, refl, refl, refl)
 
 abbrev pub read_well : Result (Unit {0}) KeepFault
 read_well = Ok tt
 
--- so many tables are read, of which the first stands behind none
+-- This many tables are read, from the first on.
 abbrev pub HasRead : ℕ → Bytes → State → State → Slice → Slice → Type 0
-HasRead n o a b s t = ReadsOn (front Materials 0) (front (kind_at n) 0) (take n tables_of_owners) o a b s t read_well
+HasRead n o a b s t = ReadsOn (front_slice Materials 0) (front_slice (kind_at n) 0) (take n tables_of_owners) o a b s t read_well
 
-pub none_read : (o : Bytes) (a : State) (s : Slice) → (HasCleanDisk a → IsTrue a.is_open) → HasRead 0 o a a s s
-none_read o a s live = record { looks = (found_still a live).looks; shows = λ _ _ _. tt; reads = λ _ _ _ first. first; whole = λ _ _ _ _ _ is. absurd cc; taken = λ _ _ _. refl; lacks = λ _ _ _ is. absurd cc }
+pub no_tables_read : (o : Bytes) (a : State) (s : Slice) → (HasCleanDisk a → IsTrue a.is_open) → HasRead 0 o a a s s
+no_tables_read o a s live = record { looks = (found_still a live).looks; shows = λ _ _ _. tt; reads = λ _ _ _ first. first; whole = λ _ _ _ _ _ is. absurd cc; taken = λ _ _ _. refl; lacks = λ _ _ _ is. absurd cc }
 
 pub one_more_read : (tables : List TableKind) → tables ≡ tables_of_owners → (i : ℕ) → i < length tables → (o : Bytes) (a b c : State) (s t u : Slice) (r : Result (Unit {0}) KeepFault) → HasRead i o a b s t → (is_owned (get_or tables i Meta) ≡ true → ReadsNext (get_or tables i Meta) o b c t u r)
-    → ReadsOn (front Materials 0) (front (kind_at (i + 1)) 0) (take (i + 1) tables_of_owners) o a c s u r
+    → ReadsOn (front_slice Materials 0) (front_slice (kind_at (i + 1)) 0) (take (i + 1) tables_of_owners) o a c s u r
 one_more_read tables are i low o a b c s t u r so next =
     let one = subst (λ all. is_owned (get_or all i Meta) ≡ true → ReadsNext (get_or all i Meta) o b c t u r) are next in
     let k = kind_at i in
-    let step = step_at i (subst (λ all. i < length all) are low) in
-    subst₂ (λ next kinds. ReadsOn (front Materials 0) (front next 0) kinds o a c s u r) step.1 step.2 (reads_then (front Materials 0) (front k 0) (front (next_of k) 0) o a b c s t u tt r so (one step.0))
+    let step = owners_table_step i (subst (λ all. i < length all) are low) in
+    subst₂ (λ next kinds. ReadsOn (front_slice Materials 0) (front_slice next 0) kinds o a c s u r) step.1 step.2 (read_then (front_slice Materials 0) (front_slice k 0) (front_slice (next_of k) 0) o a b c s t u tt r so (one step.0))

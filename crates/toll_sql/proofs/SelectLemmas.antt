@@ -1,4 +1,4 @@
--- What a plain query answers.
+-- The rows of a plain query.
 use Rattle.std.proofs.Common.{◌≡◌, ◌<◌, ◌+◌, ℕ, Bool, true, false, cond, List, [], ◌∷◌, ◌++◌, map, length, get_or, refl, sym, ap, subst, subst₂, ◌∙◌, arith, All}
 use Rattle.std.specs.Prelude.{filter, IsPermutation, IsSorted}
 use Rattle.toll_sql.proofs.Common.{list_all, flat_map, on, get_or-map, All-map, IsPermutation-map, All-permutation, Row, Term, Env, eval_all, holds, Output, IsAnswer, output, key_cmp, Trees, Key}
@@ -21,7 +21,7 @@ len_map : {A B : Type 0} (f : A → B) (xs : List A) → length (map f xs) ≡ l
 len_map f [] = refl
 len_map f (x ∷ xs) = omega (arith, len_map f xs)
 
-module _ (t : ℕ) (flt project : List Term) (order : List (Term × Key)) (ord : Row → Row) (told : (env : Env) → eval_all (map (λ k. k.0) order) env ≡ ord (eval_all project env)) where
+module _ (t : ℕ) (flt project : List Term) (order : List (Term × Key)) (ord : Row → Row) (reported : (env : Env) → eval_all (map (λ k. k.0) order) env ≡ ord (eval_all project env)) where
   pub shown_by : (db : Trees) (params : Row) (rows : List Row) → IsAnswer (plain_query t flt project order) db params rows
       → AreShown (λ r. eval_all project (params ∷ r ∷ [])) ord (map (λ k. k.1) order) (filter (λ r. list_all (holds (params ∷ r ∷ [])) flt) (db t)) rows
   shown_by db params rows a =
@@ -31,7 +31,7 @@ module _ (t : ℕ) (flt project : List Term) (order : List (Term × Key)) (ord :
       let kept : a.kept ≡ map (λ r. output q (params ∷ r ∷ [])) hits = a.distinct ∙ ap (map (output q)) staged ∙ map_map (output q) (λ r. params ∷ r ∷ []) hits in
       let same : IsPermutation (map (λ r. output q (params ∷ r ∷ [])) hits) a.ordered = subst (λ k. IsPermutation k a.ordered) kept a.same in
       let told_all : All (λ (o : Output). o.0 ≡ ord o.1) a.ordered =
-      All-permutation (λ (o : Output). o.0 ≡ ord o.1) _ _ same (All-map (λ (o : Output). o.0 ≡ ord o.1) (λ r. output q (params ∷ r ∷ [])) hits (λ i d low. told _)) in
+      All-permutation (λ (o : Output). o.0 ≡ ord o.1) _ _ same (All-map (λ (o : Output). o.0 ≡ ord o.1) (λ r. output q (params ∷ r ∷ [])) hits (λ i d low. reported _)) in
       let shown : rows ≡ map (λ (o : Output). o.1) a.ordered = a.shown in
       let low : (k : ℕ) (d : Row) → k < length a.ordered → get_or (map (λ (o : Output). o.1) a.ordered) k d ≡ (get_or a.ordered k ([], d)).1 = λ k d below. get_or-map (λ (o : Output). o.1) a.ordered k ([], d) d below in
       record {

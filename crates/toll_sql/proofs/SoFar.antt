@@ -1,27 +1,27 @@
--- Rows that are looked at one after another.
+-- Rows that are checked one after another.
 use Rattle.std.proofs.Common.{◌≡◌, ◌<◌, ◌≤◌, ◌+◌, ◌∙◌, ℕ, zero, suc, cond, inl, inr, List, [], ◌∷◌, length, take, map, get_or, refl, sym, subst, arith, Ok, Err, Result, OnOk}
 use Rattle.toll_sql.proofs.Common.{cases_Bool, IsPermutation-sym, AllByRecursion, is_eq, Row, column, value_cmp, Trees, Text, all-permutation, Bytes}
 use Rattle.toll_sql.specs.Bag.{owned_by}
 use Rattle.toll_sql.specs.Cells.{columns_from}
-use Rattle.toll_sql.specs.Shown.{AreOwnedBy, AreRowsOf, FirstIs, IsRowOf}
+use Rattle.toll_sql.specs.Shown.{AreOwnedBy, AreRowsOf, FirstIs, IsRowOfOwner}
 use Rattle.toll_sql.specs.Rows.{AreOfOwner}
-use Rattle.toll_sql.specs.Tables.{tree_of, width_of}
+use Rattle.toll_sql.specs.Schema.{tree_of, width_of}
 use Rattle.toll_sql.specs.declared.table_kind.TableKind.{TableKind}
 use Rattle.toll_sql.specs.declared.table_kind.TableKind.TheVariants.{Meta}
-use Rattle.toll_sql.proofs.PutCommon.{is_text}
+use Rattle.toll_sql.proofs.PutCommon.{compares_text_only}
 
--- with the next one, one more
+-- With the next row, the fact holds of one more.
 next_too : {X : Type 0} (P : X → Type 0) (xs : List X) (i : ℕ) (x : X) → i < length xs → x ≡ get_or xs i x → AllByRecursion P (take i xs) → P x → AllByRecursion P (take (suc i) xs)
 next_too P [] i x lt is all it = tt
 next_too P (y ∷ ys) zero x lt is all it = (subst P is it, tt)
 next_too P (y ∷ ys) (suc i) x lt is all it = (all.0, next_too P ys i x (omega (arith, lt)) is all.1 it)
 
-pub one_more : {X : Type 0} (P : X → Type 0) (xs : List X) (i : ℕ) (x : X) → i < length xs → x ≡ get_or xs i x → AllByRecursion P (take i xs) → P x → AllByRecursion P (take (i + 1) xs)
-one_more P xs i x lt is all it =
+pub all_with_one_more : {X : Type 0} (P : X → Type 0) (xs : List X) (i : ℕ) (x : X) → i < length xs → x ≡ get_or xs i x → AllByRecursion P (take i xs) → P x → AllByRecursion P (take (i + 1) xs)
+all_with_one_more P xs i x lt is all it =
     let one : suc i ≡ i + 1 = omega arith in
     subst (λ n. AllByRecursion P (take n xs)) one (next_too P xs i x lt is all it)
 
--- the first of them is good where each so far is, and the next one
+-- P holds of the first item if it holds of each so far and of the next one.
 pub first_good : {X : Type 0} (P : X → Type 0) (xs : List X) (i : ℕ) (x : X) → i < length xs → x ≡ get_or xs i x → (1 ≤ i → FirstIs P xs) → P x → FirstIs P xs
 first_good P [] i x lt is so_far it = absurd (omega (arith, lt))
 first_good P (y ∷ ys) zero x lt is so_far it = subst P is it
@@ -32,9 +32,9 @@ value_at P [] i d all lt = absurd (omega (arith, lt))
 value_at P (x ∷ xs) zero d all lt = all.0
 value_at P (x ∷ xs) (suc i) d all lt = value_at P xs i d all.1 (omega (arith, lt))
 
-pub first_of : {X : Type 0} (xs : List X) (i : ℕ) → i < length xs → X
-first_of [] i lt = absurd (omega (arith, lt))
-first_of (x ∷ xs) i lt = x
+pub first_item : {X : Type 0} (xs : List X) (i : ℕ) → i < length xs → X
+first_item [] i lt = absurd (omega (arith, lt))
+first_item (x ∷ xs) i lt = x
 
 pub value_there : {X : Type 0} (P : X → Type 0) (xs : List X) (i : ℕ) (x : X) → i < length xs → x ≡ get_or xs i x → AllByRecursion P xs → P x
 value_there P [] i x lt is all = absurd (omega (arith, lt))
@@ -55,16 +55,16 @@ first_column _ row = refl
 all_owned : (k : TableKind) (o : Bytes) (stored : List Row) → AreOwnedBy o (map (columns_from 1 (width_of k)) (owned_by o stored))
 all_owned k o [] = tt
 all_owned k o (row ∷ stored) = elim (cases_Bool (is_eq (value_cmp (column row 1) (Text o)))) [
-  | inl own ↦ subst (λ b. AreOwnedBy o (map (columns_from 1 (width_of k)) (cond b (row ∷ owned_by o stored) (owned_by o stored)))) (sym own) (first_column k row ∙ is_text (column row 1) o own, all_owned k o stored)
+  | inl own ↦ subst (λ b. AreOwnedBy o (map (columns_from 1 (width_of k)) (cond b (row ∷ owned_by o stored) (owned_by o stored)))) (sym own) (first_column k row ∙ compares_text_only (column row 1) o own, all_owned k o stored)
   | inr other ↦ subst (λ b. AreOwnedBy o (map (columns_from 1 (width_of k)) (cond b (row ∷ owned_by o stored) (owned_by o stored)))) (sym other) (all_owned k o stored)
 ]
 
 pub read_owned : (k : TableKind) (o : Bytes) (db : Trees) (rows : List Row) → AreOfOwner k o db rows → AreOwnedBy o rows
 read_owned k o db rows read = all-permutation (λ row. column row 0 ≡ Text o) (map (columns_from 1 (width_of k)) (owned_by o (db (tree_of k)))) rows read.same (all_owned k o (db (tree_of k)))
 
--- what is so of the rows that were read is so of those that the table has
-pub stored_shown : {X : Type 0} (k : TableKind) (cells : Bytes → X → Row) (is_valid : X → Type 0) (o : Bytes) (db : Trees) (rows : List Row) → AreOfOwner k o db rows → AllByRecursion (IsRowOf k cells is_valid o) rows → AreRowsOf k cells is_valid o db
-stored_shown k cells is_valid o db rows read all = all-permutation (IsRowOf k cells is_valid o) rows (map (columns_from 1 (width_of k)) (owned_by o (db (tree_of k)))) (IsPermutation-sym (map (columns_from 1 (width_of k)) (owned_by o (db (tree_of k)))) rows read.same) all
+-- A fact of the rows that were read holds of those in the table.
+pub stored_shown : {X : Type 0} (k : TableKind) (cells : Bytes → X → Row) (is_valid : X → Type 0) (o : Bytes) (db : Trees) (rows : List Row) → AreOfOwner k o db rows → AllByRecursion (IsRowOfOwner k cells is_valid o) rows → AreRowsOf k cells is_valid o db
+stored_shown k cells is_valid o db rows read all = all-permutation (IsRowOfOwner k cells is_valid o) rows (map (columns_from 1 (width_of k)) (owned_by o (db (tree_of k)))) (IsPermutation-sym (map (columns_from 1 (width_of k)) (owned_by o (db (tree_of k)))) rows read.same) all
 
 pub when_ok : {X E : Type 0} (A : Type 0) (r : Result X E) → A → OnOk r A
 when_ok A (Ok x) a = a

@@ -5,16 +5,16 @@ use Rattle.toll_sql.proofs.Common.{Row, Bytes, Slice, with_row, KeepsRules, Tree
 use Rattle.toll_base.specs.declared.rows.Row.{Row as OfficeRow}
 use Rattle.toll_sql.specs.Cells.{columns_from}
 use Rattle.toll_sql.specs.Encode.{cells_for, table_for}
-use Rattle.toll_sql.specs.Reading.{AreAllTaken, AreTaken, FitsIn, LacksRoom, LacksRoomIn, TakesRows}
-use Rattle.toll_sql.specs.StoredLaws.{StandIn}
-use Rattle.toll_sql.specs.Tables.{width_of}
+use Rattle.toll_sql.specs.Reading.{AreAllTaken, AreTaken, FitsSlice, LacksRoom, LacksRoomIn, TakesRows}
+use Rattle.toll_sql.specs.StoredLaws.{AreStoredOfOwner}
+use Rattle.toll_sql.specs.Schema.{width_of}
 use Rattle.toll_sql.specs.Valid.{IsRow}
 use Rattle.toll_sql.specs.declared.table_kind.TableKind.{TableKind}
 
--- the row that these cells are, put in or not
-module _ {X : Type 0} (k : TableKind) (cells : Bytes → X → Row) (is_valid : X → Type 0) (any_row : X → OfficeRow) (listed : Slice → List X) (stand : StandIn k cells is_valid any_row listed)
+-- The row with these cells, which is put in or not.
+module _ {X : Type 0} (k : TableKind) (cells : Bytes → X → Row) (is_valid : X → Type 0) (any_row : X → OfficeRow) (listed : Slice → List X) (stand : AreStoredOfOwner k cells is_valid any_row listed)
     (o : Bytes) (found : Row) (x : X) (valid : is_valid x) (is : columns_from 0 (width_of k) found ≡ cells o x) (row : OfficeRow) (its : row ≡ any_row x) (s t : Slice) where
-  abbrev fits : KeepsRules (with_row s row) → FitsIn k o found s
+  abbrev fits : KeepsRules (with_row s row) → FitsSlice k o found s
   fits keeps = record {
     row = row;
     its_table = subst (λ row. table_for row ≡ k) (sym its) (stand.its_table x);
@@ -31,7 +31,7 @@ module _ {X : Type 0} (k : TableKind) (cells : Bytes → X → Row) (is_valid : 
       taken (Err e) made keeps = tt
 
 module _ (k : TableKind) (o : Bytes) where
-  -- rows behind rows
+  -- rows after rows
   pub taken_then : (rows more : List Row) (a b c : Slice) → AreTaken k o rows a b → AreTaken k o more b c → AreTaken k o (rows ++ more) a c
   taken_then [] more a b c is next = subst (λ s. AreTaken k o more s c) is next
   taken_then (row ∷ rows) more a b c all next = (all.0, taken_then rows more _ b c all.1 next)
@@ -40,31 +40,31 @@ module _ (k : TableKind) (o : Bytes) where
   lacks_then [] more a b c is next = subst (λ s. LacksRoom k o more s c) is next
   lacks_then (row ∷ rows) more a b c all next = (all.0, inr (lacks_then rows more _ b c all.1 next))
 
-  -- rows behind the one that there was no memory for
+  -- rows after the one for which there was no memory
   pub lacks_before : (rows more : List Row) (a b : Slice) → LacksRoom k o rows a b → LacksRoom k o (rows ++ more) a b
   lacks_before [] more a b bad = absurd bad
   lacks_before (row ∷ rows) more a b (fits, inl is) = (fits, inl is)
   lacks_before (row ∷ rows) more a b (fits, inr later) = (fits, inr (lacks_before rows more _ b later))
 
--- a list up to a place, what is there, and what is behind it
-parted : {X : Type 0} (xs : List X) (i : ℕ) (x : X) → i < length xs → x ≡ get_or xs i x → (rest : List X) × (xs ≡ (take i xs ++ x ∷ []) ++ rest) × (take (suc i) xs ≡ take i xs ++ x ∷ [])
-parted [] i x lt is = absurd (omega (arith, lt))
-parted (y ∷ ys) zero x lt is = (ys, ap (λ z. z ∷ ys) (sym is), ap (λ z. z ∷ []) (sym is))
-parted (y ∷ ys) (suc i) x lt is =
-    let more = parted ys i x (omega (arith, lt)) is in
+-- a list up to a place, the item there, and the rest
+parted_at_place : {X : Type 0} (xs : List X) (i : ℕ) (x : X) → i < length xs → x ≡ get_or xs i x → (rest : List X) × (xs ≡ (take i xs ++ x ∷ []) ++ rest) × (take (suc i) xs ≡ take i xs ++ x ∷ [])
+parted_at_place [] i x lt is = absurd (omega (arith, lt))
+parted_at_place (y ∷ ys) zero x lt is = (ys, ap (λ z. z ∷ ys) (sym is), ap (λ z. z ∷ []) (sym is))
+parted_at_place (y ∷ ys) (suc i) x lt is =
+    let more = parted_at_place ys i x (omega (arith, lt)) is in
     (more.0, ap (λ zs. y ∷ zs) more.1, ap (λ zs. y ∷ zs) more.2)
 
 module _ (k : TableKind) (o : Bytes) (rows : List Row) (i : ℕ) (row : Row) (lt : i < length rows) (is : row ≡ get_or rows i row) (a b c : Slice) where
-  -- with the next one, one more
+  -- With the next row, one more is in.
   pub one_more_taken : AreTaken k o (take i rows) a b → AreTaken k o (row ∷ []) b c → AreTaken k o (take (i + 1) rows) a c
   one_more_taken all next =
       let one : suc i ≡ i + 1 = omega arith in
-      subst (λ n. AreTaken k o (take n rows) a c) one (subst (λ found. AreTaken k o found a c) (sym (parted rows i row lt is).2) (taken_then k o (take i rows) (row ∷ []) a b c all next))
+      subst (λ n. AreTaken k o (take n rows) a c) one (subst (λ found. AreTaken k o found a c) (sym (parted_at_place rows i row lt is).2) (taken_then k o (take i rows) (row ∷ []) a b c all next))
 
-  -- there was no memory for the next one
+  -- There was no memory for the next row.
   pub lacks_here : AreTaken k o (take i rows) a b → LacksRoom k o (row ∷ []) b c → LacksRoom k o rows a c
   lacks_here all next =
-      let parts = parted rows i row lt is in
+      let parts = parted_at_place rows i row lt is in
       subst (λ found. LacksRoom k o found a c) (sym parts.1) (lacks_before k o (take i rows ++ row ∷ []) parts.0 a c (lacks_then k o (take i rows) (row ∷ []) a b c all next))
 
 pub all_taken : (k : TableKind) (o : Bytes) (rows : List Row) (i : ℕ) → length rows ≤ i → (a b : Slice) → AreTaken k o (take i rows) a b → AreTaken k o rows a b

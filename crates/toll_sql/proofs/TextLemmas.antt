@@ -1,13 +1,13 @@
--- What a text asks for that compiles to one whole statement.
+-- The meaning of a text that compiles to one whole statement.
 use Rattle.std.proofs.Common.{◌≡◌, ◌-◌, ℕ, false, List, [], length, take_all, le-leb, None, Ok, if◌then◌else◌, refl, sym, ap, subst, ◌∙◌, arith}
 use Rattle.toll_sql.proofs.Common.{IsPlain, command_of, statement_of, Command, understood, reads_listing, misses_table, if_select, listing_schema, Schema, compiled, Compiled}
 use Rattle.toll_sql.specs.Given.{IsGiven}
 
--- the text is one statement, with parameters of these names, no RETURNING and no time
+-- one statement, with parameters of these names, no RETURNING and no time
 abbrev pub one_statement : Command → List (List ℕ) → List ℕ → Compiled
 one_statement command names sql = record { command = command; returning = None; names = names; formats = []; start = 0; end = length sql; tail = length sql }
 
--- what a text means follows from what it compiles to, so that the prover compiles it only once
+-- The meaning of a text follows from what it compiles to, so the prover compiles it only once.
 module _ (schema : Schema) (sql : List ℕ) {command : Command} {names : List (List ℕ)} (is : compiled schema sql ≡ Ok (one_statement command names sql)) where
   understood_is : understood schema sql ≡ Ok (one_statement command names sql)
   unfolding understood
@@ -22,8 +22,8 @@ module _ (schema : Schema) (sql : List ℕ) {command : Command} {names : List (L
   pub statement_is : statement_of sql (understood schema sql) ≡ sql
   statement_is = ap (statement_of sql) understood_is ∙ take_all (length sql - 0) sql (omega arith)
 
-  pub plain : IsPlain (understood schema sql)
-  plain = subst IsPlain (sym understood_is) (refl, refl)
+  pub statement_plain : IsPlain (understood schema sql)
+  statement_plain = subst IsPlain (sym understood_is) (refl, refl)
 
-  pub given : {n : ℕ} → length names ≡ n → IsGiven sql n (understood schema sql)
-  given {n} so = subst (IsGiven sql n) (sym understood_is) (le-leb (length sql) (length sql) (omega arith), so, refl, refl)
+  pub statement_given : {n : ℕ} → length names ≡ n → IsGiven sql n (understood schema sql)
+  statement_given {n} so = subst (IsGiven sql n) (sym understood_is) (le-leb (length sql) (length sql) (omega arith), so, refl, refl)

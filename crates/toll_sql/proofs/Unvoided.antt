@@ -1,12 +1,12 @@
--- A movement is voided just where the table of voids has a row with its key.
+-- A movement is voided if and only if the table of voids has a row with its key.
 use Rattle.std.proofs.Common.{◌≡◌, ◌⊎◌, inl, inr, Bool, true, false, ◌&&◌, Option, Some, is_some, List, [], ◌∷◌, refl, sym, ap, subst, ◌∙◌}
 use Rattle.toll_sql.proofs.Common.{false≢true, is_eq, and_parts, exact_bytes, Row, column, or_nulls, Text, Bytes, bytes_cmp, row_at, VoidRow, Contains-none, Contains-here, Contains-later, Contains-cases, Contains-filter, Contains-from_filter}
 use Rattle.std.specs.Prelude.{Contains, filter, if◌then◌else◌}
 use Rattle.std.proofs.lemmas.Cmp.{tied_itself, nat_list_cmp_total}
 use Rattle.std.proofs.lemmas.Map.Views.{tells_apart}
 use Rattle.toll_sql.specs.Encode.{void_cells}
-use Rattle.toll_sql.proofs.JoinTests.{equals, is_no_value, is_text, texts_same, text_itself, text_is_value, both}
-use Rattle.toll_sql.proofs.MemberRows.{AreRows}
+use Rattle.toll_sql.proofs.JoinTests.{equals, is_no_value, equals_text_only, texts_same, text_itself, text_is_value, and_both}
+use Rattle.toll_sql.proofs.MemberRows.{AreRowsOfOwner}
 
 abbrev void_with : List VoidRow → Bytes → Option VoidRow
 void_with rows k = row_at bytes_cmp (λ row. row.key) rows k
@@ -38,18 +38,18 @@ of_or_nulls : (xs : List Row) (v : Row) → Contains (or_nulls xs) v → (xs ≡
 of_or_nulls [] v i = inl refl
 of_or_nulls (x ∷ xs) v i = inr i
 
-module _ (o : Bytes) (rows : List VoidRow) (table : List Row) (has : AreRows o (void_cells o) rows table) (k : Bytes) where
-  -- a void of this key
+module _ (o : Bytes) (rows : List VoidRow) (table : List Row) (has : AreRowsOfOwner o (void_cells o) rows table) (k : Bytes) where
+  -- whether the row is a void of this key
   abbrev is_void : Row → Bool
   is_void r = equals (column r 1) (Text o) && (equals (column r 2) (Text k) && true)
 
   void_is : (r : Row) → is_void r ≡ true → (column r 1 ≡ Text o) × (column r 2 ≡ Text k)
   void_is r h =
       let parts = and_parts _ _ h in
-      (is_text (column r 1) o parts.0, is_text (column r 2) k (and_parts _ _ parts.1).0)
+      (equals_text_only (column r 1) o parts.0, equals_text_only (column r 2) k (and_parts _ _ parts.1).0)
 
-  pub standing : (v : Row) → Contains (or_nulls (filter is_void table)) v → is_no_value (column v 2) ≡ true → is_some (void_with rows k) ≡ false
-  standing v i h = elim (of_or_nulls (filter is_void table) v i) [
+  pub unvoided_is_standing : (v : Row) → Contains (or_nulls (filter is_void table)) v → is_no_value (column v 2) ≡ true → is_some (void_with rows k) ≡ false
+  unvoided_is_standing v i h = elim (of_or_nulls (filter is_void table) v i) [
     | inl none ↦ unvoided none
     | inr found ↦ absurd (false≢true (sym (text_is_value k) ∙ ap is_no_value (sym (void_is v (Contains-from_filter is_void table v found).1).1) ∙ h))
   ]
@@ -62,7 +62,7 @@ module _ (o : Bytes) (rows : List VoidRow) (table : List Row) (has : AreRows o (
           go true e =
               let f = found_void rows k e in
               let r = has.every f.0 f.1 in
-              let passes = both _ _ (text_itself o) (both _ true (subst (λ key. equals (Text key) (Text k) ≡ true) (sym f.2) (text_itself k)) refl) in
+              let passes = and_both _ _ (text_itself o) (and_both _ true (subst (λ key. equals (Text key) (Text k) ≡ true) (sym f.2) (text_itself k)) refl) in
               absurd (Contains-none (r.0 ∷ void_cells o f.0) (subst (λ xs. Contains xs (r.0 ∷ void_cells o f.0)) none (Contains-filter is_void table (r.0 ∷ void_cells o f.0) r.1 passes)))
 
   pub missing : is_some (void_with rows k) ≡ false → Contains (or_nulls (filter is_void table)) []

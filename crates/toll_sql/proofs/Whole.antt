@@ -1,8 +1,8 @@
 -- Calls within a transaction, and its end.
 use Rattle.std.proofs.Common.{◌≡◌, inl, inr, false, Ok, Err, Result, [], IfErr, OnOk, OnErr, IsTrue, refl, sym, subst, ◌∙◌, arith}
 use Rattle.toll_sql.proofs.Common.{survives_then, Database, State, HasCleanDisk, IsRolledBack, KeepsCommit, KeepsCounts, Shows, Survives, FailsToCommit, Trees, Error}
-use Rattle.toll_sql.specs.Causes.{IsCaused}
-use Rattle.toll_sql.specs.Create.{IsStep, IsWhole, LeavesMade, begin}
+use Rattle.toll_sql.specs.Causes.{IsErrorCaused}
+use Rattle.toll_sql.specs.Create.{IsTransactionStep, IsWholeOrNothing, LeavesMade, begin}
 use Rattle.toll_sql.proofs.ApplyLemmas.{not_committed}
 use Rattle.toll_sql.proofs.CauseLemmas.{commit_fails, reason_after, reason_before}
 
@@ -10,20 +10,20 @@ module _ (Before : State → Type 0) (Made : Database → Type 0) (old last end 
   abbrev pub Makes : State → State → Type 0
   Makes _ new = Made new.now
 
-  abbrev Leaves : Trees → Type 0
-  Leaves = LeavesMade (Before (begin old)) Made
+  abbrev CommitLeaves : Trees → Type 0
+  CommitLeaves = LeavesMade (Before (begin old)) Made
 
   from_begin : (P : Trees → Type 0) → Survives (begin old) end P → Survives old end P
   from_begin P s = record { clean = s.clean; shield = s.shield; counts = s.counts; limit = s.limit; closes = s.closes; crash = s.crash }
 
-  -- the calls failed, and the transaction is undone
-  pub undone : {X Y : Type 0} (r : Result X Error) (q : Result Y Error) (e : Error) → r ≡ Err e → q ≡ Err e → IsStep Before Makes (begin old) last r → end.in_transaction ≡ false → (HasCleanDisk end → IsRolledBack last end)
-      → Survives last end (λ _. ⊥) → IsWhole Before Made old end q
+  -- The calls failed, and the transaction was rolled back.
+  pub undone : {X Y : Type 0} (r : Result X Error) (q : Result Y Error) (e : Error) → r ≡ Err e → q ≡ Err e → IsTransactionStep Before Makes (begin old) last r → end.in_transaction ≡ false → (HasCleanDisk end → IsRolledBack last end)
+      → Survives last end (λ _. ⊥) → IsWholeOrNothing Before Made old end q
   undone {X} {Y} r q e one two step ended back t =
       let late = λ (clean : HasCleanDisk end). let before : HasCleanDisk last = omega (arith, clean, t.clean) in before in
       let first = λ (clean : HasCleanDisk end). let before : HasCleanDisk old = omega (arith, late clean, step.survives.clean) in before in
-      let fails = subst (λ (x : Result X Error). IfErr x (IsCaused (begin old) last)) one in
-      subst (IsWhole Before Made old end) (sym two) (record {
+      let fails = subst (λ (x : Result X Error). IfErr x (IsErrorCaused (begin old) last)) one in
+      subst (IsWholeOrNothing Before Made old end) (sym two) (record {
         ended = ended;
         all = λ _ _. tt;
         shown = λ _. tt;
@@ -33,13 +33,13 @@ module _ (Before : State → Type 0) (Made : Database → Type 0) (old last end 
             (((back clean).undone live).0 ∙ kept.committed was ∙ sym (settled (first clean) (kept.was_open was)), ((back clean).undone live).1 ∙ kept.committed was);
         fault = λ clean disk. reason_after old last end (λ _. ⊥) t (fails (step.fault (late clean) refl) disk);
         live = λ clean live. (step.kept (late clean)).was_open ((back clean).was_open live);
-        survives = from_begin Leaves (survives_then (begin old) last end (λ _. ⊥) (λ _. ⊥) Leaves (λ _ _ h. absurd h) (λ _ _ h. absurd h) step.survives t);
+        survives = from_begin CommitLeaves (survives_then (begin old) last end (λ _. ⊥) (λ _. ⊥) CommitLeaves (λ _ _ h. absurd h) (λ _ _ h. absurd h) step.survives t);
       })
 
-  made : {X Y : Type 0} (x : X) (r : Result Y Error) → IsStep Before Makes (begin old) last (Ok x) → HasCleanDisk last → Before (begin old) → OnOk r (IsTrue last.in_transaction × Shows last end last.now last.now false × KeepsCounts last end × (end.marks ≡ []))
+  transaction_made : {X Y : Type 0} (x : X) (r : Result Y Error) → IsTransactionStep Before Makes (begin old) last (Ok x) → HasCleanDisk last → Before (begin old) → OnOk r (IsTrue last.in_transaction × Shows last end last.now last.now false × KeepsCounts last end × (end.marks ≡ []))
       → OnOk r (Made end.now)
-  made x (Ok y) step clean before h = subst Made (sym h.1.now_is) (step.makes clean before refl)
-  made x (Err e) step clean before h = tt
+  transaction_made x (Ok y) step clean before h = subst Made (sym h.1.now_is) (step.makes clean before refl)
+  transaction_made x (Err e) step clean before h = tt
 
   settled_in : {Y : Type 0} (r : Result Y Error) → OnOk r (IsTrue last.in_transaction × Shows last end last.now last.now false × KeepsCounts last end × (end.marks ≡ [])) → OnOk r (IsTrue end.is_open × (end.now ≡ end.committed))
   settled_in (Ok y) h = (h.1.is_open, h.1.now_is ∙ sym h.1.committed_is)
@@ -49,28 +49,28 @@ module _ (Before : State → Type 0) (Made : Database → Type 0) (old last end 
   kept_none (Ok y) clean kept inside live h = tt
   kept_none (Err e) clean kept inside live h = not_committed old last end e (settled clean) kept inside live h
 
-  caused : {Y : Type 0} (r : Result Y Error) → Survives (begin old) last (λ _. ⊥) → (t : Survives last end (λ db. db ≡ last.now.trees)) → HasCleanDisk end → IfErr r (FailsToCommit last end) → IfErr r (IsCaused old end)
-  caused (Ok y) s t clean h = tt
-  caused (Err e) s t clean h = λ disk. reason_before (begin old) last end (λ _. ⊥) (λ db. db ≡ last.now.trees) s t clean (commit_fails last end e h disk)
+  transaction_caused : {Y : Type 0} (r : Result Y Error) → Survives (begin old) last (λ _. ⊥) → (t : Survives last end (λ db. db ≡ last.now.trees)) → HasCleanDisk end → IfErr r (FailsToCommit last end) → IfErr r (IsErrorCaused old end)
+  transaction_caused (Ok y) s t clean h = tt
+  transaction_caused (Err e) s t clean h = λ disk. reason_before (begin old) last end (λ _. ⊥) (λ db. db ≡ last.now.trees) s t clean (commit_fails last end e h disk)
 
   was_open : {Y : Type 0} (r : Result Y Error) → OnOk r (IsTrue last.in_transaction × Shows last end last.now last.now false × KeepsCounts last end × (end.marks ≡ [])) → IfErr r (FailsToCommit last end) → IsTrue end.is_open → IsTrue last.is_open
   was_open (Ok y) h k live = h.1.was_open
   was_open (Err e) h (inl k) live = k.3.was_open live
   was_open (Err e) h (inr k) live = k.2.0.was_open
 
-  -- they succeeded, and the transaction is committed, or is undone where that fails
-  pub committed : {X Y : Type 0} (x : X) (r : Result Y Error) → IsStep Before Makes (begin old) last (Ok x) → end.in_transaction ≡ false
+  -- The calls succeeded, and the transaction was committed, or rolled back if the commit failed.
+  pub committed : {X Y : Type 0} (x : X) (r : Result Y Error) → IsTransactionStep Before Makes (begin old) last (Ok x) → end.in_transaction ≡ false
       → (HasCleanDisk end → OnOk r (IsTrue last.in_transaction × Shows last end last.now last.now false × KeepsCounts last end × (end.marks ≡ []))) → (HasCleanDisk end → IfErr r (FailsToCommit last end))
-      → Survives last end (λ db. db ≡ last.now.trees) → IsWhole Before Made old end r
+      → Survives last end (λ db. db ≡ last.now.trees) → IsWholeOrNothing Before Made old end r
   committed x r step ended ok err t =
       let late = λ (clean : HasCleanDisk end). let before : HasCleanDisk last = omega (arith, clean, t.clean) in before in
       record {
         ended = ended;
         shown = λ clean. settled_in r (ok clean);
-        all = λ clean before. made x r step (late clean) before (ok clean);
+        all = λ clean before. transaction_made x r step (late clean) before (ok clean);
         none = λ clean live. let first : HasCleanDisk old = omega (arith, late clean, step.survives.clean) in kept_none r first (step.kept (late clean)) (step.inside (late clean) refl) live (err clean);
-        fault = λ clean. caused r step.survives t clean (err clean);
+        fault = λ clean. transaction_caused r step.survives t clean (err clean);
         live = λ clean live. (step.kept (late clean)).was_open (was_open r (ok clean) (err clean) live);
-        survives = from_begin Leaves (survives_then (begin old) last end (λ _. ⊥) (λ db. db ≡ last.now.trees) Leaves (λ _ _ h. absurd h)
+        survives = from_begin CommitLeaves (survives_then (begin old) last end (λ _. ⊥) (λ db. db ≡ last.now.trees) CommitLeaves (λ _ _ h. absurd h)
             (λ clean db h before. (last.now, step.makes (late clean) before refl, h)) step.survives t);
       }

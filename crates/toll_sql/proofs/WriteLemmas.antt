@@ -5,19 +5,19 @@ use Rattle.sqlite_trees.specs.declared.store.Shape.TheVariants as shape
 use Rattle.toll_sql.specs.Cells.{columns_from, fill}
 use Rattle.toll_sql.specs.Others.{HasOurs}
 use Rattle.toll_sql.specs.Stores.{IsReady, IsWriting, MakesRow, PutsRow}
-use Rattle.toll_sql.specs.Tables.{made_all, table_of, tree_of, width_of, put_text}
+use Rattle.toll_sql.specs.Schema.{made_all, table_of, tree_of, width_of, put_text}
 use Rattle.toll_sql.specs.declared.table_kind.TableKind.{TableKind}
 use Rattle.toll_sql.proofs.CauseLemmas.{exec_fault}
-use Rattle.toll_sql.proofs.CellLemmas.{all_columns, fit_length}
+use Rattle.toll_sql.proofs.CellLemmas.{every_column, fit_length}
 use Rattle.toll_sql.proofs.OthersLemmas.{at_listed}
 use Rattle.toll_sql.proofs.PutRows.{puts_at}
-use Rattle.toll_sql.proofs.PutTexts.{listed, tree_is, columns_are, number_of}
+use Rattle.toll_sql.proofs.PutTexts.{table_listed, tree_is, columns_are, table_number}
 
 -- each of our tables
 pub at_table : (P : ℕ → Type 0) (k : TableKind) → AllByRecursion (λ (t : Table). P t.tree) made_all.tables → P (tree_of k)
-at_table P k all = subst P (tree_is k) (at_listed (λ (t : Table). P t.tree) made_all.tables (number_of k) (table_of k) all (listed k))
+at_table P k all = subst P (tree_is k) (at_listed (λ (t : Table). P t.tree) made_all.tables (table_number k) (table_of k) all (table_listed k))
 
--- ---- what is shaped stays so
+-- ---- a tree with rowids keeps them
 
 same_or_not : (a b : ℕ) → (a ≡ b) ⊎ (a ≢ b)
 same_or_not a b = elim (cases_Bool (nat_eq a b)) [
@@ -38,12 +38,12 @@ shaped_after tree old new (t ∷ ts) here others shaped =
 -- ---- the call
 
 pub whole_row : (k : TableKind) (cells : Row) → fill k cells ≡ true → columns_from 0 (width_of k) cells ≡ cells
-whole_row k cells fits = ap (λ n. columns_from 0 n cells) (sym (columns_are k) ∙ sym (fit_length (table_of k).columns cells fits)) ∙ all_columns cells
+whole_row k cells fits = ap (λ n. columns_from 0 n cells) (sym (columns_are k) ∙ sym (fit_length (table_of k).columns cells fits)) ∙ every_column cells
 
 module _ (k : TableKind) (cells : Row) (fits : fill k cells ≡ true) (old new : State) where
-  makes : (r : Result ℕ Error) → new.step_limit ≡ old.step_limit → IsReady old → ExecutesInside 0 (put_text k) cells old new r → OnOk r (MakesRow k cells old new)
-  makes (Err e) limit ready h = tt
-  makes (Ok count) limit ready h =
+  write_makes : (r : Result ℕ Error) → new.step_limit ≡ old.step_limit → IsReady old → ExecutesInside 0 (put_text k) cells old new r → OnOk r (MakesRow k cells old new)
+  write_makes (Err e) limit ready h = tt
+  write_makes (Ok count) limit ready h =
       let is = whole_row k cells fits in
       let shaped = at_table (λ tree. IsShaped shape.Table (old.now.trees tree)) k ready.ours.shaped in
       let p0 = puts_at k cells (subst (λ c. fill k c ≡ true) (sym is) fits) old new count ready.ours.schema ready.unlimited shaped (subst (λ c. ExecutesInside 0 (put_text k) c old new (Ok count)) (sym is) h).0 in
@@ -59,26 +59,26 @@ module _ (k : TableKind) (cells : Row) (fits : fill k cells ≡ true) (old new :
         committed = h.1.committed_is;
       }
 
-  inside : (r : Result ℕ Error) → ExecutesInside 0 (put_text k) cells old new r → OnOk r (IsTrue new.in_transaction)
-  inside (Err e) h = tt
-  inside (Ok count) h = h.1.mode
+  write_inside : (r : Result ℕ Error) → ExecutesInside 0 (put_text k) cells old new r → OnOk r (IsTrue new.in_transaction)
+  write_inside (Err e) h = tt
+  write_inside (Ok count) h = h.1.mode
 
-  kept : (r : Result ℕ Error) → (old.in_transaction ≡ false → new ≡ old) → (IsTrue old.in_transaction → ExecutesInside 0 (put_text k) cells old new r) → KeepsCommit old new
-  kept r outside runs = elim (cases_Bool old.in_transaction) [
+  write_kept : (r : Result ℕ Error) → (old.in_transaction ≡ false → new ≡ old) → (IsTrue old.in_transaction → ExecutesInside 0 (put_text k) cells old new r) → KeepsCommit old new
+  write_kept r outside runs = elim (cases_Bool old.in_transaction) [
     | inl within ↦ inside_keeps old new 0 false (put_text k) cells r (runs within)
     | inr without ↦ (let same = outside without in record { was_open = λ live. subst (λ s. IsTrue s.is_open) same live; committed = λ live. ap (λ (s : State). s.committed) same })
   ]
 
   pub writes_row : (r : Result ℕ Error) → (old.in_transaction ≡ false → new ≡ old) → (HasCleanDisk new → IsTrue old.in_transaction → ExecutesInside 0 (put_text k) cells old new r) → Survives old new (λ _. ⊥) → IsWriting (MakesRow k cells) old new r
   writes_row r outside runs survives = record {
-    makes = λ clean ready. makes r survives.limit ready (runs clean ready.inside);
-    inside = λ clean within. inside r (runs clean within);
+    makes = λ clean ready. write_makes r survives.limit ready (runs clean ready.inside);
+    inside = λ clean within. write_inside r (runs clean within);
     fault = λ clean within. exec_fault old new (put_text k) cells r (runs clean within);
-    kept = λ clean. kept r outside (runs clean);
+    kept = λ clean. write_kept r outside (runs clean);
     survives = survives;
   }
 
--- how many rows were written is not told on
+-- the result without the number of rows written
 abbrev pub uncounted : Result ℕ Error → Result (Unit {0}) Error
 uncounted (Ok count) = Ok tt
 uncounted (Err e) = Err e

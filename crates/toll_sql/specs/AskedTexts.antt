@@ -1,4 +1,4 @@
--- The texts that ask for pairs of movements and for the batch on a unit.
+-- The texts that select pairs of movements and the batch on a unit.
 use Rattle.std.specs.Prelude.{ℕ, List, codes}
 
 -- pairs of one owner's movements

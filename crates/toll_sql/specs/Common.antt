@@ -1,4 +1,4 @@
--- Words of other crates that several definitions here are said in.
+-- Definitions of other crates that several definitions here use.
 pub use Rattle.sqlite.specs.Collation.TheVariants.{Binary}
 pub use Rattle.sqlite.specs.Effect.{Database, Reads, RefusesToRead}
 pub use Rattle.sqlite.specs.Held.{Held, IsNew}
@@ -44,6 +44,6 @@ pub use Rattle.toll_base.specs.declared.rows.SublotRow.{SublotRow}
 pub use Rattle.toll_base.specs.declared.rows.TestRow.{TestRow}
 pub use Rattle.toll_base.specs.declared.rows.UnitRow.{UnitRow}
 pub use Rattle.toll_base.specs.declared.rows.VoidRow.{VoidRow}
-pub use Rattle.toll_keep.specs.Content.{Content, nothing}
+pub use Rattle.toll_keep.specs.Content.{Content, empty_content}
 pub use Rattle.toll_keep.specs.declared.fault.KeepFault.{KeepFault}
 pub use Rattle.toll_keep.specs.declared.fault.KeepFault.TheVariants.{Closed, Damaged, Disk, Memory}

@@ -1,4 +1,4 @@
--- Rows that show edges of genealogy.
+-- Rows of a query that show edges of genealogy.
 use Rattle.std.specs.Prelude.{◌≡◌, ◌≢◌, ℕ, Bool, true, false, List, [], ◌∷◌, map, Contains, Result, Err}
 use Rattle.toll_sql.specs.Common.{Database, Row, State, Text, Bytes, Slice, Content, KeepFault, Memory}
 use Rattle.toll_base.specs.Lots.{edge_cmp}
@@ -14,63 +14,63 @@ use Rattle.toll_sql.specs.declared.table_kind.TableKind.{TableKind}
 use Rattle.toll_sql.specs.declared.table_kind.TableKind.TheVariants.{Moves, Voids}
 use Rattle.toll_trace.specs.InOrder.{IsInOrder}
 
--- the tables that edges are drawn from
+-- whether edges are drawn from the table
 abbrev pub draws_edges : TableKind → Bool
 draws_edges Moves = true
 draws_edges Voids = true
 draws_edges _ = false
 
--- this is so of the slice whose movements and voids the tables held as this owner's, whatever rows they had of others
+-- P holds of the slice whose movements and voids the tables held as this owner's, whatever rows they had of others.
 abbrev pub ForMoves : Bytes → State → State → (Slice → Type 0) → Type 0
 ForMoves = ForPart draws_edges
 
--- this is so of a content of which the tables held all movements and voids, whatever other rows they had
+-- P holds of a content whose movements and voids the tables held, whatever other rows they had.
 abbrev pub ForAllMoves : State → State → (Content → Type 0) → Type 0
 ForAllMoves old new P = OverOurs old new (λ db. (c : Content) → HoldsEach draws_edges db c.rows → P c)
 
--- the lot that the edge leads from, and the one that it leads to
+-- the cells of an edge: the lot that it leads from, and the lot that it leads to
 abbrev pub edge_cells : Edge → Row
 edge_cells e = Text e.from.owner ∷ Text e.from.lot ∷ Text e.to.owner ∷ Text e.to.lot ∷ []
 
--- the rows are those of the edges, in any order and perhaps more than once
+-- The rows are those of the edges, in any order and perhaps more than once.
 pub record ShowEdges (is_edge : Edge → Type 0) (rows : List Row) : Type 0 where
   pub only : (row : Row) → Contains rows row → (e : Edge) × is_edge e × (row ≡ edge_cells e)
   pub every : (e : Edge) → is_edge e → Contains rows (edge_cells e)
 
--- the edge leads between lots with names
+-- The edge leads between lots with valid names.
 abbrev pub IsNamedEdge : Edge → Type 0
 IsNamedEdge e = IsLotId e.from × IsLotId e.to
 
--- the row's cells are not those of an edge between lots with names
+-- The row has the cells of no edge between lots with valid names.
 abbrev pub ShowsNoEdge : Row → Type 0
 ShowsNoEdge row = (e : Edge) → IsNamedEdge e → columns_from 0 4 row ≢ edge_cells e
 
--- its cells are those of one
+-- The row has the cells of such an edge.
 abbrev pub ShowsEdge : Row → Type 0
 ShowsEdge row = (e : Edge) × IsNamedEdge e × (columns_from 0 4 row ≡ edge_cells e)
 
--- want of memory is told of no row but one that shows an edge, nor behind one that shows none: so the first of them does
+-- If Memory is reported, there is a first row, and it shows an edge.
 abbrev pub LacksAtEdge : {X : Type 0} → List Row → Result X KeepFault → Type 0
 LacksAtEdge rows result = result ≡ Err Memory → FirstIs ShowsEdge rows
 
--- one of the rows shows none
+-- One of the rows shows no edge.
 abbrev pub HasNoEdge : List Row → Type 0
 HasNoEdge rows = (row : Row) × Contains rows row × ShowsNoEdge row
 
--- the edges are those that the rows show, in order, each once
-pub record AreReadFrom (rows : List Row) (edges : List Edge) : Type 0 where
+-- The edges are those that the rows show, in order, each once.
+pub record AreEdgesReadFrom (rows : List Row) (edges : List Edge) : Type 0 where
   pub read : List Edge
   pub cells : map edge_cells read ≡ map (columns_from 0 4) rows
   pub in_order : IsInOrder edge_cmp read edges
 
--- they are those of all rows that the text reads, by sqlite's own account of it
+-- The edges are those of all rows that the text reads, by the definitions of crate sqlite.
 abbrev pub AreEdgesOf : Database → List ℕ → Row → List Edge → Type 0
-AreEdgesOf db text params edges = (rows : List Row) × AreReadWith db text params rows × AreReadFrom rows edges
+AreEdgesOf db text params edges = (rows : List Row) × AreReadWith db text params rows × AreEdgesReadFrom rows edges
 
--- the rows are those that the text for pairs of this owner's movements reads
+-- The text for pairs of this owner's movements reads these rows.
 abbrev pub AreOwnersPairs : Database → Bytes → List Row → Type 0
 AreOwnersPairs db o rows = AreReadWith db owners_text (Text o ∷ []) rows
 
--- the edges are those of all such rows
+-- The edges are those of all rows that this text reads.
 abbrev pub AreOwnersEdges : Database → Bytes → List Edge → Type 0
 AreOwnersEdges db o edges = AreEdgesOf db owners_text (Text o ∷ []) edges

@@ -1,4 +1,4 @@
--- Rows as the tables have them: the cells behind the rowid.
+-- Rows as the tables have them: the cells after the rowid.
 use Rattle.std.specs.Prelude.{ℕ, pos, Bool, true, false, List, [], ◌∷◌, map, codes}
 use Rattle.toll_sql.specs.Common.{Row, Int, Text, Bytes, Slice, LotId, Origin, Receipts, Batch as OfBatch, Move, Receive, Split, Ship, Scrap, Actual, MoveRow, Role, BatchRow, LotRow, MaterialRow, OrderRow, OwnerRow, RecipeRow, RequirementRow, ResultRow, SublotRow, TestRow, UnitRow, VoidRow}
 use Rattle.toll_base.specs.Roles.{role_rank}
@@ -37,7 +37,7 @@ state_number Aborting = 9
 state_number Aborted = 10
 state_number Complete = 11
 
--- ---- parts that some rows have not: `''` and 0 there
+-- ---- parts that some rows don't have: `''` and 0 in their place
 
 abbrev pub origin_order : Origin → Bytes
 origin_order Receipts = []
@@ -58,41 +58,41 @@ kind_number (Ship lot sublot) = 2
 kind_number (Scrap lot sublot) = 3
 kind_number (Actual order number segment role material lot sublot) = actual_kind role
 
--- the lot, which is the owner's but for an actual
-abbrev pub lot_of : Bytes → Move → LotId
-lot_of o (Receive material lot sublot) = record { owner = o; lot = lot }
-lot_of o (Split lot sublot target) = record { owner = o; lot = lot }
-lot_of o (Ship lot sublot) = record { owner = o; lot = lot }
-lot_of o (Scrap lot sublot) = record { owner = o; lot = lot }
-lot_of o (Actual order number segment role material lot sublot) = lot
+-- the lot of a movement; it is the owner's, except for an actual
+abbrev pub move_lot : Bytes → Move → LotId
+move_lot o (Receive material lot sublot) = record { owner = o; lot = lot }
+move_lot o (Split lot sublot target) = record { owner = o; lot = lot }
+move_lot o (Ship lot sublot) = record { owner = o; lot = lot }
+move_lot o (Scrap lot sublot) = record { owner = o; lot = lot }
+move_lot o (Actual order number segment role material lot sublot) = lot
 
-abbrev pub sublot_of : Move → Bytes
-sublot_of (Receive material lot sublot) = sublot
-sublot_of (Split lot sublot target) = sublot
-sublot_of (Ship lot sublot) = sublot
-sublot_of (Scrap lot sublot) = sublot
-sublot_of (Actual order number segment role material lot sublot) = sublot
+abbrev pub move_sublot : Move → Bytes
+move_sublot (Receive material lot sublot) = sublot
+move_sublot (Split lot sublot target) = sublot
+move_sublot (Ship lot sublot) = sublot
+move_sublot (Scrap lot sublot) = sublot
+move_sublot (Actual order number segment role material lot sublot) = sublot
 
-abbrev pub target_of : Move → Bytes
-target_of (Split lot sublot target) = target
-target_of _ = []
+abbrev pub move_target : Move → Bytes
+move_target (Split lot sublot target) = target
+move_target _ = []
 
-abbrev pub material_of : Move → Bytes
-material_of (Receive material lot sublot) = material
-material_of (Actual order number segment role material lot sublot) = material
-material_of _ = []
+abbrev pub move_material : Move → Bytes
+move_material (Receive material lot sublot) = material
+move_material (Actual order number segment role material lot sublot) = material
+move_material _ = []
 
-abbrev pub order_of : Move → Bytes
-order_of (Actual order number segment role material lot sublot) = order
-order_of _ = []
+abbrev pub move_order : Move → Bytes
+move_order (Actual order number segment role material lot sublot) = order
+move_order _ = []
 
-abbrev pub number_of : Move → ℕ
-number_of (Actual order number segment role material lot sublot) = number
-number_of _ = 0
+abbrev pub move_number : Move → ℕ
+move_number (Actual order number segment role material lot sublot) = number
+move_number _ = 0
 
-abbrev pub segment_of : Move → ℕ
-segment_of (Actual order number segment role material lot sublot) = segment
-segment_of _ = 0
+abbrev pub move_segment : Move → ℕ
+move_segment (Actual order number segment role material lot sublot) = segment
+move_segment _ = 0
 
 -- ---- rows
 
@@ -131,8 +131,8 @@ sublot_cells o row = Text o ∷ Text row.lot ∷ Text row.sublot ∷ Int (pos ro
 
 abbrev pub move_cells : Bytes → MoveRow → Row
 move_cells o row =
-    Text o ∷ Text row.key ∷ Int (pos (kind_number row.what)) ∷ Text (lot_of o row.what).owner ∷ Text (lot_of o row.what).lot ∷ Text (sublot_of row.what) ∷ Text (target_of row.what) ∷ Text (material_of row.what) ∷ Text (order_of row.what)
-    ∷ Int (pos (number_of row.what)) ∷ Int (pos (segment_of row.what)) ∷ Int (pos row.amount) ∷ Int (pos row.day) ∷ []
+    Text o ∷ Text row.key ∷ Int (pos (kind_number row.what)) ∷ Text (move_lot o row.what).owner ∷ Text (move_lot o row.what).lot ∷ Text (move_sublot row.what) ∷ Text (move_target row.what) ∷ Text (move_material row.what) ∷ Text (move_order row.what)
+    ∷ Int (pos (move_number row.what)) ∷ Int (pos (move_segment row.what)) ∷ Int (pos row.amount) ∷ Int (pos row.day) ∷ []
 
 abbrev pub result_cells : Bytes → ResultRow → Row
 result_cells o row = Text o ∷ Text row.lot ∷ Text row.test ∷ Int (pos row.number) ∷ Int row.value ∷ Int (pos row.day) ∷ []
@@ -140,7 +140,7 @@ result_cells o row = Text o ∷ Text row.lot ∷ Text row.test ∷ Int (pos row.
 abbrev pub void_cells : Bytes → VoidRow → Row
 void_cells o row = Text o ∷ Text row.key ∷ []
 
--- ---- rows of an owner, whatever their kind
+-- ---- rows of an owner, of any kind
 
 -- the table that has the row
 abbrev pub table_for : OfficeRow → TableKind
@@ -156,7 +156,7 @@ table_for (of.Move row) = Moves
 table_for (of.Result row) = Results
 table_for (of.Void row) = Voids
 
--- its cells there
+-- the cells of the row in its table
 abbrev pub cells_for : Bytes → OfficeRow → Row
 cells_for o (of.Material row) = material_cells o row
 cells_for o (of.Test row) = test_cells o row
@@ -170,7 +170,7 @@ cells_for o (of.Move row) = move_cells o row
 cells_for o (of.Result row) = result_cells o row
 cells_for o (of.Void row) = void_cells o row
 
--- the rows of a slice that stand in the table, in order
+-- the rows of a slice that belong in the table, in order
 abbrev pub rows_for : TableKind → Slice → List Row
 rows_for Meta s = []
 rows_for Owners s = []

@@ -7,7 +7,7 @@ use Rattle.toll_sql.specs.Encode.{meta_cells}
 use Rattle.toll_sql.specs.Holds.{HasRows, Holds, version}
 use Rattle.toll_sql.specs.Others.{IsJustOurs}
 use Rattle.toll_sql.specs.Stores.{IsOurs}
-use Rattle.toll_sql.specs.Tables.{made_before, tree_of}
+use Rattle.toll_sql.specs.Schema.{made_before, tree_of}
 use Rattle.toll_sql.specs.declared.table_kind.TableKind.TheVariants.{Meta, Voids}
 
 abbrev pub first_version : ℕ
@@ -16,7 +16,7 @@ first_version = 1
 abbrev pub first_ours : Schema
 first_ours = made_before Voids
 
--- the store has this version
+-- The store has this version.
 abbrev pub HasVersion : ℕ → Trees → Type 0
 HasVersion n db = HasRows Meta (meta_cells n ∷ []) (db (tree_of Meta))
 
@@ -24,55 +24,55 @@ HasVersion n db = HasRows Meta (meta_cells n ∷ []) (db (tree_of Meta))
 abbrev pub as_second : Trees → Trees
 as_second db tree = if nat_eq tree (tree_of Meta) then (Int (pos 1) ∷ meta_cells version) ∷ [] else if nat_eq tree (tree_of Voids) then [] else db tree
 
--- the tables of version 1 have the rows of the content, and no others
+-- The tables of version 1 have exactly the rows of the content.
 pub record HoldsFirst (db : Trees) (c : Content) : Type 0 where
   pub meta : HasVersion first_version db
   pub others : Holds (as_second db) c
 
--- the tables are those of version 1, and each has its rows by rowids
+-- The tables are those of version 1, and each has its rows by rowids.
 pub record IsFirst (db : Database) : Type 0 where
   pub schema : db.schema ≡ first_ours
   pub shaped : AllByRecursion (λ t. IsShaped shape.Table (db.trees t.tree)) first_ours.tables
 
--- they are, nothing is pending, and they have these rows
+-- The tables are those of version 1, nothing is pending, and they have these rows.
 pub record HoldsFirstIn (s : State) (c : Content) : Type 0 where
   pub first : IsFirst s.now
   pub idle : s.now ≡ s.committed
   pub rows : HoldsFirst s.now.trees c
 
--- one of the rows tells this version
-abbrev pub Tells : ℕ → List Row → Type 0
-Tells n [] = ⊥
-Tells n (row ∷ rows) = ((column row 0 ≡ Text (codes "toll")) × (column row 1 ≡ Int (pos n))) ⊎ Tells n rows
+-- One of the rows has this version.
+abbrev pub HasVersionRow : ℕ → List Row → Type 0
+HasVersionRow n [] = ⊥
+HasVersionRow n (row ∷ rows) = ((column row 0 ≡ Text (codes "toll")) × (column row 1 ≡ Int (pos n))) ⊎ HasVersionRow n rows
 
--- each row of the office tells it
-abbrev pub EachTells : ℕ → List Row → Type 0
-EachTells n rows = AllByRecursion (λ row. column row 0 ≡ Text (codes "toll") → column row 1 ≡ Int (pos n)) rows
+-- Each row of the office has this version.
+abbrev pub EachHasVersion : ℕ → List Row → Type 0
+EachHasVersion n rows = AllByRecursion (λ row. column row 0 ≡ Text (codes "toll") → column row 1 ≡ Int (pos n)) rows
 
--- the version that the rows tell, where they do
-pub record IsVersionIn (rows : List Row) (told : Option ℕ) : Type 0 where
-  pub some : IfSome told (λ n. Tells n rows)
-  pub every : (n : ℕ) → Tells n rows → EachTells n rows → told ≡ Some n
+-- This is the version in the rows, if there is one.
+pub record IsVersionIn (rows : List Row) (reported : Option ℕ) : Type 0 where
+  pub some : IfSome reported (λ n. HasVersionRow n rows)
+  pub every : (n : ℕ) → HasVersionRow n rows → EachHasVersion n rows → reported ≡ Some n
 
--- they tell no version, or one that is neither this one nor version 1
-abbrev pub TellNeither : List Row → Type 0
-TellNeither rows = (n : ℕ) → Tells n rows → EachTells n rows → ¬ ((n ≡ first_version) ⊎ (n ≡ version))
+-- The rows have no version, or one that is neither this one nor version 1.
+abbrev pub HaveNeitherVersion : List Row → Type 0
+HaveNeitherVersion rows = (n : ℕ) → HasVersionRow n rows → EachHasVersion n rows → ¬ ((n ≡ first_version) ⊎ (n ≡ version))
 
 -- the cells of the rows of `meta`
 abbrev pub meta_rows : Trees → List Row
 meta_rows db = all_cells (db (tree_of Meta))
 
--- these are the tables of version 1, and no others
+-- These are the tables of version 1, and no others.
 abbrev pub AreFirst : Schema → Type 0
 AreFirst schema = schema ≡ first_ours
 
--- tables of version 1 are brought to this one
+-- Tables of version 1 were raised to this version.
 pub record Raised (db after : Database) : Type 0 where
   pub ours : IsOurs after
   pub alone : IsJustOurs after.schema
-  pub told : Tells version (meta_rows after.trees)
+  pub reported : HasVersionRow version (meta_rows after.trees)
   pub rows : (c : Content) → HoldsFirst db.trees c → Holds after.trees c
 
--- the tables that a store had are brought to those that it has now
+-- The tables that a store had were raised to those that it has now.
 abbrev pub MakesRaised : State → State → Type 0
 MakesRaised old new = Raised old.now new.now

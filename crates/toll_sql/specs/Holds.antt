@@ -4,7 +4,7 @@ use Rattle.toll_sql.specs.Common.{AllByRecursion, Row, column, Trees, Text, Byte
 use Rattle.toll_sql.specs.Bag.{Rises, SameBag, all_cells, owned_by}
 use Rattle.toll_sql.specs.Cells.{key_order}
 use Rattle.toll_sql.specs.Encode.{meta_cells, owner_cells, unit_cells, rows_for}
-use Rattle.toll_sql.specs.Tables.{tree_of, is_owned}
+use Rattle.toll_sql.specs.Schema.{tree_of, is_owned}
 use Rattle.toll_sql.specs.Valid.{IsOwner, IsUnit, AreValidIn}
 use Rattle.toll_sql.specs.declared.table_kind.TableKind.{TableKind}
 use Rattle.toll_sql.specs.declared.table_kind.TableKind.TheVariants.{Meta, Owners, Units}
@@ -13,12 +13,12 @@ use Rattle.toll_sql.specs.declared.table_kind.TableKind.TheVariants.{Meta, Owner
 abbrev pub version : ℕ
 version = 2
 
--- the table has these rows, in any order, and no others; in this order they rise by its key
+-- The table has exactly these rows, in any order. In this order they rise by the table's key.
 pub record HasRows (k : TableKind) (rows stored : List Row) : Type 0 where
   pub same : SameBag rows (all_cells stored)
   pub rising : Rises (key_order k) rows
 
--- the table has these rows, which owners do not part, and no others; all their values are values of their kinds
+-- The table, which isn't divided by owner, has exactly these rows, and all their values are valid.
 pub record HoldsAll {X : Type 0} (k : TableKind) (cells : X → Row) (is_valid : X → Type 0) (db : Trees) (l : List X) : Type 0 where
   pub stored : HasRows k (map cells l) (db (tree_of k))
   pub valid : AllByRecursion is_valid l
@@ -29,26 +29,26 @@ HoldsOwners = HoldsAll Owners owner_cells IsOwner
 abbrev pub HoldsUnits : Trees → List UnitRow → Type 0
 HoldsUnits = HoldsAll Units unit_cells IsUnit
 
--- of this owner, such tables have the rows of this slice, and no others; all their values are values of their kinds
+-- Of this owner, these tables have exactly the rows of this slice, and all their values are valid.
 pub record HoldsPart (is_such : TableKind → Bool) (db : Trees) (o : Bytes) (s : Slice) : Type 0 where
   pub named : s.owner ≡ o
   pub stored : (k : TableKind) → is_such k ≡ true → HasRows k (rows_for k s) (owned_by o (db (tree_of k)))
   pub valid : (k : TableKind) → is_such k ≡ true → AreValidIn k s
 
--- so have all tables that owners part
+-- The same for all tables that are divided by owner.
 abbrev pub HoldsSlice : Trees → Bytes → Slice → Type 0
 HoldsSlice = HoldsPart is_owned
 
--- the first cell is a name
+-- The first cell is a valid name.
 abbrev pub NamesOwner : Row → Type 0
 NamesOwner cells = (o : Bytes) × IsTrue (is_name o) × (column cells 0 ≡ Text o)
 
--- such tables have the rows of each owner's slice, and no others
+-- These tables have exactly the rows of each owner's slice.
 pub record HoldsEach (is_such : TableKind → Bool) (db : Trees) (rows : Bytes → Slice) : Type 0 where
   pub slices : (o : Bytes) → HoldsPart is_such db o (rows o)
   pub owned : (k : TableKind) → is_such k ≡ true → AllByRecursion NamesOwner (all_cells (db (tree_of k)))
 
--- the tables have the rows of the content, and no others
+-- The tables have exactly the rows of the content.
 pub record Holds (db : Trees) (c : Content) : Type 0 where
   pub meta : HasRows Meta (meta_cells version ∷ []) (db (tree_of Meta))
   pub owners : HoldsOwners db c.owners

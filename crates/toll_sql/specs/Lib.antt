@@ -1,6 +1,6 @@
 pub mod Common
 pub mod Plain
-pub mod Tables
+pub mod Schema
 pub mod Others
 pub mod Cells
 pub mod Encode

@@ -1,11 +1,11 @@
--- What the words of a keep mean of one whose rows are in a store of SQLite.
+-- The meaning of a keep whose rows are in a store of SQLite.
 use Rattle.std.specs.Prelude.{Bool}
 use Rattle.sqlite.specs.State.{State, HasCleanDisk}
 use Rattle.toll_keep.specs.Meaning.{Meaning}
 use Rattle.toll_sql.specs.Causes.{HasCause}
 use Rattle.toll_sql.specs.Stores.{HoldsWhileOpen, LeavesIn, LiesOpen}
 
--- of a keep of which the store and the two flags are given
+-- the meaning of a keep with this store and these two flags
 abbrev pub means : {K : Type 0} → (store : K → State) (closed unsure : K → Bool) → Meaning K
 means store closed unsure = record {
   holds = λ k c. HoldsWhileOpen (store k) c;

@@ -1,4 +1,4 @@
--- A keep that was opened from files, before anything is asked of it.
+-- A keep that was opened from files, before its first call.
 use Rattle.std.specs.Prelude.{◌≡◌, Bool}
 use Rattle.toll_sql.specs.Common.{Held, FileStore, Image}
 use Rattle.sqlite_trees.specs.declared.store.Store as store
@@ -8,11 +8,11 @@ use Rattle.toll_keep.specs.declared.cached_keep.CachedKeep.{CachedKeep}
 use Rattle.toll_sql.specs.FromFiles.{IsKeptFrom}
 use Rattle.toll_sql.specs.declared.sql_keep.SqlKeep.{SqlKeep}
 
--- the connection's tables were made in the files, or found there
+-- The connection's tables were made in the files, or found there.
 abbrev pub IsFound : {D : Type 0} {d : _} → Held (FileStore D d) → Type 0
 IsFound conn = (fresh : Bool) × (image : Image) × IsKeptFrom fresh image conn
 
--- a keep that remembers nothing yet, around one whose tables were
+-- The keep has an empty cache around a keep whose tables were made or found.
 abbrev pub IsOpened : {D : Type 0} {d : _} {g : store.Ghosts (FileStore D d)} {h : keep.Ghosts (SqlKeep (FileStore D d) g)}
     → CachedKeep (SqlKeep (FileStore D d) g) h → Type 0
-IsOpened {D} {d} {g} r = (inside : SqlKeep (FileStore D d) g) × (r.keep ≡ inside) × IsFound inside.conn × IsNothing r.recollection
+IsOpened {D} {d} {g} r = (inside : SqlKeep (FileStore D d) g) × (r.keep ≡ inside) × IsFound inside.conn × IsNothing r.cache

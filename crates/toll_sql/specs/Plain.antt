@@ -10,7 +10,7 @@ no_schema = record { tables = []; indexes = []; views = [] }
 abbrev pub no_stamps : Stamps
 no_stamps = record { places = []; terms = []; formats = [] }
 
--- columns that are never NULL, compared byte by byte
+-- columns that are never NULL and compared byte by byte
 abbrev pub text_column : List ℕ → Column
 text_column name = record { name = name; kind = Text; is_strict = true; not_null = true; default = Null; collation = Binary }
 

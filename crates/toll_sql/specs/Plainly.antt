@@ -1,25 +1,25 @@
--- Schemas of plain tables: what tells two of them apart are names, kinds, keys and numbers of trees.
+-- Schemas of plain tables. Two of them differ only in names, kinds, keys and the numbers of trees.
 use Rattle.std.specs.Prelude.{◌≡◌, List, [], true}
 use Rattle.toll_sql.specs.Common.{AllByRecursion, Binary, Schema, Table, Null, Column, Index, plain}
 use Rattle.toll_sql.specs.Plain.{table_with}
 
--- never NULL, of its kind alone, compared byte by byte
+-- The column is never NULL, has values of its kind alone, and is compared byte by byte.
 abbrev pub IsPlainColumn : Column → Type 0
 IsPlainColumn c = c ≡ record { name = c.name; kind = c.kind; is_strict = true; not_null = true; default = Null; collation = Binary }
 
--- columns, a key, and nothing else
+-- The table has columns, a key, and nothing else.
 abbrev pub IsPlainTable : Table → Type 0
 IsPlainTable t = (t ≡ table_with t.tree t.name t.columns t.primary) × AllByRecursion IsPlainColumn t.columns
 
--- in the plain order of its columns
+-- The index has the plain order of its columns.
 abbrev pub IsPlainIndex : Index → Type 0
 IsPlainIndex i = i.order ≡ plain
 
--- these tables and indexes, and no views
+-- the schema with these tables and indexes, and without views
 abbrev pub schema_of : List Table → List Index → Schema
 schema_of tables indexes = record { tables = tables; indexes = indexes; views = [] }
 
--- such tables and such indexes, and no views
+-- The schema has plain tables and plain indexes, and no views.
 pub record IsPlainSchema (schema : Schema) : Type 0 where
   pub tables : AllByRecursion IsPlainTable schema.tables
   pub indexes : AllByRecursion IsPlainIndex schema.indexes

@@ -18,7 +18,7 @@ plain_query t filter project order = record {
   offset = lit (Int (pos 0));
 }
 
--- the rows are what is shown of those that pass, in an order of these keys
+-- The rows are those shown of the hits, in an order of these keys.
 pub record AreShown (show ord : Row → Row) (keys : List Key) (hits rows : List Row) : Type 0 where
   pub same : IsPermutation (map show hits) rows
   pub sorted : IsSorted (on ord (key_cmp 0 keys)) rows

@@ -1,27 +1,27 @@
--- The store behind a keep: what its tables have to be, and what is made of them.
+-- The store of a keep: what its tables must be, and how they change.
 use Rattle.std.specs.Prelude.{◌≡◌, pos, true, None, Bool, List, [], ◌∷◌, IsTrue, Result, IfErr, OnOk, OnErr}
 use Rattle.toll_sql.specs.Common.{AllByRecursion, Database, Row, State, HasCleanDisk, KeepsCommit, Survives, Trees, Error, Int, agree, IsShaped, plain, Bytes, Slice, is_name, Content}
 use Rattle.sqlite_trees.specs.declared.store.Shape.TheVariants as shape
 use Rattle.toll_base.specs.declared.decision.Change.{Change}
 use Rattle.toll_base.specs.declared.decision.Change.TheVariants.{Owner, Unit as UnitAdded, Put}
-use Rattle.toll_keep.specs.Goes.{IsAmong}
-use Rattle.toll_sql.specs.Causes.{IsCaused}
+use Rattle.toll_keep.specs.CallEffects.{IsAmong}
+use Rattle.toll_sql.specs.Causes.{IsErrorCaused}
 use Rattle.toll_sql.specs.Cells.{fill}
 use Rattle.toll_sql.specs.Encode.{owner_cells, unit_cells, table_for, cells_for}
 use Rattle.toll_sql.specs.Holds.{Holds, HoldsPart}
 use Rattle.toll_sql.specs.Others.{HasOurs}
 use Rattle.toll_sql.specs.Put.{Puts}
-use Rattle.toll_sql.specs.Tables.{made_all, tree_of, keys_of}
+use Rattle.toll_sql.specs.Schema.{made_all, tree_of, key_columns}
 use Rattle.toll_sql.specs.Valid.{IsOwner, IsUnit, IsRow}
 use Rattle.toll_sql.specs.declared.table_kind.TableKind.{TableKind}
 use Rattle.toll_sql.specs.declared.table_kind.TableKind.TheVariants.{Owners, Units}
 
--- the tables are ours, and each has its rows by rowids
+-- The tables are ours, and each has its rows by rowids.
 pub record IsOurs (db : Database) : Type 0 where
   pub schema : HasOurs db.schema
   pub shaped : AllByRecursion (λ t. IsShaped shape.Table (db.trees t.tree)) made_all.tables
 
--- rows can be put: within a transaction, without a limit of steps
+-- Rows can be put: within a transaction, without a limit of steps.
 pub record IsReady (s : State) : Type 0 where
   pub ours : IsOurs s.now
   pub unlimited : s.step_limit ≡ None
@@ -29,15 +29,15 @@ pub record IsReady (s : State) : Type 0 where
 
 -- ---- one row
 
--- the stored row has the key of these cells
-abbrev pub has_key : TableKind → Row → Row → Bool
-has_key k cells row = agree plain (keys_of k) row (keys_of k) (Int (pos 0) ∷ cells)
+-- whether the stored row has the key of these cells
+abbrev pub has_row_key : TableKind → Row → Row → Bool
+has_row_key k cells row = agree plain (key_columns k) row (key_columns k) (Int (pos 0) ∷ cells)
 
--- the row is put into its table
+-- The row is put into its table.
 abbrev pub PutsRow : TableKind → Row → Trees → Trees → Type 0
-PutsRow k cells = Puts made_all (tree_of k) (has_key k cells) cells
+PutsRow k cells = Puts made_all (tree_of k) (has_row_key k cells) cells
 
--- the row is put, nothing is committed, and more can be put
+-- The row is put, nothing is committed, and more can be put.
 pub record MakesRow (k : TableKind) (cells : Row) (old new : State) : Type 0 where
   pub put : PutsRow k cells old.now.trees new.now.trees
   pub ready : IsReady new
@@ -46,7 +46,7 @@ pub record MakesRow (k : TableKind) (cells : Row) (old new : State) : Type 0 whe
 
 -- ---- changes
 
--- the table and the cells of what a change puts
+-- the table of a change, and the cells that it puts
 abbrev pub table_of_change : Change → TableKind
 table_of_change (Owner row) = Owners
 table_of_change (UnitAdded row) = Units
@@ -57,42 +57,42 @@ cells_of_change (Owner row) = owner_cells row
 cells_of_change (UnitAdded row) = unit_cells row
 cells_of_change (Put o row) = cells_for o row
 
--- its values, and its owner, are values of their kinds
-abbrev pub IsValid : Change → Type 0
-IsValid (Owner row) = IsOwner row
-IsValid (UnitAdded row) = IsUnit row
-IsValid (Put o row) = IsTrue (is_name o) × IsRow row
+-- The owner and the values of the change are valid.
+abbrev pub IsValidChange : Change → Type 0
+IsValidChange (Owner row) = IsOwner row
+IsValidChange (UnitAdded row) = IsUnit row
+IsValidChange (Put o row) = IsTrue (is_name o) × IsRow row
 
--- a change is put in; and several, the first of them first
+-- One change is put; and several, in order.
 pub record PutsChange (change : Change) (old new : Trees) : Type 0 where
-  pub valid : IsValid change
+  pub valid : IsValidChange change
   pub put : PutsRow (table_of_change change) (cells_of_change change) old new
 
 abbrev pub PutsAll : List Change → Trees → Trees → Type 0
 PutsAll [] old new = new ≡ old
 PutsAll (change ∷ more) old new = (mid : Trees) × PutsChange change old mid × PutsAll more mid new
 
--- the change is put, nothing is committed, and more can be put
+-- The change is put, nothing is committed, and more can be put.
 pub record MakesPut (change : Change) (old new : State) : Type 0 where
   pub put : PutsChange change old.now.trees new.now.trees
   pub ready : IsReady new
   pub schema : new.now.schema ≡ old.now.schema
   pub committed : new.committed ≡ old.committed
 
--- so are all of these
+-- All of these changes are put, nothing is committed, and more can be put.
 pub record MakesAll (changes : List Change) (old new : State) : Type 0 where
   pub put : PutsAll changes old.now.trees new.now.trees
   pub ready : IsReady new
   pub schema : new.now.schema ≡ old.now.schema
   pub committed : new.committed ≡ old.committed
 
--- the changes are put into tables that are ours, and the schema stays
+-- The changes are put into tables that are ours, and the schema stays.
 pub record IsApplied (changes : List Change) (db after : Database) : Type 0 where
   pub put : PutsAll changes db.trees after.trees
   pub ours : IsOurs after
   pub schema : after.schema ≡ db.schema
 
--- the changes were put in, and that is committed; the schema stays
+-- The changes were put and committed, and the schema stays.
 pub record HasApplied (changes : List Change) (old new : State) : Type 0 where
   pub put : PutsAll changes old.now.trees new.now.trees
   pub ours : IsOurs new.now
@@ -100,56 +100,56 @@ pub record HasApplied (changes : List Change) (old new : State) : Type 0 where
   pub settled : new.committed ≡ new.now
   pub is_open : IsTrue new.is_open
 
--- what is so of each call within a transaction that writes, whatever it writes
+-- The effect of each call that writes within a transaction, whatever it writes.
 pub record IsWriting (Makes : State → State → Type 0) {X : Type 0} (old new : State) (result : Result X Error) : Type 0 where
   pub makes : HasCleanDisk new → IsReady old → OnOk result (Makes old new)
   pub inside : HasCleanDisk new → IsTrue old.in_transaction → OnOk result (IsTrue new.in_transaction)
-  pub fault : HasCleanDisk new → IsTrue old.in_transaction → IfErr result (IsCaused old new)
+  pub fault : HasCleanDisk new → IsTrue old.in_transaction → IfErr result (IsErrorCaused old new)
   pub kept : HasCleanDisk new → KeepsCommit old new
   pub survives : Survives old new (λ _. ⊥)
 
--- cells that fill the columns of the table are put into it
+-- Cells that fill the columns of the table are put into it.
 abbrev pub WritesRow : {X : Type 0} → TableKind → Row → State → State → Result X Error → Type 0
 WritesRow k cells old new result = fill k cells ≡ true → IsWriting (MakesRow k cells) old new result
 
--- tables that are ours have taken the changes where no limit of steps is set and the call succeeds
+-- If the tables are ours, there is no limit of steps and the call succeeds, they have taken the changes.
 abbrev pub Applies : {X E : Type 0} → List Change → State → State → Result X E → Type 0
 Applies changes old new result = HasCleanDisk new → IsOurs old.now → old.step_limit ≡ None → OnOk result (HasApplied changes old new)
 
--- where no limit of steps is set, a stop leaves tables that were ours with the changes put in
+-- If there is no limit of steps, a stop leaves tables that were ours, with the changes put.
 abbrev pub LeavesPut : List Change → State → Trees → Type 0
 LeavesPut changes old db = IsOurs old.now → old.step_limit ≡ None → PutsAll changes old.now.trees db
 
--- where the call fails, a store that lies open has what it had before
+-- If the call fails, an open store has what it had before.
 abbrev pub StaysOnErr : {X E : Type 0} → State → State → Result X E → Type 0
 StaysOnErr old new result = HasCleanDisk new → IsTrue new.is_open → OnErr result ((new.now ≡ old.now) × (new.committed ≡ old.committed))
 
 -- ---- a store that holds a content
 
--- the store has not shut itself
+-- The store has not shut itself.
 pub record LiesOpen (s : State) : Type 0 where
   pub is_open : IsTrue s.is_open
 
--- where the store lies open, nothing is pending
+-- If the store is open, nothing is pending.
 abbrev pub LiesIdle : State → Type 0
 LiesIdle s = IsTrue s.is_open → s.now ≡ s.committed
 
--- the tables are ours, nothing is pending, and they have these rows
+-- The tables are ours, nothing is pending, and they have these rows.
 pub record HoldsIn (s : State) (c : Content) : Type 0 where
   pub ours : IsOurs s.now
   pub idle : s.now ≡ s.committed
   pub rows : Holds s.now.trees c
 
--- the tables are ours, nothing is pending, and such of them have these rows of this owner, whatever they have of others
+-- The tables are ours, nothing is pending, and these tables have these rows of this owner, whatever they have of others.
 pub record HoldsPartIn (is_such : TableKind → Bool) (s : State) (o : Bytes) (slice : Slice) : Type 0 where
   pub ours : HasOurs s.now.schema
   pub idle : s.now ≡ s.committed
   pub rows : HoldsPart is_such s.now.trees o slice
 
--- where the store lies open, its tables hold the content
+-- If the store is open, its tables hold the content.
 abbrev pub HoldsWhileOpen : State → Content → Type 0
 HoldsWhileOpen s c = LiesOpen s → HoldsIn s c
 
--- what a stop leaves are tables with one of these contents
+-- A stop leaves tables with one of these contents.
 abbrev pub LeavesIn : State → List Content → Type 0
 LeavesIn s cs = (db : Trees) → s.may_leave db → IsAmong (Holds db) cs

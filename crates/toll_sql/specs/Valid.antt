@@ -1,4 +1,4 @@
--- Rows whose values are values of their kinds.
+-- Rows with valid values.
 use Rattle.std.specs.Prelude.{IsTrue, ℕ, ◌<◌, ◌^◌}
 use Rattle.toll_sql.specs.Common.{AllByRecursion, Slice, is_name, is_owner_key, is_measure, IsAmount, IsDay, IsSegment, IsBatchNo, IsValue, LotId, Origin, Receipts, Batch as OfBatch, Move, Receive, Split, Ship, Scrap, Actual, MoveRow, BatchRow, LotRow, MaterialRow, OrderRow, OwnerRow, RecipeRow, RequirementRow, ResultRow, SublotRow, TestRow, UnitRow, VoidRow}
 use Rattle.toll_base.specs.declared.rows.Row.{Row as OfficeRow}
@@ -6,7 +6,7 @@ use Rattle.toll_base.specs.declared.rows.Row.TheVariants as of
 use Rattle.toll_sql.specs.declared.table_kind.TableKind.{TableKind}
 use Rattle.toll_sql.specs.declared.table_kind.TableKind.TheVariants.{Meta, Owners, Units, Materials, Tests, Recipes, Requirements, Orders, Batches, Lots, Sublots, Moves, Results, Voids}
 
--- a whole number that a column can have
+-- The number fits a column.
 abbrev pub IsStorable : ℕ → Type 0
 IsStorable n = n < 2 ^ 63
 
@@ -88,7 +88,7 @@ pub record IsResult (row : ResultRow) : Type 0 where
 abbrev pub IsVoid : VoidRow → Type 0
 IsVoid row = IsTrue (is_name row.key)
 
--- the row of an owner, whatever its kind
+-- The row of an owner, of any kind, has valid values.
 abbrev pub IsRow : OfficeRow → Type 0
 IsRow (of.Material row) = IsMaterial row
 IsRow (of.Test row) = IsTest row
@@ -102,7 +102,7 @@ IsRow (of.Move row) = IsMovement row
 IsRow (of.Result row) = IsResult row
 IsRow (of.Void row) = IsVoid row
 
--- the rows of the slice that stand in the table
+-- The rows of the slice that belong in the table have valid values.
 abbrev pub AreValidIn : TableKind → Slice → Type 0
 AreValidIn Meta s = Unit {0}
 AreValidIn Owners s = Unit {0}

@@ -3,7 +3,7 @@ ghost use Rattle.std.specs.Prelude.{◌≡◌, ◌≢◌, ◌⊎◌, false, None
 ghost use Rattle.sqlite.specs.Held.{state};
 ghost use Rattle.sqlite.specs.State.{HasCleanDisk};
 ghost use Rattle.sqlite.specs.Steps.{over_memory};
-ghost use Rattle.toll_keep.specs.Content.{nothing};
+ghost use Rattle.toll_keep.specs.Content.{empty_content};
 ghost use Rattle.toll_sql.specs.Causes.{is_disk_fault};
 ghost use Rattle.toll_sql.specs.First.{AreFirst, IsFirst, Raised, first_version};
 ghost use Rattle.toll_sql.specs.Holds.{version};
@@ -13,7 +13,7 @@ ghost use Rattle.toll_sql.specs.Stores.{HoldsIn, LiesIdle};
 
 use crate::creating::{create_tables, raise_or_none};
 use crate::open_fault::{OpenFault, open_fault_of};
-use crate::ours::{Layout, layout_of};
+use crate::schema_check::{Layout, layout_of};
 use crate::version::{find_version, read_first_version, read_version};
 use sqlite::{Alter, Connection, Error, ErrorCode, MemStore};
 use sqlite_schema::schema::Schema;
@@ -26,7 +26,7 @@ const VERSION: u64 = 2;
 const FIRST_VERSION: u64 = 1;
 
 /// Takes the office's tables as they are. Those of this version stay, and so do tables, indexes and views
-/// that others have made behind them. Those of version 1 must be alone. They are brought to this version in
+/// that others have made after them. Those of version 1 must be alone. They are brought to this version in
 /// one transaction.
 /// NotOurs if `meta` has no row of the office with one of these versions, or a transaction is open.
 /// Damaged if it has one, and a table, a column or a key is missing or differs, or comes in another order,
@@ -70,11 +70,11 @@ fn adopt_ours<S: Alter>(conn: &mut Connection<S>) -> Result<(), OpenFault>
     ensures adopts { Adopts (state S.Store conn.old) (state S.Store conn.new) result }
 {
     match read_version(conn) {
-        Ok(told) => {
-            if told == Some(VERSION) {
+        Ok(stored_version) => {
+            if stored_version == Some(VERSION) {
                 Ok(())
             } else {
-                Err(misfit(told, FIRST_VERSION))
+                Err(misfit(stored_version, FIRST_VERSION))
             }
         },
         Err(error) => Err(open_fault_of(error)),
@@ -83,12 +83,12 @@ fn adopt_ours<S: Alter>(conn: &mut Connection<S>) -> Result<(), OpenFault>
 
 // The fault of tables that aren't of the version that was read: Damaged if that is our other version,
 // else NotOurs.
-fn misfit(told: Option<u64>, other: u64) -> OpenFault
-    ensures damaged { result ≡ OpenFault.Damaged → told ≡ Some other }
-    ensures foreign { result ≡ OpenFault.NotOurs → told ≢ Some other }
+fn misfit(stored_version: Option<u64>, other: u64) -> OpenFault
+    ensures damaged { result ≡ OpenFault.Damaged → stored_version ≡ Some other }
+    ensures foreign { result ≡ OpenFault.NotOurs → stored_version ≢ Some other }
     ensures known { (result ≡ OpenFault.Damaged) ⊎ (result ≡ OpenFault.NotOurs) }
 {
-    if told == Some(other) {
+    if stored_version == Some(other) {
         OpenFault::Damaged
     } else {
         OpenFault::NotOurs
@@ -104,11 +104,11 @@ fn adopt_first<S: Alter>(conn: &mut Connection<S>) -> Result<(), OpenFault>
     ensures adopts { Adopts (state S.Store conn.old) (state S.Store conn.new) result }
 {
     match read_first_version(conn) {
-        Ok(told) => {
-            if told == Some(FIRST_VERSION) {
+        Ok(stored_version) => {
+            if stored_version == Some(FIRST_VERSION) {
                 raise_all(conn)
             } else {
-                Err(misfit(told, VERSION))
+                Err(misfit(stored_version, VERSION))
             }
         },
         Err(error) => Err(open_fault_of(error)),
@@ -144,12 +144,12 @@ fn read_fault_of(error: Error) -> OpenFault
 }
 
 // The fault of tables of neither version: Damaged if the version read is one of ours, else NotOurs.
-fn fault_of_others(told: Option<u64>) -> OpenFault
-    ensures damaged { result ≡ OpenFault.Damaged → (told ≡ Some first_version) ⊎ (told ≡ Some version) }
-    ensures foreign { result ≡ OpenFault.NotOurs → (told ≢ Some first_version) × (told ≢ Some version) }
+fn fault_of_others(stored_version: Option<u64>) -> OpenFault
+    ensures damaged { result ≡ OpenFault.Damaged → (stored_version ≡ Some first_version) ⊎ (stored_version ≡ Some version) }
+    ensures foreign { result ≡ OpenFault.NotOurs → (stored_version ≢ Some first_version) × (stored_version ≢ Some version) }
     ensures known { (result ≡ OpenFault.Damaged) ⊎ (result ≡ OpenFault.NotOurs) }
 {
-    match told {
+    match stored_version {
         Some(FIRST_VERSION | VERSION) => OpenFault::Damaged,
         _ => OpenFault::NotOurs,
     }
@@ -164,14 +164,14 @@ fn adopt_other<S: Alter>(conn: &mut Connection<S>) -> Result<(), OpenFault>
     ensures adopts { Adopts (state S.Store conn.old) (state S.Store conn.new) result }
 {
     match find_version(conn) {
-        Ok(told) => Err(fault_of_others(told)),
+        Ok(stored_version) => Err(fault_of_others(stored_version)),
         Err(error) => Err(read_fault_of(error)),
     }
 }
 
 /// A store in memory with the office's tables, which are empty. Memory if memory runs out.
 pub(crate) fn new_office(alloc: Global) -> Result<Connection<MemStore>, OpenFault>
-    ensures made { IfOk result (λ c. HoldsIn (state over_memory c) nothing × IsJustOurs (state over_memory c).now.schema) }
+    ensures made { IfOk result (λ c. HoldsIn (state over_memory c) empty_content × IsJustOurs (state over_memory c).now.schema) }
     ensures unlimited { IfOk result (λ c. (c.step_limit ≡ None) × (c.in_transaction ≡ false)) }
     ensures fault { IfErr result (λ fault. fault ≡ OpenFault.Memory) }
 {

@@ -2,16 +2,16 @@
 ghost use Rattle.std.specs.Prelude.{◌≡◌, false};
 ghost use Rattle.sqlite.specs.Held.{state};
 ghost use Rattle.sqlite.specs.State.{HasCleanDisk};
-ghost use Rattle.toll_sql.specs.Create.{IsMaking, IsNew, IsShapedAs, IsStep, IsWhole, MakesAllTables, MakesTable, WritesVersion};
+ghost use Rattle.toll_sql.specs.Create.{IsMaking, IsNewDatabase, IsShapedAs, IsTransactionStep, IsWholeOrNothing, MakesAllTables, MakesTable, WritesVersion};
 ghost use Rattle.toll_sql.specs.First.{MakesRaised, Raised, first_ours};
 ghost use Rattle.toll_sql.specs.Opening.{Creates};
 ghost use Rattle.toll_sql.specs.Plain.{no_schema};
 ghost use Rattle.toll_sql.specs.Stores.{LiesIdle};
-ghost use Rattle.toll_sql.specs.Tables.{every_table, made_all, made_before};
+ghost use Rattle.toll_sql.specs.Schema.{every_table, made_all, made_before};
 
 use crate::encode::meta_values;
 use crate::open_fault::{OpenFault, open_fault_of};
-use crate::ours::is_blank;
+use crate::schema_check::is_blank;
 use crate::table_kind::TableKind;
 use crate::writing::put;
 use sqlite::{Alter, Connection, Error, Transaction};
@@ -47,7 +47,7 @@ pub(crate) fn make_table<S: Alter>(
     table: TableKind,
 ) -> Result<usize, Error>
     ensures same_reference { tx.new.conn.ghost_name ≡ tx.old.conn.ghost_name }
-    ensures steps { IsStep (IsMaking (made_before table)) (MakesTable table) (state S.Store tx.old.conn.now) (state S.Store tx.new.conn.now) result }
+    ensures steps { IsTransactionStep (IsMaking (made_before table)) (MakesTable table) (state S.Store tx.old.conn.now) (state S.Store tx.new.conn.now) result }
 {
     tx.execute(table.create_text(), &[])
 }
@@ -55,7 +55,7 @@ pub(crate) fn make_table<S: Alter>(
 // Writes the version, after all tables are made.
 fn write_version<S: Alter>(tx: &mut Transaction<'_, S>) -> Result<(), Error>
     ensures same_reference { tx.new.conn.ghost_name ≡ tx.old.conn.ghost_name }
-    ensures steps { IsStep (IsShapedAs made_all) WritesVersion (state S.Store tx.old.conn.now) (state S.Store tx.new.conn.now) result }
+    ensures steps { IsTransactionStep (IsShapedAs made_all) WritesVersion (state S.Store tx.old.conn.now) (state S.Store tx.new.conn.now) result }
 {
     put(tx, TableKind::Meta, &meta_values(VERSION))
 }
@@ -63,7 +63,7 @@ fn write_version<S: Alter>(tx: &mut Transaction<'_, S>) -> Result<(), Error>
 // Makes all tables. None of them exists yet.
 fn make_tables<S: Alter>(tx: &mut Transaction<'_, S>) -> Result<(), Error>
     ensures same_reference { tx.new.conn.ghost_name ≡ tx.old.conn.ghost_name }
-    ensures steps { IsStep (IsMaking no_schema) MakesAllTables (state S.Store tx.old.conn.now) (state S.Store tx.new.conn.now) result }
+    ensures steps { IsTransactionStep (IsMaking no_schema) MakesAllTables (state S.Store tx.old.conn.now) (state S.Store tx.new.conn.now) result }
 {
     for table in every_table() {
         make_table(tx, table)?;
@@ -74,7 +74,7 @@ fn make_tables<S: Alter>(tx: &mut Transaction<'_, S>) -> Result<(), Error>
 // Makes all tables, and writes the version.
 fn make_all<S: Alter>(tx: &mut Transaction<'_, S>) -> Result<(), Error>
     ensures same_reference { tx.new.conn.ghost_name ≡ tx.old.conn.ghost_name }
-    ensures steps { IsStep (IsMaking no_schema) (λ _ new. IsNew new.now) (state S.Store tx.old.conn.now) (state S.Store tx.new.conn.now) result }
+    ensures steps { IsTransactionStep (IsMaking no_schema) (λ _ new. IsNewDatabase new.now) (state S.Store tx.old.conn.now) (state S.Store tx.new.conn.now) result }
 {
     make_tables(tx)?;
     write_version(tx)
@@ -84,7 +84,7 @@ fn make_all<S: Alter>(tx: &mut Transaction<'_, S>) -> Result<(), Error>
 fn create_or_none<S: Alter>(conn: &mut Connection<S>) -> Result<(), Error>
     requires autocommit { conn.old.in_transaction ≡ false }
     requires settled { HasCleanDisk (state S.Store conn.old) → LiesIdle (state S.Store conn.old) }
-    ensures whole { IsWhole (IsMaking no_schema) IsNew (state S.Store conn.old) (state S.Store conn.new) result }
+    ensures whole { IsWholeOrNothing (IsMaking no_schema) IsNewDatabase (state S.Store conn.old) (state S.Store conn.new) result }
 {
     let mut tx = conn.transaction();
     make_all(&mut tx)?;
@@ -110,7 +110,7 @@ pub fn create_tables<S: Alter>(conn: &mut Connection<S>) -> Result<(), OpenFault
 // Brings the tables of version 1 to this version.
 fn raise<S: Alter>(tx: &mut Transaction<'_, S>) -> Result<(), Error>
     ensures same_reference { tx.new.conn.ghost_name ≡ tx.old.conn.ghost_name }
-    ensures steps { IsStep (IsShapedAs first_ours) MakesRaised (state S.Store tx.old.conn.now) (state S.Store tx.new.conn.now) result }
+    ensures steps { IsTransactionStep (IsShapedAs first_ours) MakesRaised (state S.Store tx.old.conn.now) (state S.Store tx.new.conn.now) result }
 {
     make_table(tx, TableKind::Voids)?;
     write_version(tx)
@@ -120,7 +120,7 @@ fn raise<S: Alter>(tx: &mut Transaction<'_, S>) -> Result<(), Error>
 pub(crate) fn raise_or_none<S: Alter>(conn: &mut Connection<S>) -> Result<(), Error>
     requires autocommit { conn.old.in_transaction ≡ false }
     requires settled { HasCleanDisk (state S.Store conn.old) → LiesIdle (state S.Store conn.old) }
-    ensures whole { IsWhole (IsShapedAs first_ours) (Raised (state S.Store conn.old).now) (state S.Store conn.old) (state S.Store conn.new) result }
+    ensures whole { IsWholeOrNothing (IsShapedAs first_ours) (Raised (state S.Store conn.old).now) (state S.Store conn.old) (state S.Store conn.new) result }
 {
     let mut tx = conn.transaction();
     raise(&mut tx)?;

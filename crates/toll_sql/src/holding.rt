@@ -1,15 +1,15 @@
 //! The batch that holds a unit, read from the tables.
-ghost use Rattle.std.specs.Prelude.{◌≡◌, ◌≢◌, [], ◌∷◌, Err, None, IfOk, IfSome, OnOk, IsPermutation};
+ghost use Rattle.std.specs.Prelude.{◌≡◌, ◌≢◌, [], ◌∷◌, Err, None, IfOk, IfSome, IsTrue, OnOk, IsPermutation};
 ghost use Rattle.sqlite.specs.Held.{state};
 ghost use Rattle.sqlite.specs.declared.types.Value.TheVariants.{Text};
 ghost use Rattle.sqlite.specs.State.{HasCleanDisk};
 ghost use Rattle.toll_keep.specs.Holding.{IsHolder};
 ghost use Rattle.toll_sql.specs.AskedTexts.{unit_text};
-ghost use Rattle.toll_sql.specs.Asking.{ForHeld, IsLooking, IsQuerying, OverOurs};
-ghost use Rattle.toll_sql.specs.HolderRows.{AreBatchRows, AreBatchesOn, HasNoBatch, IsHolderOf, IsRowOfBatch, IsShownIn, ShowHolders, ShowsNoBatch, TellsHolder, open_on};
+ghost use Rattle.toll_sql.specs.Asking.{ForContent, IsLooking, IsQuerying, OverOurs};
+ghost use Rattle.toll_sql.specs.HolderRows.{AreBatchRows, AreBatchesOn, HasNoBatch, IsHolderOf, IsRowOfBatch, IsShownIn, ShowHolders, ShowsNoBatch, ReportsHolder, open_on};
 
 use crate::cells::name_at;
-use crate::fault::fault_of;
+use crate::fault::MemoryLack;
 use crate::stored::StoredRow;
 use sqlite::types::ValueRef;
 use sqlite::{Alter, Connection, Error, Row};
@@ -23,17 +23,19 @@ use toll_keep::{Holder, KeepFault};
 /// is true whatever the tables have: only the rows of open batches on this unit matter.
 pub fn read_holder<S: Alter>(
     conn: &mut Connection<S>,
+    lack: &mut MemoryLack,
     unit: &Name,
 ) -> Result<Option<Holder>, KeepFault>
     ensures looks { IsLooking (state S.Store conn.old) (state S.Store conn.new) result }
-    ensures reads { ForHeld (state S.Store conn.old) (state S.Store conn.new) (λ c. IfOk result (IsHolder c unit.now)) }
+    ensures reads { ForContent (state S.Store conn.old) (state S.Store conn.new) (λ c. IfOk result (IsHolder c unit.now)) }
     ensures shown { HasCleanDisk (state S.Store conn.new) → IfOk result (IsHolderOf (state S.Store conn.old).now unit_text (Text unit.now ∷ [])) }
-    ensures whole { ForHeld (state S.Store conn.old) (state S.Store conn.new) (λ _. result ≢ Err KeepFault.Damaged) }
-    ensures alone { OverOurs (state S.Store conn.old) (state S.Store conn.new) (λ db. TellsHolder unit.now db result) }
+    ensures whole { ForContent (state S.Store conn.old) (state S.Store conn.new) (λ _. result ≢ Err KeepFault.Damaged) }
+    ensures alone { OverOurs (state S.Store conn.old) (state S.Store conn.new) (λ db. ReportsHolder unit.now db result) }
+    ensures lack { result ≡ Err KeepFault.Memory → IsTrue lack.new.is_noted }
 {
     match open_batches(conn, unit) {
         Ok(rows) => holder_in(&rows),
-        Err(error) => Err(fault_of(error)),
+        Err(error) => Err(lack.fault_of(error)),
     }
 }
 
@@ -41,7 +43,7 @@ pub fn read_holder<S: Alter>(
 fn open_batches<S: Alter>(conn: &mut Connection<S>, unit: &Name) -> Result<Vec<Row>, Error>
     ensures asks { IsQuerying (state S.Store conn.old) (state S.Store conn.new) result }
     ensures read { HasCleanDisk (state S.Store conn.new) → IfOk result (λ rows. AreBatchesOn (state S.Store conn.old).now unit.now rows.items) }
-    ensures rows { ForHeld (state S.Store conn.old) (state S.Store conn.new) (λ c. IfOk result (λ rows. ShowHolders c unit.now rows.items)) }
+    ensures rows { ForContent (state S.Store conn.old) (state S.Store conn.new) (λ c. IfOk result (λ rows. ShowHolders c unit.now rows.items)) }
     ensures found { OverOurs (state S.Store conn.old) (state S.Store conn.new) (λ db. IfOk result (λ rows. IsPermutation (open_on unit.now db) rows.items)) }
 {
     conn.query_all(

@@ -4,7 +4,7 @@ ghost use Rattle.std.specs.List.{AllByRecursion};
 ghost use Rattle.toll_base.specs.declared.decision.Change.{Change as Changes};
 ghost use Rattle.toll_base.specs.Values.{is_name};
 ghost use Rattle.toll_sql.specs.LastPuts.{AreNoted, IsSublotValid, is_put_again, key_for, last_puts, sublot_put};
-ghost use Rattle.toll_sql.specs.Stores.{IsValid};
+ghost use Rattle.toll_sql.specs.Stores.{IsValidChange};
 ghost use Rattle.toll_sql.specs.Valid.{IsStorable, IsSublot};
 
 use crate::encode::{MOST, sublot_values};
@@ -52,7 +52,7 @@ fn note(noted: &mut BTreeSet<SublotKey>, change: &Change) -> Result<bool, AllocE
 // The sublot that the change puts, if its amount is one that a column can have.
 fn sublot_put(change: &Change) -> Option<SublotKey>
     ensures key { result ≡ sublot_put change.now }
-    ensures valid { IfSome result (λ _. IsValid change.now) }
+    ensures valid { IfSome result (λ _. IsValidChange change.now) }
 {
     match change {
         Change::Put(owner, Row::Sublot(row)) if row.amount <= MOST => Some(sublot_key(owner, row)),

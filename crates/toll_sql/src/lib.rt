@@ -2,7 +2,6 @@
 #![tactic(auto)]
 
 mod adopting;
-mod asking;
 mod cells;
 mod creating;
 mod edge_cells;
@@ -17,13 +16,14 @@ mod move_cells;
 mod move_parts;
 mod open_fault;
 mod opening;
-mod ours;
 mod plant_row;
+mod queries;
 mod reading;
-mod rows_of_definitions;
 mod rows_of_lots;
+mod rows_of_materials;
 mod rows_of_moves;
 mod rows_of_work;
+mod schema_check;
 mod slice_reading;
 mod sql_keep;
 mod stored;
@@ -34,6 +34,7 @@ mod writing;
 pub use adopting::adopt_tables;
 pub use creating::create_tables;
 pub use edges::read_edges;
+pub use fault::MemoryLack;
 pub use ghosts::{
     a_keep_over_sqlite_has_the_content_of_its_tables, a_keep_over_sqlite_is_as_honest_as_its_disk,
 };

@@ -24,14 +24,14 @@ impl<'a> MoveParts<'a> {
     /// The parts of a movement of this owner.
     pub fn of(owner: &'a Name, what: &'a Move) -> Self
         ensures kind { result.kind ≡ stored.kind_number what.now }
-        ensures lot_owner { result.lot_owner.now ≡ (stored.lot_of owner.now what.now).owner }
-        ensures lot { result.lot.now ≡ (stored.lot_of owner.now what.now).lot }
-        ensures sublot { result.sublot.now ≡ stored.sublot_of what.now }
-        ensures target { result.target.now ≡ stored.target_of what.now }
-        ensures material { result.material.now ≡ stored.material_of what.now }
-        ensures order { result.order.now ≡ stored.order_of what.now }
-        ensures number { result.number ≡ stored.number_of what.now }
-        ensures segment { result.segment ≡ stored.segment_of what.now }
+        ensures lot_owner { result.lot_owner.now ≡ (stored.move_lot owner.now what.now).owner }
+        ensures lot { result.lot.now ≡ (stored.move_lot owner.now what.now).lot }
+        ensures sublot { result.sublot.now ≡ stored.move_sublot what.now }
+        ensures target { result.target.now ≡ stored.move_target what.now }
+        ensures material { result.material.now ≡ stored.move_material what.now }
+        ensures order { result.order.now ≡ stored.move_order what.now }
+        ensures number { result.number ≡ stored.move_number what.now }
+        ensures segment { result.segment ≡ stored.move_segment what.now }
         ensures storable { IsStorable result.kind × IsStorable result.number × IsStorable result.segment }
         ensures valid { IsMove what.now }
     {

@@ -1,7 +1,7 @@
 //! Why a store didn't become a keep.
 ghost use Rattle.std.specs.Prelude.{◌≡◌, ◌⊎◌, false, IsTrue};
 ghost use Rattle.toll_sql.specs.Causes.{is_disk_fault};
-ghost use Rattle.toll_sql.specs.Opening.{name_of};
+ghost use Rattle.toll_sql.specs.Opening.{open_fault_word};
 
 use crate::fault::fault_of;
 use sqlite::Error as StoreError;
@@ -29,7 +29,7 @@ pub enum OpenFault {
 impl OpenFault {
     /// The word.
     pub fn name(&self) -> &'static str
-        ensures { result.now ≡ name_of self.now }
+        ensures { result.now ≡ open_fault_word self.now }
     {
         match self {
             OpenFault::Memory => "Memory",

@@ -3,14 +3,14 @@ ghost use Rattle.std.specs.Prelude.{◌≡◌, false, Err, codes, IfOk, IfErr, O
 ghost use Rattle.sqlite.specs.Held.{state};
 ghost use Rattle.sqlite.specs.Steps.{over_memory};
 ghost use Rattle.sqlite_wal.specs.Files.{image_at};
-ghost use Rattle.toll_keep.specs.Content.{nothing};
-ghost use Rattle.toll_sql.specs.FromFiles.{IsKeptFrom, IsLeftIn, IsOpenedFrom, IsUnclosed, RefusesFrom, Takes, UnopensFrom, fault_of_files};
-ghost use Rattle.toll_sql.specs.Opening.{Adopts, Creates, refuses, succeeds};
+ghost use Rattle.toll_keep.specs.Content.{empty_content};
+ghost use Rattle.toll_sql.specs.FromFiles.{IsKeptFrom, IsLeftIn, IsOpenedFrom, IsUnclosed, RefusesFrom, CreatesOrAdopts, UnopensFrom, fault_of_files};
+ghost use Rattle.toll_sql.specs.Opening.{Adopts, Creates, open_refusal, succeeds};
 ghost use Rattle.toll_sql.specs.Stores.{HoldsIn};
 
 use crate::adopting::{adopt_tables, new_office};
 use crate::creating::create_tables;
-use crate::fault::fault_of;
+use crate::fault::{MemoryLack, fault_of};
 use crate::open_fault::OpenFault;
 use crate::sql_keep::SqlKeep;
 use sqlite::{Alter, Connection, Error, ErrorCode, FileFrom, FileStore, MemStore, Start};
@@ -23,13 +23,14 @@ impl<S: Alter> SqlKeep<S> {
     /// nothing. A refusal gives the connection back. Its faults are those of [`create_tables`].
     pub fn create(mut conn: Connection<S>) -> Result<SqlKeep<S>, (OpenFault, Connection<S>)>
         ensures made { IfOk result (λ keep. Creates (state S.Store conn) (state S.Store keep.conn) succeeds × (keep.closed ≡ false)) }
-        ensures refused { IfErr result (λ left. Creates (state S.Store conn) (state S.Store left.1) (refuses left.0)) }
+        ensures refused { IfErr result (λ left. Creates (state S.Store conn) (state S.Store left.1) (open_refusal left.0)) }
     {
         match create_tables(&mut conn) {
             Ok(()) => Ok(SqlKeep {
                 conn,
                 closed: false,
                 unsure: true,
+                lack: MemoryLack::none(),
             }),
             Err(fault) => Err((fault, conn)),
         }
@@ -42,13 +43,14 @@ impl<S: Alter> SqlKeep<S> {
         mut conn: Connection<S>,
     ) -> Result<SqlKeep<S>, (OpenFault, Connection<S>)>
         ensures found { IfOk result (λ keep. Adopts (state S.Store conn) (state S.Store keep.conn) succeeds × (keep.closed ≡ false)) }
-        ensures refused { IfErr result (λ left. Adopts (state S.Store conn) (state S.Store left.1) (refuses left.0)) }
+        ensures refused { IfErr result (λ left. Adopts (state S.Store conn) (state S.Store left.1) (open_refusal left.0)) }
     {
         match adopt_tables(alloc, &mut conn) {
             Ok(()) => Ok(SqlKeep {
                 conn,
                 closed: false,
                 unsure: true,
+                lack: MemoryLack::none(),
             }),
             Err(fault) => Err((fault, conn)),
         }
@@ -62,6 +64,7 @@ impl<S: Alter> SqlKeep<S> {
             conn,
             closed: _,
             unsure: _,
+            lack: _,
         } = self;
         conn
     }
@@ -70,7 +73,7 @@ impl<S: Alter> SqlKeep<S> {
 impl SqlKeep<MemStore> {
     /// A keep in memory that holds nothing. Memory if memory runs out.
     pub fn in_memory(alloc: Global) -> Result<SqlKeep<MemStore>, OpenFault>
-        ensures holds { IfOk result (λ keep. HoldsIn (state over_memory keep.conn) nothing × (keep.closed ≡ false)) }
+        ensures holds { IfOk result (λ keep. HoldsIn (state over_memory keep.conn) empty_content × (keep.closed ≡ false)) }
         ensures fault { IfErr result (λ fault. fault ≡ OpenFault.Memory) }
     {
         let conn = new_office(alloc)?;
@@ -78,6 +81,7 @@ impl SqlKeep<MemStore> {
             conn,
             closed: false,
             unsure: true,
+            lack: MemoryLack::none(),
         })
     }
 }
@@ -149,8 +153,8 @@ fn keep_of<S: Alter + Drop>(
     conn: Connection<S>,
     fresh: bool,
 ) -> Result<SqlKeep<S>, OpenFault>
-    ensures made { IfOk result (λ keep. Takes fresh (state S.Store conn) (state S.Store keep.conn) succeeds × (keep.closed ≡ false)) }
-    ensures refused { IfErr result (λ fault. (left : _) × Takes fresh (state S.Store conn) (state S.Store left) (refuses fault)) }
+    ensures made { IfOk result (λ keep. CreatesOrAdopts fresh (state S.Store conn) (state S.Store keep.conn) succeeds × (keep.closed ≡ false)) }
+    ensures refused { IfErr result (λ fault. (left : _) × CreatesOrAdopts fresh (state S.Store conn) (state S.Store left) (open_refusal fault)) }
 {
     match take_over(alloc, conn, fresh) {
         Ok(keep) => Ok(keep),
@@ -164,8 +168,8 @@ fn take_over<S: Alter>(
     conn: Connection<S>,
     fresh: bool,
 ) -> Result<SqlKeep<S>, (OpenFault, Connection<S>)>
-    ensures made { IfOk result (λ keep. Takes fresh (state S.Store conn) (state S.Store keep.conn) succeeds × (keep.closed ≡ false)) }
-    ensures refused { IfErr result (λ left. Takes fresh (state S.Store conn) (state S.Store left.1) (refuses left.0)) }
+    ensures made { IfOk result (λ keep. CreatesOrAdopts fresh (state S.Store conn) (state S.Store keep.conn) succeeds × (keep.closed ≡ false)) }
+    ensures refused { IfErr result (λ left. CreatesOrAdopts fresh (state S.Store conn) (state S.Store left.1) (open_refusal left.0)) }
 {
     if fresh {
         SqlKeep::create(conn)

@@ -3,7 +3,7 @@ ghost use Rattle.std.specs.Prelude.{◌≡◌, ◌≢◌, None, IfSome};
 ghost use Rattle.sqlite.specs.Order.{Row};
 ghost use Rattle.toll_sql.specs.Cells.{columns_from};
 ghost use Rattle.toll_sql.specs.Encode.{owner_cells, unit_cells};
-ghost use Rattle.toll_sql.specs.Tables.{width_of};
+ghost use Rattle.toll_sql.specs.Schema.{width_of};
 ghost use Rattle.toll_sql.specs.Valid.{IsOwner, IsUnit};
 ghost use Rattle.toll_sql.specs.declared.table_kind.TableKind.{TableKind as Kinds};
 ghost use Rattle.toll_sql.specs.declared.table_kind.TableKind.TheVariants.{Owners, Units};
@@ -14,7 +14,7 @@ use sqlite::Row as Stored;
 use toll_base::{OwnerRow, UnitRow};
 
 /// A row of the plant in a table.
-pub trait PlantRow: Copy {
+pub trait StoredPlantRow: Copy {
     // The table that has such rows.
     ghost kind: { Kinds };
 
@@ -35,7 +35,7 @@ pub trait PlantRow: Copy {
         ensures none { result ≡ None → (x : Self) → is_valid x → from.now ≢ cells x };
 }
 
-impl PlantRow for OwnerRow {
+impl StoredPlantRow for OwnerRow {
     ghost kind = { Owners };
 
     ghost cells = { owner_cells };
@@ -54,7 +54,7 @@ impl PlantRow for OwnerRow {
     }
 }
 
-impl PlantRow for UnitRow {
+impl StoredPlantRow for UnitRow {
     ghost kind = { Units };
 
     ghost cells = { unit_cells };

@@ -1,5 +1,5 @@
 //! An owner's rows, read from the tables into a slice.
-ghost use Rattle.std.specs.Prelude.{◌≡◌, ◌≢◌, [], ◌∷◌, Err, OnOk};
+ghost use Rattle.std.specs.Prelude.{◌≡◌, ◌≢◌, [], ◌∷◌, Err, IsTrue, OnOk};
 ghost use Rattle.sqlite.specs.Held.{state};
 ghost use Rattle.sqlite.specs.Order.{column};
 ghost use Rattle.sqlite.specs.declared.types.Value.TheVariants.{Text};
@@ -7,12 +7,12 @@ ghost use Rattle.std.specs.List.{AllByRecursion};
 ghost use Rattle.toll_base.specs.Bytes.{Bytes};
 ghost use Rattle.toll_base.specs.Slice.{with_row};
 ghost use Rattle.toll_base.specs.SliceRules.{KeepsRules};
-ghost use Rattle.toll_sql.specs.Fronts.{past};
+ghost use Rattle.toll_sql.specs.Fronts.{slice_past_table};
 ghost use Rattle.toll_sql.specs.Reading.{ForOwned, ForRow, ForStored, ReadsKind, TakesRows};
-ghost use Rattle.toll_sql.specs.Shown.{AreOwnedBy, IsRowOf};
+ghost use Rattle.toll_sql.specs.Shown.{AreOwnedBy, IsRowOfOwner};
 
-use crate::asking::owners_rows;
-use crate::fault::fault_of;
+use crate::fault::MemoryLack;
+use crate::queries::owners_rows;
 use crate::stored::StoredRow;
 use sqlite::{Alter, Connection, Row as Stored};
 use toll_base::{Name, Row, Slice};
@@ -21,59 +21,75 @@ use toll_keep::KeepFault;
 /// Reads the owner's rows of this kind.
 pub fn read_table<S: Alter, X: StoredRow>(
     conn: &mut Connection<S>,
+    lack: &mut MemoryLack,
     slice: &mut Slice,
     owner: &Name,
 ) -> Result<(), KeepFault>
-    ensures { ReadsKind X.kind X.cells X.is_valid X.any_row X.listed owner.now (state S.Store conn.old) (state S.Store conn.new) slice.old slice.new result }
+    ensures reads { ReadsKind X.kind X.cells X.is_valid X.any_row X.listed owner.now (state S.Store conn.old) (state S.Store conn.new) slice.old slice.new result }
+    ensures lack { result ≡ Err KeepFault.Memory → IsTrue lack.new.is_noted }
 {
     match owners_rows(conn, X::table(), owner) {
-        Ok(rows) => read_rows::<X>(slice, &rows),
-        Err(error) => Err(fault_of(error)),
+        Ok(rows) => read_rows::<X>(slice, lack, &rows),
+        Err(error) => Err(lack.fault_of(error)),
     }
 }
 
 // Puts in the stored rows, which are all rows of this kind. Damaged is the fault of the first one that isn't
 // a row of this kind or breaks the rules. Memory is only the fault of a row that fits.
-fn read_rows<X: StoredRow>(slice: &mut Slice, rows: &[Stored]) -> Result<(), KeepFault>
-    ensures reads { ForStored X.kind X.cells X.is_valid X.any_row X.listed rows.now slice.old (λ s. OnOk result (slice.new ≡ past X.kind X.listed s)) }
-    ensures shown { (o : Bytes) → AreOwnedBy o rows.now → OnOk result (AllByRecursion (IsRowOf X.kind X.cells X.is_valid o) rows.now) }
+fn read_rows<X: StoredRow>(
+    slice: &mut Slice,
+    lack: &mut MemoryLack,
+    rows: &[Stored],
+) -> Result<(), KeepFault>
+    ensures reads { ForStored X.kind X.cells X.is_valid X.any_row X.listed rows.now slice.old (λ s. OnOk result (slice.new ≡ slice_past_table X.kind X.listed s)) }
+    ensures shown { (o : Bytes) → AreOwnedBy o rows.now → OnOk result (AllByRecursion (IsRowOfOwner X.kind X.cells X.is_valid o) rows.now) }
     ensures whole { ForStored X.kind X.cells X.is_valid X.any_row X.listed rows.now slice.old (λ s. KeepsRules s → result ≢ Err KeepFault.Damaged) }
     ensures takes { ForOwned X.kind X.cells X.is_valid X.any_row X.listed rows.now (λ o. TakesRows X.kind o rows.now slice.old slice.new result) }
     ensures disk { result ≢ Err KeepFault.Disk }
     ensures closed { result ≢ Err KeepFault.Closed }
+    ensures lack { result ≡ Err KeepFault.Memory → IsTrue lack.new.is_noted }
 {
     for row in rows {
-        read_row::<X>(slice, row)?;
+        read_row::<X>(slice, lack, row)?;
     }
     Ok(())
 }
 
 // Puts the stored row in.
-fn read_row<X: StoredRow>(slice: &mut Slice, row: &Stored) -> Result<(), KeepFault>
+fn read_row<X: StoredRow>(
+    slice: &mut Slice,
+    lack: &mut MemoryLack,
+    row: &Stored,
+) -> Result<(), KeepFault>
     ensures reads { ForRow X.kind X.cells X.is_valid X.any_row X.listed row.now (λ r. OnOk result (slice.new ≡ with_row slice.old r)) }
-    ensures shown { (o : Bytes) → column row.now 0 ≡ Text o → OnOk result (IsRowOf X.kind X.cells X.is_valid o row.now) }
+    ensures shown { (o : Bytes) → column row.now 0 ≡ Text o → OnOk result (IsRowOfOwner X.kind X.cells X.is_valid o row.now) }
     ensures whole { ForRow X.kind X.cells X.is_valid X.any_row X.listed row.now (λ r. KeepsRules (with_row slice.old r) → result ≢ Err KeepFault.Damaged) }
     ensures takes { ForOwned X.kind X.cells X.is_valid X.any_row X.listed (row.now ∷ []) (λ o. TakesRows X.kind o (row.now ∷ []) slice.old slice.new result) }
     ensures disk { result ≢ Err KeepFault.Disk }
     ensures closed { result ≢ Err KeepFault.Closed }
+    ensures lack { result ≡ Err KeepFault.Memory → IsTrue lack.new.is_noted }
 {
     match X::read(row) {
-        Some(it) => put_read(slice, it.into_row()),
+        Some(it) => put_read(slice, lack, it.into_row()),
         None => Err(KeepFault::Damaged),
     }
 }
 
 // Puts the row in if the slice then keeps its rules.
-fn put_read(slice: &mut Slice, row: Row) -> Result<(), KeepFault>
+fn put_read(slice: &mut Slice, lack: &mut MemoryLack, row: Row) -> Result<(), KeepFault>
     ensures made { OnOk result (slice.new ≡ with_row slice.old row) }
     ensures whole { KeepsRules (with_row slice.old row) → result ≢ Err KeepFault.Damaged }
     ensures fits { OnOk result (KeepsRules (with_row slice.old row)) }
     ensures lacks { result ≡ Err KeepFault.Memory → KeepsRules (with_row slice.old row) × (slice.new ≡ slice.old) }
     ensures disk { result ≢ Err KeepFault.Disk }
     ensures closed { result ≢ Err KeepFault.Closed }
+    ensures lack { result ≡ Err KeepFault.Memory → IsTrue lack.new.is_noted }
 {
     if !slice.fits(&row) {
         return Err(KeepFault::Damaged);
     }
-    Ok(slice.put(row)?)
+    match slice.put(row) {
+        Ok(()) => Ok(()),
+        Err(error) => Err(lack.fault_of_row(error)),
+    }
 }

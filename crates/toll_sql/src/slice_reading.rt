@@ -8,14 +8,15 @@ ghost use Rattle.toll_base.specs.SliceRules.{KeepsRules};
 ghost use Rattle.toll_base.specs.Table.{row_at};
 ghost use Rattle.toll_base.specs.Values.{house_name};
 ghost use Rattle.toll_keep.specs.Content.{ContentKeepsRules, slice_of};
-ghost use Rattle.toll_sql.specs.Asking.{ForHeld, ForSlice, IsLooking};
-ghost use Rattle.toll_sql.specs.Fronts.{front};
-ghost use Rattle.toll_sql.specs.Reading.{ReadsNext, ReadsOn, TellsAlone};
-ghost use Rattle.toll_sql.specs.Shown.{IsToldUnknown, Shows, ShowsSlice, tables_of_owners};
-ghost use Rattle.toll_sql.specs.Tables.{is_owned};
+ghost use Rattle.toll_sql.specs.Asking.{ForContent, ForSlice, IsLooking};
+ghost use Rattle.toll_sql.specs.Fronts.{front_slice};
+ghost use Rattle.toll_sql.specs.Reading.{ReadsNext, ReadsOn, ReportsOwnerAlone};
+ghost use Rattle.toll_sql.specs.Shown.{IsReportedUnknown, ShowsOwnRows, ShowsSlice, tables_of_owners};
+ghost use Rattle.toll_sql.specs.Schema.{is_owned};
 ghost use Rattle.toll_sql.specs.declared.table_kind.TableKind.TheVariants.{Materials};
 
 use crate::creating::every_table;
+use crate::fault::MemoryLack;
 use crate::listing::read_owners;
 use crate::reading::read_table;
 use crate::table_kind::TableKind;
@@ -36,21 +37,23 @@ const UNOWNED: usize = 3;
 /// owner holds whatever rows the tables have of others.
 pub fn read_slice<S: Alter>(
     conn: &mut Connection<S>,
+    lack: &mut MemoryLack,
     alloc: Global,
     owner: &Name,
 ) -> Result<Option<Slice>, KeepFault>
     ensures looks { IsLooking (state S.Store conn.old) (state S.Store conn.new) result }
-    ensures reads { ForHeld (state S.Store conn.old) (state S.Store conn.new) (λ c. IfOk result (λ slice. slice ≡ slice_of c owner.now)) }
+    ensures reads { ForContent (state S.Store conn.old) (state S.Store conn.new) (λ c. IfOk result (λ slice. slice ≡ slice_of c owner.now)) }
     ensures shown { ShowsSlice owner.now (state S.Store conn.old) (state S.Store conn.new) result }
-    ensures known { HasCleanDisk (state S.Store conn.new) → IfOk result (λ slice. slice ≡ None → IsToldUnknown (state S.Store conn.old).now owner.now) }
-    ensures whole { ForHeld (state S.Store conn.old) (state S.Store conn.new) (λ c. ContentKeepsRules c → result ≢ Err KeepFault.Damaged) }
-    ensures alone { TellsAlone owner.now (state S.Store conn.old) (state S.Store conn.new) result }
+    ensures known { HasCleanDisk (state S.Store conn.new) → IfOk result (λ slice. slice ≡ None → IsReportedUnknown (state S.Store conn.old).now owner.now) }
+    ensures whole { ForContent (state S.Store conn.old) (state S.Store conn.new) (λ c. ContentKeepsRules c → result ≢ Err KeepFault.Damaged) }
+    ensures alone { ReportsOwnerAlone owner.now (state S.Store conn.old) (state S.Store conn.new) result }
+    ensures lack { result ≡ Err KeepFault.Memory → IsTrue lack.new.is_noted }
 {
-    let owners = read_owners(conn, alloc)?;
+    let owners = read_owners(conn, lack, alloc)?;
     if !is_known(&owners, owner) {
         return Ok(None);
     }
-    let slice = read_rows_of(conn, alloc, owner)?;
+    let slice = read_rows_of(conn, lack, alloc, owner)?;
     Ok(Some(slice))
 }
 
@@ -70,32 +73,36 @@ fn is_among(owners: &[OwnerRow], owner: &Name) -> bool
 /// All rows of the owner, whether it is known or not.
 pub fn read_rows_of<S: Alter>(
     conn: &mut Connection<S>,
+    lack: &mut MemoryLack,
     alloc: Global,
     owner: &Name,
 ) -> Result<Slice, KeepFault>
     requires { HasCleanDisk (state S.Store conn.old) → IsTrue (state S.Store conn.old).is_open }
     ensures looks { IsLooking (state S.Store conn.old) (state S.Store conn.new) result }
     ensures reads { ForSlice owner.now (state S.Store conn.old) (state S.Store conn.new) (λ s. IfOk result (λ slice. slice ≡ s)) }
-    ensures shown { Shows tables_of_owners owner.now (state S.Store conn.old) (state S.Store conn.new) result }
+    ensures shown { ShowsOwnRows tables_of_owners owner.now (state S.Store conn.old) (state S.Store conn.new) result }
     ensures whole { ForSlice owner.now (state S.Store conn.old) (state S.Store conn.new) (λ s. KeepsRules s → result ≢ Err KeepFault.Damaged) }
+    ensures lack { result ≡ Err KeepFault.Memory → IsTrue lack.new.is_noted }
 {
     let mut slice = Slice::new(alloc, *owner);
-    read_tables(conn, &mut slice, owner)?;
+    read_tables(conn, lack, &mut slice, owner)?;
     Ok(slice)
 }
 
 // Reads the owner's rows of each table whose rows belong to owners, after the tables that its rows refer to.
 fn read_tables<S: Alter>(
     conn: &mut Connection<S>,
+    lack: &mut MemoryLack,
     slice: &mut Slice,
     owner: &Name,
 ) -> Result<(), KeepFault>
     requires { HasCleanDisk (state S.Store conn.old) → IsTrue (state S.Store conn.old).is_open }
-    ensures { ReadsOn (front Materials 0) (λ s. s) tables_of_owners owner.now (state S.Store conn.old) (state S.Store conn.new) slice.old slice.new result }
+    ensures reads { ReadsOn (front_slice Materials 0) (λ s. s) tables_of_owners owner.now (state S.Store conn.old) (state S.Store conn.new) slice.old slice.new result }
+    ensures lack { result ≡ Err KeepFault.Memory → IsTrue lack.new.is_noted }
 {
     let every = every_table();
     for table in &every[UNOWNED..] {
-        read_kind(conn, slice, owner, *table)?;
+        read_kind(conn, lack, slice, owner, *table)?;
     }
     Ok(())
 }
@@ -103,24 +110,26 @@ fn read_tables<S: Alter>(
 // Reads the owner's rows of this table.
 fn read_kind<S: Alter>(
     conn: &mut Connection<S>,
+    lack: &mut MemoryLack,
     slice: &mut Slice,
     owner: &Name,
     table: TableKind,
 ) -> Result<(), KeepFault>
-    ensures { is_owned table ≡ true → ReadsNext table owner.now (state S.Store conn.old) (state S.Store conn.new) slice.old slice.new result }
+    ensures reads { is_owned table ≡ true → ReadsNext table owner.now (state S.Store conn.old) (state S.Store conn.new) slice.old slice.new result }
+    ensures lack { result ≡ Err KeepFault.Memory → IsTrue lack.new.is_noted }
 {
     match table {
-        TableKind::Materials => read_table::<S, MaterialRow>(conn, slice, owner),
-        TableKind::Tests => read_table::<S, TestRow>(conn, slice, owner),
-        TableKind::Recipes => read_table::<S, RecipeRow>(conn, slice, owner),
-        TableKind::Requirements => read_table::<S, RequirementRow>(conn, slice, owner),
-        TableKind::Orders => read_table::<S, OrderRow>(conn, slice, owner),
-        TableKind::Batches => read_table::<S, BatchRow>(conn, slice, owner),
-        TableKind::Lots => read_table::<S, LotRow>(conn, slice, owner),
-        TableKind::Sublots => read_table::<S, SublotRow>(conn, slice, owner),
-        TableKind::Moves => read_table::<S, MoveRow>(conn, slice, owner),
-        TableKind::Results => read_table::<S, ResultRow>(conn, slice, owner),
-        TableKind::Voids => read_table::<S, VoidRow>(conn, slice, owner),
+        TableKind::Materials => read_table::<S, MaterialRow>(conn, lack, slice, owner),
+        TableKind::Tests => read_table::<S, TestRow>(conn, lack, slice, owner),
+        TableKind::Recipes => read_table::<S, RecipeRow>(conn, lack, slice, owner),
+        TableKind::Requirements => read_table::<S, RequirementRow>(conn, lack, slice, owner),
+        TableKind::Orders => read_table::<S, OrderRow>(conn, lack, slice, owner),
+        TableKind::Batches => read_table::<S, BatchRow>(conn, lack, slice, owner),
+        TableKind::Lots => read_table::<S, LotRow>(conn, lack, slice, owner),
+        TableKind::Sublots => read_table::<S, SublotRow>(conn, lack, slice, owner),
+        TableKind::Moves => read_table::<S, MoveRow>(conn, lack, slice, owner),
+        TableKind::Results => read_table::<S, ResultRow>(conn, lack, slice, owner),
+        TableKind::Voids => read_table::<S, VoidRow>(conn, lack, slice, owner),
         TableKind::Meta | TableKind::Owners | TableKind::Units => Ok(()),
     }
 }

@@ -1,20 +1,29 @@
 //! The keep over SQLite.
-ghost use Rattle.std.specs.Prelude.{◌≡◌, ◌≢◌, Err, true, false, None, List, IfOk, IsTrue, OnOk};
+ghost use Rattle.std.specs.Prelude.{◌≡◌, ◌≢◌, Err, true, false, None, List, [], IfOk, IsTrue, OnOk};
 ghost use Rattle.sqlite.specs.Held.{state};
 ghost use Rattle.sqlite.specs.State.{HasCleanDisk};
 ghost use Rattle.toll_base.specs.Bytes.{Bytes};
-ghost use Rattle.toll_keep.specs.Content.{Content};
-ghost use Rattle.toll_keep.specs.Goes.{closes, IsReading};
-ghost use Rattle.toll_keep.specs.Holding.{DrawsFor, TellsRows, TellsTrace};
-ghost use Rattle.toll_keep.specs.Meaning.{OverHeld};
-ghost use Rattle.toll_keep.specs.Reads.{IsKept, ReadsOn};
-ghost use Rattle.toll_sql.specs.Asking.{IsAskedBehind};
+ghost use Rattle.toll_trace.specs.Edges.{AreEdges, IsEdge};
+ghost use Rattle.toll_keep.specs.Content.{Content, slice_of};
+ghost use Rattle.toll_keep.specs.CallEffects.{closes_keep, IsReading};
+ghost use Rattle.toll_keep.specs.Holding.{DrawsFor, GivesRows, GivesTrace, IsEdgeOfSome, IsHolder};
+ghost use Rattle.toll_keep.specs.Meaning.{OverContent};
+ghost use Rattle.toll_keep.specs.Reads.{IsContentKept, ReadsOneMore};
+ghost use Rattle.toll_sql.specs.AskedTexts.{all_text};
+ghost use Rattle.toll_sql.specs.Asking.{ForIdle, IsProbedAfter, LeavesStore};
+ghost use Rattle.toll_sql.specs.EdgeRows.{AreEdgesOf, AreOwnersEdges};
+ghost use Rattle.toll_sql.specs.Encode.{owner_cells, unit_cells};
+ghost use Rattle.toll_sql.specs.HolderRows.{ReportsHolder};
 ghost use Rattle.toll_sql.specs.Meant.{means};
+ghost use Rattle.toll_sql.specs.Shown.{AreReported, IsReportedUnknown, ShowsOwnRows, ShowsSlice, tables_of_owners};
+ghost use Rattle.toll_sql.specs.Valid.{IsOwner, IsUnit};
+ghost use Rattle.toll_sql.specs.declared.table_kind.TableKind.TheVariants.{Owners, Units};
 
-use crate::asking::find_open;
 use crate::edges::{read_all_edges, read_edges};
+use crate::fault::MemoryLack;
 use crate::holding::read_holder;
 use crate::listing::{read_owners, read_units};
+use crate::queries::find_open;
 use crate::slice_reading::{read_rows_of, read_slice};
 use crate::writing::make_changes;
 use sqlite::{Alter, Connection};
@@ -25,12 +34,19 @@ use toll_trace::{Graph, Recorded, Step, Way};
 
 /// The rows of the office in the tables of one SQLite store. It remembers nothing: each call reads
 /// what it needs, and each `apply` is one transaction.
+///
+/// The clauses `shown` and `known` of its reading calls hold whatever rows the tables have: a call that succeeds
+/// has read rows of the office alone. By `lack`, Memory is the fault only if the call lacked memory. So of a
+/// broken row a call reports Damaged, unless it lacked memory, met a fault of the disk, or was closed before.
+/// `trace`, which no program calls on it, has none of these clauses.
 #[derive(Drop)]
 pub struct SqlKeep<S: Alter> {
     pub(crate) conn: Connection<S>,
     pub(crate) closed: bool,
     // Whether the store is open isn't known: no call was answered yet, or there was no memory to ask it.
     pub(crate) unsure: bool,
+    // Whether the latest call lacked memory.
+    pub(crate) lack: MemoryLack,
     ghost idle: { conn.in_transaction ≡ false },
     ghost unlimited: { conn.step_limit ≡ None },
     ghost sure: { unsure ≡ false → HasCleanDisk (state S.Store conn) → IsTrue (state S.Store conn).is_open },
@@ -42,15 +58,19 @@ impl<S: Alter> SqlKeep<S> {
     fn begin(&mut self) -> Result<(), KeepFault>
         ensures unsure { OnOk result (self.new.unsure ≡ true) }
         ensures reading { IsReading (means (λ k. state S.Store k.conn) (λ k. k.closed) (λ k. k.unsure)) self.old self.new result }
+        ensures stays { OnOk result (LeavesStore (state S.Store self.old.conn) (state S.Store self.new.conn) result) }
+        ensures undamaged { result ≢ Err KeepFault.Damaged }
+        ensures lack { result ≡ Err KeepFault.Memory → IsTrue self.new.lack.is_noted }
     {
         if self.closed {
             return Err(KeepFault::Closed);
         }
+        self.lack = MemoryLack::none();
         if !self.unsure {
             self.unsure = true;
             return Ok(());
         }
-        let found = find_open(&mut self.conn);
+        let found = find_open(&mut self.conn, &mut self.lack);
         self.closed = match &found {
             Ok(()) | Err(KeepFault::Memory) => false,
             Err(_) => true,
@@ -63,11 +83,12 @@ impl<S: Alter> SqlKeep<S> {
     fn pass_on<X>(&mut self, answer: Result<X, KeepFault>) -> Result<X, KeepFault>
         requires { HasCleanDisk (state S.Store self.old.conn) → OnOk answer (IsTrue (state S.Store self.old.conn).is_open) }
         ensures same { answer ≢ Err KeepFault.Memory → (result ≡ answer) × (self.new.conn ≡ self.old.conn) }
-        ensures asked { answer ≡ Err KeepFault.Memory → IsAskedBehind (state S.Store self.old.conn) (state S.Store self.new.conn) result self.new.unsure }
-        ensures closed { self.new.closed ≡ closes result }
+        ensures requested { answer ≡ Err KeepFault.Memory → IsProbedAfter (state S.Store self.old.conn) (state S.Store self.new.conn) result self.new.unsure }
+        ensures closed { self.new.closed ≡ closes_keep result }
+        ensures lack { (answer ≡ Err KeepFault.Memory → IsTrue self.old.lack.is_noted) → result ≡ Err KeepFault.Memory → IsTrue self.new.lack.is_noted }
     {
         let answer = match answer {
-            Err(KeepFault::Memory) => return self.ask_behind(),
+            Err(KeepFault::Memory) => return self.probe_after(),
             answer => answer,
         };
         self.closed = answer.is_err();
@@ -76,11 +97,13 @@ impl<S: Alter> SqlKeep<S> {
     }
 
     // The answer after Memory.
-    fn ask_behind<X>(&mut self) -> Result<X, KeepFault>
-        ensures asked { IsAskedBehind (state S.Store self.old.conn) (state S.Store self.new.conn) result self.new.unsure }
-        ensures closed { self.new.closed ≡ closes result }
+    fn probe_after<X>(&mut self) -> Result<X, KeepFault>
+        ensures requested { IsProbedAfter (state S.Store self.old.conn) (state S.Store self.new.conn) result self.new.unsure }
+        ensures closed { self.new.closed ≡ closes_keep result }
+        ensures lack { self.new.lack ≡ self.old.lack }
     {
-        let found = find_open(&mut self.conn);
+        let mut lack = self.lack;
+        let found = find_open(&mut self.conn, &mut lack);
         self.unsure = found.is_err();
         let fault = match found {
             Ok(()) => KeepFault::Memory,
@@ -93,11 +116,13 @@ impl<S: Alter> SqlKeep<S> {
     // All rows of the owner, whether it is known or not.
     fn rows_of(&mut self, alloc: Global, owner: &Name) -> Result<Slice, KeepFault>
         ensures reading { IsReading (means (λ k. state S.Store k.conn) (λ k. k.closed) (λ k. k.unsure)) self.old self.new result }
-        ensures reads { OverHeld (means (λ k. state S.Store k.conn) (λ k. k.closed) (λ k. k.unsure)) self.old self.new (λ c. TellsRows c owner.now result) }
+        ensures reads { OverContent (means (λ k. state S.Store k.conn) (λ k. k.closed) (λ k. k.unsure)) self.old self.new (λ c. GivesRows c owner.now result) }
+        ensures lack { result ≡ Err KeepFault.Memory → IsTrue self.new.lack.is_noted }
+        ensures shown { ShowsOwnRows tables_of_owners owner.now (state S.Store self.old.conn) (state S.Store self.new.conn) result }
     {
         match self.begin() {
             Ok(()) => {
-                let read = read_rows_of(&mut self.conn, alloc, owner);
+                let read = read_rows_of(&mut self.conn, &mut self.lack, alloc, owner);
                 self.pass_on(read)
             }
             Err(fault) => Err(fault),
@@ -106,9 +131,9 @@ impl<S: Alter> SqlKeep<S> {
 
     // The lots that the batches of these owners consumed and produced.
     fn recorded(&mut self, alloc: Global, owners: &[Name]) -> Result<Recorded, KeepFault>
-        ensures reads { ReadsOn (means (λ k. state S.Store k.conn) (λ k. k.closed) (λ k. k.unsure)) self.old self.new result }
-        ensures kept { IsKept (means (λ k. state S.Store k.conn) (λ k. k.closed) (λ k. k.unsure)) self.old self.new }
-        ensures told { OverHeld (means (λ k. state S.Store k.conn) (λ k. k.closed) (λ k. k.unsure)) self.old self.new (λ c. IfOk result (DrawsFor c owners.now)) }
+        ensures reads { ReadsOneMore (means (λ k. state S.Store k.conn) (λ k. k.closed) (λ k. k.unsure)) self.old self.new result }
+        ensures kept { IsContentKept (means (λ k. state S.Store k.conn) (λ k. k.closed) (λ k. k.unsure)) self.old self.new }
+        ensures reported { OverContent (means (λ k. state S.Store k.conn) (λ k. k.closed) (λ k. k.unsure)) self.old self.new (λ c. IfOk result (DrawsFor c owners.now)) }
     {
         let mut recorded = Recorded::new(alloc);
         for owner in owners {
@@ -126,7 +151,7 @@ fn trace_recorded(
     from: &LotId,
     way: Way,
 ) -> Result<Vec<Step>, AllocError>
-    ensures { (c : Content) (owners : List Bytes) → DrawsFor c owners recorded → TellsTrace c owners from.now way result }
+    ensures { (c : Content) (owners : List Bytes) → DrawsFor c owners recorded → GivesTrace c owners from.now way result }
 {
     Graph::of_recorded(alloc, recorded)?.trace(alloc, from, way)
 }
@@ -134,60 +159,102 @@ fn trace_recorded(
 impl<S: Alter> Keep for SqlKeep<S> {
     ghost meaning = { means (λ k. state S.Store k.conn) (λ k. k.closed) (λ k. k.unsure) };
 
-    fn slice(&mut self, alloc: Global, owner: &Name) -> Result<Option<Slice>, KeepFault> {
+    fn slice(&mut self, alloc: Global, owner: &Name) -> Result<Option<Slice>, KeepFault>
+        ensures reading { IsReading (means (λ k. state S.Store k.conn) (λ k. k.closed) (λ k. k.unsure)) self.old self.new result }
+        ensures reads { OverContent (means (λ k. state S.Store k.conn) (λ k. k.closed) (λ k. k.unsure)) self.old self.new
+            (λ c. IfOk result (λ slice. slice ≡ slice_of c owner.now)) }
+        ensures lack { result ≡ Err KeepFault.Memory → IsTrue self.new.lack.is_noted }
+        ensures shown { ShowsSlice owner.now (state S.Store self.old.conn) (state S.Store self.new.conn) result }
+        ensures known { ForIdle (state S.Store self.old.conn) (state S.Store self.new.conn)
+            (λ db. IfOk result (λ slice. slice ≡ None → IsReportedUnknown db owner.now)) }
+    {
         match self.begin() {
             Ok(()) => {
-                let read = read_slice(&mut self.conn, alloc, owner);
+                let read = read_slice(&mut self.conn, &mut self.lack, alloc, owner);
                 self.pass_on(read)
             }
             Err(fault) => Err(fault),
         }
     }
 
-    fn owners(&mut self, alloc: Global) -> Result<Vec<OwnerRow>, KeepFault> {
+    fn owners(&mut self, alloc: Global) -> Result<Vec<OwnerRow>, KeepFault>
+        ensures reading { IsReading (means (λ k. state S.Store k.conn) (λ k. k.closed) (λ k. k.unsure)) self.old self.new result }
+        ensures reads { OverContent (means (λ k. state S.Store k.conn) (λ k. k.closed) (λ k. k.unsure)) self.old self.new
+            (λ c. IfOk result (λ rows. rows.items ≡ c.owners)) }
+        ensures lack { result ≡ Err KeepFault.Memory → IsTrue self.new.lack.is_noted }
+        ensures shown { ForIdle (state S.Store self.old.conn) (state S.Store self.new.conn)
+            (λ db. IfOk result (λ rows. AreReported Owners owner_cells IsOwner db rows.items)) }
+    {
         match self.begin() {
             Ok(()) => {
-                let read = read_owners(&mut self.conn, alloc);
+                let read = read_owners(&mut self.conn, &mut self.lack, alloc);
                 self.pass_on(read)
             }
             Err(fault) => Err(fault),
         }
     }
 
-    fn units(&mut self, alloc: Global) -> Result<Vec<UnitRow>, KeepFault> {
+    fn units(&mut self, alloc: Global) -> Result<Vec<UnitRow>, KeepFault>
+        ensures reading { IsReading (means (λ k. state S.Store k.conn) (λ k. k.closed) (λ k. k.unsure)) self.old self.new result }
+        ensures reads { OverContent (means (λ k. state S.Store k.conn) (λ k. k.closed) (λ k. k.unsure)) self.old self.new
+            (λ c. IfOk result (λ rows. rows.items ≡ c.units)) }
+        ensures lack { result ≡ Err KeepFault.Memory → IsTrue self.new.lack.is_noted }
+        ensures shown { ForIdle (state S.Store self.old.conn) (state S.Store self.new.conn)
+            (λ db. IfOk result (λ rows. AreReported Units unit_cells IsUnit db rows.items)) }
+    {
         match self.begin() {
             Ok(()) => {
-                let read = read_units(&mut self.conn, alloc);
+                let read = read_units(&mut self.conn, &mut self.lack, alloc);
                 self.pass_on(read)
             }
             Err(fault) => Err(fault),
         }
     }
 
-    fn holder(&mut self, _alloc: Global, unit: &Name) -> Result<Option<Holder>, KeepFault> {
+    fn holder(&mut self, _alloc: Global, unit: &Name) -> Result<Option<Holder>, KeepFault>
+        ensures reading { IsReading (means (λ k. state S.Store k.conn) (λ k. k.closed) (λ k. k.unsure)) self.old self.new result }
+        ensures reads { OverContent (means (λ k. state S.Store k.conn) (λ k. k.closed) (λ k. k.unsure)) self.old self.new
+            (λ c. IfOk result (IsHolder c unit.now)) }
+        ensures lack { result ≡ Err KeepFault.Memory → IsTrue self.new.lack.is_noted }
+        ensures shown { ForIdle (state S.Store self.old.conn) (state S.Store self.new.conn) (λ db. ReportsHolder unit.now db.trees result) }
+    {
         match self.begin() {
             Ok(()) => {
-                let read = read_holder(&mut self.conn, unit);
+                let read = read_holder(&mut self.conn, &mut self.lack, unit);
                 self.pass_on(read)
             }
             Err(fault) => Err(fault),
         }
     }
 
-    fn edges(&mut self, alloc: Global, owner: &Name) -> Result<Vec<Edge>, KeepFault> {
+    fn edges(&mut self, alloc: Global, owner: &Name) -> Result<Vec<Edge>, KeepFault>
+        ensures reading { IsReading (means (λ k. state S.Store k.conn) (λ k. k.closed) (λ k. k.unsure)) self.old self.new result }
+        ensures reads { OverContent (means (λ k. state S.Store k.conn) (λ k. k.closed) (λ k. k.unsure)) self.old self.new
+            (λ c. IfOk result (λ edges. AreEdges (IsEdge (c.rows owner.now)) edges.items)) }
+        ensures lack { result ≡ Err KeepFault.Memory → IsTrue self.new.lack.is_noted }
+        ensures shown { ForIdle (state S.Store self.old.conn) (state S.Store self.new.conn)
+            (λ db. IfOk result (λ edges. AreOwnersEdges db owner.now edges.items)) }
+    {
         match self.begin() {
             Ok(()) => {
-                let read = read_edges(&mut self.conn, alloc, owner);
+                let read = read_edges(&mut self.conn, &mut self.lack, alloc, owner);
                 self.pass_on(read)
             }
             Err(fault) => Err(fault),
         }
     }
 
-    fn all_edges(&mut self, alloc: Global) -> Result<Vec<Edge>, KeepFault> {
+    fn all_edges(&mut self, alloc: Global) -> Result<Vec<Edge>, KeepFault>
+        ensures reading { IsReading (means (λ k. state S.Store k.conn) (λ k. k.closed) (λ k. k.unsure)) self.old self.new result }
+        ensures reads { OverContent (means (λ k. state S.Store k.conn) (λ k. k.closed) (λ k. k.unsure)) self.old self.new
+            (λ c. IfOk result (λ edges. AreEdges (IsEdgeOfSome c) edges.items)) }
+        ensures lack { result ≡ Err KeepFault.Memory → IsTrue self.new.lack.is_noted }
+        ensures shown { ForIdle (state S.Store self.old.conn) (state S.Store self.new.conn)
+            (λ db. IfOk result (λ edges. AreEdgesOf db all_text [] edges.items)) }
+    {
         match self.begin() {
             Ok(()) => {
-                let read = read_all_edges(&mut self.conn, alloc);
+                let read = read_all_edges(&mut self.conn, &mut self.lack, alloc);
                 self.pass_on(read)
             }
             Err(fault) => Err(fault),
@@ -217,11 +284,11 @@ impl<S: Alter> Keep for SqlKeep<S> {
         }
     }
 
-    ghost use Rattle.toll_keep.specs.Goes.{among-more};
+    ghost use Rattle.toll_keep.specs.CallEffects.{among-more};
     ghost use Rattle.toll_sql.specs.Holds.{Holds};
-    ghost use Rattle.toll_sql.specs.Laws.{one_left, open_once};
+    ghost use Rattle.toll_sql.specs.Laws.{leaves_one, open_once};
 
-    ghost settled = { λ k c honest live held. one_left _ c (λ db may. S.Store.settled k.conn.store db live.is_open may) (held live) };
+    ghost settled = { λ k c honest live held. leaves_one _ c (λ db may. S.Store.settled k.conn.store db live.is_open may) (held live) };
 
     ghost lives_once = { λ k a b. open_once a b };
 

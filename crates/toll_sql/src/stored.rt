@@ -6,7 +6,7 @@ ghost use Rattle.toll_base.specs.Bytes.{Bytes};
 ghost use Rattle.toll_base.specs.Slice.{Slice};
 ghost use Rattle.toll_base.specs.declared.rows.Row.{Row as OfficeRow};
 ghost use Rattle.toll_sql.specs.Cells.{columns_from};
-ghost use Rattle.toll_sql.specs.Tables.{width_of};
+ghost use Rattle.toll_sql.specs.Schema.{width_of};
 ghost use Rattle.toll_sql.specs.declared.table_kind.TableKind.{TableKind as Kinds};
 
 use crate::table_kind::TableKind;

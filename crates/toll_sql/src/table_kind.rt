@@ -1,6 +1,6 @@
 //! The tables, and the texts of the statements on them. Written by tools/sql-texts.
 ghost use Rattle.std.specs.Prelude.{◌≡◌};
-ghost use Rattle.toll_sql.specs.Tables.{create_text, put_text, select_text, is_owned};
+ghost use Rattle.toll_sql.specs.Schema.{create_text, put_text, select_text, is_owned};
 
 /// A table.
 #[derive(Clone, Copy)]
@@ -94,8 +94,8 @@ impl TableKind {
         }
     }
 
-    /// The text that reads the owner's rows, or all of a table that owners do not part, in the order of
-    /// the key.
+    /// The text that reads the owner's rows, or all of a table that isn't divided by owner, in the order
+    /// of the key.
     pub fn select_text(self) -> &'static str
         ensures { result.now ≡ select_text self }
     {

@@ -6,14 +6,14 @@ ghost use Rattle.sqlite.specs.State.{HasCleanDisk, IsUnchanged};
 ghost use Rattle.sqlite.specs.declared.types.Value.TheVariants.{Text};
 ghost use Rattle.toll_sql.specs.Asked.{AreReadBy, meta_text};
 ghost use Rattle.toll_sql.specs.Asking.{IsQuerying, OverOurs};
-ghost use Rattle.toll_sql.specs.First.{AreFirst, HasVersion, IsVersionIn, Tells, meta_rows};
-ghost use Rattle.toll_sql.specs.Opening.{FindsVersion, IsAskedInside, IsLeft, IsUnreadFor};
+ghost use Rattle.toll_sql.specs.First.{AreFirst, HasVersion, IsVersionIn, HasVersionRow, meta_rows};
+ghost use Rattle.toll_sql.specs.Opening.{FindsVersion, IsQueryInside, LeavesTables, IsUnreadFor};
 ghost use Rattle.toll_sql.specs.Rows.{AreAll};
 ghost use Rattle.toll_sql.specs.Stores.{LiesIdle};
 ghost use Rattle.toll_sql.specs.declared.table_kind.TableKind.TheVariants.{Meta};
 
-use crate::asking::all_rows;
 use crate::cells::number_at;
+use crate::queries::all_rows;
 use crate::table_kind::TableKind;
 use sqlite::types::ValueRef;
 use sqlite::{Alter, Connection, Error, Row, Transaction};
@@ -47,8 +47,8 @@ pub(crate) fn version_in(rows: &[Row]) -> Option<u64>
 /// The version of the store, if it has one. Its tables are ours.
 pub(crate) fn read_version<S: Alter>(conn: &mut Connection<S>) -> Result<Option<u64>, Error>
     ensures asks { IsQuerying (state S.Store conn.old) (state S.Store conn.new) result }
-    ensures version { OverOurs (state S.Store conn.old) (state S.Store conn.new) (λ db. (n : ℕ) → HasVersion n db → IfOk result (λ told. told ≡ Some n)) }
-    ensures told { OverOurs (state S.Store conn.old) (state S.Store conn.new) (λ db. IfOk result (λ told. IfSome told (λ n. Tells n (meta_rows db)))) }
+    ensures version { OverOurs (state S.Store conn.old) (state S.Store conn.new) (λ db. (n : ℕ) → HasVersion n db → IfOk result (λ reported. reported ≡ Some n)) }
+    ensures reported { OverOurs (state S.Store conn.old) (state S.Store conn.new) (λ db. IfOk result (λ reported. IfSome reported (λ n. HasVersionRow n (meta_rows db)))) }
     ensures found { HasCleanDisk (state S.Store conn.new) → IfOk result (FindsVersion (state S.Store conn.old).now) }
 {
     let rows = all_rows(conn, TableKind::Meta)?;
@@ -59,19 +59,19 @@ pub(crate) fn read_version<S: Alter>(conn: &mut Connection<S>) -> Result<Option<
 pub(crate) fn find_version<S: Alter>(conn: &mut Connection<S>) -> Result<Option<u64>, Error>
     requires autocommit { conn.old.in_transaction ≡ false }
     requires settled { LiesIdle (state S.Store conn.old) }
-    ensures left { IsLeft (state S.Store conn.old) (state S.Store conn.new) result }
+    ensures left { LeavesTables (state S.Store conn.old) (state S.Store conn.new) result }
     ensures found { HasCleanDisk (state S.Store conn.new) → IfOk result (FindsVersion (state S.Store conn.old).now) }
     ensures unread { HasCleanDisk (state S.Store conn.new) → IfErr result (IsUnreadFor conn.old.step_limit (state S.Store conn.old).now) }
 {
     let mut tx = conn.transaction();
-    let rows = ask_version(&mut tx)?;
+    let rows = query_version(&mut tx)?;
     Ok(version_in(rows.as_slice()))
 }
 
 // The rows of `meta`, in a transaction that has written nothing.
-fn ask_version<S: Alter>(tx: &mut Transaction<'_, S>) -> Result<Vec<Row>, Error>
+fn query_version<S: Alter>(tx: &mut Transaction<'_, S>) -> Result<Vec<Row>, Error>
     ensures same_reference { tx.new.conn.ghost_name ≡ tx.old.conn.ghost_name }
-    ensures asks { IsAskedInside (state S.Store tx.old.conn.now) (state S.Store tx.new.conn.now) result }
+    ensures asks { IsQueryInside (state S.Store tx.old.conn.now) (state S.Store tx.new.conn.now) result }
     ensures read { HasCleanDisk (state S.Store tx.new.conn.now) → IfOk result (λ rows. AreReadBy (state S.Store tx.old.conn.now).now meta_text rows.items) }
     ensures unread { HasCleanDisk (state S.Store tx.new.conn.now) → IfErr result (IsUnreadFor tx.old.conn.now.step_limit (state S.Store tx.old.conn.now).now) }
 {
@@ -83,10 +83,10 @@ pub(crate) fn read_first_version<S: Alter>(conn: &mut Connection<S>) -> Result<O
     requires autocommit { conn.old.in_transaction ≡ false }
     requires settled { LiesIdle (state S.Store conn.old) }
     requires first { AreFirst (state S.Store conn.old).now.schema }
-    ensures left { IsLeft (state S.Store conn.old) (state S.Store conn.new) result }
+    ensures left { LeavesTables (state S.Store conn.old) (state S.Store conn.new) result }
     ensures unchanged { HasCleanDisk (state S.Store conn.new) → OnOk result (IsUnchanged (state S.Store conn.old) (state S.Store conn.new)) }
-    ensures version { HasCleanDisk (state S.Store conn.new) → (n : ℕ) → HasVersion n (state S.Store conn.old).now.trees → IfOk result (λ told. told ≡ Some n) }
-    ensures told { HasCleanDisk (state S.Store conn.new) → IfOk result (λ told. IfSome told (λ n. Tells n (meta_rows (state S.Store conn.old).now.trees))) }
+    ensures version { HasCleanDisk (state S.Store conn.new) → (n : ℕ) → HasVersion n (state S.Store conn.old).now.trees → IfOk result (λ reported. reported ≡ Some n) }
+    ensures reported { HasCleanDisk (state S.Store conn.new) → IfOk result (λ reported. IfSome reported (λ n. HasVersionRow n (meta_rows (state S.Store conn.old).now.trees))) }
     ensures found { HasCleanDisk (state S.Store conn.new) → IfOk result (FindsVersion (state S.Store conn.old).now) }
 {
     let rows = first_rows(conn)?;
@@ -98,7 +98,7 @@ fn first_rows<S: Alter>(conn: &mut Connection<S>) -> Result<Vec<Row>, Error>
     requires autocommit { conn.old.in_transaction ≡ false }
     requires settled { LiesIdle (state S.Store conn.old) }
     requires first { AreFirst (state S.Store conn.old).now.schema }
-    ensures left { IsLeft (state S.Store conn.old) (state S.Store conn.new) result }
+    ensures left { LeavesTables (state S.Store conn.old) (state S.Store conn.new) result }
     ensures unchanged { HasCleanDisk (state S.Store conn.new) → OnOk result (IsUnchanged (state S.Store conn.old) (state S.Store conn.new)) }
     ensures rows { HasCleanDisk (state S.Store conn.new) → IfOk result (λ rows. AreAll Meta (state S.Store conn.old).now.trees rows.items) }
     ensures read { HasCleanDisk (state S.Store conn.new) → IfOk result (λ rows. AreReadBy (state S.Store conn.old).now meta_text rows.items) }

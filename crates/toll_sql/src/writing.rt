@@ -5,7 +5,7 @@ ghost use Rattle.sqlite.specs.State.{HasCleanDisk, Survives};
 ghost use Rattle.sqlite.specs.Values.{bound};
 ghost use Rattle.toll_base.specs.declared.decision.Change.TheVariants.{Put};
 ghost use Rattle.toll_sql.specs.Causes.{Reason};
-ghost use Rattle.toll_sql.specs.Create.{IsWhole};
+ghost use Rattle.toll_sql.specs.Create.{IsWholeOrNothing};
 ghost use Rattle.toll_sql.specs.Stores.{Applies, IsApplied, IsReady, IsWriting, LeavesPut, MakesAll, MakesPut, StaysOnErr, WritesRow};
 
 use crate::encode::{
@@ -62,7 +62,7 @@ fn put_or_none<S: Alter>(
     changes: &[Change],
 ) -> Result<(), Error>
     requires { conn.old.in_transaction ≡ false }
-    ensures whole { IsWhole IsReady (IsApplied changes.now (state S.Store conn.old).now) (state S.Store conn.old) (state S.Store conn.new) result }
+    ensures whole { IsWholeOrNothing IsReady (IsApplied changes.now (state S.Store conn.old).now) (state S.Store conn.old) (state S.Store conn.new) result }
 {
     // This question is for the proof alone: outside a transaction nothing is pending.
     let _autocommit = conn.is_autocommit();

@@ -1,24 +1,24 @@
--- Rows whose keys begin with their lots stand in the order of their lots.
+-- Rows whose keys begin with their lots are in the order of their lots.
 use Rattle.std.proofs.Common.{◌≡◌, zero, suc, ◌+◌, false, List, [], ◌∷◌, refl, ap, ◌∙◌, arith}
 use Rattle.toll_stock.proofs.Common.{nat_list_cmp_total, IsStrictlySortedBy, IsSortedByKey, is_lt, is_gt, ordering_then, ordering_reverse, Ordering, Less, Equal, Greater, Bytes, bytes_cmp, pair_cmp, result_cmp, IsInKeyOrder, ResultRow, SublotRow}
 
--- what comes first is not above where the whole is not
+-- The first comparison isn't greater if the whole one isn't.
 pub first_not_above : (r s : Ordering) → is_gt (ordering_then r s) ≡ false → is_gt r ≡ false
 first_not_above Less s h = refl
 first_not_above Equal s h = refl
 first_not_above Greater s h = h
 
-turned : (r : Ordering) → is_gt r ≡ false → is_lt (ordering_reverse r) ≡ false
-turned Less h = refl
-turned Equal h = refl
-turned Greater h = h
+not_less_reversed : (r : Ordering) → is_gt r ≡ false → is_lt (ordering_reverse r) ≡ false
+not_less_reversed Less h = refl
+not_less_reversed Equal h = refl
+not_less_reversed Greater h = h
 
 module _ {K R : Type 0} (cmp : K → K → Ordering) (key : R → K) (lot_of : R → Bytes) (begins : (a b : R) → is_gt (cmp (key a) (key b)) ≡ false → is_gt (bytes_cmp (lot_of a) (lot_of b)) ≡ false) where
   in_lot_order : (rows : List R) → IsInKeyOrder cmp key rows → IsSortedByKey lot_of bytes_cmp rows
   unfolding IsStrictlySortedBy
   in_lot_order [] ordered k d _ lt = absurd (omega arith)
   in_lot_order (x ∷ []) ordered k d _ lt = absurd (omega arith)
-  in_lot_order (x ∷ y ∷ ys) ordered zero d _ lt = ap is_lt (nat_list_cmp_total.antisymm (lot_of y) (lot_of x)) ∙ turned _ (begins x y (ap is_gt ordered.0.0))
+  in_lot_order (x ∷ y ∷ ys) ordered zero d _ lt = ap is_lt (nat_list_cmp_total.antisymm (lot_of y) (lot_of x)) ∙ not_less_reversed _ (begins x y (ap is_gt ordered.0.0))
   in_lot_order (x ∷ y ∷ ys) ordered (suc k) d _ lt =
       let next : suc k + 1 ≡ suc (k + 1) = omega arith in
       rw next (in_lot_order (y ∷ ys) ordered.1 k d (omega arith) (omega arith))

@@ -2,7 +2,7 @@
 use Rattle.std.proofs.Common.{◌≡◌, ℕ, ◌+◌, ◌≤◌, Bool, true, false, cond, Option, Some, refl, arith}
 use Rattle.std.specs.Option.{unwrap_or}
 
--- an amount that is put in place of another, or leaves it
+-- An amount replaces another one, or leaves it.
 pub amount_put : (b : Bool) (old : Option ℕ) (sum amount : ℕ) → (b ≡ true → sum ≡ unwrap_or old 0 + amount) → unwrap_or (cond b (Some sum) old) 0 ≡ unwrap_or old 0 + cond b amount 0
 amount_put true old sum amount is = is refl
 amount_put false old sum amount is = omega arith

@@ -5,7 +5,7 @@ use Rattle.std.specs.Cmp.{IsTotalOrder, Equal-is}
 
 -- ---- sums
 
--- alike where the terms are
+-- Sums of equal terms are equal.
 pub total-along : {X : Type 0} (f g : X → ℕ) (xs : List X) → AllByRecursion (λ x. f x ≡ g x) xs → total f xs ≡ total g xs
 total-along f g [] same = refl
 total-along f g (x ∷ xs) same = λ i. same.0 i + total-along f g xs same.1 i
@@ -18,7 +18,7 @@ pub total-zero : {X : Type 0} (xs : List X) → total (λ x. 0) xs ≡ 0
 total-zero [] = refl
 total-zero (x ∷ xs) = omega (arith, total-zero xs)
 
--- the sum of the sums along one list is that of those along the other
+-- Two sums may be taken in either order.
 pub total-swapped : {X Y : Type 0} (f : X → Y → ℕ) (xs : List X) (ys : List Y) → total (λ x. total (f x) ys) xs ≡ total (λ y. total (λ x. f x y) xs) ys
 total-swapped f [] ys = sym (total-zero ys)
 total-swapped f (x ∷ xs) ys = ap (λ n. total (f x) ys + n) (total-swapped f xs ys) ∙ sym (total-plus (f x) (λ y. total (λ z. f z y) xs) ys)
@@ -42,11 +42,11 @@ both_pass : (a b : Bool) → ◌≡◌ {A = ℕ} (cond a (cond b 1 0) 0) (cond (
 both_pass true b = refl
 both_pass false b = refl
 
--- how many pass, of those that a filter keeps
+-- how many items pass, of those that a filter keeps
 pub count-kept : {X : Type 0} (p q : X → Bool) (xs : List X) → count q (filter p xs) ≡ count (λ x. p x && q x) xs
 count-kept p q xs = total-kept p (λ x. cond (q x) 1 0) xs ∙ total-alike _ _ xs (λ x. both_pass (p x) (q x))
 
--- what is left from a place on
+-- the sum from a place on
 pub total-drop : {X : Type 0} (f : X → ℕ) (xs : List X) (i : ℕ) (d : X) → i < length xs → total f (drop i xs) ≡ f (get_or xs i d) + total f (drop (suc i) xs)
 total-drop f xs i d lt = ap (total f) (drop-cons xs i d lt)
 
@@ -66,7 +66,7 @@ module _ {K R : Type 0} (cmp : K → K → Ordering) (o : IsTotalOrder cmp) (key
   found_later x xs (y ∷ ys) above found =
       (ap (λ b. cond b (Some x) (row_at cmp key xs (key y))) (later_differs (key x) (key y) above.0) ∙ found.0, found_later x xs ys above.1 found.1)
 
-  -- each row is the one that its key finds
+  -- Each row is the one that a search for its key finds.
   pub each_found : (rows : List R) → IsInKeyOrder cmp key rows → AllByRecursion (λ r. row_at cmp key rows (key r) ≡ Some r) rows
   unfolding row_at IsStrictlySortedBy
   each_found [] ordered = tt
@@ -78,7 +78,7 @@ module _ {K R : Type 0} (cmp : K → K → Ordering) (o : IsTotalOrder cmp) (key
       ap (λ r. cond (is_eq r) (f x) 0 + total (λ r. cond (is_eq (cmp k (key r))) (f r) 0) xs) (o.congr k a (key x) tied ∙ above.0)
       ∙ omega (arith, none_later f k a xs tied above.1)
 
-  -- the sum over the rows with a key is that of the row found
+  -- The sum over the rows with a key is that of the row found.
   pub total_at : (f : R → ℕ) (rows : List R) (k : K) → IsInKeyOrder cmp key rows → total (λ r. cond (is_eq (cmp k (key r))) (f r) 0) rows ≡ option_map_or f (row_at cmp key rows k) 0
   unfolding row_at IsStrictlySortedBy
   total_at f [] k ordered = refl

@@ -11,21 +11,21 @@ use Rattle.toll_stock.specs.declared.stock.Totals.{Totals}
 
 -- ---- over a history
 
--- what is in a sublot that is known
+-- the amount in a sublot, if it is known
 abbrev pub stock_given : History → LotId → (sublot : Bytes) → Option ℕ
 stock_given H id sub = where_so (sublot_known H id sub) (stock H id sub)
 
--- the totals of a lot that is known; a split keeps them
+-- the totals of a lot, if it is known; a split doesn't change them
 abbrev pub totals_given : History → LotId → Option Totals
 totals_given H id = where_so (is_some (lot_made H id)) (record { on_hand = on_hand H id; shipped = shipped H id })
 
 -- ---- over a slice
 
--- what is in the lot's sublots, of these
+-- the amount in those of these sublots that are the lot's
 abbrev pub held_in : Bytes → List SublotRow → ℕ
 held_in lot sublots = total (λ row. if same_bytes row.lot lot then row.amount else 0) sublots
 
--- what is in the lot's sublots
+-- the amount in the lot's sublots
 abbrev pub on_hand_in : Slice → Bytes → ℕ
 on_hand_in s lot = held_in lot s.sublots
 
@@ -34,7 +34,7 @@ abbrev pub lot_shipped : Move → Option Bytes
 lot_shipped (Ship lot sublot) = Some lot
 lot_shipped _ = None
 
--- the movement is a shipment of the lot
+-- whether the movement is a shipment of the lot
 abbrev pub is_shipment_of : Bytes → Move → Bool
 is_shipment_of lot what = is_some_where (λ own. same_bytes own lot) (lot_shipped what)
 
@@ -42,7 +42,7 @@ is_shipment_of lot what = is_some_where (λ own. same_bytes own lot) (lot_shippe
 abbrev pub shipped_by : Bytes → MoveRow → ℕ
 shipped_by lot row = if is_shipment_of lot row.what then row.amount else 0
 
--- what the lot's shipments took
+-- the amount that the lot's shipments took
 abbrev pub shipped_in : Slice → Bytes → ℕ
 shipped_in s lot = total (shipped_by lot) s.moves
 
@@ -50,12 +50,12 @@ shipped_in s lot = total (shipped_by lot) s.moves
 abbrev pub totals_in : Slice → Bytes → Option Totals
 totals_in s lot = where_so (is_some (lot_at s lot)) (record { on_hand = on_hand_in s lot; shipped = shipped_in s lot })
 
--- ---- what was shipped of all lots, beside a slice
+-- ---- what was shipped of all lots, gathered from a slice
 
 -- the amount of the lot, 0 if it has none
 abbrev pub amount_of : Shipped → Bytes → ℕ
 amount_of shipped lot = unwrap_or (get bytes_cmp shipped.amounts lot) 0
 
--- the amount of each lot is what its shipments took
+-- The amount of each lot is what its shipments took.
 abbrev pub AreShippedIn : Slice → Shipped → Type 0
 AreShippedIn s shipped = (lot : Bytes) → amount_of shipped lot ≡ shipped_in s lot

@@ -1,6 +1,6 @@
 //! Dispositions of lots.
 ghost use Rattle.std.specs.Prelude.{◌≡◌, not, ◌&&◌, map, Some, [], IfOk};
-ghost use Rattle.toll_stock.specs.Common.{list_any, changes_of, KeepsRules, is_some_where, Release, Reject, by, IsDecided, Decides, DecisionKeepsRules, is_outside, PutsOnly, tables_of, latest_in, release_checks, reject_checks, tests_open};
+ghost use Rattle.toll_stock.specs.Common.{list_any, changes_of, KeepsRules, is_some_where, Release, Reject, by, IsDecided, Decides, DecisionKeepsRules, is_outside, PutsOnly, facts_of, latest_in, release_checks, reject_checks, tests_open};
 ghost use Rattle.toll_base.specs.declared.decision.Change.TheVariants as Change;
 ghost use Rattle.toll_stock.specs.LotRows.{given_disposition};
 ghost use Rattle.toll_stock.specs.Plans.{IsDispositionPlan, is_open_test};
@@ -35,7 +35,7 @@ pub fn reject(alloc: Global, slice: &Slice, lot: Name) -> Result<Decision, Alloc
 }
 
 fn plan_release(alloc: Global, slice: &Slice, lot: &Name) -> Result<Decision, AllocError>
-    ensures plan { IfOk result (IsDispositionPlan (release_checks (tables_of slice.now) lot.now) slice.now lot.now Disposition.Released) }
+    ensures plan { IfOk result (IsDispositionPlan (release_checks (facts_of slice.now) lot.now) slice.now lot.now Disposition.Released) }
     ensures kept { KeepsRules slice.now }
 {
     let owner = *slice.owner();
@@ -52,7 +52,7 @@ fn plan_release(alloc: Global, slice: &Slice, lot: &Name) -> Result<Decision, Al
 }
 
 fn plan_rejection(alloc: Global, slice: &Slice, lot: &Name) -> Result<Decision, AllocError>
-    ensures plan { IfOk result (IsDispositionPlan (reject_checks (tables_of slice.now) lot.now) slice.now lot.now Disposition.Rejected) }
+    ensures plan { IfOk result (IsDispositionPlan (reject_checks (facts_of slice.now) lot.now) slice.now lot.now Disposition.Rejected) }
     ensures kept { KeepsRules slice.now }
 {
     let owner = *slice.owner();
@@ -83,7 +83,7 @@ fn put_lot(
 
 // Whether a test of the lot's material has no latest result within its limits.
 fn are_tests_open(slice: &Slice, lot: &Name) -> bool
-    ensures { result ≡ tests_open (tables_of slice.now) lot.now }
+    ensures { result ≡ tests_open (facts_of slice.now) lot.now }
 {
     match slice.lot(lot) {
         None => false,

@@ -1,6 +1,6 @@
 //! Tests of materials.
 ghost use Rattle.std.specs.Prelude.{◌≡◌, [], ◌∷◌, IfOk};
-ghost use Rattle.toll_stock.specs.Common.{list_any, same_bytes, changes_of, KeepsRules, AddTest, by, IsDecided, Decides, DecisionKeepsRules, PutsOnly, tables_of, test_checks};
+ghost use Rattle.toll_stock.specs.Common.{list_any, same_bytes, changes_of, KeepsRules, AddTest, by, IsDecided, Decides, DecisionKeepsRules, PutsOnly, facts_of, test_checks};
 ghost use Rattle.toll_base.specs.declared.decision.Change.TheVariants as Change;
 ghost use Rattle.toll_base.specs.declared.rows.Row.TheVariants as Row;
 
@@ -32,7 +32,7 @@ pub fn add_test(
 }
 
 fn plan_test(alloc: Global, slice: &Slice, row: &TestRow) -> Result<Decision, AllocError>
-    ensures plan { IfOk result (IsDecided (test_checks (tables_of slice.now) row.now) (Change.Put slice.now.owner (Row.Test row.now) ∷ [])) }
+    ensures plan { IfOk result (IsDecided (test_checks (facts_of slice.now) row.now) (Change.Put slice.now.owner (Row.Test row.now) ∷ [])) }
     ensures kept { KeepsRules slice.now }
 {
     let owner = *slice.owner();

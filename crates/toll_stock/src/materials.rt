@@ -1,6 +1,6 @@
 //! Materials.
 ghost use Rattle.std.specs.Prelude.{◌≡◌, [], ◌∷◌, IfOk};
-ghost use Rattle.toll_stock.specs.Common.{changes_of, KeepsRules, AddMaterial, by, IsDecided, Decides, DecisionKeepsRules, PutsOnly, tables_of, material_checks};
+ghost use Rattle.toll_stock.specs.Common.{changes_of, KeepsRules, AddMaterial, by, IsDecided, Decides, DecisionKeepsRules, PutsOnly, facts_of, material_checks};
 ghost use Rattle.toll_base.specs.declared.decision.Change.TheVariants as Change;
 ghost use Rattle.toll_base.specs.declared.rows.Row.TheVariants as Row;
 
@@ -27,7 +27,7 @@ pub fn add_material(
 }
 
 fn plan_material(alloc: Global, slice: &Slice, row: &MaterialRow) -> Result<Decision, AllocError>
-    ensures plan { IfOk result (IsDecided (material_checks (tables_of slice.now) row.now) (Change.Put slice.now.owner (Row.Material row.now) ∷ [])) }
+    ensures plan { IfOk result (IsDecided (material_checks (facts_of slice.now) row.now) (Change.Put slice.now.owner (Row.Material row.now) ∷ [])) }
     ensures kept { KeepsRules slice.now }
 {
     let owner = *slice.owner();

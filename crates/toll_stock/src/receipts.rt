@@ -1,6 +1,6 @@
 //! Receipts.
 ghost use Rattle.std.specs.Prelude.{◌≡◌, IfOk};
-ghost use Rattle.toll_stock.specs.Common.{changes_of, KeepsRules, moves, Decides, DecisionKeepsRules, said, PutsOnly, tables_of, first_of};
+ghost use Rattle.toll_stock.specs.Common.{changes_of, KeepsRules, moves, Decides, DecisionKeepsRules, verdict_of_result, PutsOnly, facts_of, verdict_of_checks};
 ghost use Rattle.toll_base.specs.declared.movement.Move.TheVariants as Move;
 ghost use Rattle.toll_stock.specs.Plans.{IsReceiptPlan, received_checks};
 
@@ -81,7 +81,7 @@ fn check_receipt(
     sublot: &Name,
     amount: Amount,
 ) -> Result<(), Refusal>
-    ensures { said result ≡ first_of (received_checks (tables_of slice.now) material.now lot.now sublot.now amount) }
+    ensures { verdict_of_result result ≡ verdict_of_checks (received_checks (facts_of slice.now) material.now lot.now sublot.now amount) }
 {
     if slice.material(material).is_none() {
         return Err(Refusal::UnknownMaterial);

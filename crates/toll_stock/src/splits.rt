@@ -1,6 +1,6 @@
 //! Splits.
 ghost use Rattle.std.specs.Prelude.{◌≡◌, IfOk};
-ghost use Rattle.toll_stock.specs.Common.{changes_of, KeepsRules, moves, Decides, DecisionKeepsRules, said, PutsOnly, tables_of, first_of};
+ghost use Rattle.toll_stock.specs.Common.{changes_of, KeepsRules, moves, Decides, DecisionKeepsRules, verdict_of_result, PutsOnly, facts_of, verdict_of_checks};
 ghost use Rattle.toll_base.specs.declared.movement.Move.TheVariants as Move;
 ghost use Rattle.toll_stock.specs.Plans.{IsSplitPlan, parted_checks};
 
@@ -72,7 +72,7 @@ fn check_split(
     target: &Name,
     amount: Amount,
 ) -> Result<(), Refusal>
-    ensures { said result ≡ first_of (parted_checks (tables_of slice.now) lot.now sublot.now target.now amount) }
+    ensures { verdict_of_result result ≡ verdict_of_checks (parted_checks (facts_of slice.now) lot.now sublot.now target.now amount) }
 {
     if *sublot == *target {
         return Err(Refusal::SameSublot);

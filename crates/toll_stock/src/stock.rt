@@ -16,8 +16,8 @@ pub struct Totals {
     pub shipped: u64,
 }
 
-/// How much is in the sublot, in the measure of the lot's material; `None` if the owner has no
-/// such sublot.
+/// How much is in the sublot, in the measure of the lot's material; `None` if the owner has no such sublot.
+/// Only tests call it.
 pub fn on_hand(slice: &Slice, lot: &Name, sublot: &Name) -> Option<u64>
     ensures rows { result ≡ option_map (λ row. row.amount) (sublot_at slice.now (lot.now, sublot.now)) }
     ensures stock { (H : History) → IsRowsOf H slice.now → result ≡ stock_given H (lot_id slice.now.owner lot.now) sublot.now }

@@ -7,8 +7,8 @@ use crate::stock::{Totals, on_hand_of};
 use toll_base::{Move, MoveRow, Name, Slice};
 
 /// How much of a lot is on hand, and how much of it was shipped; `None` if the owner has no such lot. It
-/// takes no memory, and walks over the owner's movements: for the totals of many lots, see
-/// [`LotTotals`](crate::LotTotals).
+/// takes no memory, and walks over the owner's movements. Only tests call it: programs show the totals of
+/// many lots, by [`LotTotals`](crate::LotTotals).
 pub fn lot_totals(slice: &Slice, lot: &Name) -> Option<Totals>
     ensures rows { result ≡ totals_in slice.now lot.now }
     ensures totals { (H : History) → IsLawful H → IsRowsOf H slice.now → result ≡ totals_given H (lot_id slice.now.owner lot.now) }

@@ -1,6 +1,6 @@
 //! Shipments and scrapping.
 ghost use Rattle.std.specs.Prelude.{◌≡◌, IfOk};
-ghost use Rattle.toll_stock.specs.Common.{changes_of, KeepsRules, moves, Decides, DecisionKeepsRules, said, PutsOnly, tables_of, Checks, first_of, ship_checks};
+ghost use Rattle.toll_stock.specs.Common.{changes_of, KeepsRules, moves, Decides, DecisionKeepsRules, verdict_of_result, PutsOnly, facts_of, Checks, verdict_of_checks, ship_checks};
 ghost use Rattle.toll_base.specs.declared.movement.Move.TheVariants as Move;
 ghost use Rattle.toll_stock.specs.Plans.{IsWithdrawalPlan};
 
@@ -76,7 +76,7 @@ fn plan_withdrawal(
     sublot: Name,
     checked: Result<(), Refusal>,
 ) -> Result<Decision, AllocError>
-    ensures plan { (checks : Checks) → said checked ≡ first_of checks → IfOk result (IsWithdrawalPlan checks slice.now row.now lot sublot) }
+    ensures plan { (checks : Checks) → verdict_of_result checked ≡ verdict_of_checks checks → IfOk result (IsWithdrawalPlan checks slice.now row.now lot sublot) }
     ensures kept { KeepsRules slice.now }
 {
     let owner = *slice.owner();
@@ -89,7 +89,7 @@ fn plan_withdrawal(
 }
 
 fn check_shipment(slice: &Slice, lot: &Name, sublot: &Name, amount: Amount) -> Result<(), Refusal>
-    ensures { said result ≡ first_of (ship_checks (tables_of slice.now) lot.now sublot.now amount) }
+    ensures { verdict_of_result result ≡ verdict_of_checks (ship_checks (facts_of slice.now) lot.now sublot.now amount) }
 {
     let Some(known) = slice.lot(lot) else {
         return Err(Refusal::UnknownLot);

@@ -1,11 +1,10 @@
-//! Tests of keeps: that ample memory meets no refusal, and what is told of rows that were put.
+//! Tests of keeps: that ample memory meets no refusal, and that rows which were put are read back.
 
-mod again;
-mod counting;
+mod checks;
 mod first_version;
 mod holders;
+mod many;
 mod rows;
 mod segments;
 mod tables;
 mod tests;
-mod told;

@@ -4,6 +4,5 @@
 mod cuts;
 mod files;
 mod imports;
-pub(crate) mod lines;
 mod tests;
 mod usages;

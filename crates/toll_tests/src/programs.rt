@@ -3,14 +3,9 @@
 
 mod batches;
 mod day;
-pub mod fakes;
 mod faults;
-mod files;
 mod lines;
 mod long;
-mod movements;
-mod office;
-mod prints;
+pub mod prints;
 mod programs;
-mod rows;
 mod words;

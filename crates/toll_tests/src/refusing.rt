@@ -1,4 +1,4 @@
-//! A keep that once has no memory.
+//! A keep that once has no memory, and counts what is read of it.
 ghost use Rattle.std.specs.Prelude.{◌≡◌, Err, IfErr, OnOk};
 ghost use Rattle.toll_keep.specs.Meaning.{meaning_of};
 
@@ -12,7 +12,7 @@ use toll_trace::{Step, Way};
 pub enum Refused {
     /// The next `apply`.
     Apply,
-    /// Whichever call comes behind so many others.
+    /// Any call that follows this many others.
     Behind(u64),
     /// None, or none any more.
     None,
@@ -35,7 +35,7 @@ impl Refused {
         }
     }
 
-    // Which one it is behind this call.
+    // The call that is refused, counted from after this one.
     fn after(self, call: Call) -> Self {
         match self {
             Refused::Apply if call == Call::Read => Refused::Apply,
@@ -45,12 +45,14 @@ impl Refused {
     }
 }
 
-/// A keep around another one, that answers one call with [`KeepFault::Memory`], and passes on all else.
+/// A keep around another one. It answers one call with [`KeepFault::Memory`] and passes on all others.
 pub struct Refusing<K> {
     /// The keep that it is around.
     pub keep: K,
     /// The call that is refused.
     pub refused: Refused,
+    /// How many calls have read rows.
+    pub reads: u64,
 }
 
 /// By hand, since what is derived is written out at every exit of every function that owns a keep.
@@ -59,6 +61,7 @@ impl<K: Drop> Drop for Refusing<K> {
         let Refusing {
             keep: _,
             refused: _,
+            reads: _,
         } = self;
     }
 }
@@ -68,25 +71,30 @@ impl<K: Keep> Refusing<K> {
     pub fn new(keep: K, refused: Refused) -> Self
         ensures { (result.keep ≡ keep) × (result.refused ≡ refused) }
     {
-        Refusing { keep, refused }
+        Refusing {
+            keep,
+            refused,
+            reads: 0,
+        }
     }
 
-    // Whether this call is refused.
+    // Counts the call, and says whether it is refused.
     fn refuses(&mut self, call: Call) -> bool
         ensures { self.new.keep ≡ self.old.keep }
     {
         let refused = self.refused;
         self.refused = refused.after(call);
+        self.reads = self.reads.saturating_add(u64::from(call == Call::Read));
         refused.is_next(call)
     }
 }
 
 // Memory, or Closed of a closed keep: whether it is closed is seen only by asking it.
-fn refusal<T>(asked: Result<Vec<OwnerRow>, KeepFault>) -> Result<T, KeepFault>
-    ensures memory { OnOk asked (result ≡ Err KeepFault.Memory) }
-    ensures fault { IfErr asked (λ fault. result ≡ Err fault) }
+fn refusal<T>(requested: Result<Vec<OwnerRow>, KeepFault>) -> Result<T, KeepFault>
+    ensures memory { OnOk requested (result ≡ Err KeepFault.Memory) }
+    ensures fault { IfErr requested (λ fault. result ≡ Err fault) }
 {
-    match asked {
+    match requested {
         Ok(_) => Err(KeepFault::Memory),
         Err(fault) => Err(fault),
     }

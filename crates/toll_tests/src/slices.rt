@@ -1,7 +1,6 @@
 //! What the contracts of the crates that work on slices do not show: worked examples, and that ample memory
 //! meets no refusal.
 
-mod movements;
 mod print;
 mod rows;
 mod states;

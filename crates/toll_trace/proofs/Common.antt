@@ -1,4 +1,4 @@
--- Words that several proofs here use.
+-- Definitions and lemmas that several proofs here use.
 pub use Rattle.std.proofs.lemmas.Bool.{and_from, and_parts, cases_eq, cases_lt, eqb-false, eqb-true, false_from_ne_true, le-leb, leb-true, lt-ltb, not-true, not_from_false, not_from_true, or_cases, or_left, or_right}
 pub use Rattle.std.proofs.lemmas.Cmp.{eq_by_cmp_equiv, nat_cmp_total, nat_list_cmp_total, on_total, ranked, then_total, tied_itself}
 pub use Rattle.std.proofs.lemmas.Grind.{common_steps}

@@ -2,13 +2,13 @@
 use Rattle.std.proofs.Common.{ℕ, Some, None, List, refl, ap, ◌∙◌, arith}
 use Rattle.std.specs.Prelude.{Contains, if◌then◌else◌}
 use Rattle.toll_trace.proofs.Common.{filter_map, flat_map, Bytes, LotId, Edge, Role, Consumed, Produced, MoveRow}
-use Rattle.toll_trace.specs.declared.edges.Use.{Use}
+use Rattle.toll_trace.specs.declared.edges.LotUse.{LotUse}
 use Rattle.toll_trace.specs.Edges.{IsActual, IsDrawn}
 use Rattle.toll_trace.specs.Uses.{Batch, use_as, edges_from}
 use Rattle.toll_trace.proofs.Members.{Contains-filter_map, Contains-from_filter_map}
 use Rattle.toll_trace.proofs.Drawn.{used_is, same_role-refl, edge_drawn, edge_listed}
 
-abbrev used : Role → List MoveRow → List (Batch × Use)
+abbrev used : Role → List MoveRow → List (Batch × LotUse)
 used role rows = filter_map (λ (row : MoveRow). use_as role row.what) rows
 
 abbrev pub drawn : List MoveRow → List Edge
@@ -19,7 +19,7 @@ used_listed role rows row order number segment lot i is =
     Contains-filter_map (λ (row : MoveRow). use_as role row.what) rows row _ i
     (ap (use_as role) is.is ∙ ap (λ b. if b then Some ((order, number), record { segment = segment; lot = lot }) else None) (same_role-refl role))
 
-used_recorded : (role : Role) (rows : List MoveRow) (u : Batch × Use) → Contains (used role rows) u → (row : MoveRow) × Contains rows row × IsActual u.0.0 u.0.1 u.1.segment role u.1.lot row
+used_recorded : (role : Role) (rows : List MoveRow) (u : Batch × LotUse) → Contains (used role rows) u → (row : MoveRow) × Contains rows row × IsActual u.0.0 u.0.1 u.1.segment role u.1.lot row
 used_recorded role rows u i =
     let row = Contains-from_filter_map (λ (row : MoveRow). use_as role row.what) rows u i in
     (row.0, row.1, used_is role row.0 row.0.what u refl row.2)

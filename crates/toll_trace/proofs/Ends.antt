@@ -3,12 +3,12 @@ use Rattle.std.proofs.Common.{◌≡◌, refl}
 use Rattle.toll_trace.proofs.Common.{LotId, Edge}
 use Rattle.toll_trace.specs.declared.way.Way.{Way}
 use Rattle.toll_trace.specs.declared.way.Way.TheVariants.{Back, Forward}
-use Rattle.toll_trace.specs.Chain.{edge_of, ends}
+use Rattle.toll_trace.specs.Chain.{edge_of, step_ends}
 
-pub ends_of : (way : Way) (a b : LotId) → ends way (edge_of way a b) ≡ (a, b)
+pub ends_of : (way : Way) (a b : LotId) → step_ends way (edge_of way a b) ≡ (a, b)
 ends_of Back a b = refl
 ends_of Forward a b = refl
 
-pub edge_of_ends : (way : Way) (e : Edge) → edge_of way (ends way e).0 (ends way e).1 ≡ e
+pub edge_of_ends : (way : Way) (e : Edge) → edge_of way (step_ends way e).0 (step_ends way e).1 ≡ e
 edge_of_ends Back e = refl
 edge_of_ends Forward e = refl

@@ -20,17 +20,17 @@ lot_is_found (s ∷ found) b h = elim (Contains-cases s.lot (lots_of found) b h)
   | inr h ↦ or_right (is_eq (lot_cmp b s.lot)) _ (lot_is_found found b h)
 ]
 
-pub found_lot : (found : List Step) (b : LotId) → is_found found b ≡ true → Contains (lots_of found) b
-found_lot [] b h = absurd (false≢true h)
-found_lot (s ∷ found) b h = elim (or_cases _ _ h) [
+pub level_found_lot : (found : List Step) (b : LotId) → is_found found b ≡ true → Contains (lots_of found) b
+level_found_lot [] b h = absurd (false≢true h)
+level_found_lot (s ∷ found) b h = elim (or_cases _ _ h) [
   | inl e ↦ subst (λ l. Contains (s.lot ∷ lots_of found) l) (sym (tells_apart lots_exact b s.lot e)) (Contains-here s.lot (lots_of found))
-  | inr h ↦ Contains-later s.lot (lots_of found) b (found_lot found b h)
+  | inr h ↦ Contains-later s.lot (lots_of found) b (level_found_lot found b h)
 ]
 
 pub not_found_lot : (found : List Step) (b : LotId) → is_found found b ≡ false → Contains (lots_of found) b → ⊥
 not_found_lot found b h i = false≢true (sym h ∙ lot_is_found found b i)
 
--- a step more finds its lot more
+-- One more step finds one more lot.
 pub is_found-push : (found : List Step) (s : Step) (b : LotId) → is_found (found ++ s ∷ []) b ≡ cond (is_eq (lot_cmp s.lot b)) true (is_found found b)
 is_found-push [] s b = ap (λ t. t || false) ((eq_by_cmp_equiv lots_total).symm b s.lot) ∙ go (is_eq (lot_cmp s.lot b))
   where
@@ -52,7 +52,7 @@ lots_more [] k [] = refl
 lots_more [] k (b ∷ lots) = ap (λ l. b ∷ l) (lots_more [] k lots)
 lots_more (s ∷ found) k lots = ap (λ l. s.lot ∷ l) (lots_more found k lots)
 
--- all lots that end a chain of at most k edges are found, each with its fewest
+-- All lots that end a chain of at most k edges are found, each with its fewest edges.
 pub record IsReached (E : LotId → LotId → Type 0) (a : LotId) (found : List Step) (k : ℕ) : Type 0 where
   pub only : (s : Step) → Contains found s → IsChain E a s.steps s.lot
   pub fewest : (s : Step) → Contains found s → (n : ℕ) → IsChain E a n s.lot → s.steps ≤ n
@@ -80,17 +80,17 @@ reached_start E a = record {
     every b zero le c = subst (λ l. Contains (a ∷ []) l) c (Contains-here a [])
     every b (suc n) le c = absurd (omega arith)
 
--- where a level is empty, all is found
-all_found : (E : LotId → LotId → Type 0) (a : LotId) (found : List Step) (k : ℕ) → IsReached E a found k → IsLevel E found [] → (b : LotId) (n : ℕ) → IsChain E a n b → Contains (lots_of found) b
-all_found E a found k reached level b zero c = reached.every b zero (omega arith) c
-all_found E a found k reached level b (suc n) c =
-    elim (level.every c.0 b (all_found E a found k reached level c.0 n c.1) c.2) [ inl h ↦ absurd (Contains-none b h) | inr f ↦ f ]
+-- If a level is empty, all lots are found.
+every_lot_found : (E : LotId → LotId → Type 0) (a : LotId) (found : List Step) (k : ℕ) → IsReached E a found k → IsLevel E found [] → (b : LotId) (n : ℕ) → IsChain E a n b → Contains (lots_of found) b
+every_lot_found E a found k reached level b zero c = reached.every b zero (omega arith) c
+every_lot_found E a found k reached level b (suc n) c =
+    elim (level.every c.0 b (every_lot_found E a found k reached level c.0 n c.1) c.2) [ inl h ↦ absurd (Contains-none b h) | inr f ↦ f ]
 
 pub trace_done : (E : LotId → LotId → Type 0) (a : LotId) (found : List Step) (k : ℕ) → IsReached E a found k → IsLevel E found [] → IsTrace E a found
 trace_done E a found k reached level = record {
   only = reached.only;
   fewest = reached.fewest;
-  every = all_found E a found k reached level;
+  every = every_lot_found E a found k reached level;
   ordered = reached.ordered;
 }
 
@@ -105,7 +105,7 @@ sorted_level k (b ∷ lots) h = (all_of_members (λ t. step_cmp (step_at k b) t 
 nat_less : (m n : ℕ) → m < n → nat_cmp m n ≡ Less
 nat_less m n lt = simp (lt-ltb m n lt)
 
--- the level after k is added
+-- The level after k is added.
 pub reached_more : (E : LotId → LotId → Type 0) (a : LotId) (found : List Step) (k : ℕ) (lots : List LotId) → IsReached E a found k → IsLevel E found lots → IsReached E a (found ++ map (step_at (k + 1)) lots) (k + 1)
 reached_more E a found k lots reached level = record {
   only = λ s h. elim (Contains-append_cases found fresh s h) [ inl i ↦ reached.only s i | inr i ↦ subst (λ t. IsChain E a t.steps t.lot) (of s i).2 (chain (of s i).0 (of s i).1) ];
@@ -124,7 +124,7 @@ reached_more E a found k lots reached level = record {
     later : (s t : Step) → Contains found s → Contains fresh t → step_cmp s t ≡ Less
     later s t i j = let le = reached.within s i in let lt : s.steps < t.steps = subst (λ t. s.steps < t.steps) (of t j).2 (omega arith) in ap (λ o. ordering_then o (lot_cmp s.lot t.lot)) (nat_less s.steps t.steps lt)
 
-    -- a fresh lot has no chain of k edges or fewer
+    -- A new lot has no chain of k edges or fewer.
     far : (b : LotId) → Contains lots b → (n : ℕ) → IsChain E a n b → k + 1 ≤ n
     far b i n c = elim (cases_lt k n) [ inl lt ↦ omega arith | inr le ↦ absurd (level.not_found b i (reached.every b n le c)) ]
 
@@ -151,22 +151,22 @@ reached_more E a found k lots reached level = record {
 -- ==== each level finds a lot that an edge leads to and that was not found
 
 -- how many of these lots are not found
-abbrev pub unfound : List Step → List LotId → ℕ
-unfound found lots = count (λ b. not (is_found found b)) lots
+abbrev pub count_unfound : List Step → List LotId → ℕ
+count_unfound found lots = count (λ b. not (is_found found b)) lots
 
-pub fewer_unfound : (E : LotId → LotId → Type 0) (found : List Step) (k : ℕ) (lots targets : List LotId) → IsLevel E found lots → ((a b : LotId) → E a b → Contains targets b) → 0 < length lots → unfound (found ++ map (step_at k) lots) targets < unfound found targets
+pub fewer_unfound : (E : LotId → LotId → Type 0) (found : List Step) (k : ℕ) (lots targets : List LotId) → IsLevel E found lots → ((a b : LotId) → E a b → Contains targets b) → 0 < length lots → count_unfound (found ++ map (step_at k) lots) targets < count_unfound found targets
 fewer_unfound E found k [] targets level all lt = absurd (omega arith)
 fewer_unfound E found k (b ∷ lots) targets level all lt =
     let from = level.led_to b (Contains-here b lots) in
     count-lt (λ x. not (is_found more x)) (λ x. not (is_found found x)) targets still b (all from.0 b from.2)
     (not_from_true _ (lot_is_found more b (subst (λ l. Contains l b) (sym (lots_more found k (b ∷ lots))) (Contains-append_right (lots_of found) (b ∷ lots) b (Contains-here b lots)))))
-    (not_from_false _ (false_from_ne_true _ (λ t. level.not_found b (Contains-here b lots) (found_lot found b t))))
+    (not_from_false _ (false_from_ne_true _ (λ t. level.not_found b (Contains-here b lots) (level_found_lot found b t))))
   where
     more : List Step
     more = found ++ map (step_at k) (b ∷ lots)
 
     still : (x : LotId) → not (is_found more x) ≡ true → not (is_found found x) ≡ true
-    still x t = not_from_false _ (false_from_ne_true _ (λ h. not_found_lot more x (not-true _ t) (subst (λ l. Contains l x) (sym (lots_more found k (b ∷ lots))) (Contains-append_left (lots_of found) (b ∷ lots) x (found_lot found x h)))))
+    still x t = not_from_false _ (false_from_ne_true _ (λ h. not_found_lot more x (not-true _ t) (subst (λ l. Contains l x) (sym (lots_more found k (b ∷ lots))) (Contains-append_left (lots_of found) (b ∷ lots) x (level_found_lot found x h)))))
 
 -- ==== a level from the lots that the edges lead on to
 
@@ -179,9 +179,9 @@ level_of E found lots sorted only enough order = record {
 }
   where
     every : (a b : LotId) → Contains (lots_of found) a → E a b → (t : Bool) → is_found found b ≡ t → Contains sorted b ⊎ Contains (lots_of found) b
-    every a b i j true e = inr (found_lot found b e)
+    every a b i j true e = inr (level_found_lot found b e)
     every a b i j false e = inl (kept_in_order lot_cmp lots_exact lots sorted order b (enough a b i j e))
 
--- a level that isn't empty has lots
+-- A level that isn't empty has lots.
 pub some_lots : (count n : ℕ) → count ≡ n → nat_eq count 0 ≡ false → 0 < n
 some_lots count n is some = let z = eqb-false count 0 some in omega arith

@@ -14,6 +14,6 @@ pub mod Walks
 pub mod Marks
 pub mod Parts
 pub mod Among
-pub mod EdgeJoints
+pub mod EdgeIndexLemmas
 pub mod Ahead
 pub mod Recording

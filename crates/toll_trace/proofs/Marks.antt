@@ -6,7 +6,7 @@ use Rattle.toll_trace.proofs.Common.{cases_eq, Contains-append_left, Contains-ap
 use Rattle.toll_trace.specs.Numbers.{AreAdded, IsNumber}
 use Rattle.toll_trace.specs.Walk.{AreMarked, AreWalked, is_marked}
 use Rattle.toll_trace.proofs.Members.{Contains-none, Contains-here, Contains-cases}
-use Rattle.toll_trace.proofs.Numbering.{one_lot}
+use Rattle.toll_trace.proofs.Numbering.{one_lot_numbered}
 
 pub marked_none : (marks : List Bool) → AreMarked marks [] marks
 marked_none marks = record { sized = refl; kept = λ n h. h; added = λ n i. absurd (Contains-none n i); only = λ n h. inl h }
@@ -31,9 +31,9 @@ marked_more old new numbers n lt was = record {
     marks : (m : ℕ) → is_marked new m ≡ true → is_marked (set new n true) m ≡ true
     marks m h = elim (cases_eq m n) [ inl same ↦ at m same | inr other ↦ get_or-set_other new n m true false other ∙ h ]
 
--- once what is new is marked
-pub walked_marked : (exits lows front : List ℕ) (old new : List Bool) → AreWalked exits (is_marked old) lows front → AreMarked old front new → AreWalked exits (is_marked new) lows []
-walked_marked exits lows front old new walked marked = record {
+-- The walk once the new lots are marked.
+pub walked_marked : (targets lows front : List ℕ) (old new : List Bool) → AreWalked targets (is_marked old) lows front → AreMarked old front new → AreWalked targets (is_marked new) lows []
+walked_marked targets lows front old new walked marked = record {
   low = walked.low;
   known = λ end x le i. elim (walked.known end x le i) [ inl h ↦ inl (marked.kept x h) | inr j ↦ inl (marked.added x j) ];
 }
@@ -56,7 +56,7 @@ added_more all before lots numbers n lot at was = record {
   every = λ m b i at_m. elim (Contains-append_cases numbers (n ∷ []) m i) [
     | inl i ↦ Contains-append_left lots (lot ∷ []) b (was.every m b i at_m)
     | inr i ↦ elim (Contains-cases n [] m i) [
-      | inl same ↦ Contains-append_right lots (lot ∷ []) b (subst (λ l. Contains (lot ∷ []) l) (one_lot all n lot b at (subst (λ k. IsNumber all k b) (sym same) at_m)) (Contains-here lot []))
+      | inl same ↦ Contains-append_right lots (lot ∷ []) b (subst (λ l. Contains (lot ∷ []) l) (one_lot_numbered all n lot b at (subst (λ k. IsNumber all k b) (sym same) at_m)) (Contains-here lot []))
       | inr none ↦ absurd (Contains-none m none)
     ]
   ];

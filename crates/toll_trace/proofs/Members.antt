@@ -106,7 +106,7 @@ sorted_append c (x ∷ xs) ys h k below = (both xs h.0 (λ y i. below x y (Conta
     both [] a b = all_of_members (λ y. c x y ≡ Less) ys b
     both (z ∷ zs) a b = (a.0, both zs a.1 b)
 
--- two lists in order with the same members are one
+-- Two lists in order with the same members are equal.
 pub same_sorted : {X : Type 0} (c : X → X → Ordering) → IsTotalOrder c → (xs ys : List X) → IsStrictlySortedBy c xs → IsStrictlySortedBy c ys → ((x : X) → Contains xs x → Contains ys x) → ((y : X) → Contains ys y → Contains xs y) → xs ≡ ys
 unfolding IsStrictlySortedBy
 same_sorted c o [] [] h k to from = refl
@@ -114,7 +114,7 @@ same_sorted c o [] (y ∷ ys) h k to from = absurd (Contains-none y (from y (Con
 same_sorted c o (x ∷ xs) [] h k to from = absurd (Contains-none x (to x (Contains-here x xs)))
 same_sorted {X} c o (x ∷ xs) (y ∷ ys) h k to from = go (same_sorted c o xs ys h.1 k.1)
   where
-    -- nothing is below itself
+    -- No value is below itself.
     apart : (a b : X) → c a b ≡ Less → a ≡ b → ⊥
     apart a b lt e = let tie = tied_itself o a in let lt' : c a a ≡ Less = subst (λ z. c a z ≡ Less) (sym e) lt in cc
 
@@ -139,7 +139,7 @@ same_sorted {X} c o (x ∷ xs) (y ∷ ys) h k to from = go (same_sorted c o xs y
         (λ z i. elim (Contains-cases x xs z (from z (Contains-later y ys z i))) [ inl xz ↦ absurd (apart y z (member_of_all (λ w. c y w ≡ Less) ys z k.0 i) (sym e ∙ xz)) | inr j ↦ j ]) in
         cc
 
--- a list put in order keeps each item, where only a value ties with itself
+-- A list put in order keeps each item, if only equal values compare equal.
 pub kept_in_order : {X : Type 0} (cmp : X → X → Ordering) → CmpEqualImpliesEq cmp → (items sorted : List X) → IsInOrder cmp items sorted → (x : X) → Contains items x → Contains sorted x
 kept_in_order cmp exact items sorted order x i = go (order.none_lost x i)
   where
@@ -170,7 +170,7 @@ count-lt p q (y ∷ xs) h x i np nq = go (p y) (q y) refl refl (h y) (Contains-c
     go false false ep eq k (inl e) le ih = absurd (false≢true (sym eq ∙ ap q e ∙ nq))
     go false false ep eq k (inr j) le ih = let lt = ih j in omega arith
 
--- what is there only by a test
-pub some_of : {X : Type 0} (b : Bool) (x y : X) → (if b then Some x else None) ≡ Some y → (b ≡ true) × (x ≡ y)
-some_of true x y h = (refl, (cc))
-some_of false x y h = absurd (cc)
+-- A value that is there only if a test holds.
+pub some_by_test : {X : Type 0} (b : Bool) (x y : X) → (if b then Some x else None) ≡ Some y → (b ≡ true) × (x ≡ y)
+some_by_test true x y h = (refl, (cc))
+some_by_test false x y h = absurd (cc)

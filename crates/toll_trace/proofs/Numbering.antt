@@ -20,7 +20,7 @@ below_at c (x ∷ xs) sorted (suc i) (suc j) d lt in_xs = below_at c xs sorted.1
 not_below_itself : (lot : LotId) → lot_cmp lot lot ≡ Less → ⊥
 not_below_itself lot lt = let tie = tied_itself lots_total lot in cc
 
--- a lot has one number
+-- A lot has only one number.
 pub one_number : (lots : List LotId) → IsStrictlySortedBy lot_cmp lots → (m n : ℕ) (lot : LotId) → IsNumber lots m lot → IsNumber lots n lot → m ≡ n
 one_number lots sorted m n lot at_m at_n = elim (cases_lt m n) [
   | inl lt ↦ absurd (not_below_itself lot (subst (λ l. lot_cmp l lot ≡ Less) at_m.1 (subst (λ l. lot_cmp (get_or lots m lot) l ≡ Less) at_n.1 (below_at lot_cmp lots sorted m n lot lt at_n.0))))
@@ -30,9 +30,9 @@ one_number lots sorted m n lot at_m at_n = elim (cases_lt m n) [
   ]
 ]
 
--- a number is of one lot
-pub one_lot : (lots : List LotId) (n : ℕ) (a b : LotId) → IsNumber lots n a → IsNumber lots n b → a ≡ b
-one_lot lots n a b at_a at_b = sym at_a.1 ∙ get_or_default lots n a b at_a.0 ∙ at_b.1
+-- A number is that of only one lot.
+pub one_lot_numbered : (lots : List LotId) (n : ℕ) (a b : LotId) → IsNumber lots n a → IsNumber lots n b → a ≡ b
+one_lot_numbered lots n a b at_a at_b = sym at_a.1 ∙ get_or_default lots n a b at_a.0 ∙ at_b.1
 
 pub has_number : (lots : List LotId) (lot : LotId) → Contains lots lot → (n : ℕ) × IsNumber lots n lot
 has_number lots lot (n, lt, e) = (n, (lt, e))
@@ -41,12 +41,12 @@ pub listed_number : (lots : List LotId) (n : ℕ) (lot : LotId) → IsNumber lot
 listed_number lots n lot at = (n, at.0, at.1)
 
 -- the lot that has the number
-pub lot_at : (lots : List LotId) (n : ℕ) (d : LotId) → n < length lots → IsNumber lots n (get_or lots n d)
-lot_at lots n d lt = (lt, get_or_default lots n (get_or lots n d) d lt)
+pub lot_numbered : (lots : List LotId) (n : ℕ) (d : LotId) → n < length lots → IsNumber lots n (get_or lots n d)
+lot_numbered lots n d lt = (lt, get_or_default lots n (get_or lots n d) d lt)
 
 pub some_lot : (lots : List LotId) (n : ℕ) → n < length lots → (lot : LotId) × IsNumber lots n lot
 some_lot [] n lt = absurd (omega arith)
-some_lot (l ∷ lots) n lt = (get_or (l ∷ lots) n l, lot_at (l ∷ lots) n l lt)
+some_lot (l ∷ lots) n lt = (get_or (l ∷ lots) n l, lot_numbered (l ∷ lots) n l lt)
 
 -- ==== a search
 
@@ -58,17 +58,17 @@ reversed Greater s e lt = absurd (cc)
 pub sorted_lots : (lots : List LotId) → IsStrictlySortedBy lot_cmp lots → IsSortedByKey (λ (l : LotId). l) lot_cmp lots
 sorted_lots lots sorted k d low lt = reversed _ _ (lots_total.antisymm (get_or lots (k + 1) d) (get_or lots k d)) (below_at lot_cmp lots sorted k (k + 1) d (omega arith) lt)
 
-rises : (lots : List LotId) → IsStrictlySortedBy lot_cmp lots → (lot : LotId) → IsNonDecreasingBy (λ y. ordering_index (lot_cmp y lot)) lots
-rises lots sorted lot = searchable_from_sorted lots_total (λ (l : LotId). l) lots lot (sorted_lots lots sorted)
+lots_rise : (lots : List LotId) → IsStrictlySortedBy lot_cmp lots → (lot : LotId) → IsNonDecreasingBy (λ y. ordering_index (lot_cmp y lot)) lots
+lots_rise lots sorted lot = searchable_from_sorted lots_total (λ (l : LotId). l) lots lot (sorted_lots lots sorted)
 
--- a lot that a search ends at has the place for its number
-pub found_at : (lots : List LotId) (n : ℕ) (lot : LotId) → n < length lots → ((d : LotId) → lot_cmp (get_or lots n d) lot ≡ Equal) → IsNumber lots n lot
-found_at lots n lot lt equal = (lt, lots_exact (get_or lots n lot) lot (equal lot))
+-- A lot that a search ends at has that place as its number.
+pub lot_found_at : (lots : List LotId) (n : ℕ) (lot : LotId) → n < length lots → ((d : LotId) → lot_cmp (get_or lots n d) lot ≡ Equal) → IsNumber lots n lot
+lot_found_at lots n lot lt equal = (lt, lots_exact (get_or lots n lot) lot (equal lot))
 
--- where a search ends between lots, the lot is none of them
+-- If a search ends between lots, the lot isn't in the list.
 pub not_listed : (lots : List LotId) → IsStrictlySortedBy lot_cmp lots → (n : ℕ) (lot : LotId) → IsBinarySearchResult (λ y. lot_cmp y lot) lots (Err n) → Contains lots lot → ⊥
 not_listed lots sorted n lot parted (k, lt, e) =
-    let parts = parted (rises lots sorted lot) in
+    let parts = parted (lots_rise lots sorted lot) in
     let tie : lot_cmp (get_or lots k lot) lot ≡ Equal = subst (λ l. lot_cmp l lot ≡ Equal) (sym e) (tied_itself lots_total lot) in
     elim (cases_lt k n) [
       | inl before ↦ (let less : lot_cmp (get_or lots k lot) lot ≡ Less = parts.0 k lot (omega arith) before in absurd (cc))
@@ -85,7 +85,7 @@ is_less Less is = refl
 is_less Equal is = absurd (false≢true is)
 is_less Greater is = absurd (false≢true is)
 
--- a lot at a place or behind it isn't less than the lot there
+-- A lot at a place or after it isn't less than the lot there.
 at_or_behind : (lots : List LotId) → IsStrictlySortedBy lot_cmp lots → (place k : ℕ) (lot : LotId) → place ≤ k → k < length lots → get_or lots k lot ≡ lot
     → lot_cmp lot (get_or lots place lot) ≡ Less → ⊥
 at_or_behind lots sorted place k lot le lt e less =
@@ -94,7 +94,7 @@ at_or_behind lots sorted place k lot le lt e less =
       | inr after ↦ (let same : place ≡ k = omega arith in not_below_itself lot (subst (λ l. lot_cmp lot l ≡ Less) (ap (λ i. get_or lots i lot) same ∙ e) less))
     ]
 
--- a lot at a place or before it isn't greater than the lot there
+-- A lot at a place or before it isn't greater than the lot there.
 at_or_before : (lots : List LotId) → IsStrictlySortedBy lot_cmp lots → (place k : ℕ) (lot : LotId) → k ≤ place → place < length lots → get_or lots k lot ≡ lot
     → lot_cmp (get_or lots place lot) lot ≡ Less → ⊥
 at_or_before lots sorted place k lot le lt e less =
@@ -103,7 +103,7 @@ at_or_before lots sorted place k lot le lt e less =
       | inr after ↦ (let same : place ≡ k = omega arith in not_below_itself lot (subst (λ l. lot_cmp l lot ≡ Less) (ap (λ i. get_or lots i lot) same ∙ e) less))
     ]
 
--- a lot behind the one before the place, and before the one at the place, is none of the list
+-- A lot between two neighbours isn't in the list.
 pub not_in_gap : (lots : List LotId) → IsStrictlySortedBy lot_cmp lots → (place : ℕ) (lot : LotId)
     → ((k : ℕ) → k + 1 ≡ place → (k < length lots) × (lot_cmp (get_or lots k lot) lot ≡ Less))
     → (place < length lots → lot_cmp lot (get_or lots place lot) ≡ Less)
@@ -115,7 +115,7 @@ not_in_gap lots sorted (suc last) lot behind ahead (k, lt, e) =
       | inr after ↦ at_or_behind lots sorted (suc last) k lot after lt e (ahead (omega arith))
     ]
 
--- the lot before a place, where the place has one
+-- the lot before a place, if the place has one
 pub behind_it : (lots : List LotId) (place last : ℕ) (lot d : LotId) → 1 ≤ place → last ≡ place - 1 → last < length lots → lot_cmp (get_or lots last d) lot ≡ Less
     → (k : ℕ) → k + 1 ≡ place → (k < length lots) × (lot_cmp (get_or lots k lot) lot ≡ Less)
 behind_it lots place last lot d one is lt less k at =
@@ -167,8 +167,8 @@ pub numbered_none : {P : Type 0} (lots : List LotId) → HaveNumbers {P = P} lot
 numbered_none lots = record { only = λ v i. absurd (Contains-none v i); every = λ u n i at. absurd (Contains-none u i) }
 
 module _ {P : Type 0} (lots : List LotId) (uses : List (P × LotId)) (p : P) (lot : LotId) (all : List (P × ℕ)) (old : HaveNumbers lots uses all) where
-  pub numbered_more : IsStrictlySortedBy lot_cmp lots → (n : ℕ) → IsNumber lots n lot → HaveNumbers lots (uses ++ (p, lot) ∷ []) (all ++ (p, n) ∷ [])
-  numbered_more sorted n at = record {
+  pub lot_numbered_more : IsStrictlySortedBy lot_cmp lots → (n : ℕ) → IsNumber lots n lot → HaveNumbers lots (uses ++ (p, lot) ∷ []) (all ++ (p, n) ∷ [])
+  lot_numbered_more sorted n at = record {
     only = λ v i. elim (Contains-append_cases all ((p, n) ∷ []) v i) [
       | inl i ↦ let r = old.only v i in (r.0, r.1, Contains-append_left uses ((p, lot) ∷ []) (v.0, r.0) r.2)
       | inr i ↦ elim (Contains-cases (p, n) [] v i) [

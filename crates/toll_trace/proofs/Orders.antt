@@ -1,4 +1,4 @@
--- The orders of lots, edges and steps are total, and only a value ties with itself.
+-- The orders of lots, edges and steps are total, and only equal values compare equal.
 use Rattle.std.proofs.Common.{ℕ, List, ap}
 use Rattle.toll_trace.proofs.Common.{IsTotalOrder, nat_cmp_total, nat_list_cmp_total, then_total, on_total, CmpEqualImpliesEq, exact_bytes, exact_pairs, bytes_cmp, LotId, Edge, lot_cmp, edge_cmp}
 use Rattle.toll_trace.specs.declared.step.Step.{Step}

@@ -14,7 +14,7 @@ chain_same : (E F : LotId → LotId → Type 0) → ((a b : LotId) → E a b →
 chain_same E F to a zero b c = c
 chain_same E F to a (suc n) b c = (c.0, chain_same E F to a n c.0 c.1, to c.0 b c.2)
 
--- where the same lots are joined, the trace is the same
+-- If the same lots are joined, the trace is the same.
 pub trace_same : (E F : LotId → LotId → Type 0) → ((a b : LotId) → E a b → F a b) → ((a b : LotId) → F a b → E a b) → (a : LotId) (trace : List Step) → IsTrace E a trace → IsTrace F a trace
 trace_same E F to from a trace t = record {
   only = λ s i. chain_same E F to a s.steps s.lot (t.only s i);
@@ -37,7 +37,7 @@ trace_unique E a x y tx ty = same_sorted step_cmp steps_total x y tx.ordered ty.
         let is : t.0 ≡ s = ap₂ {C = Step} (λ n l. record { steps = n; lot = l }) same t.2 in
         subst (Contains w) is t.1
 
--- movements that stand in the one sense and in the other draw the same edges
+-- If the same movements stand in both senses, the same edges are drawn.
 pub drawn_same : (S T : MoveRow → Type 0) → ((row : MoveRow) → S row → T row) → (e : Edge) → IsDrawn S e → IsDrawn T e
 drawn_same S T to e fed = record {
   order = fed.order;

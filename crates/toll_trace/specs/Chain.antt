@@ -4,21 +4,21 @@ use Rattle.toll_trace.specs.Common.{LotId, Edge}
 use Rattle.toll_trace.specs.declared.way.Way.{Way}
 use Rattle.toll_trace.specs.declared.way.Way.TheVariants.{Back, Forward}
 
--- the edge along which a step that way comes from `a` to `b`
+-- the edge along which a step in this direction leads from `a` to `b`
 abbrev pub edge_of : Way → LotId → LotId → Edge
 edge_of Back a b = record { from = b; to = a }
 edge_of Forward a b = record { from = a; to = b }
 
--- the lot that a step that way along the edge leaves, and the one that it comes to
-abbrev pub ends : Way → Edge → LotId × LotId
-ends Back e = (e.to, e.from)
-ends Forward e = (e.from, e.to)
+-- the lot that a step in this direction along the edge leaves, and the lot that it reaches
+abbrev pub step_ends : Way → Edge → LotId × LotId
+step_ends Back e = (e.to, e.from)
+step_ends Forward e = (e.from, e.to)
 
--- one of the edges, turned round for `Back`, leads from `a` to `b`
+-- One of the edges, reversed for `Back`, leads from `a` to `b`.
 abbrev pub IsJoined : List Edge → Way → LotId → LotId → Type 0
 IsJoined edges way a b = Contains edges (edge_of way a b)
 
--- a chain of n edges leads from `a` to `b`, where `E x y` says that an edge leads from x to y
+-- A chain of n edges leads from `a` to `b`. `E x y` says that an edge leads from x to y.
 abbrev pub IsChain : (LotId → LotId → Type 0) → LotId → ℕ → LotId → Type 0
 IsChain E a zero b = a ≡ b
 IsChain E a (suc n) b = (m : LotId) × IsChain E a n m × E m b

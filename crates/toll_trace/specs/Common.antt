@@ -1,4 +1,4 @@
--- Words of other crates that several definitions here are said in.
+-- Definitions of other crates that several definitions here use.
 pub use Rattle.std.specs.List.{filter_map, flat_map, list_any}
 pub use Rattle.std.specs.List.Sorted.{IsPermutation, IsStrictlySortedBy}
 pub use Rattle.std.specs.Ordering.{is_eq, nat_cmp, ordering_then}

@@ -3,14 +3,14 @@ use Rattle.std.specs.Prelude.{◌≡◌, ℕ, ◌≤◌, false, Some, is_some, L
 use Rattle.toll_trace.specs.Common.{IsStrictlySortedBy, Bytes, Slice, move_at, void_at, LotId, Edge, Role, MoveRow, Actual, edge_cmp}
 use Rattle.toll_base.specs.declared.role.Role.TheVariants.{Consumed, Produced}
 
--- the movement is an actual: this batch does this to this lot, in this segment
+-- The movement is an actual: this batch uses this lot in this role and segment.
 pub record IsActual (order : Bytes) (number segment : ℕ) (role : Role) (lot : LotId) (row : MoveRow) : Type 0 where
   pub material : Bytes
   pub sublot : Bytes
   pub is : row.what ≡ Actual order number segment role material lot sublot
 
--- of the movements that stand, two actuals draw the edge: in one batch, one consumes the lot that the edge leads from
--- and the other produces the lot that it leads to, and the consumption's segment is not above the production's
+-- Two actuals, of which stands holds, draw the edge. In one batch, one consumes the lot that the edge leads from, and the other produces
+-- the lot that it leads to. The consumption's segment is not above the production's.
 pub record IsDrawn (stands : MoveRow → Type 0) (e : Edge) : Type 0 where
   pub order : Bytes
   pub number : ℕ
@@ -24,16 +24,16 @@ pub record IsDrawn (stands : MoveRow → Type 0) (e : Edge) : Type 0 where
   pub produces : IsActual order number produced_in Produced e.to production
   pub not_above : consumed_in ≤ produced_in
 
--- the slice has the movement, and no void of its key
+-- The slice has the movement, and no void of its key.
 pub record Stands (s : Slice) (row : MoveRow) : Type 0 where
   pub recorded : move_at s row.key ≡ Some row
   pub not_voided : is_some (void_at s row.key) ≡ false
 
--- actuals that stand in the slice draw the edge
+-- Actuals that stand in the slice draw the edge.
 abbrev pub IsEdge : Slice → Edge → Type 0
 IsEdge s e = IsDrawn (Stands s) e
 
--- the edges are just these, in order, each once
+-- These are exactly the edges, in order, each once.
 pub record AreEdges (is_edge : Edge → Type 0) (edges : List Edge) : Type 0 where
   pub only : (e : Edge) → Contains edges e → is_edge e
   pub every : (e : Edge) → is_edge e → Contains edges e

@@ -6,6 +6,6 @@ use Rattle.toll_trace.specs.declared.way.Way.{Way}
 use Rattle.toll_trace.specs.Chain.{IsJoined}
 use Rattle.toll_trace.specs.Trace.{IsTrace}
 
--- two lists that are both the trace from a lot are one
+-- Two lists that are both the trace from a lot are equal.
 abbrev pub TracesAreUnique : Type 0
 TracesAreUnique = (edges : List Edge) (way : Way) (from : LotId) (x y : List Step) → IsTrace (IsJoined edges way) from x → IsTrace (IsJoined edges way) from y → x ≡ y

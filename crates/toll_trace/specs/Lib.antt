@@ -8,7 +8,7 @@ pub mod Edges
 pub mod Uses
 pub mod Places
 pub mod Recorded
-pub mod Joints
+pub mod EdgeIndex
 pub mod Numbers
 pub mod Leads
 pub mod Walk

@@ -2,8 +2,9 @@
 use Rattle.toll_trace.specs.Common.{Edge}
 use Rattle.toll_trace.specs.declared.recorded.Recorded.{Recorded}
 use Rattle.toll_trace.specs.declared.way.Way.TheVariants.{Forward}
-use Rattle.toll_trace.specs.Places.{Passes}
+use Rattle.toll_trace.specs.Places.{PassesThrough}
 
--- what is recorded draws the edge: one batch consumes the lot that it leads from, and produces the one that it leads to in no lower segment
+-- The records draw the edge: one batch consumes the lot that it leads from, and produces the lot that it leads to in the same segment or a
+-- higher one.
 abbrev pub Draws : Recorded → Edge → Type 0
-Draws recorded e = Passes Forward recorded.consumptions.items recorded.productions.items e.from e.to
+Draws recorded e = PassesThrough Forward recorded.consumptions.items recorded.productions.items e.from e.to

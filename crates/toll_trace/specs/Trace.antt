@@ -9,7 +9,7 @@ use Rattle.toll_trace.specs.Chain.{IsChain}
 abbrev pub lots_of : List Step → List LotId
 lots_of steps = map (λ s. s.lot) steps
 
--- the lots that end a chain from `a`, each with the fewest edges of such a chain, in order
+-- The trace has the lots that end a chain from `a`, each with the fewest edges of such a chain, in order.
 pub record IsTrace (E : LotId → LotId → Type 0) (a : LotId) (trace : List Step) : Type 0 where
   pub only : (s : Step) → Contains trace s → IsChain E a s.steps s.lot
   pub fewest : (s : Step) → Contains trace s → (n : ℕ) → IsChain E a n s.lot → s.steps ≤ n

@@ -17,7 +17,7 @@ pub(crate) type Batch = (Name, BatchNo);
 /// A segment of a batch uses a lot, to consume it or to produce it. Uses are ordered by their lot, then
 /// by their segment.
 #[derive(Clone, Copy, PartialEq, Eq, PartialOrd, Ord)]
-pub(crate) struct Use {
+pub(crate) struct LotUse {
     pub(crate) lot: LotId,
     pub(crate) segment: Segment,
 }
@@ -41,7 +41,7 @@ pub fn edges_of(alloc: Global, slice: &Slice) -> Result<Vec<Edge>, AllocError>
 }
 
 /// Leaves one of the uses of a lot by a batch, in the lowest of their segments.
-fn leave_lowest(uses: &mut Vec<(Batch, Use)>)
+fn leave_lowest(uses: &mut Vec<(Batch, LotUse)>)
     ensures { AreLeft (λ lowest segment. lowest ≤ segment) uses.old.items uses.new.items }
 {
     uses.sort_unstable();
@@ -49,7 +49,7 @@ fn leave_lowest(uses: &mut Vec<(Batch, Use)>)
 }
 
 /// Leaves one of the uses of a lot by a batch, in the highest of their segments.
-fn leave_highest(uses: &mut Vec<(Batch, Use)>)
+fn leave_highest(uses: &mut Vec<(Batch, LotUse)>)
     ensures { AreLeft (λ highest segment. segment ≤ highest) uses.old.items uses.new.items }
 {
     uses.sort_unstable_by(|a, b| b.cmp(a));
@@ -57,7 +57,7 @@ fn leave_highest(uses: &mut Vec<(Batch, Use)>)
 }
 
 /// Leaves the first of neighbouring uses of one lot by one batch.
-fn leave_first(uses: &mut Vec<(Batch, Use)>)
+fn leave_first(uses: &mut Vec<(Batch, LotUse)>)
     ensures { uses.new.items ≡ dedup same_use uses.old.items }
 {
     uses.dedup_by(|later, first| later.0 == first.0 && later.1.lot == first.1.lot);
@@ -66,8 +66,8 @@ fn leave_first(uses: &mut Vec<(Batch, Use)>)
 /// The edges from each consumed lot to the lots that its batch produces, with repeats.
 fn edges_among(
     alloc: Global,
-    consumptions: &[(Batch, Use)],
-    productions: &Index<Batch, Use>,
+    consumptions: &[(Batch, LotUse)],
+    productions: &Index<Batch, LotUse>,
 ) -> Result<Vec<Edge>, AllocError>
     ensures { IfOk result (λ edges. edges.items ≡ flat_map (edges_from productions.now) consumptions.now) }
 {
@@ -83,7 +83,7 @@ pub(crate) fn uses(
     alloc: Global,
     slice: &Slice,
     role: Role,
-) -> Result<Vec<(Batch, Use)>, AllocError>
+) -> Result<Vec<(Batch, LotUse)>, AllocError>
     ensures found { IfOk result (λ found. found.items ≡ uses role slice.now) }
     ensures key_order { IsInKeyOrder bytes_cmp (λ row. row.key) slice.now.moves }
 {
@@ -95,7 +95,7 @@ pub(crate) fn uses(
 }
 
 /// The use of the movement, if it is an actual of this role and no void has its key.
-fn standing_use(slice: &Slice, role: Role, row: &MoveRow) -> Option<(Batch, Use)>
+fn standing_use(slice: &Slice, role: Role, row: &MoveRow) -> Option<(Batch, LotUse)>
     ensures { result ≡ standing_use role slice.now row.now }
 {
     if slice.is_voided(&row.key) {
@@ -105,7 +105,7 @@ fn standing_use(slice: &Slice, role: Role, row: &MoveRow) -> Option<(Batch, Use)
 }
 
 /// The use and its batch, if an actual of this role is recorded.
-fn use_as(role: Role, what: &Move) -> Option<(Batch, Use)>
+fn use_as(role: Role, what: &Move) -> Option<(Batch, LotUse)>
     ensures { result ≡ use_as role what.now }
 {
     match *what {
@@ -116,7 +116,7 @@ fn use_as(role: Role, what: &Move) -> Option<(Batch, Use)>
             role: recorded,
             lot,
             ..
-        } if recorded == role => Some(((order, number), Use { segment, lot })),
+        } if recorded == role => Some(((order, number), LotUse { segment, lot })),
         _ => None,
     }
 }
@@ -124,8 +124,8 @@ fn use_as(role: Role, what: &Move) -> Option<(Batch, Use)>
 /// Adds the edges from the consumed lot to the lots that its batch produces in the same or a higher segment.
 fn add_edges(
     edges: &mut Vec<Edge>,
-    consumption: &Use,
-    productions: &[(Batch, Use)],
+    consumption: &LotUse,
+    productions: &[(Batch, LotUse)],
 ) -> Result<(), AllocError>
     ensures { OnOk result (edges.new.items ≡ edges.old.items ++ map (edge_between consumption.now) (filter (is_not_above consumption.now) productions.now)) }
 {

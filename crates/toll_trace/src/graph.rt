@@ -7,8 +7,8 @@ ghost use Rattle.toll_trace.specs.Common.{IsStrictlySortedBy};
 ghost use Rattle.toll_trace.specs.Numbers.{AreBelow, HaveUsed};
 ghost use Rattle.toll_trace.specs.Trace.{IsTrace};
 
+use crate::edge_index::EdgeIndex;
 use crate::in_order::put_in_order;
-use crate::joints::Joints;
 use crate::numbers::numbered;
 use crate::places::Place;
 use crate::recorded::Recorded;
@@ -24,11 +24,11 @@ use toll_base::{Edge, LotId, Slice};
 pub struct Graph {
     /// In order, each once.
     pub(crate) lots: Vec<LotId>,
-    forward: Joints,
-    back: Joints,
+    forward: EdgeIndex,
+    back: EdgeIndex,
     ghost sorted: { IsStrictlySortedBy lot_cmp lots.items } by { IsStrictlySortedBy-prop lot_cmp lots.items },
-    ghost forward_within: { AreBelow (length lots.items) forward.exits.items },
-    ghost back_within: { AreBelow (length lots.items) back.exits.items },
+    ghost forward_within: { AreBelow (length lots.items) forward.targets.items },
+    ghost back_within: { AreBelow (length lots.items) back.targets.items },
 }
 
 impl Graph {
@@ -43,8 +43,8 @@ impl Graph {
         ensures { IfOk result (IsGraphOf edges.now) }
     {
         let lots = lots_joined(alloc, edges)?;
-        let forward = Joints::of_edges(alloc, &lots, edges, Way::Forward)?;
-        let back = Joints::of_edges(alloc, &lots, edges, Way::Back)?;
+        let forward = EdgeIndex::of_edges(alloc, &lots, edges, Way::Forward)?;
+        let back = EdgeIndex::of_edges(alloc, &lots, edges, Way::Back)?;
         Ok(Graph {
             lots,
             forward,
@@ -66,8 +66,8 @@ impl Graph {
         let lots = lots_used(alloc, &recorded.consumptions, &recorded.productions)?;
         let mut consumptions = numbered(alloc, &lots, &recorded.consumptions)?;
         let mut productions = numbered(alloc, &lots, &recorded.productions)?;
-        let forward = Joints::of_uses(alloc, &consumptions, &mut productions, Way::Forward)?;
-        let back = Joints::of_uses(alloc, &productions, &mut consumptions, Way::Back)?;
+        let forward = EdgeIndex::of_uses(alloc, &consumptions, &mut productions, Way::Forward)?;
+        let back = EdgeIndex::of_uses(alloc, &productions, &mut consumptions, Way::Back)?;
         Ok(Graph {
             lots,
             forward,
@@ -85,9 +85,9 @@ impl Graph {
     }
 
     /// The joints for that way.
-    pub(crate) fn joints(&self, way: Way) -> &Joints
+    pub(crate) fn joints(&self, way: Way) -> &EdgeIndex
         ensures joints { result.now ≡ joints_of way self.now }
-        ensures within { AreBelow (length self.now.lots.items) result.now.exits.items }
+        ensures within { AreBelow (length self.now.lots.items) result.now.targets.items }
         ensures sorted { IsStrictlySortedBy lot_cmp self.now.lots.items }
     {
         match way {

@@ -3,12 +3,12 @@
 //! profile defines edges and traces.
 #![tactic(auto)]
 
+mod edge_index;
 mod edges;
 mod found;
 mod graph;
 mod in_order;
 mod index;
-mod joints;
 mod laws;
 mod numbers;
 mod places;

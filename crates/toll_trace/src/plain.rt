@@ -11,12 +11,12 @@ use crate::way::Way;
 use std::alloc::{AllocError, Global};
 use toll_base::{Edge, LotId};
 
-/// Every lot that ends a chain of these edges from the lot, that lot itself among them: each once,
-/// with the fewest edges of such a chain, by (steps, owner, lot). For [`Way::Back`] each edge is
-/// reversed. The list of edges may have repeats, loops and cycles.
+/// Every lot that ends a chain of these edges from the lot, that lot itself among them: each once, with the
+/// fewest edges of such a chain, by (steps, owner, lot). For [`Way::Back`] each edge is reversed. The list of
+/// edges may have repeats, loops and cycles.
 ///
-/// Reads the whole list for each step away from the lot. [`crate::Graph`] gives the same answer
-/// faster if there are many edges.
+/// Reads the whole list for each step away from the lot. Only tests call it: programs use [`crate::Graph`],
+/// which gives the same answer faster if there are many edges.
 pub fn plain_trace(
     alloc: Global,
     edges: &[Edge],

@@ -1,8 +1,8 @@
 //! Uses of lots by the batches of several owners.
 ghost use Rattle.std.specs.Prelude.{◌≡◌, ◌++◌, map, OnOk};
-ghost use Rattle.toll_trace.specs.Places.{AreNumbered, placed};
+ghost use Rattle.toll_trace.specs.Places.{AreSliceNumbersInRange, placed_use};
 
-use crate::edges::{Batch, Use, uses};
+use crate::edges::{Batch, LotUse, uses};
 use crate::places::Place;
 use std::alloc::{AllocError, Global};
 use toll_base::{LotId, Role, Slice};
@@ -13,7 +13,7 @@ use toll_base::{LotId, Role, Slice};
 pub struct Recorded {
     pub(crate) consumptions: Vec<(Place, LotId)>,
     pub(crate) productions: Vec<(Place, LotId)>,
-    ghost numbered: { AreNumbered consumptions.items productions.items },
+    ghost numbered: { AreSliceNumbersInRange consumptions.items productions.items },
 }
 
 impl Recorded {
@@ -64,9 +64,9 @@ impl Recorded {
 fn add_placed(
     all: &mut Vec<(Place, LotId)>,
     number: usize,
-    uses: &[(Batch, Use)],
+    uses: &[(Batch, LotUse)],
 ) -> Result<(), AllocError>
-    ensures { OnOk result (all.new.items ≡ all.old.items ++ map (placed number) uses.now) }
+    ensures { OnOk result (all.new.items ≡ all.old.items ++ map (placed_use number) uses.now) }
 {
     for (batch, used) in uses {
         all.push((((number, *batch), used.segment), used.lot))?;

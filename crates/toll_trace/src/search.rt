@@ -2,14 +2,14 @@
 ghost use Rattle.std.specs.Prelude.{◌≡◌, ℕ, ◌+◌, ◌^◌, ◌<◌, ◌++◌, [], ◌∷◌, not, false, filter, map, length, slice_index, IfOk, OnOk, Contains};
 ghost use Rattle.toll_base.specs.Lots.{lot_cmp};
 ghost use Rattle.toll_trace.specs.Common.{IsStrictlySortedBy};
-ghost use Rattle.toll_trace.specs.Joints.{AreWithin};
+ghost use Rattle.toll_trace.specs.EdgeIndex.{AreWithin};
 ghost use Rattle.toll_trace.specs.Numbers.{AreBelow, AreAllNumbers, AreAdded};
 ghost use Rattle.toll_trace.specs.Search.{is_found, step_at};
 ghost use Rattle.toll_trace.specs.Trace.{IsTrace};
 ghost use Rattle.toll_trace.specs.Walk.{AreWalked, AreEntered, AreFaced, AreLedOn, AreLedTo, AreMarked, IsFaced, IsLedOn, IsSound, IsWalked, LeadThrough, all_steps, is_marked};
 
+use crate::edge_index::{EdgeIndex, Span};
 use crate::in_order::put_in_order;
-use crate::joints::{Joints, Span};
 use crate::numbers::add_numbers;
 use crate::step::Step;
 use std::alloc::{AllocError, Global};
@@ -20,7 +20,7 @@ use toll_base::LotId;
 #[derive(Drop)]
 pub(crate) struct Part<'a> {
     pub(crate) lots: &'a [LotId],
-    pub(crate) joints: &'a Joints,
+    pub(crate) joints: &'a EdgeIndex,
     /// For each place where a span of the joints may end, the first of the walked joints before it.
     pub(crate) lows: Vec<usize>,
     /// For each lot, whether it is found.
@@ -34,16 +34,16 @@ impl<'a> Part<'a> {
     pub(crate) fn of(
         alloc: Global,
         lots: &'a [LotId],
-        joints: &'a Joints,
+        joints: &'a EdgeIndex,
         from: &LotId,
     ) -> Result<Self, AllocError>
         requires sorted { IsStrictlySortedBy lot_cmp lots.now }
-        requires within { AreBelow (length lots.now) joints.now.exits.items }
+        requires within { AreBelow (length lots.now) joints.now.targets.items }
         ensures lots { IfOk result (λ part. part.lots.now ≡ lots.now) }
         ensures joints { IfOk result (λ part. part.joints.now ≡ joints.now) }
         ensures walked { IfOk result (IsWalked (is_found []) (from.now ∷ [])) }
     {
-        let lows = nothing_walked(alloc, joints.exits.len())?;
+        let lows = nothing_walked(alloc, joints.targets.len())?;
         let marks = vec![in alloc; false; lots.len()]?;
         let mut front = Vec::new(alloc);
         add_numbers(&mut front, lots, &[*from])?;
@@ -59,7 +59,7 @@ impl<'a> Part<'a> {
     // Takes a step from the front. Adds the lots that it reaches and that aren't found yet.
     fn lead_on(&mut self, alloc: Global, lots: &mut Vec<LotId>) -> Result<(), AllocError>
         requires sound { IsSound self.old }
-        requires walked { AreWalked self.old.joints.now.exits.items (is_marked self.old.marks.items) self.old.lows.items self.old.front.items }
+        requires walked { AreWalked self.old.joints.now.targets.items (is_marked self.old.marks.items) self.old.lows.items self.old.front.items }
         ensures { OnOk result (IsLedOn self.old self.new lots.old.items lots.new.items) }
     {
         mark(&mut self.marks, &self.front);
@@ -179,24 +179,24 @@ fn mark(marks: &mut [bool], numbers: &[usize])
 fn led_on(
     alloc: Global,
     lows: &mut [usize],
-    joints: &Joints,
+    joints: &EdgeIndex,
     marks: &[bool],
     front: &[usize],
 ) -> Result<Vec<usize>, AllocError>
-    requires within { AreBelow (length marks.now) joints.now.exits.items }
-    requires sized { length lows.old ≡ length joints.now.exits.items + 1 }
-    requires walked { AreWalked joints.now.exits.items (is_marked marks.now) lows.old [] }
+    requires within { AreBelow (length marks.now) joints.now.targets.items }
+    requires sized { length lows.old ≡ length joints.now.targets.items + 1 }
+    requires walked { AreWalked joints.now.targets.items (is_marked marks.now) lows.old [] }
     ensures sized { OnOk result (length lows.new ≡ length lows.old) }
-    ensures led { IfOk result (λ numbers. AreLedOn (is_marked marks.now) front.now joints.now.entries joints.now.exits.items lows.new numbers.items) }
+    ensures led { IfOk result (λ numbers. AreLedOn (is_marked marks.now) front.now joints.now.sources joints.now.targets.items lows.new numbers.items) }
 {
     let mut numbers = Vec::new(alloc);
     for number in front {
         enter(
             &mut numbers,
             lows,
-            &joints.exits,
+            &joints.targets,
             marks,
-            joints.entries.at(number),
+            joints.sources.at(number),
         )?;
     }
     put_in_order(&mut numbers);
@@ -208,20 +208,20 @@ fn led_on(
 fn enter(
     numbers: &mut Vec<usize>,
     lows: &mut [usize],
-    exits: &[usize],
+    targets: &[usize],
     marks: &[bool],
-    entries: &[(usize, Span)],
+    sources: &[(usize, Span)],
 ) -> Result<(), AllocError>
-    requires numbers { AreBelow (length marks.now) exits.now }
-    requires within { AreWithin exits.now entries.now }
-    requires sized { length lows.old ≡ length exits.now + 1 }
-    requires walked { AreWalked exits.now (is_marked marks.now) lows.old numbers.old.items }
-    ensures { OnOk result (AreEntered exits.now (is_marked marks.now) entries.now lows.new numbers.old.items numbers.new.items) }
+    requires numbers { AreBelow (length marks.now) targets.now }
+    requires within { AreWithin targets.now sources.now }
+    requires sized { length lows.old ≡ length targets.now + 1 }
+    requires walked { AreWalked targets.now (is_marked marks.now) lows.old numbers.old.items }
+    ensures { OnOk result (AreEntered targets.now (is_marked marks.now) sources.now lows.new numbers.old.items numbers.new.items) }
 {
-    for (_, span) in entries {
+    for (_, span) in sources {
         let low = lows[span.end];
         if span.start < low {
-            add_new(numbers, marks, &exits[span.start..low])?;
+            add_new(numbers, marks, &targets[span.start..low])?;
             lows[span.end] = span.start;
         }
     }

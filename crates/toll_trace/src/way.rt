@@ -13,11 +13,11 @@ pub enum Way {
 }
 
 impl Way {
-    ghost use Rattle.toll_trace.specs.Chain.{ends};
+    ghost use Rattle.toll_trace.specs.Chain.{step_ends};
 
     /// The lot that a step along the edge leaves, and the lot that it reaches.
     pub(crate) fn ends(self, edge: &Edge) -> (LotId, LotId)
-        ensures { result ≡ ends self edge.now }
+        ensures { result ≡ step_ends self edge.now }
     {
         match self {
             Way::Back => (edge.to, edge.from),

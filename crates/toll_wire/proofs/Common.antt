@@ -15,34 +15,36 @@ pub use Rattle.std.proofs.lemmas.Str.{IsCharBoundary-before_ascii, IsUtf8-drop, 
 unfoldable pub use Rattle.std.specs.Fmt.{digits}
 pub use Rattle.std.specs.Global.{Vec}
 pub use Rattle.std.specs.List.{AllByRecursion, list_all, position_or_len, starts_with}
-pub use Rattle.std.specs.Option.{IfSome, is_none}
+pub use Rattle.std.specs.Option.{IfSome, is_none, option_map_or}
 pub use Rattle.std.specs.Result.{MatchResult, OkIff, result_ok}
 pub use Rattle.std.specs.Str.{IsAscii, IsCharBoundary, IsUtf8}
-pub use Rattle.toll_answers.specs.PlantAnswers.{AsksBatch, AsksOrders, AsksRecall, AsksStock, AsksTrace, CannotRead, Does, IsCheckedOr, IsPlantAnswer, IsRecallShown, IsTraceShown, Judged, PlantRequest, PlantAnswer, Shows, after_plant, lot_checks}
+pub use Rattle.toll_answers.specs.PlantAnswers.{IsCheckedOr, IsPlantAnswer, IsQuestionAnswer, IsRecallShown, IsTraceShown, IsValidCommand, IsVerdictOr, Judged, PlantAnswer, Shows, after_plant, command_of, lot_checks}
+pub use Rattle.toll_answers.specs.declared.plant_cmd.PlantCmd.{PlantCmd}
 unfoldable pub use Rattle.toll_answers.specs.Replies.{IsReply, after_reply}
-pub use Rattle.toll_answers.specs.Replies.{IsAnswer, IsTraceTold, IsValidOwnerRequest, after_answer, has_key}
+pub use Rattle.toll_answers.specs.Replies.{IsOwnerAnswer, IsTraceReply, IsValidOwnerRequest, after_answer, has_owner_key}
 pub use Rattle.toll_answers.specs.Texts.{recall_text}
-pub use Rattle.toll_answers.specs.OwnerRequests.{AskCancel, AskPlace, AskReject, AskRelease, OwnerRequest, TellBatch, TellForbidden, TellLot, TellOrder, TellOrders, TellRefused, TellStock, TellTrace, OwnerReply}
+pub use Rattle.toll_answers.specs.OwnerReply.{ReplyForbidden, ReplyRefused, ReplyTrace, OwnerReply}
 pub use Rattle.toll_base.specs.Bytes.{Bytes, same_bytes}
 pub use Rattle.toll_base.specs.Values.{IsBatchNo, is_digit, is_name, is_name_byte, is_text_of, number_of}
 pub use Rattle.toll_base.specs.declared.refusal.Refusal.TheVariants.{OrderExists, UnknownLot}
-pub use Rattle.toll_desk.specs.Translations.{IsValidCommand, asked_by, is_granted, may_change, plant_told, writes}
-pub use Rattle.toll_desk.specs.Outcome.{GoesFor, IsDone, finished}
-pub use Rattle.toll_desk.specs.Standing.{StandsFor}
-pub use Rattle.toll_desk.specs.declared.request.Request.{Request}
+pub use Rattle.toll_base.specs.declared.request.Request.{Request}
+pub use Rattle.toll_desk.specs.Translations.{is_granted, may_change, meaning_of_plant_reply, writes}
+pub use Rattle.toll_desk.specs.Outcome.{CommandEffect, IsDone, finished}
+pub use Rattle.toll_desk.specs.Representing.{Represents}
 pub use Rattle.toll_history.specs.Command.{CancelOrder, Command, PlaceOrder, Reject, Release, by}
 pub use Rattle.toll_history.specs.History.{History, acts, part}
-pub use Rattle.toll_history.specs.Verdict.{Accepted, IsLawful, Refused, Repeated, Verdict, first_of, grow, grown, verdict}
-pub use Rattle.toll_keep.specs.Content.{Content, ContentKeepsRules, Fits, after}
-pub use Rattle.toll_keep.specs.Goes.{Goes, IsReading, Settles}
+pub use Rattle.toll_history.specs.Verdict.{Accepted, IsLawful, Refused, Repeated, Verdict, verdict_of_checks, grow, grown, verdict}
+pub use Rattle.toll_keep.specs.Content.{Content, ContentKeepsRules, AllChangesFit, content_after}
+pub use Rattle.toll_keep.specs.CallEffects.{CallEffect, IsReading, Settles}
 pub use Rattle.toll_keep.specs.Meaning.{Meaning}
 pub use Rattle.toll_keep.specs.declared.fault.KeepFault.{KeepFault}
 pub use Rattle.toll_keep.specs.declared.fault.KeepFault.TheVariants.{Closed, Damaged, Disk, Memory}
 pub use Rattle.toll_protocol.specs.Parsing.{ParseResult, refused, request}
 unfoldable pub use Rattle.toll_protocol.specs.HttpMessages.{reply_text}
+pub use Rattle.toll_protocol.specs.declared.http_messages.failure.Failure.{Failure}
 pub use Rattle.toll_protocol.specs.declared.http_messages.failure.Failure.TheVariants.{Forbidden, MethodNotAllowed, NotImplemented}
 pub use Rattle.toll_protocol.specs.declared.http_messages.verb.Verb.{Verb}
 pub use Rattle.toll_protocol.specs.declared.http_messages.verb.Verb.TheVariants.{Get, Post}
-pub use Rattle.toll_wire.specs.Bodies.{AsksFor, AsksOrder, order_in}
+pub use Rattle.toll_wire.specs.Bodies.{IsOrderBody, IsBodyOf, order_in}
 pub use Rattle.toll_wire.specs.declared.bodies.body.Placing.{Placing}
 pub use mathlib.Core.Bool.{false≢true}

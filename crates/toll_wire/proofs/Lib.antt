@@ -5,16 +5,14 @@ pub mod BodyWithin
 mod WorkedBodies
 pub mod Numbers
 pub mod Patterns
-pub mod Seeks
+pub mod RouterSearch
 pub mod Taken
 pub mod Places
 pub mod Routers
 pub mod Office
-pub mod Rows
-pub mod AskedAt
+pub mod RequestAt
 pub mod Once
-pub mod Within
-pub mod Clients
+pub mod AddressLemmas
 pub mod Readings
 mod WorkedReplies
 pub mod Private

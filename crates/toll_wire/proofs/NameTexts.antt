@@ -9,9 +9,9 @@ use Rattle.toll_base.specs.Bytes.{Bytes}
 use Rattle.toll_base.specs.Values.{is_letter, is_measure, is_name, is_name_byte}
 
 -- bytes that pass a test which only ASCII passes
-ascii : (passes : ℕ → Bool) → ((b : ℕ) → passes b ≡ true → b < 128) → (bytes : Bytes) → list_all passes bytes ≡ true → IsAscii bytes
-ascii passes below [] e = λ i. omega arith
-ascii passes below (b ∷ bytes) e = by_index (ascii passes below bytes (grind (arith, nat_tests))) (below b (grind (arith, nat_tests)))
+ascii_if_passed : (passes : ℕ → Bool) → ((b : ℕ) → passes b ≡ true → b < 128) → (bytes : Bytes) → list_all passes bytes ≡ true → IsAscii bytes
+ascii_if_passed passes below [] e = λ i. omega arith
+ascii_if_passed passes below (b ∷ bytes) e = by_index (ascii_if_passed passes below bytes (grind (arith, nat_tests))) (below b (grind (arith, nat_tests)))
   where
     by_index : IsAscii bytes → b < 128 → IsAscii (b ∷ bytes)
     by_index later first zero = first
@@ -23,11 +23,11 @@ name_byte b e = grind (arith, nat_tests)
 letter : (b : ℕ) → is_letter b ≡ true → b < 128
 letter b e = grind (arith, nat_tests)
 
-pub name_text : (name : Bytes) → IsTrue (is_name name) → IsUtf8 name
-name_text name is = IsUtf8-from_ascii name (ascii is_name_byte name_byte name (grind (arith, nat_tests)))
+pub name_is_utf8 : (name : Bytes) → IsTrue (is_name name) → IsUtf8 name
+name_is_utf8 name is = IsUtf8-from_ascii name (ascii_if_passed is_name_byte name_byte name (grind (arith, nat_tests)))
 
 pub measure_text : (measure : Bytes) → IsTrue (is_measure measure) → IsUtf8 measure
-measure_text measure is = IsUtf8-from_ascii measure (ascii is_letter letter measure (grind (arith, nat_tests)))
+measure_text measure is = IsUtf8-from_ascii measure (ascii_if_passed is_letter letter measure (grind (arith, nat_tests)))
 
 -- what is text is read as text
 pub read_as_text : {T E : Type 0} (r : Result T E) {bytes : Bytes} (P : T → Type 0) (Q : E → Type 0) → IsUtf8 bytes

@@ -1,18 +1,13 @@
 -- The decimal texts of batches' numbers.
-use Rattle.std.proofs.Common.{◌≡◌, ◌∙◌, ℕ, ◌<◌, ◌≤◌, true, false, Bool, [], ◌∷◌, length, take, get_or, refl, sym, ap, subst, rules, arith, Some, None, Result, Ok, Err, nat_le}
+use Rattle.std.proofs.Common.{◌≡◌, ◌∙◌, ℕ, ◌<◌, ◌≤◌, true, false, Bool, [], ◌∷◌, length, take, get_or, refl, sym, ap, subst, arith, Some, None, Result, Ok, Err, nat_le}
 use Rattle.std.specs.Prelude.{decimal, nat_eq, ◌&&◌, if◌then◌else◌}
 use Rattle.toll_wire.proofs.Common.{OkIff, result_ok, list_all, and_parts, and_from, nat_tests, Decides-eqb, decimal-digits_value, decimal_nonempty, digits_decimal, digits_value-decimal, first_decimal, length-decimal-le, starts_is, Bytes, IsBatchNo, is_digit, is_text_of, number_of}
 use Rattle.std.specs.Cmp.Lexicographic.{pointwise}
 use Rattle.std.specs.Str.Parse.{digits_value}
-use Rattle.std.proofs.lemmas.Str.Parse.{IsNumeralModel, IsDigitsTest, numerals_by_value, digits_value_short}
+use Rattle.std.proofs.lemmas.Str.Parse.{digits_value_short}
 use Rattle.toll_base.specs.declared.refusal.Refusal.{Refusal}
 use Rattle.toll_wire.specs.Places.{IsNumberRead}
-
-tells_digits : IsDigitsTest (λ ds. list_all is_digit ds ≡ true)
-tells_digits = (search rules)
-
-pub own : IsNumeralModel (λ ds. list_all is_digit ds ≡ true) (digits_value 10)
-own = numerals_by_value _ tells_digits
+pub use Rattle.toll_base.proofs.Digits.{digits_model}
 
 -- ---- a zero in front
 
@@ -51,21 +46,21 @@ number_of_decimal n is =
     let short = length-decimal-le 2 n (omega arith) (omega arith) (omega arith) in
     let low : nat_le 1 (length (decimal n)) ≡ true = grind (arith, nat_tests) in
     let high : nat_le (length (decimal n)) 10 ≡ true = grind (arith, nat_tests) in
-    let digits = digits_decimal own n (omega arith) in
+    let digits = digits_decimal digits_model n (omega arith) in
     let whole : is_text_of is_digit 1 10 (decimal n) ≡ true = and_from _ _ (and_from _ _ low high) digits in
-    ap (λ b. if b then Some (digits_value 10 (decimal n)) else None) whole ∙ ap (λ k. Some k) (digits_value-decimal own n (omega arith))
+    ap (λ b. if b then Some (digits_value 10 (decimal n)) else None) whole ∙ ap (λ k. Some k) (digits_value-decimal digits_model n (omega arith))
 
-taken : (b : Bool) (n m : ℕ) → (if b then Some n else None) ≡ Some m → (b ≡ true) × (n ≡ m)
-taken true n m e = (refl, cc e)
-taken false n m e = cc e
+some_if_taken : (b : Bool) (n m : ℕ) → (if b then Some n else None) ≡ Some m → (b ≡ true) × (n ≡ m)
+some_if_taken true n m e = (refl, cc e)
+some_if_taken false n m e = cc e
 
 decimal_of_number : (text : Bytes) (m : ℕ) → number_of text ≡ Some m → pointwise nat_eq (48 ∷ []) (take 1 text) ≡ false → text ≡ decimal m
 decimal_of_number text m e none =
-    let parts = taken (is_text_of is_digit 1 10 text) (digits_value 10 text) m e in
+    let parts = some_if_taken (is_text_of is_digit 1 10 text) (digits_value 10 text) m e in
     let few = few_digits text parts.0 in
-    let short = digits_value_short own text 10 few.digits few.few in
+    let short = digits_value_short digits_model text 10 few.digits few.few in
     let front : get_or text 0 0 ≡ 48 → length text ≡ 1 = λ z. cc (front_zero text (omega (arith, few.some)) z, none) in
-    sym (decimal-digits_value own text few.digits (omega (arith, few.some)) front (omega (arith, short))) ∙ ap decimal parts.1
+    sym (decimal-digits_value digits_model text few.digits (omega (arith, few.some)) front (omega (arith, short))) ∙ ap decimal parts.1
 
 -- a text that is no number is no number's decimal text
 pub no_number : (text : Bytes) (n : ℕ) → number_of text ≡ None → IsBatchNo n → text ≡ decimal n → ⊥

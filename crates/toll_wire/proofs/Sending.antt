@@ -8,16 +8,16 @@ use Rattle.toll_base.specs.Bytes.{Bytes}
 use Rattle.toll_wire.specs.Sending.{SendsMember}
 
 -- lists are as long as what is said of them
-pub items_said : {T : Type 0} (said : T → Data) (rows : List T) → items_len (items_of (map said rows)) ≡ length rows
-items_said said [] = refl
-items_said said (row ∷ rows) = ap suc (items_said said rows)
+pub items_length : {T : Type 0} (as_data : T → Data) (rows : List T) → items_len (items_of (map as_data rows)) ≡ length rows
+items_length as_data [] = refl
+items_length as_data (row ∷ rows) = ap suc (items_length as_data rows)
 
 -- these members are sent, and then the end of their object
 pub record Sends (ms : Members) (old new : Log) : Type 0 where
   pub sent : SendsMembers ms old new
 
-pub ends : (old new : Log) → Logs old new map_ends → Sends no_members old new
-ends old new ended = record { sent = ended }
+pub sent_at_end : (old new : Log) → Logs old new map_ends → Sends no_members old new
+sent_at_end old new ended = record { sent = ended }
 
 pub sends : {name : Bytes} {value : Data} {rest : Members} {old middle new : Log} → SendsMember name value old middle → Sends rest middle new → Sends (member name value rest) old new
 sends sent rest = record { sent = (sent.named, _, sent.key, sent.sent, rest.sent) }

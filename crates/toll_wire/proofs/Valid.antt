@@ -1,23 +1,25 @@
 -- What the bytes of requests say is within its bounds.
-use Rattle.std.proofs.Common.{Option, Some, None, sym, subst}
-use Rattle.toll_wire.proofs.Common.{Bytes, ParseResult, refused as refused_before, request as arrived}
-use Rattle.toll_wire.specs.declared.routes.routed_request.RoutedRequest.{RoutedRequest}
-use Rattle.toll_wire.specs.declared.routes.routed_request.RoutedRequest.TheVariants.{Failing, For}
-use Rattle.toll_wire.specs.Routing.{IsValidAsks}
-use Rattle.toll_wire.proofs.Within.{asks_within}
-use Rattle.toll_wire.specs.ParsedRequests.{ParsedRequest, claimed, AskedOf}
+use Rattle.std.proofs.Common.{Option, Some, None, Result, Ok, Err, sym, subst}
+use Rattle.toll_base.specs.declared.request.Request.TheVariants.{Place}
+use Rattle.toll_wire.proofs.AddressLemmas.{each_has_address}
+use Rattle.toll_wire.proofs.Common.{Bytes, Failure, IsValidOwnerRequest, ParseResult, Request, Verb, refused, request}
+use Rattle.toll_wire.specs.Routes.{IsAskable}
+use Rattle.toll_wire.specs.Routing.{IsAsking}
 use Rattle.toll_wire.specs.Runs.{Saying, IsValidSaying}
-use Rattle.toll_wire.specs.Steps.{http, saying_of, Says}
+use Rattle.toll_wire.specs.Steps.{http, saying_of, IsSaidBy, Says}
 
-saying_within : (owner key : Option Bytes) (asks : RoutedRequest) → IsValidAsks asks → IsValidSaying http (saying_of (claimed owner key asks))
-saying_within None key asks valid = tt
-saying_within (Some owner) key (Failing failure) valid = tt
-saying_within (Some owner) key (For request) valid = valid
+valid_if_askable : (requested : Request) → IsAskable requested → IsValidOwnerRequest requested
+valid_if_askable (Place order recipe batches) askable = askable.2
+valid_if_askable _ askable = tt
 
-asked_within : (outcome : ParseResult) (asked : ParsedRequest) → AskedOf outcome asked → IsValidSaying http (saying_of asked)
-asked_within (refused_before failure) asked is = subst (λ a. IsValidSaying http (saying_of a)) (sym is) tt
-asked_within (arrived verb target owner key body) asked is =
-    subst (λ a. IsValidSaying http (saying_of a)) (sym is.2) (saying_within owner key is.0 (asks_within verb target body is.0 is.1))
+asking_valid : (verb : Verb) (target : Bytes) (owner key : Option Bytes) (body : Bytes) (asks : Result Request Failure) → IsAsking verb target body asks → IsValidSaying http (saying_of owner key asks)
+asking_valid verb target None key body asks is = tt
+asking_valid verb target (Some owner) key body (Err failure) is = tt
+asking_valid verb target (Some owner) key body (Ok requested) is = valid_if_askable requested (each_has_address verb target body requested is).askable
+
+said_valid : (outcome : ParseResult) (saying : Saying) → IsSaidBy outcome saying → IsValidSaying http saying
+said_valid (refused failure) saying is = subst (IsValidSaying http) (sym is) tt
+said_valid (request verb target owner key body) saying is = subst (IsValidSaying http) (sym is.2) (asking_valid verb target owner key body is.0 is.1)
 
 pub says_valid : (bytes : Bytes) (saying : Saying) → Says bytes saying → IsValidSaying http saying
-says_valid bytes saying says = let reads = says.1 in subst (IsValidSaying http) (sym says.2) (asked_within reads.0 says.0 reads.2)
+says_valid bytes saying says = said_valid says.0 saying says.2

@@ -14,13 +14,14 @@ use Rattle.toll_base.specs.declared.rows.BatchRow.{BatchRow}
 use Rattle.toll_base.specs.declared.rows.LotRow.{LotRow}
 use Rattle.toll_base.specs.declared.rows.OrderRow.{OrderRow}
 use Rattle.toll_base.specs.declared.state.State.TheVariants.{Running}
-use Rattle.toll_wire.specs.Bodies.{order_in, placing}
+use Rattle.toll_base.specs.Rows.{lot_row_of, sublot_row_of}
+use Rattle.toll_wire.specs.Bodies.{order_in, placing_of}
 use Rattle.toll_wire.specs.ReplyBodies.{orders_data, order_data, batch_data, stock_data, lot_data, trace_data, refusal_data, error_data}
 use Rattle.toll_work.specs.declared.views.RequirementLine.{RequirementLine}
 
 -- ---- orders
 
-abbrev open_order : OrderRow
+abbrev pub open_order : OrderRow
 open_order = record { order = codes "O-1"; recipe = codes "R-1"; batches = 2; cancelled = false }
 
 an_order : compact_text (order_data open_order) ≡ codes "{\"batches\":2,\"order\":\"O-1\",\"recipe\":\"R-1\",\"status\":\"open\"}"
@@ -54,23 +55,23 @@ the_batch = refl
 
 -- ---- stock and a lot
 
-abbrev received : LotRow
-received = record { lot = codes "A"; material = codes "M"; origin = Receipts; disposition = Released }
+abbrev received_row : LotRow
+received_row = lot_row_of (codes "A") (codes "M") Receipts Released
 
-abbrev made : LotRow
-made = record { lot = codes "P1"; material = codes "P"; origin = Batch (codes "O") 1; disposition = Quarantined }
+abbrev produced_lot : LotRow
+produced_lot = lot_row_of (codes "P1") (codes "P") (Batch (codes "O") 1) Quarantined
 
-the_stock : compact_text (stock_data (record { row = received; measure = codes "kg"; amount = 60 } ∷ []))
+the_stock : compact_text (stock_data (record { row = received_row; measure = codes "kg"; amount = 60 } ∷ []))
     ≡ codes "{\"lots\":[{\"amount\":60,\"disposition\":\"released\",\"lot\":\"A\",\"material\":\"M\",\"measure\":\"kg\"}]}"
 unfolding serde_json_on_literals digits
 the_stock = refl
 
-a_lot_of_receipts : compact_text (lot_data received (codes "kg") [] (record { lot = codes "A"; sublot = codes "S1"; amount = 0 } ∷ []))
+a_lot_of_receipts : compact_text (lot_data received_row (codes "kg") [] (sublot_row_of (codes "A") (codes "S1") 0 ∷ []))
     ≡ codes "{\"disposition\":\"released\",\"lot\":\"A\",\"material\":\"M\",\"measure\":\"kg\",\"origin\":\"receipts\",\"results\":[],\"sublots\":[{\"amount\":0,\"sublot\":\"S1\"}]}"
 unfolding serde_json_on_literals digits
 a_lot_of_receipts = refl
 
-a_lot_of_a_batch : compact_text (lot_data made (codes "kg") (record { lot = codes "P1"; test = codes "PH"; number = 1; value = negsuc 4; day = 12 } ∷ []) [])
+a_lot_of_a_batch : compact_text (lot_data produced_lot (codes "kg") (record { lot = codes "P1"; test = codes "PH"; number = 1; value = negsuc 4; day = 12 } ∷ []) [])
     ≡ codes "{\"disposition\":\"quarantined\",\"lot\":\"P1\",\"material\":\"P\",\"measure\":\"kg\",\"origin\":\"O/1\",\"results\":[{\"day\":12,\"test\":\"PH\",\"value\":-5}],\"sublots\":[]}"
 unfolding serde_json_on_literals digits
 a_lot_of_a_batch = refl
@@ -95,7 +96,7 @@ a_failure = refl
 -- ---- what a body asks for
 
 -- of several members of one name the last counts
-the_last_member_counts : option_and_then order_in (read (codes "{\"order\":\"O-1\",\"recipe\":\"R-1\",\"batches\":1,\"batches\":2}")) ≡ Some (placing (codes "O-1") (codes "R-1") 2)
+the_last_member_counts : option_and_then order_in (read (codes "{\"order\":\"O-1\",\"recipe\":\"R-1\",\"batches\":1,\"batches\":2}")) ≡ Some (placing_of (codes "O-1") (codes "R-1") 2)
 unfolding serde_json_on_literals digits
 the_last_member_counts = refl
 

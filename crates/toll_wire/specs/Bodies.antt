@@ -9,8 +9,8 @@ use Rattle.toll_base.specs.declared.bounded.TheConstants.{MOST_BATCHES}
 use Rattle.toll_wire.specs.declared.bodies.body.Placing.{Placing}
 
 -- the last member of this name is a text, which is a name
-abbrev pub name_at : Bytes → Data → Option Bytes
-name_at member d = option_and_then (λ text. if is_name text then Some text else None) (option_and_then as_str (get member d))
+abbrev pub name_member : Bytes → Data → Option Bytes
+name_member member d = option_and_then (λ text. if is_name text then Some text else None) (option_and_then as_str (get member d))
 
 -- the last member `batches` is a number written without fraction or exponent, from 1 to as many as an order may have
 abbrev pub batches_at : Data → Option ℕ
@@ -19,23 +19,23 @@ batches_at d =
     (option_and_then as_u64 (option_and_then as_number (get (codes "batches") d)))
 
 -- that many batches by that recipe
-abbrev pub placing : Bytes → Bytes → ℕ → Placing
-placing order recipe batches = record { order = order; recipe = recipe; batches = batches }
+abbrev pub placing_of : Bytes → Bytes → ℕ → Placing
+placing_of order recipe batches = record { order = order; recipe = recipe; batches = batches }
 
 -- the order that a JSON value asks for
 abbrev pub order_in : Data → Option Placing
 order_in d =
-    option_and_then (λ order. option_and_then (λ recipe. option_map (placing order recipe)
-    (batches_at d)) (name_at (codes "recipe") d)) (name_at (codes "order") d)
+    option_and_then (λ order. option_and_then (λ recipe. option_map (placing_of order recipe)
+    (batches_at d)) (name_member (codes "recipe") d)) (name_member (codes "order") d)
 
 -- the body is a JSON text that asks for this order
-pub record AsksFor (body : Bytes) (order : Placing) : Type 0 where
+pub record IsOrderBody (body : Bytes) (order : Placing) : Type 0 where
   pub text : IsUtf8 body
   pub value : Data
   pub reads : read body ≡ Some value
   pub asks : order_in value ≡ Some order
 
 -- the body asks for this order, or for none
-abbrev pub AsksOrder : Bytes → Option Placing → Type 0
-AsksOrder body (Some order) = AsksFor body order
-AsksOrder body None = (order : Placing) → AsksFor body order → ⊥
+abbrev pub IsBodyOf : Bytes → Option Placing → Type 0
+IsBodyOf body (Some order) = IsOrderBody body order
+IsBodyOf body None = (order : Placing) → IsOrderBody body order → ⊥

@@ -1,11 +1,13 @@
 -- Words of other crates that several definitions here are said in.
-pub use Rattle.toll_answers.specs.PlantAnswers.{AsksRecall, Does, IsPlantAnswer, Judged, PlantRequest, PlantAnswer, Shows, after_plant}
-pub use Rattle.toll_answers.specs.Texts.{recall_line, recall_text, trace_text}
-pub use Rattle.toll_answers.specs.OwnerRequests.{AskBack, AskForward, OwnerRequest, TellBatch, TellForbidden, TellLot, TellOrder, TellOrders, TellRefused, TellStock, TellTrace, OwnerReply}
+pub use Rattle.toll_answers.specs.PlantAnswers.{IsPlantAnswer, IsValidCommand, Judged, PlantAnswer, Shows, after_plant, command_of}
+pub use Rattle.toll_answers.specs.Texts.{recall_line_text, recall_text, trace_text}
+pub use Rattle.toll_answers.specs.OwnerReply.{OwnerReply, ReplyTrace}
+pub use Rattle.toll_answers.specs.declared.plant_cmd.PlantCmd.{PlantCmd}
 pub use Rattle.toll_base.specs.Bytes.{Bytes, same_bytes}
 pub use Rattle.toll_base.specs.Values.{house_name}
 pub use Rattle.toll_base.specs.declared.lot.LotId.{LotId}
-pub use Rattle.toll_desk.specs.Translations.{IsValidCommand, asked_by, asked_of, plant_told, told_of, writes}
+pub use Rattle.toll_base.specs.declared.request.Request.{Request}
+pub use Rattle.toll_desk.specs.Translations.{meaning_of_plant_reply, meaning_of_reply, writes}
 pub use Rattle.toll_desk.specs.Outcome.{HoldsFor, IsDone, LeavesOr}
 pub use Rattle.toll_history.specs.History.{History, part}
 pub use Rattle.toll_history.specs.Verdict.{Accepted, IsLawful}

@@ -8,8 +8,6 @@ pub mod Places
 pub mod Routers
 pub mod Routing
 pub mod Addresses
-pub mod ParsedRequests
-pub mod Shown
 pub mod ReplyTexts
 pub mod OutTexts
 pub mod Runs

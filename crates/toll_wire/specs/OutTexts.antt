@@ -17,6 +17,11 @@ IsText (Text out) (Some text) = out.items ≡ text
 IsText (Text out) None = ⊥
 IsText Unavailable text = Unit {0}
 
+-- the reply with this text, or without one because of a fault
+abbrev pub out_of : Result (Vec ℕ) KeepFault → Out
+out_of (Ok text) = Text text
+out_of (Err fault) = Unavailable
+
 -- the text once the changes were made, or not
 abbrev pub text_if : Vec ℕ → Result (Unit {0}) KeepFault → Out
 text_if text (Ok made) = Text text

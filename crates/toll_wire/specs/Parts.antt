@@ -1,6 +1,6 @@
 -- What one owner has of a run, as bytes: its requests and their replies, and the commands on its rows.
 use Rattle.std.specs.Prelude.{◌≡◌, ◌⊎◌, true, if◌then◌else◌, Option, Some, None, List, [], ◌∷◌, Result, Ok}
-use Rattle.toll_wire.specs.Common.{Bytes, same_bytes, History, Accepted, KeepFault, PlantRequest, Does, PlantAnswer, Judged, asked_by, plant_told}
+use Rattle.toll_wire.specs.Common.{Bytes, same_bytes, History, Accepted, KeepFault, PlantAnswer, Judged, command_of, meaning_of_plant_reply}
 use Rattle.toll_history.specs.Command.{Command}
 use Rattle.toll_wire.specs.declared.event.Event.{Event}
 use Rattle.toll_wire.specs.declared.event.Event.TheVariants.{Owner, Plant}
@@ -20,8 +20,8 @@ abbrev pub IsClaimed : Bytes → Bytes → Type 0
 IsClaimed o bytes = (saying : Saying) × Says bytes saying × (claims o saying ≡ true)
 
 -- the command that was accepted, if it is one on this owner's rows
-abbrev pub done_for : Bytes → PlantRequest → Result PlantAnswer KeepFault → Option Command
-done_for o (Does c) (Ok (Judged Accepted)) = if same_bytes c.owner o then Some c else None
+abbrev pub done_for : Bytes → Result PlantAnswer KeepFault → Option Command → Option Command
+done_for o (Ok (Judged Accepted)) (Some c) = if same_bytes c.owner o then Some c else None
 done_for o _ _ = None
 
 -- a command more, if there was one
@@ -37,10 +37,10 @@ IsPart o (Owner bytes ∷ events) (Reply (Text text) ∷ answers) own replies =
     ⊎ ((¬ (IsClaimed o bytes.items)) × IsPart o events answers own replies)
 IsPart o (Owner bytes ∷ events) (Reply Unavailable ∷ answers) own replies = IsPart o events answers own replies
 IsPart o (Plant command ∷ events) (PlantReply reply ∷ answers) own replies =
-    WithDone (done_for o (asked_by command) (plant_told reply)) (λ others. IsPart o events answers others replies) own
+    WithDone (done_for o (meaning_of_plant_reply reply) (command_of command)) (λ others. IsPart o events answers others replies) own
 IsPart o _ _ own replies = ⊥
 
--- these are the replies to the owner's requests where nothing but these events comes, and each command is accepted without a test
+-- these are the replies to the owner's requests if nothing but these events comes, and each command is accepted without a test
 abbrev pub AreAlone : History → List OwnEvent → List Bytes → Type 0
 AreAlone F [] [] = Unit {0}
 AreAlone F (Sent bytes ∷ own) (reply ∷ replies) = (saying : Saying) × Says bytes saying × IsTold http F saying reply × AreAlone (after_saying http F saying) own replies

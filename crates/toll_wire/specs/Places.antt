@@ -4,6 +4,7 @@ use Rattle.std.specs.List.{before_first}
 use Rattle.toll_base.specs.Bytes.{Bytes}
 use Rattle.toll_base.specs.Values.{IsBatchNo, is_name}
 use Rattle.toll_wire.specs.Routes.{Route, spelled}
+use Rattle.toll_wire.specs.declared.routes.route.Endpoint.{Endpoint}
 use Rattle.toll_wire.specs.declared.routes.parts.Parts.{Parts}
 use Rattle.toll_wire.specs.declared.routes.parts.Parts.TheVariants as part
 use Rattle.toll_wire.specs.declared.routes.values.Values.{Values}
@@ -27,24 +28,24 @@ AreValues (value.NameAndNumber order number) = IsTrue (is_name order) × IsBatch
 
 -- the path is that of the route with these values
 pub record IsPath (route : Route) (values : Values) (path : Bytes) : Type 0 where
-  pub parts : parts_of values ≡ route.parts
+  pub parts : parts_of values ≡ route.endpoint.parts
   pub valid : AreValues values
   pub text : path ≡ spelled route values
 
--- the path leads to the first of these routes that it is a path of, and to its values there; or to nothing
-abbrev pub LeadsTo : List Route → Bytes → Option (Route × Values) → Type 0
-LeadsTo [] path found = found ≡ None
-LeadsTo (route ∷ routes) path found =
-    ((values : Values) × IsPath route values path × (found ≡ Some (route, values)))
-    ⊎ (((values : Values) → IsPath route values path → ⊥) × LeadsTo routes path found)
+-- the path leads to the endpoint of the first of these routes that it is a path of, and to its values there; or to nothing
+abbrev pub PathLeadsTo : List Route → Bytes → Option (Endpoint × Values) → Type 0
+PathLeadsTo [] path found = found ≡ None
+PathLeadsTo (route ∷ routes) path found =
+    ((values : Values) × IsPath route values path × (found ≡ Some (route.endpoint, values)))
+    ⊎ (((values : Values) → IsPath route values path → ⊥) × PathLeadsTo routes path found)
 
 -- ---- the parts of a path
 
 -- how many parts there are
-abbrev pub count : Parts → ℕ
-count part.Nothing = 0
-count part.Name = 1
-count part.NameAndNumber = 2
+abbrev pub count_parts : Parts → ℕ
+count_parts part.Nothing = 0
+count_parts part.Name = 1
+count_parts part.NameAndNumber = 2
 
 -- values as they stand in the parts
 abbrev pub texts_of : Values → List Bytes
@@ -59,9 +60,9 @@ pub record AreTextsOf (parts : Parts) (values : Values) (texts : List Bytes) : T
   pub texts_are : texts ≡ texts_of values
 
 -- the texts write these values in the parts, or none
-abbrev pub AreReadFrom : Parts → List Bytes → Option Values → Type 0
-AreReadFrom parts texts (Some values) = AreTextsOf parts values texts
-AreReadFrom parts texts None = (values : Values) → AreTextsOf parts values texts → ⊥
+abbrev pub AreValuesReadFrom : Parts → List Bytes → Option Values → Type 0
+AreValuesReadFrom parts texts (Some values) = AreTextsOf parts values texts
+AreValuesReadFrom parts texts None = (values : Values) → AreTextsOf parts values texts → ⊥
 
 -- the text is the decimal text of this number of a batch, or of none
 abbrev pub IsNumberRead : Bytes → Option ℕ → Type 0

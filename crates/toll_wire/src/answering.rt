@@ -1,16 +1,19 @@
 //! Answering a request.
-ghost use Rattle.std.specs.Prelude.{Some};
-ghost use Rattle.toll_wire.specs.Runs.{By};
-ghost use Rattle.toll_wire.specs.Steps.{IsAnswered, IsServing, claimed_request_of};
+ghost use Rattle.std.specs.Prelude.{◌≡◌, IfErr, Some};
+ghost use Rattle.toll_desk.specs.Translations.{meaning_of_reply};
+ghost use Rattle.toll_wire.specs.OutTexts.{out_of};
+ghost use Rattle.toll_wire.specs.ReplyTexts.{fault_or_memory, text_of_failure};
+ghost use Rattle.toll_wire.specs.Runs.{Asks, By, Fails};
+ghost use Rattle.toll_wire.specs.Steps.{IsAnswered, IsFaultMet, IsServing};
 
 use crate::outgoing::Out;
-use crate::parsed_request::{ParsedRequest, read};
-use crate::reply::{fail, tell};
-use crate::routes::{OfficeRouter, RoutedRequest};
+use crate::reply::{fail, reply_out};
+use crate::routes::{OfficeRouter, route_request};
 use std::alloc::Global;
-use toll_desk::{Request, admit, commit, owner_plan};
-use toll_keep::Keep;
-use toll_protocol::Failure;
+use toll_base::Request;
+use toll_desk::{Reply, admit, commit, owner_plan};
+use toll_keep::{Keep, KeepFault};
+use toll_protocol::{Failure, parse_http};
 
 /// Answers the bytes of a request: one step of a run.
 ///
@@ -20,11 +23,11 @@ use toll_protocol::Failure;
 pub fn answer<K: Keep>(alloc: Global, keep: &mut K, bytes: &[u8]) -> Out
     ensures { IsAnswered K.meaning keep.old keep.new bytes.now result }
 {
-    answer_with_router(alloc, &mut OfficeRouter::new(), keep, bytes)
+    reply_by_router(alloc, &mut OfficeRouter::new(), keep, bytes)
 }
 
 /// Does the same with a router that serves many requests.
-pub fn answer_with_router<K: Keep>(
+pub fn reply_by_router<K: Keep>(
     alloc: Global,
     router: &mut OfficeRouter,
     keep: &mut K,
@@ -32,40 +35,80 @@ pub fn answer_with_router<K: Keep>(
 ) -> Out
     ensures { IsAnswered K.meaning keep.old keep.new bytes.now result }
 {
-    match read(alloc, router, bytes) {
-        Err(_) => Out::Unavailable,
-        Ok(ParsedRequest::Refused(failure)) => fail(alloc, failure),
-        Ok(ParsedRequest::Claimed { owner, key, asks }) => match (owner, key) {
-            (Some(owner), Some(key)) => match &asks {
-                RoutedRequest::For(request) => serve(alloc, keep, owner, key, request),
-                RoutedRequest::Failing(failure) => refuse(alloc, keep, owner, key, *failure),
+    Out::of(answer_with_router(alloc, router, keep, bytes))
+}
+
+/// Gives the text of that reply. An `Err` is the fault because of which the reply is [`Out::Unavailable`]:
+/// that of a call of the keep, or that there was no memory.
+pub fn answer_with_router<K: Keep>(
+    alloc: Global,
+    router: &mut OfficeRouter,
+    keep: &mut K,
+    bytes: &[u8],
+) -> Result<Vec<u8>, KeepFault>
+    ensures answered { IsAnswered K.meaning keep.old keep.new bytes.now (out_of result) }
+    ensures met { IfErr result (IsFaultMet K.meaning keep.old keep.new) }
+{
+    match parse_http(bytes) {
+        Err(failure) => fail(alloc, failure).into_text(),
+        Ok(http) => match route_request(alloc, router, http.verb, http.target, http.body) {
+            Err(_) => Err(KeepFault::Memory),
+            Ok(asks) => match (http.owner, http.key) {
+                (Some(owner), Some(key)) => match asks {
+                    Ok(request) => serve(alloc, keep, owner, key, &request),
+                    Err(failure) => refuse(alloc, keep, owner, key, failure),
+                },
+                _ => fail(alloc, Failure::Forbidden).into_text(),
             },
-            _ => fail(alloc, Failure::Forbidden),
         },
     }
 }
 
 // Makes the text of the reply, and then the changes.
-fn serve<K: Keep>(alloc: Global, keep: &mut K, owner: &[u8], key: &[u8], request: &Request) -> Out
-    ensures { IsServing K.meaning keep.old keep.new (By owner.now (Some key.now) (claimed_request_of (RoutedRequest.For request.now))) result }
+fn serve<K: Keep>(
+    alloc: Global,
+    keep: &mut K,
+    owner: &[u8],
+    key: &[u8],
+    request: &Request,
+) -> Result<Vec<u8>, KeepFault>
+    ensures serves { IsServing K.meaning keep.old keep.new (By owner.now (Some key.now) (Asks request.now)) (out_of result) }
+    ensures met { IfErr result (IsFaultMet K.meaning keep.old keep.new) }
 {
     let planned = owner_plan(alloc, keep, owner, key, request);
-    match tell(alloc, &planned.reply) {
-        Out::Unavailable => Out::Unavailable,
-        Out::Text(text) => {
-            let made = commit(alloc, keep, &planned.changes);
-            Out::text_if(text, made)
-        }
+    match reply_out(alloc, &planned.reply) {
+        Out::Unavailable => Err(fault_of(&planned.reply)),
+        Out::Text(text) => match commit(alloc, keep, &planned.changes) {
+            Ok(()) => Ok(text),
+            Err(fault) => Err(fault),
+        },
     }
 }
 
-// Tells an owner which check the request fails, and every other client only that it is forbidden.
-fn refuse<K: Keep>(alloc: Global, keep: &mut K, owner: &[u8], key: &[u8], failure: Failure) -> Out
-    ensures { IsServing K.meaning keep.old keep.new (By owner.now (Some key.now) (claimed_request_of (RoutedRequest.Failing failure))) result }
+// The fault of a reply without a text: that of the keep, or that there was no memory for the text.
+fn fault_of(reply: &Reply) -> KeepFault
+    ensures { result ≡ fault_or_memory (meaning_of_reply reply.now) }
+{
+    match reply {
+        Reply::Fault(fault) => *fault,
+        _ => KeepFault::Memory,
+    }
+}
+
+// Replies to an owner which check the request fails, and to every other client only that it is forbidden.
+fn refuse<K: Keep>(
+    alloc: Global,
+    keep: &mut K,
+    owner: &[u8],
+    key: &[u8],
+    failure: Failure,
+) -> Result<Vec<u8>, KeepFault>
+    ensures serves { IsServing K.meaning keep.old keep.new (By owner.now (Some key.now) (Fails (text_of_failure failure))) (out_of result) }
+    ensures met { IfErr result (IsFaultMet K.meaning keep.old keep.new) }
 {
     match admit(alloc, keep, owner, key) {
-        Ok(Some(_)) => fail(alloc, failure),
-        Ok(None) => fail(alloc, Failure::Forbidden),
-        Err(_) => Out::Unavailable,
+        Ok(Some(_)) => fail(alloc, failure).into_text(),
+        Ok(None) => fail(alloc, Failure::Forbidden).into_text(),
+        Err(fault) => Err(fault),
     }
 }

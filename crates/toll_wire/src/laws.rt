@@ -4,15 +4,16 @@ ghost use Rattle.toll_base.specs.Bytes.{Bytes, same_bytes};
 ghost use Rattle.toll_base.specs.Values.{house_name};
 ghost use Rattle.toll_base.specs.declared.lot.LotId.{LotId};
 ghost use Rattle.toll_history.specs.History.{History, part};
-ghost use Rattle.toll_history.specs.Tables.{lot_row};
+ghost use Rattle.toll_history.specs.OwnerFacts.{lot_row};
 ghost use Rattle.toll_history.specs.Verdict.{IsLawful};
 ghost use Rattle.toll_trace.specs.declared.way.Way.{Way};
 ghost use Rattle.toll_answers.specs.Agreement.{IfPartsAgree};
-ghost use Rattle.toll_answers.specs.PlantAnswers.{AsksTrace, IsPlantAnswer, Shows};
-ghost use Rattle.toll_answers.specs.Replies.{has_key};
-ghost use Rattle.toll_wire.specs.Laws.{AnswerAlike, AreDetermined, AreRunsAlike, Course, HasPart, IsRunTo, IsToldAsAlone, PrintTheSame, PrintsTrace, RunPrivately, TellsTrace};
+ghost use Rattle.toll_answers.specs.PlantAnswers.{IsPlantAnswer, Shows};
+ghost use Rattle.toll_answers.specs.declared.plant_cmd.PlantCmd.TheVariants as PlantCmd;
+ghost use Rattle.toll_answers.specs.Replies.{has_owner_key};
+ghost use Rattle.toll_wire.specs.Laws.{AnswerAlike, AreDetermined, AreRunsAlike, Course, HasOwnersPart, IsRunTo, RepliesAsAlone, PrintTheSame, PrintsTrace, RunPrivately, RepliesWithTrace};
 ghost use Rattle.toll_wire.specs.Parts.{AreAlone, OwnEvent};
-ghost use Rattle.toll_wire.specs.Runs.{Happening, Saying, Wire, AreValid};
+ghost use Rattle.toll_wire.specs.Runs.{RunEvent, Saying, Wire, AreValid};
 ghost use Rattle.toll_wire.specs.Steps.{Says};
 ghost use Rattle.toll_wire.specs.declared.event.Event.{Event};
 
@@ -27,13 +28,13 @@ pub fn bytes_say_one_thing()
 /// In each run of the office, an owner has its own part, as bytes: its requests and their replies, and the
 /// accepted commands on its rows.
 pub fn every_run_has_its_parts<K: Keep>()
-    ensures { (k : K) (run : Course) → IsRunTo (K.meaning.holds k) run → (o : Bytes) → HasPart o run }
+    ensures { (k : K) (run : Course) → IsRunTo (K.meaning.holds k) run → (o : Bytes) → HasOwnersPart o run }
 {}
 
 /// The replies to each owner besides HOUSE are, byte for byte, those that its own requests, and the
 /// accepted commands of the plant on its rows, give by themselves.
 pub fn replies_are_those_that_the_owners_part_gives_alone<K: Keep>()
-    ensures { (k : K) (run : Course) → IsRunTo (K.meaning.holds k) run → (o : Bytes) → same_bytes o house_name ≡ false → IsToldAsAlone o run }
+    ensures { (k : K) (run : Course) → IsRunTo (K.meaning.holds k) run → (o : Bytes) → same_bytes o house_name ≡ false → RepliesAsAlone o run }
 {}
 
 /// An owner's part alone gives one list of replies.
@@ -52,13 +53,13 @@ pub fn runs_with_the_same_part_give_the_same_replies<J: Keep, K: Keep>()
 /// requests, and the accepted commands of the plant on its rows, give by themselves. This holds for any texts
 /// of replies.
 pub fn runs_are_private()
-    ensures { (wire : Wire) (start : History) (events : List Happening) → IsLawful start → AreValid wire events → RunPrivately wire start events }
+    ensures { (wire : Wire) (start : History) (events : List RunEvent) → IsLawful start → AreValid wire events → RunPrivately wire start events }
 {}
 
 /// If no answer says that there was no memory, or a fault, events have one list of answers, and leave one
 /// history.
 pub fn answers_are_determined()
-    ensures { (wire : Wire) (start : History) (events : List Happening) → AreDetermined wire start events }
+    ensures { (wire : Wire) (start : History) (events : List RunEvent) → AreDetermined wire start events }
 {}
 
 /// Over any two keeps whose rows are those of one history, the same events get the same answers, byte for
@@ -76,11 +77,11 @@ pub fn recalls_print_the_same_lines_of_an_owner()
 /// The text of a trace for the plant lists exactly the lots that a chain of recorded consumption joins to the
 /// lot in question, over the batches of all owners, each with its fewest steps.
 pub fn the_plants_traces_are_printed()
-    ensures { (H : History) (lot : LotId) (way : Way) (text : Bytes) → IsPlantAnswer H (AsksTrace lot way) (Shows text) → PrintsTrace H way lot text }
+    ensures { (H : History) (lot : LotId) (way : Way) (text : Bytes) → IsPlantAnswer H (PlantCmd.Trace lot way) (Shows text) → PrintsTrace H way lot text }
 {}
 
 /// The reply to an owner with its key, which asks for the trace of a lot that it has, lists exactly the lots
 /// that a chain of its own batches joins to it, each with its fewest steps, byte for byte.
-pub fn an_owners_traces_are_told_byte_for_byte()
-    ensures { (H : History) (o key lot : Bytes) (way : Way) → has_key o key H ≡ true → is_some (lot_row H o lot) ≡ true → TellsTrace H o key way lot }
+pub fn an_owners_traces_are_replied_byte_for_byte()
+    ensures { (H : History) (o key lot : Bytes) (way : Way) → has_owner_key o key H ≡ true → is_some (lot_row H o lot) ≡ true → RepliesWithTrace H o key way lot }
 {}

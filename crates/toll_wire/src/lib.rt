@@ -7,19 +7,18 @@ mod bodies;
 mod event;
 mod laws;
 mod outgoing;
-mod parsed_request;
 mod reply;
 mod routes;
 mod run;
 
-pub use answering::{answer, answer_with_router};
+pub use answering::{answer, answer_with_router, reply_by_router};
 pub use bodies::{
-    Placing, batch_body, error_body, lot_body, order_asked, order_body, orders_body, refusal_body,
-    stock_body, trace_body,
+    Placing, batch_body, error_body, lot_body, order_body, orders_body, refusal_body,
+    requested_order, stock_body, trace_body,
 };
 pub use event::{Answer, Event};
 pub use laws::{
-    a_part_alone_gives_one_list_of_replies, an_owners_traces_are_told_byte_for_byte,
+    a_part_alone_gives_one_list_of_replies, an_owners_traces_are_replied_byte_for_byte,
     answers_are_determined, any_two_keeps_answer_alike, bytes_say_one_thing,
     every_run_has_its_parts, recalls_print_the_same_lines_of_an_owner,
     replies_are_those_that_the_owners_part_gives_alone, runs_are_private,
@@ -27,8 +26,8 @@ pub use laws::{
 };
 pub use outgoing::Out;
 pub use routes::{
-    OfficeRouter, RoutedRequest, a_request_asks_for_one_thing, each_request_has_its_route,
-    route_request,
+    OfficeRouter, a_request_asks_for_one_thing, a_request_has_its_address,
+    each_request_has_its_route, route_request,
 };
 pub use run::run_events;
 pub use toll_protocol::{ReadFault, WriteFault, read_request, write_whole as write_reply};

@@ -17,7 +17,7 @@ use toll_desk::Reply;
 use toll_protocol::{Failure, Verb, message};
 
 /// The bytes that are sent back for a reply of the desk. A fault has no text.
-pub fn tell(alloc: Global, reply: &Reply) -> Out
+pub fn reply_out(alloc: Global, reply: &Reply) -> Out
     ensures { IsText result (text_of_reply reply.now) }
 {
     match reply {

@@ -4,11 +4,12 @@ mod laws;
 mod office_router;
 mod parts;
 mod path;
-mod request_kind;
 mod route;
-mod routed_request;
+mod routing;
 mod values;
 
-pub use laws::{a_request_asks_for_one_thing, each_request_has_its_route};
+pub use laws::{
+    a_request_asks_for_one_thing, a_request_has_its_address, each_request_has_its_route,
+};
 pub use office_router::OfficeRouter;
-pub use routed_request::{RoutedRequest, route_request};
+pub use routing::route_request;

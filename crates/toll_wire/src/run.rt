@@ -5,7 +5,7 @@ ghost use Rattle.toll_keep.specs.Meaning.{NeverCloses};
 ghost use Rattle.toll_desk.specs.Reads.{Over};
 ghost use Rattle.toll_wire.specs.OfficeRuns.{AreServed, AreSteps, IsEventServed, IsOpenAnswer, IsRunOf};
 
-use crate::answering::answer_with_router;
+use crate::answering::reply_by_router;
 use crate::event::{Answer, Event};
 use crate::routes::OfficeRouter;
 use std::alloc::{AllocError, Global};
@@ -46,7 +46,7 @@ fn answer_event<K: Keep>(
     ensures { IsEventServed K.meaning keep.old keep.new event.now result }
 {
     match event {
-        Event::Owner(bytes) => Answer::Bytes(answer_with_router(alloc, router, keep, bytes)),
+        Event::Owner(bytes) => Answer::Bytes(reply_by_router(alloc, router, keep, bytes)),
         Event::Plant(command) => Answer::Plant(plant_do(alloc, keep, command)),
     }
 }

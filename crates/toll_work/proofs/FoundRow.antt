@@ -2,7 +2,7 @@
 use Rattle.std.proofs.Common.{◌≡◌, Bool, true, false, cond, Option, Some, None, is_some, is_none, List, [], ◌∷◌, refl, sym, ap, ◌∙◌}
 use Rattle.toll_work.proofs.Common.{false≢true, option_map, option_map_or, is_eq, Ordering, row_at}
 
--- a row that is found has the key
+-- A row that is found has the key.
 pub row_at-key : {K R : Type 0} (cmp : K → K → Ordering) (key : R → K) (rows : List R) (k : K) (row : R) → row_at cmp key rows k ≡ Some row → is_eq (cmp k (key row)) ≡ true
 unfolding row_at
 row_at-key cmp key [] k row found = (cc)
@@ -16,12 +16,12 @@ pub known_not_none : {X : Type 0} (x : Option X) → is_some x ≡ true → is_n
 known_not_none (Some x) h = refl
 known_not_none None h = sym h
 
--- what holds of the rows that are made of a known row holds of those made of one that is not unknown
-pub of_known : {R Y : Type 0} (x : Option R) (make : R → List Y) (P : List Y → Type 0) → is_none x ≡ false → ((row : R) → x ≡ Some row → P (make row)) → P (option_map_or make x [])
-of_known None make P known each = absurd (false≢true (sym known))
-of_known (Some row) make P known each = each row refl
+-- A fact of the rows made of a known row holds of those made of one that isn't unknown.
+pub so_of_known : {R Y : Type 0} (x : Option R) (make : R → List Y) (P : List Y → Type 0) → is_none x ≡ false → ((row : R) → x ≡ Some row → P (make row)) → P (option_map_or make x [])
+so_of_known None make P known each = absurd (false≢true (sym known))
+so_of_known (Some row) make P known each = each row refl
 
--- a known row that is changed where a test holds
+-- A known row that is changed if a test holds.
 pub known_changed : {R : Type 0} (change : R → R) (b : Bool) (row : Option R) (known : R) → (b ≡ true → row ≡ Some known) → cond b (option_map change row) row ≡ cond b (Some (change known)) row
 known_changed change true row known is = ap (option_map change) (is refl)
 known_changed change false row known is = refl

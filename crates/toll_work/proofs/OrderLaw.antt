@@ -1,23 +1,23 @@
 -- What the placing of an order owes.
 use Rattle.std.proofs.Common.{◌≡◌, suc, Bool, true, false, ◌||◌, cond, ℕ, Option, Some, None, is_some, is_none, List, [], ◌∷◌, length, refl, sym, ap, ◌∙◌}
-use Rattle.toll_work.proofs.Common.{list_any, option_map, or_right, nat_list_cmp_total, Bytes, same_bytes, bytes_cmp, first_some, or_else, where_so, Action, PlaceOrder, by, History, acts, Slice, order_at, with_row, KeepsRules, order_placed, order_of, cancels, Tables, tables_of, tables_given, IsDecided, Decides, DecisionKeepsRules, Accepted, order_checks, verdict, IsLawful, Put, Decision, OrderRow, Order, none_applies, accepted_passes, adding_decided, adding_keeps, less_of, tables-own, row_at-put_row, none_of, length-new, any-new, same_bytes-exact}
+use Rattle.toll_work.proofs.Common.{list_any, option_map, or_right, nat_list_cmp_total, Bytes, same_bytes, bytes_cmp, first_some, or_else, where_so, Action, PlaceOrder, by, History, acts, Slice, order_at, with_row, KeepsRules, order_placed, order_of, cancels, OwnerFacts, facts_of, facts_given, IsDecided, Decides, DecisionKeepsRules, Accepted, order_checks, verdict, IsLawful, Put, Decision, OrderRow, Order, none_applies, accepted_passes, adding_decided, adding_keeps, below_limit, tables-own, row_at-put_row, none_of, length-new, any-new, same_bytes-exact}
 use Rattle.toll_history.proofs.Uncancelled.{uncancelled}
 use Rattle.toll_base.specs.declared.capacity.TheConstants.{MOST_ORDERS}
 
--- an order that was placed now
+-- an order that is placed by this action
 abbrev new_order : (order recipe : Bytes) → ℕ → OrderRow
 new_order order recipe batches = record { order = order; recipe = recipe; batches = batches; cancelled = false }
 
--- tables with one order more
-abbrev with_order : OrderRow → Tables → Tables
+-- tables with one more order
+abbrev with_order : OrderRow → OwnerFacts → OwnerFacts
 with_order row t = record t {
   order = λ k. cond (same_bytes k row.order) (Some row) (t.order k);
   orders = suc t.orders;
   recipe_used = λ recipe. same_bytes row.recipe recipe || t.recipe_used recipe;
 }
 
-in_slice : (s : Slice) (row : OrderRow) → is_some (order_at s row.order) ≡ false → tables_of (with_row s (Order row)) ≡ with_order row (tables_of s)
-in_slice s row absent i = record (tables_of s) {
+order_in_slice : (s : Slice) (row : OrderRow) → is_some (order_at s row.order) ≡ false → facts_of (with_row s (Order row)) ≡ with_order row (facts_of s)
+order_in_slice s row absent i = record (facts_of s) {
   order = λ k. row_at-put_row bytes_cmp nat_list_cmp_total (λ x. x.order) s.orders row k i;
   orders = length-new bytes_cmp nat_list_cmp_total (λ x. x.order) s.orders row absent i;
   recipe_used = λ recipe. any-new bytes_cmp (λ x. x.order) (λ x. same_bytes x.recipe recipe) s.orders row absent i;
@@ -26,31 +26,31 @@ in_slice s row absent i = record (tables_of s) {
 -- ---- the order that is placed
 
 -- the order as it was placed
-abbrev pub placed : List Action → Bytes → Option OrderRow
-placed own order = first_some (λ a. elim (order_placed a) [ Some row ↦ where_so (same_bytes order row.order) row | None ↦ None ]) own
+abbrev pub order_as_placed : List Action → Bytes → Option OrderRow
+order_as_placed own order = first_some (λ a. elim (order_placed a) [ Some row ↦ where_so (same_bytes order row.order) row | None ↦ None ]) own
 
--- an order is as it was placed where it was never cancelled
+-- An order that was never cancelled is unchanged since it was placed.
 placed_first : (b cancelled : Bool) (row : OrderRow) (rest : Option OrderRow) → row.cancelled ≡ false → (b ≡ true → cancelled ≡ false) →
     option_map {T = OrderRow} (λ r. record r { cancelled = cancelled }) (or_else (where_so b row) rest) ≡ cond b (Some row) (option_map {T = OrderRow} (λ r. record r { cancelled = cancelled }) rest)
 placed_first true cancelled row rest is never = ap (λ c. Some (record row { cancelled = c })) (never refl ∙ sym is)
 placed_first false cancelled row rest is never = refl
 
-in_history : (H : History) (o order recipe : Bytes) (batches : ℕ) → IsLawful H → is_some (order_of (acts o H) order) ≡ false → tables_given (by o (PlaceOrder order recipe batches) ∷ H) o ≡ with_order (new_order order recipe batches) (tables_given H o)
-in_history H o order recipe batches lawful absent =
+order_in_history : (H : History) (o order recipe : Bytes) (batches : ℕ) → IsLawful H → is_some (order_of (acts o H) order) ≡ false → facts_given (by o (PlaceOrder order recipe batches) ∷ H) o ≡ with_order (new_order order recipe batches) (facts_given H o)
+order_in_history H o order recipe batches lawful absent =
     tables-own H o (PlaceOrder order recipe batches) refl
-    ∙ (λ i. record (with_order (new_order order recipe batches) (tables_given H o)) {
-      order = λ k. placed_first (same_bytes k order) (list_any (cancels k) (acts o H)) (new_order order recipe batches) (placed (acts o H) k) refl
+    ∙ (λ i. record (with_order (new_order order recipe batches) (facts_given H o)) {
+      order = λ k. placed_first (same_bytes k order) (list_any (cancels k) (acts o H)) (new_order order recipe batches) (order_as_placed (acts o H) k) refl
           (λ same. uncancelled H o lawful k (ap (λ x. is_none (order_of (acts o H) x)) (same_bytes-exact k order same) ∙ ap is_none (none_of _ absent))) i;
     })
 
-module _ (own : Slice) (order recipe : Bytes) (batches : ℕ) (d : Decision) (decided : IsDecided (order_checks (tables_of own) order recipe batches) (Put own.owner (Order (new_order order recipe batches)) ∷ []) d) where
-  is_new : (H : History) (o : Bytes) → verdict H (by o (PlaceOrder order recipe batches)) ≡ Accepted → is_some (order_of (acts o H) order) ≡ false
-  is_new H o accepted = accepted_passes H o (PlaceOrder order recipe batches) accepted 1
+module _ (own : Slice) (order recipe : Bytes) (batches : ℕ) (d : Decision) (decided : IsDecided (order_checks (facts_of own) order recipe batches) (Put own.owner (Order (new_order order recipe batches)) ∷ []) d) where
+  order_is_new : (H : History) (o : Bytes) → verdict H (by o (PlaceOrder order recipe batches)) ≡ Accepted → is_some (order_of (acts o H) order) ≡ false
+  order_is_new H o accepted = accepted_passes H o (PlaceOrder order recipe batches) accepted 1
 
   pub order_decided : Decides (by own.owner (PlaceOrder order recipe batches)) own d
   order_decided =
-      adding_decided (PlaceOrder order recipe batches) (Order (new_order order recipe batches)) refl (with_order (new_order order recipe batches)) (λ t. is_some (t.order order)) (λ s. in_slice s (new_order order recipe batches)) (λ H o lawful accepted. in_history H o order recipe batches lawful (is_new H o accepted)) is_new
+      adding_decided (PlaceOrder order recipe batches) (Order (new_order order recipe batches)) refl (with_order (new_order order recipe batches)) (λ t. is_some (t.order order)) (λ s. order_in_slice s (new_order order recipe batches)) (λ H o lawful accepted. order_in_history H o order recipe batches lawful (order_is_new H o accepted)) order_is_new
       own d _ decided (λ H. refl)
 
   pub order_keeps : KeepsRules own → DecisionKeepsRules own d
-  order_keeps = adding_keeps own (Order (new_order order recipe batches)) d _ decided (λ accepted. or_right _ _ (less_of MOST_ORDERS (length own.orders) (none_applies (order_checks (tables_of own) order recipe batches) accepted 3)))
+  order_keeps = adding_keeps own (Order (new_order order recipe batches)) d _ decided (λ accepted. or_right _ _ (below_limit MOST_ORDERS (length own.orders) (none_applies (order_checks (facts_of own) order recipe batches) accepted 3)))

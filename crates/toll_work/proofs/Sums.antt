@@ -3,7 +3,7 @@ use Rattle.std.proofs.Common.{◌≡◌, ℕ, zero, suc, ◌+◌, ◌<◌, ◌�
 use Rattle.std.proofs.lemmas.List.Sums.{length-filter, count_by-le-length}
 use Rattle.toll_base.specs.Words.{total}
 
--- the sum over one element more
+-- the sum over one more element
 pub total-more : {X : Type 0} (f : X → ℕ) (xs : List X) (i : ℕ) (d : X) → i < length xs → total f (take (i + 1) xs) ≡ total f (take i xs) + f (get_or xs i d)
 total-more f [] i d lt = absurd (omega arith)
 total-more f (x ∷ xs) zero d lt = omega arith

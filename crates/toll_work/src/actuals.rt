@@ -1,6 +1,6 @@
 //! Actuals.
 ghost use Rattle.std.specs.Prelude.{◌≡◌, true, false, ◌++◌, nat_lt, Some, None, IfOk, IfSome};
-ghost use Rattle.toll_work.specs.Common.{same_bytes, changes_of, recipe_at, KeepsRules, is_some_where, Record, by, DecidesWith, DecisionKeepsRules, said, sublot_named, PutsOnlyWith, tables_of, first_of, recipe_of_order, tables_for, actuals_full, is_actual};
+ghost use Rattle.toll_work.specs.Common.{same_bytes, changes_of, recipe_at, KeepsRules, is_some_where, Record, by, DecidesWith, DecisionKeepsRules, verdict_of_result, sublot_named, PutsOnlyWith, facts_of, verdict_of_checks, recipe_of_order, tables_for, actuals_full, is_actual};
 ghost use Rattle.toll_base.specs.declared.movement.Move.TheVariants as Move;
 ghost use Rattle.toll_base.specs.declared.role.Role.TheVariants as Role;
 ghost use Rattle.toll_history.specs.Verdict as verdict;
@@ -16,7 +16,7 @@ use toll_history::{decide_known, has_room_in, sublot_gaining, sublot_losing};
 
 /// What a segment of a batch uses.
 #[derive(Clone, Copy)]
-pub struct Use {
+pub struct ActualUse {
     pub order: Name,
     pub number: BatchNo,
     pub segment: Segment,
@@ -26,7 +26,7 @@ pub struct Use {
 }
 
 /// In which role an actual uses what; `None` of another movement.
-pub fn use_of(what: &Move) -> Option<(Role, Use)>
+pub fn use_of(what: &Move) -> Option<(Role, ActualUse)>
     ensures actual { IfSome result (λ used. what.now ≡ Move.Actual used.1.order used.1.number used.1.segment used.0 used.1.material used.1.lot used.1.sublot) }
     ensures other { result ≡ None → is_actual what.now ≡ false }
 {
@@ -40,7 +40,7 @@ pub fn use_of(what: &Move) -> Option<(Role, Use)>
             lot,
             sublot,
         } => {
-            let used = Use {
+            let used = ActualUse {
                 order,
                 number,
                 segment,
@@ -92,7 +92,7 @@ fn plan_consumption(
     own: &Slice,
     house: &Slice,
     row: &MoveRow,
-    used: &Use,
+    used: &ActualUse,
 ) -> Result<Decision, AllocError>
     ensures plan { IfOk result (IsConsumptionPlan own.now house.now row.now used.now) }
     ensures kept { KeepsRules own.now }
@@ -120,7 +120,7 @@ fn plan_production(
     alloc: Global,
     own: &Slice,
     row: &MoveRow,
-    used: &Use,
+    used: &ActualUse,
 ) -> Result<Decision, AllocError>
     ensures plan { IfOk result (IsProductionPlan own.now row.now used.now) }
     ensures kept { KeepsRules own.now }
@@ -154,28 +154,33 @@ fn plan_production(
 
 /// The rows of this owner, which is the owner or HOUSE.
 pub fn slice_for<'a>(own: &'a Slice, house: &'a Slice, owner: &Name) -> &'a Slice
-    ensures { tables_of result.now ≡ tables_for own.now.owner (tables_of own.now) (tables_of house.now) owner.now }
+    ensures { facts_of result.now ≡ tables_for own.now.owner (facts_of own.now) (facts_of house.now) owner.now }
 {
     if *owner == *own.owner() { own } else { house }
 }
 
-fn check_consumption(own: &Slice, source: &Slice, used: &Use, amount: Amount) -> Result<(), Refusal>
-    ensures { said result ≡ first_of (use_checks own.now used.now Role.Consumed ++ source_checks own.now (tables_of source.now) used.now amount) }
+fn check_consumption(
+    own: &Slice,
+    source: &Slice,
+    used: &ActualUse,
+    amount: Amount,
+) -> Result<(), Refusal>
+    ensures { verdict_of_result result ≡ verdict_of_checks (use_checks own.now used.now Role.Consumed ++ source_checks own.now (facts_of source.now) used.now amount) }
 {
     check_use(own, used, Role::Consumed)?;
     check_source(own, source, used, amount)
 }
 
-fn check_production(own: &Slice, used: &Use, amount: Amount) -> Result<(), Refusal>
-    ensures { said result ≡ first_of (use_checks own.now used.now Role.Produced ++ target_checks own.now used.now amount) }
+fn check_production(own: &Slice, used: &ActualUse, amount: Amount) -> Result<(), Refusal>
+    ensures { verdict_of_result result ≡ verdict_of_checks (use_checks own.now used.now Role.Produced ++ target_checks own.now used.now amount) }
 {
     check_use(own, used, Role::Produced)?;
     check_target(own, used, amount)
 }
 
 // Whether the batch takes actuals, and its recipe this one.
-fn check_use(own: &Slice, used: &Use, role: Role) -> Result<(), Refusal>
-    ensures { said result ≡ first_of (use_checks own.now used.now role) }
+fn check_use(own: &Slice, used: &ActualUse, role: Role) -> Result<(), Refusal>
+    ensures { verdict_of_result result ≡ verdict_of_checks (use_checks own.now used.now role) }
 {
     let recipe = check_running(own, &used.order, used.number)?;
     check_in_recipe(own, &recipe, used, role)
@@ -183,8 +188,8 @@ fn check_use(own: &Slice, used: &Use, role: Role) -> Result<(), Refusal>
 
 // The recipe of the batch, if it takes actuals.
 fn check_running(own: &Slice, order: &Name, number: BatchNo) -> Result<Name, Refusal>
-    ensures checks { said result ≡ first_of (running_checks own.now order.now number) }
-    ensures recipe { IfOk result (λ recipe. recipe ≡ recipe_of_order (tables_of own.now) order.now) }
+    ensures checks { verdict_of_result result ≡ verdict_of_checks (running_checks own.now order.now number) }
+    ensures recipe { IfOk result (λ recipe. recipe ≡ recipe_of_order (facts_of own.now) order.now) }
 {
     let Some(known) = own.order(order) else {
         return Err(Refusal::UnknownOrder);
@@ -202,8 +207,8 @@ fn check_running(own: &Slice, order: &Name, number: BatchNo) -> Result<Name, Ref
 }
 
 // Whether the recipe has this use.
-fn check_in_recipe(own: &Slice, recipe: &Name, used: &Use, role: Role) -> Result<(), Refusal>
-    ensures { said result ≡ first_of (recipe_checks_of own.now recipe.now used.now role) }
+fn check_in_recipe(own: &Slice, recipe: &Name, used: &ActualUse, role: Role) -> Result<(), Refusal>
+    ensures { verdict_of_result result ≡ verdict_of_checks (recipe_checks_of own.now recipe.now used.now role) }
 {
     if is_above(own, recipe, used.segment) {
         return Err(Refusal::BadSegment);
@@ -229,8 +234,13 @@ fn is_above(own: &Slice, recipe: &Name, segment: Segment) -> bool
 }
 
 // Whether the sublot has what is consumed from it.
-fn check_source(own: &Slice, source: &Slice, used: &Use, amount: Amount) -> Result<(), Refusal>
-    ensures { said result ≡ first_of (source_checks own.now (tables_of source.now) used.now amount) }
+fn check_source(
+    own: &Slice,
+    source: &Slice,
+    used: &ActualUse,
+    amount: Amount,
+) -> Result<(), Refusal>
+    ensures { verdict_of_result result ≡ verdict_of_checks (source_checks own.now (facts_of source.now) used.now amount) }
 {
     let Some(lot) = source.lot(&used.lot.lot) else {
         return Err(Refusal::UnknownLot);
@@ -254,8 +264,8 @@ fn check_source(own: &Slice, source: &Slice, used: &Use, amount: Amount) -> Resu
 }
 
 // Whether the sublot takes what is produced into it.
-fn check_target(own: &Slice, used: &Use, amount: Amount) -> Result<(), Refusal>
-    ensures { said result ≡ first_of (target_checks own.now used.now amount) }
+fn check_target(own: &Slice, used: &ActualUse, amount: Amount) -> Result<(), Refusal>
+    ensures { verdict_of_result result ≡ verdict_of_checks (target_checks own.now used.now amount) }
 {
     if let Some(lot) = own.lot(&used.lot.lot) {
         if !is_made_by(&lot.origin, &used.order, used.number) {
@@ -280,8 +290,8 @@ fn check_target(own: &Slice, used: &Use, amount: Amount) -> Result<(), Refusal>
 }
 
 // Whether one actual more is above a limit.
-fn is_full(own: &Slice, used: &Use) -> bool
-    ensures { result ≡ actuals_full (tables_of own.now) used.now.order used.now.number }
+fn is_full(own: &Slice, used: &ActualUse) -> bool
+    ensures { result ≡ actuals_full (facts_of own.now) used.now.order used.now.number }
 {
     own.moves().len() >= MOST_MOVEMENTS
         || own.count_actuals(&used.order, used.number) >= MOST_ACTUALS

@@ -1,11 +1,11 @@
 //! Batches.
 ghost use Rattle.std.specs.Prelude.{◌≡◌, ◌+◌, nat_le, Some, None, if◌then◌else◌, IfOk};
-ghost use Rattle.toll_work.specs.Common.{changes_of, batch_at, KeepsRules, CommandBatch, CloseBatch, by, Decides, DecisionKeepsRules, said, PutsOnly, tables_of, first_of, open_batch_checks};
+ghost use Rattle.toll_work.specs.Common.{changes_of, batch_at, KeepsRules, CommandBatch, CloseBatch, by, Decides, DecisionKeepsRules, verdict_of_result, PutsOnly, facts_of, verdict_of_checks, open_batch_checks};
 ghost use Rattle.toll_base.specs.States as states;
 ghost use Rattle.toll_work.specs.Opening.{DecidesOpening};
 ghost use Rattle.toll_work.specs.Plans.{IsClosingPlan, IsCommandPlan, IsOpeningPlan};
 
-use crate::orders::{count_opened, find_standing};
+use crate::orders::{count_opened, find_uncancelled};
 use crate::states::next;
 use std::alloc::{AllocError, Global};
 use toll_base::{
@@ -44,7 +44,7 @@ fn plan_opening(
     ensures kept { KeepsRules slice.now }
 {
     let owner = *slice.owner();
-    let known = match find_standing(slice, order) {
+    let known = match find_uncancelled(slice, order) {
         Ok(known) => known,
         Err(why) => return Ok(Decision::Refuse(why)),
     };
@@ -119,7 +119,7 @@ fn plan_command(
 
 // The batch, if it is known and isn't closed.
 fn find_open(slice: &Slice, order: &Name, number: BatchNo) -> Result<BatchRow, Refusal>
-    ensures checks { said result ≡ first_of (open_batch_checks (tables_of slice.now) order.now number) }
+    ensures checks { verdict_of_result result ≡ verdict_of_checks (open_batch_checks (facts_of slice.now) order.now number) }
     ensures batch { IfOk result (λ row. batch_at slice.now (order.now, number) ≡ Some row) }
 {
     if slice.order(order).is_none() {

@@ -1,6 +1,6 @@
 //! Orders.
 ghost use Rattle.std.specs.Prelude.{◌≡◌, true, is_some, Some, [], IfOk};
-ghost use Rattle.toll_work.specs.Common.{changes_of, order_at, KeepsRules, PlaceOrder, CancelOrder, by, Decides, DecisionKeepsRules, said, PutsOnly, tables_of, first_of, standing_order_checks};
+ghost use Rattle.toll_work.specs.Common.{changes_of, order_at, KeepsRules, PlaceOrder, CancelOrder, by, Decides, DecisionKeepsRules, verdict_of_result, PutsOnly, facts_of, verdict_of_checks, uncancelled_order_checks};
 ghost use Rattle.toll_work.specs.Plans.{IsCancelPlan, IsOrderPlan};
 
 use std::alloc::{AllocError, Global};
@@ -69,7 +69,7 @@ fn plan_cancelling(alloc: Global, slice: &Slice, order: &Name) -> Result<Decisio
     ensures kept { KeepsRules slice.now }
 {
     let owner = *slice.owner();
-    let known = match find_standing(slice, order) {
+    let known = match find_uncancelled(slice, order) {
         Ok(known) => known,
         Err(why) => return Ok(Decision::Refuse(why)),
     };
@@ -84,8 +84,8 @@ fn plan_cancelling(alloc: Global, slice: &Slice, order: &Name) -> Result<Decisio
 }
 
 /// The order, if it is known and isn't cancelled.
-pub fn find_standing(slice: &Slice, order: &Name) -> Result<OrderRow, Refusal>
-    ensures checks { said result ≡ first_of (standing_order_checks (tables_of slice.now) order.now) }
+pub fn find_uncancelled(slice: &Slice, order: &Name) -> Result<OrderRow, Refusal>
+    ensures checks { verdict_of_result result ≡ verdict_of_checks (uncancelled_order_checks (facts_of slice.now) order.now) }
     ensures order { IfOk result (λ row. order_at slice.now order.now ≡ Some row) }
 {
     let Some(known) = slice.order(order) else {
@@ -99,7 +99,7 @@ pub fn find_standing(slice: &Slice, order: &Name) -> Result<OrderRow, Refusal>
 
 /// How many batches of the order were opened.
 pub fn count_opened(slice: &Slice, order: &Name) -> u64
-    ensures { result ≡ (tables_of slice.now).opened order.now }
+    ensures { result ≡ (facts_of slice.now).opened order.now }
 {
     slice
         .batches()

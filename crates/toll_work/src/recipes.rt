@@ -1,6 +1,6 @@
 //! Recipes.
 ghost use Rattle.std.specs.Prelude.{◌≡◌, is_some, [], ◌∷◌, IfOk};
-ghost use Rattle.toll_work.specs.Common.{changes_of, KeepsRules, AddRecipe, Require, by, IsDecided, Decides, DecidesWith, DecisionKeepsRules, PutsOnly, tables_of, recipe_checks, tables_for};
+ghost use Rattle.toll_work.specs.Common.{changes_of, KeepsRules, AddRecipe, Require, by, IsDecided, Decides, DecidesWith, DecisionKeepsRules, PutsOnly, facts_of, recipe_checks, tables_for};
 ghost use Rattle.toll_base.specs.declared.decision.Change.TheVariants as Change;
 ghost use Rattle.toll_base.specs.declared.rows.Row.TheVariants as Row;
 ghost use Rattle.toll_work.specs.Plans.{IsRequirementPlan};
@@ -30,7 +30,7 @@ pub fn add_recipe(
 }
 
 fn plan_recipe(alloc: Global, slice: &Slice, row: &RecipeRow) -> Result<Decision, AllocError>
-    ensures plan { IfOk result (IsDecided (recipe_checks (tables_of slice.now) row.now) (Change.Put slice.now.owner (Row.Recipe row.now) ∷ [])) }
+    ensures plan { IfOk result (IsDecided (recipe_checks (facts_of slice.now) row.now) (Change.Put slice.now.owner (Row.Recipe row.now) ∷ [])) }
     ensures kept { KeepsRules slice.now }
 {
     let owner = *slice.owner();
@@ -99,14 +99,14 @@ fn plan_requirement(
 
 // Whether an order names the recipe, cancelled or not.
 fn is_recipe_used(slice: &Slice, recipe: &Name) -> bool
-    ensures { result ≡ (tables_of slice.now).recipe_used recipe.now }
+    ensures { result ≡ (facts_of slice.now).recipe_used recipe.now }
 {
     slice.orders().iter().any(|row| row.recipe == *recipe)
 }
 
 // Whether the source, which is the owner or HOUSE, has the material.
 fn has_material(own: &Slice, house: &Slice, row: &RequirementRow) -> bool
-    ensures { result ≡ is_some ((tables_for own.now.owner (tables_of own.now) (tables_of house.now) row.now.source).material row.now.material) }
+    ensures { result ≡ is_some ((tables_for own.now.owner (facts_of own.now) (facts_of house.now) row.now.source).material row.now.material) }
 {
     if row.source == *own.owner() {
         own.material(&row.material).is_some()

@@ -2,7 +2,7 @@
 ghost use Rattle.std.specs.Prelude.{◌≡◌, ◌≤◌, length, IfOk, if◌then◌else◌};
 ghost use Rattle.toll_work.specs.Common.{bytes_cmp, requirement_cmp, IsInKeyOrder, requirement_key};
 ghost use Rattle.toll_history.specs.Amounts as amount;
-ghost use Rattle.toll_work.specs.BatchView as told;
+ghost use Rattle.toll_work.specs.BatchView as views;
 
 use std::alloc::{AllocError, Global};
 use toll_base::{
@@ -32,8 +32,8 @@ pub fn batch_view(
     order: &Name,
     number: BatchNo,
 ) -> Result<Option<BatchView>, AllocError>
-    ensures in_slice { IfOk result (told.TellsInSlice slice.now order.now number) }
-    ensures over_histories { IfOk result (told.TellsOverHistories slice.now order.now number) }
+    ensures in_slice { IfOk result (views.IsViewOfSlice slice.now order.now number) }
+    ensures over_histories { IfOk result (views.IsViewOfHistories slice.now order.now number) }
 {
     view_in_slice(alloc, slice, order, number)
 }
@@ -44,7 +44,7 @@ fn view_in_slice(
     order: &Name,
     number: BatchNo,
 ) -> Result<Option<BatchView>, AllocError>
-    ensures view { IfOk result (told.TellsInSlice slice.now order.now number) }
+    ensures view { IfOk result (views.IsViewOfSlice slice.now order.now number) }
     ensures moves { IsInKeyOrder bytes_cmp (λ row. row.key) slice.now.moves }
     ensures requirements { IsInKeyOrder requirement_cmp requirement_key slice.now.requirements }
 {
@@ -69,7 +69,7 @@ fn standing_actuals(
     order: &Name,
     number: BatchNo,
 ) -> Result<Vec<MoveRow>, AllocError>
-    ensures { IfOk result (λ actuals. actuals.items ≡ told.standing_in slice.now order.now number) }
+    ensures { IfOk result (λ actuals. actuals.items ≡ views.standing_in slice.now order.now number) }
 {
     slice
         .moves()
@@ -87,7 +87,7 @@ fn lines(
     actuals: &[MoveRow],
 ) -> Result<Vec<RequirementLine>, AllocError>
     requires { length actuals.now ≤ MOST_MOVEMENTS }
-    ensures { IfOk result (λ lines. lines.items ≡ told.lines_in slice.now recipe.now actuals.now) }
+    ensures { IfOk result (λ lines. lines.items ≡ views.lines_in slice.now recipe.now actuals.now) }
 {
     slice
         .requirements()
@@ -100,7 +100,7 @@ fn lines(
 
 fn line(row: RequirementRow, actuals: &[MoveRow]) -> RequirementLine
     requires { length actuals.now ≤ MOST_MOVEMENTS }
-    ensures { result ≡ told.line row actuals.now }
+    ensures { result ≡ views.line_for row actuals.now }
 {
     RequirementLine {
         row,
@@ -111,7 +111,7 @@ fn line(row: RequirementRow, actuals: &[MoveRow]) -> RequirementLine
 // The sum of the amounts of those that meet the requirement.
 fn amount_for(row: &RequirementRow, actuals: &[MoveRow]) -> u64
     requires { length actuals.now ≤ MOST_MOVEMENTS }
-    ensures { result ≡ told.amount_for row.now actuals.now }
+    ensures { result ≡ views.amount_for row.now actuals.now }
 {
     let mut sum: u64 = 0;
     for actual in actuals {
@@ -122,7 +122,7 @@ fn amount_for(row: &RequirementRow, actuals: &[MoveRow]) -> u64
 
 // The movement's amount, if it meets the requirement.
 fn amount_of(row: &RequirementRow, actual: &MoveRow) -> u64
-    ensures amount { result ≡ if amount.meets row.now actual.now.what then actual.now.amount else 0 }
+    ensures amount { result ≡ if amount.meets_requirement row.now actual.now.what then actual.now.amount else 0 }
     ensures bound { result ≤ MOST_AMOUNT }
 {
     if meets(row, &actual.what) {
@@ -134,7 +134,7 @@ fn amount_of(row: &RequirementRow, actual: &MoveRow) -> u64
 
 // Whether it is an actual of the requirement's segment, role, source and material.
 fn meets(row: &RequirementRow, what: &Move) -> bool
-    ensures { result ≡ amount.meets row.now what.now }
+    ensures { result ≡ amount.meets_requirement row.now what.now }
 {
     match what {
         Move::Actual {

@@ -1,11 +1,11 @@
 //! Voids.
 ghost use Rattle.std.specs.Prelude.{◌≡◌, false, Some, IfOk};
-ghost use Rattle.toll_work.specs.Common.{same_bytes, changes_of, move_at, by, DecidesWith, DecisionKeepsRules, said, PutsOnlyWith, tables_of, first_of};
+ghost use Rattle.toll_work.specs.Common.{same_bytes, changes_of, move_at, by, DecidesWith, DecisionKeepsRules, verdict_of_result, PutsOnlyWith, facts_of, verdict_of_checks};
 ghost use Rattle.toll_history.specs.Command.{Void};
 ghost use Rattle.toll_work.specs.ActualPlans.{IsGivingPlan, IsTakingPlan};
-ghost use Rattle.toll_work.specs.Voiding.{open_checks, actual_sublot};
+ghost use Rattle.toll_work.specs.Voiding.{void_batch_checks, actual_sublot};
 
-use crate::actuals::{Use, slice_for, use_of};
+use crate::actuals::{ActualUse, slice_for, use_of};
 use crate::crossing::crosses;
 use std::alloc::{AllocError, Global};
 use toll_base::{Amount, BatchNo, Change, Decision, Name, Refusal, Role, Row, Slice, VoidRow};
@@ -47,7 +47,7 @@ fn give_back(
     own: &Slice,
     house: &Slice,
     key: Name,
-    used: &Use,
+    used: &ActualUse,
     amount: Amount,
 ) -> Result<Decision, AllocError>
     ensures plan { IfOk result (IsGivingPlan own.now house.now key used.now amount) }
@@ -76,7 +76,7 @@ fn take_out(
     alloc: Global,
     own: &Slice,
     key: Name,
-    used: &Use,
+    used: &ActualUse,
     amount: Amount,
 ) -> Result<Decision, AllocError>
     ensures plan { IfOk result (IsTakingPlan own.now key used.now amount) }
@@ -102,7 +102,7 @@ fn take_out(
 
 // Whether the actual stands, and its batch isn't closed.
 fn check_open(own: &Slice, key: &Name, order: &Name, number: BatchNo) -> Result<(), Refusal>
-    ensures { said result ≡ first_of (open_checks (tables_of own.now) key.now order.now number) }
+    ensures { verdict_of_result result ≡ verdict_of_checks (void_batch_checks (facts_of own.now) key.now order.now number) }
 {
     if own.is_voided(key) {
         return Err(Refusal::Voided);

@@ -2,7 +2,7 @@
 ghost use Rattle.std.specs.Prelude.{◌≡◌, ◌↔◌, List, Contains};
 ghost use Rattle.toll_answers.specs.Common.{Bytes, Edge, LotId, MoveRow, History, acts, standing, IsRowsOf, IsLawful, AreEdges, IsEdge, Way};
 ghost use Rattle.toll_base.specs.Slice.{Slice};
-ghost use Rattle.toll_answers.specs.Agreement.{AreKnown, IsWithin, TracesAgree};
+ghost use Rattle.toll_answers.specs.Agreement.{AreKnown, LeadsIntoOwn, TracesAgree};
 ghost use Rattle.toll_answers.specs.Edges.{WasDone, IsOwnEdge};
 
 /// A movement of an owner stands (no later command voids it) exactly if it was recorded and no command
@@ -14,7 +14,7 @@ pub fn a_movement_stands_unless_it_is_voided()
 /// An edge of an owner's batch leads to a lot of the owner, from one of the owner or of HOUSE, and
 /// both lots are known.
 pub fn lots_of_edges_are_known()
-    ensures owners { (H : History) (o : Bytes) (e : Edge) → IsLawful H → IsOwnEdge (acts o H) e → IsWithin o e }
+    ensures owners { (H : History) (o : Bytes) (e : Edge) → IsLawful H → IsOwnEdge (acts o H) e → LeadsIntoOwn o e }
     ensures known { (H : History) (o : Bytes) (e : Edge) → IsLawful H → IsOwnEdge (acts o H) e → AreKnown H e }
 {}
 

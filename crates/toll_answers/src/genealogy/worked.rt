@@ -1,6 +1,6 @@
 //! Worked examples of genealogy: what the definitions say of them, computed.
 ghost use Rattle.std.specs.Prelude.{◌≡◌, [], ◌∷◌};
-ghost use Rattle.toll_answers.specs.Common.{house_name, acts, verdicts, all_accepted, acme, one_product, AreEdges, Back, Forward};
+ghost use Rattle.toll_answers.specs.Common.{house_name, acts, verdicts, accepted_verdicts, acme, one_product, AreEdges, Back, Forward};
 ghost use Rattle.toll_trace.specs.Search.{step_at};
 ghost use Rattle.toll_answers.specs.Agreement.{IsOwnTrace};
 ghost use Rattle.toll_answers.specs.Edges.{IsOwnEdge};
@@ -20,8 +20,8 @@ pub fn traces_of_a_batch()
 
 /// Every command of the two further setups is accepted.
 pub fn setups_of_genealogy_are_accepted()
-    ensures circle { verdicts [] consumed_in_a_circle ≡ all_accepted consumed_in_a_circle }
-    ensures house_material { verdicts [] made_of_house_material ≡ all_accepted made_of_house_material }
+    ensures circle { verdicts [] consumed_in_a_circle ≡ accepted_verdicts consumed_in_a_circle }
+    ensures house_material { verdicts [] made_of_house_material ≡ accepted_verdicts made_of_house_material }
 {}
 
 /// If two lots went into each other, each is one step from the other, both ways, and no lot is listed

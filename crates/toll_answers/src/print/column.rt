@@ -1,6 +1,6 @@
 //! Columns of a line.
 ghost use Rattle.std.specs.Prelude.{◌≡◌, ◌-◌, ◌∷◌, [], ◌++◌, OnOk, decimal, length};
-ghost use Rattle.toll_answers.specs.Columns.{blanks, left, right};
+ghost use Rattle.toll_answers.specs.Columns.{blanks, left_aligned, right_aligned};
 
 use std::alloc::{AllocError, Global};
 
@@ -21,14 +21,14 @@ pub(crate) fn push_whole(text: &mut Vec<u8>, column: &[u8], behind: u8) -> Resul
 
 /// Adds a text at the left of a column of this width, and the byte behind it. What is longer than the
 /// column stays whole.
-#[tactic(auto, unfolding(crate::specs::Columns::left))]
+#[tactic(auto, unfolding(crate::specs::Columns::left_aligned))]
 pub(crate) fn push_left(
     text: &mut Vec<u8>,
     width: usize,
     column: &[u8],
     behind: u8,
 ) -> Result<(), AllocError>
-    ensures { OnOk result (text.new.items ≡ text.old.items ++ (left width column.now ++ behind ∷ [])) }
+    ensures { OnOk result (text.new.items ≡ text.old.items ++ (left_aligned width column.now ++ behind ∷ [])) }
 {
     text.extend_from_slice(column)?;
     push_blanks(text, width.saturating_sub(column.len()))?;
@@ -38,7 +38,7 @@ pub(crate) fn push_left(
 
 /// Adds a number at the right of a column of this width, and the byte behind it. What is longer than
 /// the column stays whole.
-#[tactic(auto, unfolding(crate::specs::Columns::right))]
+#[tactic(auto, unfolding(crate::specs::Columns::right_aligned))]
 pub(crate) fn push_number(
     alloc: Global,
     text: &mut Vec<u8>,
@@ -46,7 +46,7 @@ pub(crate) fn push_number(
     number: u64,
     behind: u8,
 ) -> Result<(), AllocError>
-    ensures { OnOk result (text.new.items ≡ text.old.items ++ (right width (decimal number) ++ behind ∷ [])) }
+    ensures { OnOk result (text.new.items ≡ text.old.items ++ (right_aligned width (decimal number) ++ behind ∷ [])) }
 {
     let digits = format!(in alloc; "{number}")?;
     push_blanks(text, width.saturating_sub(digits.len()))?;

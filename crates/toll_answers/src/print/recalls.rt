@@ -20,7 +20,7 @@ pub fn recall_text(alloc: Global, lines: &[RecallLine]) -> Result<Vec<u8>, Alloc
     Ok(text)
 }
 
-#[tactic(auto, unfolding(crate::specs::Columns::left, crate::specs::Columns::right))]
+#[tactic(auto, unfolding(crate::specs::Columns::left_aligned, crate::specs::Columns::right_aligned))]
 fn head() -> &'static [u8]
     ensures { result.now ≡ spec.recall_head }
 {
@@ -28,7 +28,7 @@ fn head() -> &'static [u8]
 }
 
 fn push_line(alloc: Global, text: &mut Vec<u8>, line: &RecallLine) -> Result<(), AllocError>
-    ensures { OnOk result (text.new.items ≡ text.old.items ++ spec.recall_line line.now) }
+    ensures { OnOk result (text.new.items ≡ text.old.items ++ spec.recall_line_text line.now) }
 {
     let lot = &line.step.lot;
     push_number(alloc, text, 6, line.step.steps, BLANK)?;

@@ -3,7 +3,7 @@ ghost use Rattle.std.specs.Prelude.{◌≡◌, ◌++◌, IfOk, OnOk, option_to_l
 ghost use Rattle.toll_base.specs.Keys.{pair_cmp};
 ghost use Rattle.toll_base.specs.Table.{IsInKeyOrder};
 ghost use Rattle.toll_history.specs.History.{History};
-ghost use Rattle.toll_history.specs.Tables.{IsRowsOf};
+ghost use Rattle.toll_history.specs.OwnerFacts.{IsRowsOf};
 ghost use Rattle.toll_history.specs.Verdict.{IsLawful};
 ghost use Rattle.toll_answers.specs.Texts as spec;
 

@@ -74,7 +74,7 @@ fn add_file(content: &mut Vec<u8>, file: Option<&[u8]>) -> Result<(), AllocError
     Ok(())
 }
 
-// The file behind the words: `Some(None)` if no bytes are there, and `None` if they begin with anything but a
+// The file after the words: `Some(None)` if no bytes are there, and `None` if they begin with anything but a
 // 1.
 fn file_of(text: &[u8]) -> Option<Option<&[u8]>>
     ensures found { IfSome result (λ file. text.now ≡ file_text (option_map (λ f. f.now) file)) }

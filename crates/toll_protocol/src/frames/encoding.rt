@@ -1,7 +1,7 @@
 //! Frames as bytes.
 ghost use Rattle.std.specs.Prelude.{◌≡◌, ◌<◌, ◌↔◌, IfNone, IfOk, IfSome, IsTrue, Err, length};
 ghost use Rattle.toll_base.specs.Bytes.{Bytes};
-ghost use Rattle.toll_protocol.specs.Frames.{HasFrame, IsEnough, IsFrameOf, claimed, frame};
+ghost use Rattle.toll_protocol.specs.Frames.{HasFrame, IsEnough, IsFrameOf, claimed_length, frame};
 ghost use Rattle.toll_protocol.specs.declared.frames.fault.EncodeFault.{EncodeFault};
 
 use crate::frames::fault::EncodeFault;
@@ -47,7 +47,7 @@ pub fn content_of(text: &[u8], most: u32) -> Option<&[u8]>
     Some(content)
 }
 
-/// The content of the frame at the front of a text, and the text behind it; `None` if no frame is there, or
+/// The content of the frame at the front of a text, and the text after it; `None` if no frame is there, or
 /// one of more than `most` bytes.
 pub fn front_of(text: &[u8], most: u32) -> Option<(&[u8], &[u8])>
     ensures found { IfSome result (λ parts. HasFrame most text.now parts.0.now parts.1.now) }
@@ -63,7 +63,7 @@ pub fn front_of(text: &[u8], most: u32) -> Option<(&[u8], &[u8])>
 
 // The length that the first bytes claim.
 fn claimed(text: &[u8]) -> Option<usize>
-    ensures { result ≡ claimed text.now }
+    ensures { result ≡ claimed_length text.now }
 {
     match text {
         [a, b, c, d, ..] => Some(u32::from_be_bytes([*a, *b, *c, *d]) as usize),

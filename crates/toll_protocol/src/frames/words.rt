@@ -17,7 +17,7 @@ pub fn are_words(words: &[&str]) -> bool
     true
 }
 
-/// Each word, and a zero behind it.
+/// Each word, and a zero after it.
 pub fn text_of(alloc: Global, words: &[&str]) -> Result<Vec<u8>, AllocError>
     ensures { IfOk result (λ text. text.items ≡ words_text (map (λ word. word.now) words.now)) }
 {
@@ -47,7 +47,7 @@ pub fn words_of(alloc: Global, text: &[u8]) -> Result<Option<Vec<&str>>, AllocEr
     }
 }
 
-// The first word, and the text behind its zero.
+// The first word, and the text after its zero.
 fn first_word(text: &[u8]) -> Option<(&str, &[u8])>
     ensures found { IfSome result (λ parts. IsWord parts.0.now × (text.now ≡ parts.0.now ++ 0 ∷ parts.1.now)) }
     ensures none { IfNone result ((word rest : Bytes) → IsWord word → text.now ≡ word ++ 0 ∷ rest → ⊥) }

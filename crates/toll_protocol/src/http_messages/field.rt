@@ -1,8 +1,8 @@
 //! The fields of a head.
 ghost use Rattle.std.specs.Prelude.{◌≡◌, length, map, option_map, All};
 ghost use Rattle.httparse.specs.Spans.{IsHeaderWithin, header_bytes};
-ghost use Rattle.toll_protocol.specs.Fields.{capped, is_named, is_present, length_claimed, length_of, named, only_one};
-ghost use Rattle.toll_protocol.specs.Found.{seen};
+ghost use Rattle.toll_protocol.specs.Fields.{capped, is_named, is_present, length_claimed, length_of, fields_named, value_if_once};
+ghost use Rattle.toll_protocol.specs.Found.{seen_match};
 
 use crate::http_messages::http_request::BODY_LIMIT;
 use httparse::spans::HeaderSpan;
@@ -16,18 +16,18 @@ pub enum FieldMatch<'b> {
 }
 
 impl<'b> FieldMatch<'b> {
-    ghost use Rattle.toll_protocol.specs.Found.{seen};
+    ghost use Rattle.toll_protocol.specs.Found.{seen_match};
 
     /// Whether there is such a field.
     pub fn is_present(self) -> bool
-        ensures { result ≡ is_present (seen self.entry) }
+        ensures { result ≡ is_present (seen_match self.entry) }
     {
         !matches!(self, FieldMatch::Absent)
     }
 
     /// The value of the only such field.
     pub fn only_one(self) -> Option<&'b [u8]>
-        ensures { option_map (λ v. v.now) result ≡ only_one (seen self.entry) }
+        ensures { option_map (λ v. v.now) result ≡ value_if_once (seen_match self.entry) }
     {
         match self {
             FieldMatch::Once(value) => Some(value),
@@ -39,7 +39,7 @@ impl<'b> FieldMatch<'b> {
     /// it isn't digits alone, or if there is more than one such field. For a length above the limit of
     /// bodies, the result is one above that limit.
     pub fn length_claimed(self) -> Option<u64>
-        ensures { result ≡ capped (length_claimed (seen self.entry)) }
+        ensures { result ≡ capped (length_claimed (seen_match self.entry)) }
     {
         match self {
             FieldMatch::Absent => Some(0),
@@ -52,7 +52,7 @@ impl<'b> FieldMatch<'b> {
 /// The value of the fields with this name, in whatever case, if there is just one.
 pub fn find_field<'b>(text: &'b [u8], fields: &[HeaderSpan], name: &[u8]) -> FieldMatch<'b>
     requires { All (IsHeaderWithin (length text.now)) fields.now }
-    ensures { seen result ≡ named name.now (map (header_bytes text.now) fields.now) }
+    ensures { seen_match result ≡ fields_named name.now (map (header_bytes text.now) fields.now) }
 {
     let mut found = FieldMatch::Absent;
     for field in fields {

@@ -2,8 +2,8 @@
 ghost use Rattle.std.specs.Prelude.{◌≡◌, ◌≤◌, ℕ, length, take, map, IfSome, IfNone, MatchOption};
 ghost use Rattle.httparse.specs.Grammar.{RequestHead};
 ghost use Rattle.httparse.specs.Spans.{IsRequestAt, IsRequestWithin, header_bytes};
-ghost use Rattle.toll_protocol.specs.Fields.{named};
-ghost use Rattle.toll_protocol.specs.Found.{seen};
+ghost use Rattle.toll_protocol.specs.Fields.{fields_named};
+ghost use Rattle.toll_protocol.specs.Found.{seen_match};
 ghost use Rattle.toll_protocol.specs.Head.{IsHeadLen, IsHeadOf, IsSearched, NoHead};
 
 use crate::http_messages::field::{FieldMatch, find_field};
@@ -27,7 +27,7 @@ impl Head {
     /// The value of the fields with this name, in the text that the head was read from.
     pub fn field<'b>(&self, text: &'b [u8], name: &[u8]) -> FieldMatch<'b>
         requires { IsRequestWithin text.now self.now.fields self.now.line }
-        ensures { seen result ≡ named name.now (map (header_bytes text.now) (take self.now.line.headers self.now.fields)) }
+        ensures { seen_match result ≡ fields_named name.now (map (header_bytes text.now) (take self.now.line.headers self.now.fields)) }
     {
         find_field(text, &self.fields[..self.line.headers], name)
     }

@@ -2,9 +2,9 @@
 ghost use Rattle.std.specs.Prelude.{◌≡◌, map};
 ghost use Rattle.httparse.specs.Grammar.{RequestHead};
 ghost use Rattle.httparse.specs.Spans.{IsRequestAt, IsRequestWithin, name_and_value};
-ghost use Rattle.toll_protocol.specs.Parsed.{parsed};
+ghost use Rattle.toll_protocol.specs.Parsed.{parse_outcome};
 ghost use Rattle.toll_protocol.specs.Parsing.{IsParsedAs, checked, host_fails};
-ghost use Rattle.toll_protocol.specs.Found.{seen};
+ghost use Rattle.toll_protocol.specs.Found.{seen_match};
 
 use crate::http_messages::failure::Failure;
 use crate::http_messages::field::FieldMatch;
@@ -27,7 +27,7 @@ pub struct HttpRequest<'b> {
 
 /// The request that a text is, or the first check that it fails.
 pub fn parse_http(text: &[u8]) -> Result<HttpRequest<'_>, Failure>
-    ensures { IsParsedAs text.now (parsed result) }
+    ensures { IsParsedAs text.now (parse_outcome result) }
 {
     let Some(head) = head_of(text) else {
         return Err(Failure::BadRequest);
@@ -40,7 +40,7 @@ pub fn parse_http(text: &[u8]) -> Result<HttpRequest<'_>, Failure>
 fn check<'b>(front: &'b [u8], rest: &'b [u8], head: &Head) -> Result<HttpRequest<'b>, Failure>
     requires { IsRequestWithin front.now head.now.fields head.now.line }
     ensures { (h : RequestHead) → IsRequestAt front.now head.now.fields head.now.line h
-        → parsed result ≡ checked h (map name_and_value h.fields) rest.now }
+        → parse_outcome result ≡ checked h (map name_and_value h.fields) rest.now }
 {
     if host_fails(head.line.version, head.field(front, b"host")) {
         return Err(Failure::BadRequest);
@@ -72,7 +72,7 @@ fn check<'b>(front: &'b [u8], rest: &'b [u8], head: &Head) -> Result<HttpRequest
 
 // Whether there is more than one host, or none in HTTP/1.1 (RFC 9112, section 3.2).
 fn host_fails(minor: u8, host: FieldMatch<'_>) -> bool
-    ensures { result ≡ host_fails minor (seen host.entry) }
+    ensures { result ≡ host_fails minor (seen_match host.entry) }
 {
     match host {
         FieldMatch::Absent => minor == 1,

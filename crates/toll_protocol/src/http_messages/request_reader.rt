@@ -88,7 +88,7 @@ struct Filled {
     searched: usize,
 }
 
-// Reads on behind the first bytes, which came before, until the text is settled, the stream ends, or a read
+// Reads on after the first bytes, which came before, until the text is settled, the stream ends, or a read
 // fails.
 fn fill_on<R: Source>(reader: &mut R, text: &mut [u8], begun: usize, looked: usize) -> Filled
     requires { IsFilled text.old begun looked }

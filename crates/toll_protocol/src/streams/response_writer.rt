@@ -23,7 +23,7 @@ impl ResponseWriter {
         ResponseWriter { bytes, written: 0 }
     }
 
-    /// Writes on behind the bytes that were written, until all of the text is written, or a write fails, as
+    /// Writes on after the bytes that were written, until all of the text is written, or a write fails, as
     /// one does that would wait. It takes no memory.
     pub fn write_on<W: Sink>(&mut self, writer: &mut W) -> WriteStatus
         ensures same { self.new.bytes ≡ self.old.bytes }
@@ -48,7 +48,7 @@ pub struct Sent {
     pub written: usize,
 }
 
-/// Writes on behind the first bytes, which were written before.
+/// Writes on after the first bytes, which were written before.
 pub fn send_on<W: Sink>(writer: &mut W, bytes: &[u8], begun: usize) -> Sent
     requires { begun ≤ length bytes.now }
     ensures within { result.written ≤ length bytes.now }

@@ -44,7 +44,7 @@ impl<R: Read> Source for R {
     }
 }
 
-/// One read, behind the bytes that were filled before.
+/// One read, after the bytes that were filled before.
 pub fn read_behind<R: Source>(reader: &mut R, buffer: &mut [u8], filled: usize) -> io::Result<usize>
     requires { filled ≤ length buffer.old }
     ensures front { take filled buffer.new ≡ take filled buffer.old }

@@ -1,7 +1,7 @@
 //! Stories of how many rows there may be.
-use crate::desk::lines::DeskTeller;
-use crate::desk::setups::WITH_BATCH;
-use crate::stories::{Line, Teller, WITH_RECIPE, check, check_said_over, empty_tables, plant_said};
+use crate::stories::{
+    Line, WITH_BATCH, WITH_RECIPE, check, check_said_over, empty_tables, plant_said, say,
+};
 use std::alloc::{AllocError, Global};
 use std::test::Fail;
 use toll_base::{Amount, Day, Name};
@@ -25,7 +25,7 @@ fn line_of(alloc: Global, pieces: &[&str], number: u64) -> Result<String, AllocE
 fn fill(alloc: Global, keep: &mut MemKeep, pieces: &[&str]) -> Result<String, AllocError> {
     for number in 0..100_000 {
         let line = line_of(alloc, pieces, number)?;
-        let said = DeskTeller::say(alloc, keep, &line)?;
+        let said = say(alloc, keep, &line)?;
         if said.as_str() != "accepted" {
             return format!(in alloc; "{number}, {said}");
         }
@@ -33,7 +33,7 @@ fn fill(alloc: Global, keep: &mut MemKeep, pieces: &[&str]) -> Result<String, Al
     format!(in alloc; "all")
 }
 
-// Fails where another number of them is accepted, or another thing is said to the next.
+// Fails if another number of them is accepted, or the next has another answer.
 fn check_filled(
     alloc: Global,
     keep: &mut MemKeep,
@@ -69,8 +69,8 @@ fn there_are_200_units_at_most(rt: HostRuntime) -> Result<(), Fail> {
     )
 }
 
-// A receipt with this number in its key, into this lot. It is no line, since reading one takes most of the
-// time where there are many.
+// A receipt with this number in its key, into this lot. It is no line, because reading a line takes most of
+// the time of many receipts.
 fn receipt(alloc: Global, number: u64, lot: Name) -> Result<PlantCmd, Fail> {
     let key = format!(in alloc; "K{number}")?;
     Ok(PlantCmd::Receive {
@@ -90,7 +90,7 @@ fn lot_of(alloc: Global, number: u64) -> Result<Name, Fail> {
     Ok(Name::parse(lot.as_bytes())?)
 }
 
-// What is said to as many receipts, each into a lot of its own where they are spread: to the last one.
+// The answer to the last of this many receipts, each into a lot of its own if they are spread.
 fn receive_all<K: Keep>(
     alloc: Global,
     keep: &mut K,
@@ -114,10 +114,10 @@ const ONE_LOT_MORE: &[Line] = &[
 #[test]
 fn an_owner_has_5000_lots(rt: HostRuntime) -> Result<(), Fail> {
     let mut keep = empty_tables(rt.alloc())?;
-    check_said_over::<DeskTeller, _>(rt.alloc(), &mut keep, &[WITH_RECIPE])?;
+    check_said_over(rt.alloc(), &mut keep, &[WITH_RECIPE])?;
     let last = receive_all(rt.alloc(), &mut keep, 5_000, true)?;
     assert!(rt; last.as_str() == "accepted", "{last}");
-    check_said_over::<DeskTeller, _>(rt.alloc(), &mut keep, &[ONE_LOT_MORE])
+    check_said_over(rt.alloc(), &mut keep, &[ONE_LOT_MORE])
 }
 
 const ONE_MOVEMENT_MORE: &[Line] = &[
@@ -128,41 +128,26 @@ const ONE_MOVEMENT_MORE: &[Line] = &[
 #[test]
 fn an_owner_has_20000_movements(rt: HostRuntime) -> Result<(), Fail> {
     let mut keep = empty_tables(rt.alloc())?;
-    check_said_over::<DeskTeller, _>(rt.alloc(), &mut keep, &[WITH_RECIPE])?;
+    check_said_over(rt.alloc(), &mut keep, &[WITH_RECIPE])?;
     let last = receive_all(rt.alloc(), &mut keep, 20_000, false)?;
     assert!(rt; last.as_str() == "accepted", "{last}");
-    check_said_over::<DeskTeller, _>(rt.alloc(), &mut keep, &[ONE_MOVEMENT_MORE])
+    check_said_over(rt.alloc(), &mut keep, &[ONE_MOVEMENT_MORE])
 }
 
 // Says it with each number from 1 to 99, which is accepted.
 fn check_each(alloc: Global, keep: &mut MemKeep, pieces: &[&str]) -> Result<(), Fail> {
     for number in 1..100 {
         let line = line_of(alloc, pieces, number)?;
-        let said = DeskTeller::say(alloc, keep, &line)?;
+        let said = say(alloc, keep, &line)?;
         check(said.as_str() == "accepted", &line)?;
     }
     Ok(())
 }
 
-const WITH_99_BATCHES: &[Line] = &[("> ACME ACMEKEY1 place O R 99", "order O R 99 open")];
-
-#[test]
-fn an_order_has_its_batches_and_no_more(rt: HostRuntime) -> Result<(), Fail> {
-    let mut keep = MemKeep::new(rt.alloc());
-    check_said_over::<DeskTeller, _>(rt.alloc(), &mut keep, &[WITH_RECIPE, WITH_99_BATCHES])?;
-    check_filled(
-        rt.alloc(),
-        &mut keep,
-        &["unit-add U-", ""],
-        "199, refused LimitReached",
-    )?;
-    check_filled(
-        rt.alloc(),
-        &mut keep,
-        &["open ACME O U-", ""],
-        "99, refused NoMoreBatches",
-    )
-}
+const WITH_99_BATCHES: &[Line] = &[(
+    "> ACME ACMEKEY1 POST /orders {\"order\":\"O\",\"recipe\":\"R\",\"batches\":99}",
+    "200 {\"batches\":99,\"order\":\"O\",\"recipe\":\"R\",\"status\":\"open\"}",
+)];
 
 // What is said to each batch on its way from open to closed.
 const UP_TO_CLOSED: &[&[&str]] = &[
@@ -178,15 +163,25 @@ const NO_BATCH_MORE: &[Line] = &[
 ];
 
 #[test]
-fn an_order_whose_batches_are_closed_has_no_more(rt: HostRuntime) -> Result<(), Fail> {
+fn an_order_has_its_batches_and_no_more(rt: HostRuntime) -> Result<(), Fail> {
     let mut keep = MemKeep::new(rt.alloc());
-    check_said_over::<DeskTeller, _>(rt.alloc(), &mut keep, &[WITH_RECIPE, WITH_99_BATCHES])?;
-    fill(rt.alloc(), &mut keep, &["unit-add U-", ""])?;
-    fill(rt.alloc(), &mut keep, &["open ACME O U-", ""])?;
+    check_said_over(rt.alloc(), &mut keep, &[WITH_RECIPE, WITH_99_BATCHES])?;
+    check_filled(
+        rt.alloc(),
+        &mut keep,
+        &["unit-add U-", ""],
+        "199, refused LimitReached",
+    )?;
+    check_filled(
+        rt.alloc(),
+        &mut keep,
+        &["open ACME O U-", ""],
+        "99, refused NoMoreBatches",
+    )?;
     for pieces in UP_TO_CLOSED {
         check_each(rt.alloc(), &mut keep, pieces)?;
     }
-    check_said_over::<DeskTeller, _>(rt.alloc(), &mut keep, &[NO_BATCH_MORE])
+    check_said_over(rt.alloc(), &mut keep, &[NO_BATCH_MORE])
 }
 
 // A voided actual counts as before.
@@ -209,12 +204,12 @@ const VOIDED: &[Line] = &[
 #[test]
 fn a_batch_has_200_actuals(rt: HostRuntime) -> Result<(), Fail> {
     let mut keep = MemKeep::new(rt.alloc());
-    check_said_over::<DeskTeller, _>(rt.alloc(), &mut keep, &[WITH_RECIPE, WITH_BATCH])?;
+    check_said_over(rt.alloc(), &mut keep, &[WITH_RECIPE, WITH_BATCH])?;
     check_filled(
         rt.alloc(),
         &mut keep,
         &["actual N", " ACME O 1 1 produced P ACME P1 S1 1 11"],
         "200, refused LimitReached",
     )?;
-    check_said_over::<DeskTeller, _>(rt.alloc(), &mut keep, &[VOIDED])
+    check_said_over(rt.alloc(), &mut keep, &[VOIDED])
 }

@@ -1,23 +1,41 @@
 //! Stories of movements.
-use crate::desk::lines::DeskTeller;
-use crate::desk::setups::WITH_BATCH;
-use crate::stories::{CONSUMED_ONCE, Line, WITH_RECIPE, check_said};
+use crate::stories::{Line, WITH_BATCH, WITH_RECIPE, check_said};
 use std::test::Fail;
+
+// A batch of `O` consumes the 100 of `M` in lot `A`, once.
+const CONSUMED_ONCE: &[Line] = &[
+    (
+        "actual K2 ACME O 1 1 consumed M ACME A S1 100 11",
+        "accepted",
+    ),
+    (
+        "actual K2 ACME O 1 1 consumed M ACME A S1 100 11",
+        "repeated",
+    ),
+    (
+        "actual K2 ACME O 1 1 consumed M ACME A S1 99 11",
+        "refused KeyConflict",
+    ),
+    (
+        "actual K3 ACME O 1 1 consumed M ACME A S1 1 11",
+        "refused NotEnough",
+    ),
+];
 
 const ALL_CONSUMED: &[Line] = &[
     (
-        "> ACME ACMEKEY1 lot A",
-        "lot A M kg receipts released, S1 0",
+        "> ACME ACMEKEY1 GET /lots/A",
+        "200 {\"disposition\":\"released\",\"lot\":\"A\",\"material\":\"M\",\"measure\":\"kg\",\"origin\":\"receipts\",\"results\":[],\"sublots\":[{\"amount\":0,\"sublot\":\"S1\"}]}",
     ),
     (
-        "> ACME ACMEKEY1 batch O 1",
-        "O/1 running U1 open\n 1 consumed ACME             M                       100            100\n 1 produced ACME             P                        90              0\n",
+        "> ACME ACMEKEY1 GET /batches/O/1",
+        "200 {\"batch\":1,\"closed\":false,\"order\":\"O\",\"requirements\":[{\"actual\":100,\"material\":\"M\",\"owner\":\"ACME\",\"required\":100,\"segment\":1,\"use\":\"consumed\"},{\"actual\":0,\"material\":\"P\",\"owner\":\"ACME\",\"required\":90,\"segment\":1,\"use\":\"produced\"}],\"state\":\"running\",\"unit\":\"U1\"}",
     ),
 ];
 
 #[test]
 fn a_batch_consumes_what_there_is(rt: HostRuntime) -> Result<(), Fail> {
-    check_said::<DeskTeller>(
+    check_said(
         rt.alloc(),
         &[WITH_RECIPE, WITH_BATCH, CONSUMED_ONCE, ALL_CONSUMED],
     )
@@ -53,8 +71,8 @@ const PRODUCT_CONSUMED: &[Line] = &[
         "repeated",
     ),
     (
-        "> ACME ACMEKEY1 release P1",
-        "lot P1 P kg O/1 released, S1 30",
+        "> ACME ACMEKEY1 POST /lots/P1/release",
+        "200 {\"disposition\":\"released\",\"lot\":\"P1\",\"material\":\"P\",\"measure\":\"kg\",\"origin\":\"O/1\",\"results\":[],\"sublots\":[{\"amount\":30,\"sublot\":\"S1\"}]}",
     ),
     (
         "actual K2 ACME O 1 2 consumed P ACME P1 S1 1 11",
@@ -65,14 +83,14 @@ const PRODUCT_CONSUMED: &[Line] = &[
         "repeated",
     ),
     (
-        "> ACME ACMEKEY1 stock",
-        "stock, A M kg released 100, P1 P kg released 29",
+        "> ACME ACMEKEY1 GET /stock",
+        "200 {\"lots\":[{\"amount\":100,\"disposition\":\"released\",\"lot\":\"A\",\"material\":\"M\",\"measure\":\"kg\"},{\"amount\":29,\"disposition\":\"released\",\"lot\":\"P1\",\"material\":\"P\",\"measure\":\"kg\"}]}",
     ),
 ];
 
 #[test]
 fn a_product_is_consumed_once_it_is_released(rt: HostRuntime) -> Result<(), Fail> {
-    check_said::<DeskTeller>(
+    check_said(
         rt.alloc(),
         &[WITH_RECIPE, CONSUMED_AGAIN, WITH_BATCH, PRODUCT_CONSUMED],
     )
@@ -108,5 +126,34 @@ const SPLIT_AND_SHIPPED: &[Line] = &[
 
 #[test]
 fn material_is_split_scrapped_and_shipped(rt: HostRuntime) -> Result<(), Fail> {
-    check_said::<DeskTeller>(rt.alloc(), &[WITH_RECIPE, WITH_BATCH, SPLIT_AND_SHIPPED])
+    check_said(rt.alloc(), &[WITH_RECIPE, WITH_BATCH, SPLIT_AND_SHIPPED])
+}
+
+const IN_STOCK: &[Line] = &[
+    (
+        "actual K2 ACME O 1 1 consumed M ACME A S1 40 11",
+        "accepted",
+    ),
+    (
+        "actual K3 ACME O 1 1 produced P ACME P1 S1 30 11",
+        "accepted",
+    ),
+    (
+        "> ACME ACMEKEY1 GET /stock",
+        "200 {\"lots\":[{\"amount\":60,\"disposition\":\"released\",\"lot\":\"A\",\"material\":\"M\",\"measure\":\"kg\"},{\"amount\":30,\"disposition\":\"quarantined\",\"lot\":\"P1\",\"material\":\"P\",\"measure\":\"kg\"}]}",
+    ),
+    (
+        "> ACME ACMEKEY1 GET /lots/P1",
+        "200 {\"disposition\":\"quarantined\",\"lot\":\"P1\",\"material\":\"P\",\"measure\":\"kg\",\"origin\":\"O/1\",\"results\":[],\"sublots\":[{\"amount\":30,\"sublot\":\"S1\"}]}",
+    ),
+    ("> BOLT BOLTKEY1 GET /stock", "200 {\"lots\":[]}"),
+    (
+        "> BOLT BOLTKEY1 GET /lots/A",
+        "404 {\"code\":27,\"error\":\"UnknownLot\"}",
+    ),
+];
+
+#[test]
+fn what_is_in_stock_is_listed(rt: HostRuntime) -> Result<(), Fail> {
+    check_said(rt.alloc(), &[WITH_RECIPE, WITH_BATCH, IN_STOCK])
 }

@@ -1,57 +1,82 @@
 //! Stories of owners and the plant, over a list keep and over one that once has no memory.
-use crate::desk::lines::DeskTeller;
 use crate::refusing::{Refused, Refusing};
-use crate::stories::{Line, check_said, check_said_over};
+use crate::stories::{Line, WITH_ACME, check, check_said, check_said_over};
+use std::alloc::Global;
 use std::test::Fail;
-use toll_keep::MemKeep;
-
-const WITH_ACME: &[Line] = &[
-    ("owner-add ACME ACMEKEY1", "accepted"),
-    ("> ACME ACMEKEY1 orders", "orders"),
-    ("> ACME ACMEKEY1 stock", "stock"),
-    ("recipe-add ACME R-1 2", "accepted"),
-];
+use toll_base::{BatchNo, Name};
+use toll_desk::{Reply, Request, owner_do};
+use toll_keep::{Keep, KeepFault, MemKeep};
 
 const PLACED_ONCE: &[Line] = &[
-    ("> ACME ACMEKEY1 place O-1 R-1 2", "order O-1 R-1 2 open"),
-    ("> ACME ACMEKEY1 orders", "orders, O-1 R-1 2 open"),
-    ("> ACME ACMEKEY1 place O-1 R-1 2", "order O-1 R-1 2 open"),
-    ("> ACME ACMEKEY1 place O-1 R-1 3", "refused OrderExists"),
-    ("> ACME ACMEKEY1 orders", "orders, O-1 R-1 2 open"),
-    ("> ACME ACMEKEY1 order O-1", "order O-1 R-1 2 open"),
-    ("> ACME ACMEKEY1 order O-2", "refused UnknownOrder"),
+    ("> ACME ACMEKEY1 GET /orders", "200 {\"orders\":[]}"),
+    ("> ACME ACMEKEY1 GET /stock", "200 {\"lots\":[]}"),
+    (
+        "> ACME ACMEKEY1 POST /orders {\"order\":\"O-1\",\"recipe\":\"R-1\",\"batches\":2}",
+        "200 {\"batches\":2,\"order\":\"O-1\",\"recipe\":\"R-1\",\"status\":\"open\"}",
+    ),
+    (
+        "> ACME ACMEKEY1 GET /orders",
+        "200 {\"orders\":[{\"batches\":2,\"order\":\"O-1\",\"recipe\":\"R-1\",\"status\":\"open\"}]}",
+    ),
+    (
+        "> ACME ACMEKEY1 POST /orders {\"order\":\"O-1\",\"recipe\":\"R-1\",\"batches\":2}",
+        "200 {\"batches\":2,\"order\":\"O-1\",\"recipe\":\"R-1\",\"status\":\"open\"}",
+    ),
+    (
+        "> ACME ACMEKEY1 POST /orders {\"order\":\"O-1\",\"recipe\":\"R-1\",\"batches\":3}",
+        "409 {\"code\":17,\"error\":\"OrderExists\"}",
+    ),
+    (
+        "> ACME ACMEKEY1 GET /orders",
+        "200 {\"orders\":[{\"batches\":2,\"order\":\"O-1\",\"recipe\":\"R-1\",\"status\":\"open\"}]}",
+    ),
+    (
+        "> ACME ACMEKEY1 GET /orders/O-1",
+        "200 {\"batches\":2,\"order\":\"O-1\",\"recipe\":\"R-1\",\"status\":\"open\"}",
+    ),
+    (
+        "> ACME ACMEKEY1 GET /orders/O-2",
+        "404 {\"code\":18,\"error\":\"UnknownOrder\"}",
+    ),
 ];
 
 #[test]
 fn an_order_is_placed_once(rt: HostRuntime) -> Result<(), Fail> {
-    check_said::<DeskTeller>(rt.alloc(), &[WITH_ACME, PLACED_ONCE])
+    check_said(rt.alloc(), &[WITH_ACME, PLACED_ONCE])
 }
 
 const OF_ONE_NAME: &[Line] = &[
     ("owner-add BOLT BOLTKEY1", "accepted"),
     ("recipe-add BOLT R-9 1", "accepted"),
-    ("> ACME ACMEKEY1 place O-1 R-1 2", "order O-1 R-1 2 open"),
-    ("> BOLT BOLTKEY1 place O-1 R-9 7", "order O-1 R-9 7 open"),
-    ("> ACME ACMEKEY1 order O-1", "order O-1 R-1 2 open"),
-    ("> BOLT BOLTKEY1 order O-1", "order O-1 R-9 7 open"),
+    (
+        "> ACME ACMEKEY1 POST /orders {\"order\":\"O-1\",\"recipe\":\"R-1\",\"batches\":2}",
+        "200 {\"batches\":2,\"order\":\"O-1\",\"recipe\":\"R-1\",\"status\":\"open\"}",
+    ),
+    (
+        "> BOLT BOLTKEY1 POST /orders {\"order\":\"O-1\",\"recipe\":\"R-9\",\"batches\":7}",
+        "200 {\"batches\":7,\"order\":\"O-1\",\"recipe\":\"R-9\",\"status\":\"open\"}",
+    ),
+    (
+        "> ACME ACMEKEY1 GET /orders/O-1",
+        "200 {\"batches\":2,\"order\":\"O-1\",\"recipe\":\"R-1\",\"status\":\"open\"}",
+    ),
+    (
+        "> BOLT BOLTKEY1 POST /orders/O-1/cancel",
+        "200 {\"batches\":7,\"order\":\"O-1\",\"recipe\":\"R-9\",\"status\":\"cancelled\"}",
+    ),
+    (
+        "> ACME ACMEKEY1 GET /orders",
+        "200 {\"orders\":[{\"batches\":2,\"order\":\"O-1\",\"recipe\":\"R-1\",\"status\":\"open\"}]}",
+    ),
+    (
+        "> BOLT BOLTKEY1 GET /orders/O-1",
+        "200 {\"batches\":7,\"order\":\"O-1\",\"recipe\":\"R-9\",\"status\":\"cancelled\"}",
+    ),
 ];
 
 #[test]
 fn owners_have_orders_of_one_name(rt: HostRuntime) -> Result<(), Fail> {
-    check_said::<DeskTeller>(rt.alloc(), &[WITH_ACME, OF_ONE_NAME])
-}
-
-const FORBIDDEN: &[Line] = &[
-    ("> ACME BOLTKEY1 place O-1 R-1 2", "forbidden"),
-    ("> ACME BOLTKEY1 orders", "forbidden"),
-    ("> BOLT BOLTKEY1 orders", "forbidden"),
-    ("> HOUSE ACMEKEY1 orders", "forbidden"),
-    ("> ACME ACMEKEY1 orders", "orders"),
-];
-
-#[test]
-fn a_wrong_key_is_forbidden(rt: HostRuntime) -> Result<(), Fail> {
-    check_said::<DeskTeller>(rt.alloc(), &[WITH_ACME, FORBIDDEN])
+    check_said(rt.alloc(), &[WITH_ACME, OF_ONE_NAME])
 }
 
 const ADDED_ONCE: &[Line] = &[
@@ -66,36 +91,62 @@ const ADDED_ONCE: &[Line] = &[
 
 #[test]
 fn an_owner_is_added_once(rt: HostRuntime) -> Result<(), Fail> {
-    check_said::<DeskTeller>(rt.alloc(), &[WITH_ACME, ADDED_ONCE])
+    check_said(rt.alloc(), &[WITH_ACME, ADDED_ONCE])
 }
 
-const NOT_PLACED_WITHOUT_MEMORY: &[Line] = &[
-    ("> ACME ACMEKEY1 place O-1 R-1 2", "fault Memory"),
-    ("> ACME ACMEKEY1 orders", "orders"),
-    ("> ACME ACMEKEY1 place O-1 R-1 2", "order O-1 R-1 2 open"),
-    ("> ACME ACMEKEY1 orders", "orders, O-1 R-1 2 open"),
-];
+fn placing() -> Result<Request, Fail> {
+    Ok(Request::Place {
+        order: Name::parse(b"O-1")?,
+        recipe: Name::parse(b"R-1")?,
+        batches: BatchNo::new(2)?,
+    })
+}
+
+// Whether ACME's order is refused for lack of memory.
+fn is_refused<K: Keep>(alloc: Global, keep: &mut K, request: &Request) -> bool {
+    let reply = owner_do(alloc, keep, b"ACME", b"ACMEKEY1", request);
+    matches!(reply, Reply::Fault(KeepFault::Memory))
+}
+
+// Whether ACME's order is placed.
+fn is_placed<K: Keep>(alloc: Global, keep: &mut K, request: &Request) -> bool {
+    let reply = owner_do(alloc, keep, b"ACME", b"ACMEKEY1", request);
+    matches!(reply, Reply::Order(_))
+}
+
+// Whether ACME has so many orders.
+fn has_orders<K: Keep>(alloc: Global, keep: &mut K, count: usize) -> bool {
+    match owner_do(alloc, keep, b"ACME", b"ACMEKEY1", &Request::Orders) {
+        Reply::Orders(rows) => rows.len() == count,
+        _ => false,
+    }
+}
 
 #[test]
 fn an_order_without_memory_is_not_placed(rt: HostRuntime) -> Result<(), Fail> {
     let mut keep = MemKeep::new(rt.alloc());
-    check_said_over::<DeskTeller, _>(rt.alloc(), &mut keep, &[WITH_ACME])?;
-    check_said_over::<DeskTeller, _>(
-        rt.alloc(),
-        &mut Refusing::new(keep, Refused::Apply),
-        &[NOT_PLACED_WITHOUT_MEMORY],
-    )
+    check_said_over(rt.alloc(), &mut keep, &[WITH_ACME])?;
+    let mut keep = Refusing::new(keep, Refused::Apply);
+    let request = placing()?;
+    let is_so = is_refused(rt.alloc(), &mut keep, &request)
+        && has_orders(rt.alloc(), &mut keep, 0)
+        && is_placed(rt.alloc(), &mut keep, &request)
+        && has_orders(rt.alloc(), &mut keep, 1);
+    check(is_so, "answered otherwise")
 }
 
 const NOT_ADDED_WITHOUT_MEMORY: &[Line] = &[
     ("owner-add ACME ACMEKEY1", "fault Memory"),
-    ("> ACME ACMEKEY1 orders", "forbidden"),
+    (
+        "> ACME ACMEKEY1 GET /orders",
+        "403 {\"error\":\"Forbidden\"}",
+    ),
     ("owner-add ACME ACMEKEY1", "accepted"),
-    ("> ACME ACMEKEY1 orders", "orders"),
+    ("> ACME ACMEKEY1 GET /orders", "200 {\"orders\":[]}"),
 ];
 
 #[test]
 fn an_owner_without_memory_is_not_added(rt: HostRuntime) -> Result<(), Fail> {
     let mut keep = Refusing::new(MemKeep::new(rt.alloc()), Refused::Apply);
-    check_said_over::<DeskTeller, _>(rt.alloc(), &mut keep, &[NOT_ADDED_WITHOUT_MEMORY])
+    check_said_over(rt.alloc(), &mut keep, &[NOT_ADDED_WITHOUT_MEMORY])
 }

@@ -1,8 +1,7 @@
 //! What an owner's rows say along stories.
-use crate::desk::lines::DeskTeller;
-use crate::desk::setups::{RELEASED_AND_PLACED, WITH_BATCH};
 use crate::stories::{
-    A_CONSUMED, Line, WITH_HOUSE, WITH_RECIPE, check, check_lines, check_said_over,
+    A_CONSUMED, Line, RELEASED_AND_PLACED, WITH_BATCH, WITH_HOUSE, WITH_RECIPE, check, check_lines,
+    check_said_over,
 };
 use std::alloc::Global;
 use std::test::Fail;
@@ -11,9 +10,9 @@ use toll_keep::{Keep, MemKeep};
 use toll_stock::{lot_totals, on_hand};
 use toll_work::open_batch;
 
-fn told(alloc: Global, story: &[&[Line]]) -> Result<MemKeep, Fail> {
+fn reported(alloc: Global, story: &[&[Line]]) -> Result<MemKeep, Fail> {
     let mut keep = MemKeep::new(alloc);
-    check_said_over::<DeskTeller, _>(alloc, &mut keep, story)?;
+    check_said_over(alloc, &mut keep, story)?;
     Ok(keep)
 }
 
@@ -38,7 +37,7 @@ fn check_on_hand(slice: &Slice, sublot: &[u8], wanted: Option<u64>) -> Result<()
 #[test]
 fn a_sublot_at_zero_stays(rt: HostRuntime) -> Result<(), Fail> {
     let story: &[&[Line]] = &[WITH_RECIPE, WITH_BATCH, SPLIT_AND_SCRAPPED];
-    let mut keep = told(rt.alloc(), story)?;
+    let mut keep = reported(rt.alloc(), story)?;
     let slice = slice_of(rt.alloc(), &mut keep, b"ACME")?;
     check_on_hand(&slice, b"S2", Some(0))?;
     check_on_hand(&slice, b"S3", None)
@@ -46,16 +45,16 @@ fn a_sublot_at_zero_stays(rt: HostRuntime) -> Result<(), Fail> {
 
 fn check_totals(slice: &Slice, lot: &[u8], wanted: Option<(u64, u64)>) -> Result<(), Fail> {
     let totals = lot_totals(slice, &Name::parse(lot)?);
-    let told = totals.map(|totals| (totals.on_hand, totals.shipped));
-    check(told == wanted, "another total")
+    let reported = totals.map(|totals| (totals.on_hand, totals.shipped));
+    check(reported == wanted, "another total")
 }
 
 const SHIPPED_IN_PARTS: &[Line] = &[
     ("receive ACME K8 M AB S1 9 12", "accepted"),
     ("receive ACME K9 M AB S2 4 12", "accepted"),
     (
-        "> ACME ACMEKEY1 release AB",
-        "lot AB M kg receipts released, S1 9, S2 4",
+        "> ACME ACMEKEY1 POST /lots/AB/release",
+        "200 {\"disposition\":\"released\",\"lot\":\"AB\",\"material\":\"M\",\"measure\":\"kg\",\"origin\":\"receipts\",\"results\":[],\"sublots\":[{\"amount\":9,\"sublot\":\"S1\"},{\"amount\":4,\"sublot\":\"S2\"}]}",
     ),
     ("ship ACME K10 AB S1 2 13", "accepted"),
     ("ship ACME K11 AB S2 1 13", "accepted"),
@@ -69,7 +68,7 @@ fn a_lot_has_what_is_left_and_what_was_shipped(rt: HostRuntime) -> Result<(), Fa
         SPLIT_AND_SCRAPPED,
         SHIPPED_IN_PARTS,
     ];
-    let mut keep = told(rt.alloc(), story)?;
+    let mut keep = reported(rt.alloc(), story)?;
     let slice = slice_of(rt.alloc(), &mut keep, b"ACME")?;
     check_totals(&slice, b"A", Some((0, 70)))?;
     check_totals(&slice, b"AB", Some((10, 3)))?;
@@ -77,9 +76,9 @@ fn a_lot_has_what_is_left_and_what_was_shipped(rt: HostRuntime) -> Result<(), Fa
 }
 
 #[test]
-fn an_unknown_unit_is_told_before_a_busy_one(rt: HostRuntime) -> Result<(), Fail> {
+fn an_unknown_unit_is_refused_before_a_busy_one(rt: HostRuntime) -> Result<(), Fail> {
     let story: &[&[Line]] = &[WITH_HOUSE, RELEASED_AND_PLACED];
-    let mut keep = told(rt.alloc(), story)?;
+    let mut keep = reported(rt.alloc(), story)?;
     let slice = slice_of(rt.alloc(), &mut keep, b"ACME")?;
     let unit = Name::parse(b"U9")?;
     let decision = open_batch(rt.alloc(), &slice, Name::parse(b"O")?, unit, false, false)?;
@@ -104,9 +103,9 @@ const HOUSE_CONSUMED: &[Line] = &[(
 #[test]
 fn what_is_consumed_of_house_is_the_batch_owners_movement(rt: HostRuntime) -> Result<(), Fail> {
     let story: &[&[Line]] = &[WITH_HOUSE, RELEASED_AND_PLACED, A_CONSUMED];
-    let mut keep = told(rt.alloc(), story)?;
+    let mut keep = reported(rt.alloc(), story)?;
     let (own, house) = movements(rt.alloc(), &mut keep)?;
-    check_lines::<DeskTeller, _>(rt.alloc(), &mut keep, HOUSE_CONSUMED)?;
+    check_lines(rt.alloc(), &mut keep, HOUSE_CONSUMED)?;
     let (own_after, house_after) = movements(rt.alloc(), &mut keep)?;
     let is_own = own.checked_add(1) == Some(own_after);
     check(is_own && house_after == house, "another movement")
@@ -117,8 +116,8 @@ const SAME_NAMES: &[Line] = &[
     ("material-add BOLT M kg", "accepted"),
     ("receive BOLT K1 M A S1 50 10", "accepted"),
     (
-        "> BOLT BOLTKEY1 release A",
-        "lot A M kg receipts released, S1 50",
+        "> BOLT BOLTKEY1 POST /lots/A/release",
+        "200 {\"disposition\":\"released\",\"lot\":\"A\",\"material\":\"M\",\"measure\":\"kg\",\"origin\":\"receipts\",\"results\":[],\"sublots\":[{\"amount\":50,\"sublot\":\"S1\"}]}",
     ),
     ("ship BOLT K2 A S1 20 11", "accepted"),
     (
@@ -133,6 +132,6 @@ const SAME_NAMES: &[Line] = &[
 
 #[test]
 fn movements_of_another_owners_lot_leave_ones_own(rt: HostRuntime) -> Result<(), Fail> {
-    let mut keep = told(rt.alloc(), &[WITH_RECIPE, WITH_BATCH])?;
-    check_lines::<DeskTeller, _>(rt.alloc(), &mut keep, SAME_NAMES)
+    let mut keep = reported(rt.alloc(), &[WITH_RECIPE, WITH_BATCH])?;
+    check_lines(rt.alloc(), &mut keep, SAME_NAMES)
 }

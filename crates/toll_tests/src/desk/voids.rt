@@ -1,22 +1,34 @@
 //! Stories of actuals that are taken back.
-use crate::desk::lines::DeskTeller;
-use crate::desk::setups::{RELEASED_AND_PLACED, WITH_BATCH};
 use crate::stories::{
-    A_CONSUMED, CONSUMED_AND_PRODUCED, CONSUMPTION_VOIDED, Line, P1_PRODUCED, WITH_HOUSE,
-    WITH_RECIPE, check_said_and_joined,
+    A_CONSUMED, CONSUMED_AND_PRODUCED, Line, P1_PRODUCED, RELEASED_AND_PLACED, WITH_BATCH,
+    WITH_HOUSE, WITH_RECIPE, check_said_and_traced,
 };
 use std::test::Fail;
+
+// Then the consumption is voided, once.
+const CONSUMPTION_VOIDED: &[Line] = &[
+    ("void ACME K3", "refused NotEnough"),
+    ("void ACME K2", "accepted"),
+    ("void ACME K2", "refused Voided"),
+];
 
 const AS_IF_NOT_CONSUMED: &[Line] = &[
     (
         "stock ACME",
         "A                S1               M                released               100 kg\nP1               S1               P                quarantined             30 kg\n",
     ),
-    ("> ACME ACMEKEY1 back P1", "     0 ACME             P1\n"),
+    (
+        "> ACME ACMEKEY1 GET /stock",
+        "200 {\"lots\":[{\"amount\":100,\"disposition\":\"released\",\"lot\":\"A\",\"material\":\"M\",\"measure\":\"kg\"},{\"amount\":30,\"disposition\":\"quarantined\",\"lot\":\"P1\",\"material\":\"P\",\"measure\":\"kg\"}]}",
+    ),
+    (
+        "> ACME ACMEKEY1 GET /trace/back/P1",
+        "200 {\"lots\":[{\"lot\":\"P1\",\"owner\":\"ACME\",\"steps\":0}]}",
+    ),
     ("trace ACME A forward", "     0 ACME             A\n"),
     (
-        "> ACME ACMEKEY1 batch O 1",
-        "O/1 running U1 open\n 1 consumed ACME             M                       100              0\n 1 produced ACME             P                        90             50\n",
+        "> ACME ACMEKEY1 GET /batches/O/1",
+        "200 {\"batch\":1,\"closed\":false,\"order\":\"O\",\"requirements\":[{\"actual\":0,\"material\":\"M\",\"owner\":\"ACME\",\"required\":100,\"segment\":1,\"use\":\"consumed\"},{\"actual\":50,\"material\":\"P\",\"owner\":\"ACME\",\"required\":90,\"segment\":1,\"use\":\"produced\"}],\"state\":\"running\",\"unit\":\"U1\"}",
     ),
 ];
 
@@ -40,7 +52,7 @@ const KEYS_STAY_TAKEN: &[Line] = &[
 
 #[test]
 fn a_voided_consumption_gives_back(rt: HostRuntime) -> Result<(), Fail> {
-    check_said_and_joined::<DeskTeller>(
+    check_said_and_traced(
         rt.alloc(),
         &[
             WITH_RECIPE,
@@ -59,7 +71,14 @@ const GIVEN_BACK_TO_HOUSE: &[Line] = &[
         "H-1              S                W                released                 0 kg\n",
     ),
     ("void ACME K4", "accepted"),
-    ("> ACME ACMEKEY1 house H-1", "refused UnknownLot"),
+    (
+        "> ACME ACMEKEY1 GET /trace/house/H-1",
+        "404 {\"code\":27,\"error\":\"UnknownLot\"}",
+    ),
+    (
+        "> ACME ACMEKEY1 GET /trace/back/P1",
+        "200 {\"lots\":[{\"lot\":\"P1\",\"owner\":\"ACME\",\"steps\":0},{\"lot\":\"A\",\"owner\":\"ACME\",\"steps\":1}]}",
+    ),
     (
         "stock HOUSE",
         "H-1              S                W                released                10 kg\n",
@@ -68,7 +87,7 @@ const GIVEN_BACK_TO_HOUSE: &[Line] = &[
 
 #[test]
 fn a_void_gives_back_to_house(rt: HostRuntime) -> Result<(), Fail> {
-    check_said_and_joined::<DeskTeller>(
+    check_said_and_traced(
         rt.alloc(),
         &[
             WITH_HOUSE,

@@ -1,7 +1,7 @@
-//! Stores of version 1, made by its statements: adopted with their rows, and refused where the version is
+//! Stores of version 1, made by its statements: adopted with their rows, and refused if the version is
 //! another one.
+use crate::keep::checks::check_all;
 use crate::keep::tables::{adopted, check_refused, number};
-use crate::keep::told::check_all;
 use crate::stories::check;
 use sqlite::{Connection, MemStore};
 use std::alloc::Global;
@@ -50,52 +50,37 @@ fn first_store(alloc: Global) -> Result<Connection<MemStore>, Fail> {
     Ok(conn)
 }
 
-#[test]
-fn a_store_of_version_1_is_adopted_with_its_rows(rt: HostRuntime) -> Result<(), Fail> {
-    let conn = first_store(rt.alloc())?;
-    check_all(rt.alloc(), &mut adopted(rt.alloc(), conn)?)
-}
-
-#[test]
-fn an_adopted_store_has_version_2_and_voids(rt: HostRuntime) -> Result<(), Fail> {
-    let conn = first_store(rt.alloc())?;
-    let mut conn = adopted(rt.alloc(), conn)?.into_connection();
-    let version = number(&mut conn, "SELECT value FROM meta WHERE name = 'toll'")?;
-    let rows = number(&mut conn, "SELECT COUNT(*) FROM meta")?;
-    let voids = number(&mut conn, "SELECT COUNT(*) FROM voids")?;
+// Fails if the store has a version other than 2, or rows in the table that version 1 doesn't have.
+fn check_version(conn: &mut Connection<MemStore>) -> Result<(), Fail> {
+    let version = number(conn, "SELECT value FROM meta WHERE name = 'toll'")?;
+    let rows = number(conn, "SELECT COUNT(*) FROM meta")?;
+    let voids = number(conn, "SELECT COUNT(*) FROM voids")?;
     check((version, rows, voids) == (2, 1, 0), "another version")
 }
 
 #[test]
-fn an_adopted_store_is_adopted_again(rt: HostRuntime) -> Result<(), Fail> {
-    let conn = first_store(rt.alloc())?;
-    let conn = adopted(rt.alloc(), conn)?.into_connection();
-    check_all(rt.alloc(), &mut adopted(rt.alloc(), conn)?)
+fn a_store_of_version_1_is_adopted_with_its_rows(rt: HostRuntime) -> Result<(), Fail> {
+    let alloc = rt.alloc();
+    let mut keep = adopted(alloc, first_store(alloc)?)?;
+    check_all(alloc, &mut keep)?;
+    let mut conn = keep.into_connection();
+    check_version(&mut conn)?;
+    check_all(alloc, &mut adopted(alloc, conn)?)
 }
 
-// Fails where the tables of version 1 are not refused so after this statement.
-fn check_first_refused(alloc: Global, statement: &str, wanted: OpenFault) -> Result<(), Fail> {
-    check_refused(alloc, first_store(alloc)?, statement, wanted)
-}
-
-#[test]
-fn tables_of_version_1_with_another_version_are_not_ours(rt: HostRuntime) -> Result<(), Fail> {
-    check_first_refused(rt.alloc(), "UPDATE meta SET value = 0", OpenFault::NotOurs)?;
-    check_first_refused(rt.alloc(), "UPDATE meta SET value = 3", OpenFault::NotOurs)?;
-    check_first_refused(rt.alloc(), "UPDATE meta SET value = -1", OpenFault::NotOurs)?;
-    check_first_refused(
-        rt.alloc(),
-        "UPDATE meta SET name = 'till'",
-        OpenFault::NotOurs,
-    )
-}
+const REFUSED: [(&str, OpenFault); 6] = [
+    ("UPDATE meta SET value = 0", OpenFault::NotOurs),
+    ("UPDATE meta SET value = 3", OpenFault::NotOurs),
+    ("UPDATE meta SET value = -1", OpenFault::NotOurs),
+    ("UPDATE meta SET name = 'till'", OpenFault::NotOurs),
+    ("UPDATE meta SET value = 2", OpenFault::Damaged),
+    ("DROP TABLE results", OpenFault::Damaged),
+];
 
 #[test]
-fn tables_of_version_1_that_tell_version_2_are_damage(rt: HostRuntime) -> Result<(), Fail> {
-    check_first_refused(rt.alloc(), "UPDATE meta SET value = 2", OpenFault::Damaged)
-}
-
-#[test]
-fn a_missing_table_of_version_1_is_damage(rt: HostRuntime) -> Result<(), Fail> {
-    check_first_refused(rt.alloc(), "DROP TABLE results", OpenFault::Damaged)
+fn a_store_of_version_1_has_its_tables_and_its_version(rt: HostRuntime) -> Result<(), Fail> {
+    for (statement, fault) in &REFUSED {
+        check_refused(rt.alloc(), first_store(rt.alloc())?, statement, *fault)?;
+    }
+    Ok(())
 }

@@ -1,10 +1,10 @@
-//! The batch that holds a unit, of tables in which its row is none of the office's: it is told as damage, and
-//! the unit is neither free nor held.
-use crate::desk::lines::DeskTeller;
-use crate::desk::setups::WITH_BATCH;
+//! The batch that holds a unit, in tables whose row for it is none of the office's: that is reported as
+//! damage, and the unit is neither free nor held.
 use crate::keep::rows::{batch, fill_all};
 use crate::keep::tables::adopted;
-use crate::stories::{Line, TableKeep, WITH_RECIPE, check, check_said_over, empty_tables};
+use crate::stories::{
+    Line, TableKeep, WITH_BATCH, WITH_RECIPE, check, check_said_over, empty_tables,
+};
 use sqlite::{Connection, MemStore};
 use std::alloc::Global;
 use std::test::Fail;
@@ -21,14 +21,14 @@ const BROKEN: [&str; 5] = [
     "INSERT INTO batches VALUES ('ACME', 'P', 1, 'U', 12, 0)",
 ];
 
-// Fails where the holder of the unit is told otherwise than as damage.
+// Fails if the holder of the unit isn't reported as damage.
 fn check_broken(alloc: Global, statement: &str) -> Result<(), Fail> {
     let mut keep = SqlKeep::in_memory(alloc)?;
     fill_all(alloc, &mut keep)?;
     let mut conn = keep.into_connection();
     conn.execute(statement, &[])?;
-    let told = adopted(alloc, conn)?.holder(alloc, &batch()?.unit).err();
-    check(told == Some(KeepFault::Damaged), statement)
+    let reported = adopted(alloc, conn)?.holder(alloc, &batch()?.unit).err();
+    check(reported == Some(KeepFault::Damaged), statement)
 }
 
 #[test]
@@ -48,7 +48,10 @@ fn without_state(alloc: Global, keep: TableKeep) -> Result<Connection<MemStore>,
 
 const BOLT_IS_PLACED: &[Line] = &[
     ("recipe-add BOLT R 1", "accepted"),
-    ("> BOLT BOLTKEY1 place O R 1", "order O R 1 open"),
+    (
+        "> BOLT BOLTKEY1 POST /orders {\"order\":\"O\",\"recipe\":\"R\",\"batches\":1}",
+        "200 {\"batches\":1,\"order\":\"O\",\"recipe\":\"R\",\"status\":\"open\"}",
+    ),
 ];
 
 const NEITHER_FREE_NOR_HELD: &[Line] = &[
@@ -60,13 +63,9 @@ const NEITHER_FREE_NOR_HELD: &[Line] = &[
 fn a_batch_is_opened_on_no_unit_with_a_broken_row(rt: HostRuntime) -> Result<(), Fail> {
     let alloc = rt.alloc();
     let mut keep = empty_tables(alloc)?;
-    check_said_over::<DeskTeller, TableKeep>(
-        alloc,
-        &mut keep,
-        &[WITH_RECIPE, WITH_BATCH, BOLT_IS_PLACED],
-    )?;
+    check_said_over::<TableKeep>(alloc, &mut keep, &[WITH_RECIPE, WITH_BATCH, BOLT_IS_PLACED])?;
     let found = adopted(alloc, without_state(alloc, keep)?)?;
-    check_said_over::<DeskTeller, TableKeep>(
+    check_said_over::<TableKeep>(
         alloc,
         &mut CachedKeep::new(alloc, found),
         &[NEITHER_FREE_NOR_HELD],

@@ -92,7 +92,7 @@ pub(crate) fn fill<K: Keep>(
     Ok(keep.apply(alloc, &changes)?)
 }
 
-/// The batches and the movements of the owner, where it is known.
+/// The batches and the movements of the owner, if it is known.
 pub(crate) fn counts<K: Keep>(
     alloc: Global,
     keep: &mut K,

@@ -5,7 +5,7 @@ use sqlite::MemStore;
 use std::alloc::Global;
 use std::test::Fail;
 use toll_base::{Change, Edge, LotId, Name, Role, Row, VoidRow};
-use toll_keep::{CachedKeep, Keep, MemKeep};
+use toll_keep::{Keep, MemKeep};
 use toll_sql::SqlKeep;
 
 // What a batch uses: the key, the role, the lot and the segment.
@@ -52,7 +52,7 @@ fn void<K: Keep>(alloc: Global, keep: &mut K, key: &str) -> Result<(), Fail> {
     put(alloc, keep, Row::Void(VoidRow { key }))
 }
 
-// Fails where other edges are told, as ACME's own or among all.
+// Fails if other edges are returned, as ACME's own or among all.
 fn check_told<K: Keep>(alloc: Global, keep: &mut K, wanted: &[Edge]) -> Result<(), Fail> {
     let own = keep.edges(alloc, &acme()?.owner)?;
     let all = keep.all_edges(alloc)?;
@@ -81,10 +81,4 @@ fn lots_of_several_segments_are_paired_once(rt: HostRuntime) -> Result<(), Fail>
 fn tables_pair_lots_of_several_segments_once(rt: HostRuntime) -> Result<(), Fail> {
     let mut keep: SqlKeep<MemStore> = SqlKeep::in_memory(rt.alloc())?;
     check_segments(rt.alloc(), &mut keep)
-}
-
-#[test]
-fn remembered_edges_follow_the_changes(rt: HostRuntime) -> Result<(), Fail> {
-    let keep: SqlKeep<MemStore> = SqlKeep::in_memory(rt.alloc())?;
-    check_segments(rt.alloc(), &mut CachedKeep::new(rt.alloc(), keep))
 }

@@ -1,6 +1,6 @@
-//! Rows in SQLite: told as those in memory, found again, and damaged ones never taken as true.
+//! Rows in SQLite: the same as those in memory, found again, and never taken as true if they are damaged.
+use crate::keep::checks::{check_all, check_counts};
 use crate::keep::rows::{acme, batch, fill, fill_all};
-use crate::keep::told::{check_all, check_counts};
 use crate::stories::check;
 use sqlite::{Connection, MemStore};
 use std::alloc::Global;
@@ -26,22 +26,16 @@ pub(crate) fn adopted(
 }
 
 #[test]
-fn tables_are_told_as_lists_are(rt: HostRuntime) -> Result<(), Fail> {
+fn tables_are_reported_as_lists_are(rt: HostRuntime) -> Result<(), Fail> {
     check_all(rt.alloc(), &mut filled(rt.alloc())?)
 }
 
 #[test]
-fn tables_are_told_by_a_keep_that_remembers(rt: HostRuntime) -> Result<(), Fail> {
+fn tables_are_reported_by_a_cached_keep(rt: HostRuntime) -> Result<(), Fail> {
     check_all(
         rt.alloc(),
         &mut CachedKeep::new(rt.alloc(), filled(rt.alloc())?),
     )
-}
-
-#[test]
-fn a_store_that_is_adopted_has_its_rows(rt: HostRuntime) -> Result<(), Fail> {
-    let conn = filled(rt.alloc())?.into_connection();
-    check_all(rt.alloc(), &mut adopted(rt.alloc(), conn)?)
 }
 
 #[test]
@@ -60,7 +54,7 @@ pub(crate) fn number(conn: &mut Connection<MemStore>, statement: &str) -> Result
     Ok(row.get(0)?)
 }
 
-/// Fails where a store is not refused so after this statement.
+/// Fails if a store isn't refused for this reason after this statement.
 pub(crate) fn check_refused(
     alloc: Global,
     mut conn: Connection<MemStore>,
@@ -77,102 +71,90 @@ pub(crate) fn check_refused(
 #[test]
 fn a_store_of_others_is_not_ours(rt: HostRuntime) -> Result<(), Fail> {
     let foreign = Connection::open_in_memory(rt.alloc())?;
-    check_refused(
-        rt.alloc(),
-        foreign,
-        "CREATE TABLE notes (note TEXT)",
-        OpenFault::NotOurs,
-    )?;
-    let later = filled(rt.alloc())?.into_connection();
-    check_refused(
-        rt.alloc(),
-        later,
-        "UPDATE meta SET value = 3",
-        OpenFault::NotOurs,
-    )?;
-    let emptied = filled(rt.alloc())?.into_connection();
-    check_refused(rt.alloc(), emptied, "DELETE FROM meta", OpenFault::NotOurs)
+    let statement = "CREATE TABLE notes (note TEXT)";
+    check_refused(rt.alloc(), foreign, statement, OpenFault::NotOurs)
 }
 
+// Statements after which the office's own store is refused: it has another version or none, lacks a table, or
+// has a table or an index that touches the office's rows.
+const REFUSED: [(&str, OpenFault); 7] = [
+    ("UPDATE meta SET value = 3", OpenFault::NotOurs),
+    ("DELETE FROM meta", OpenFault::NotOurs),
+    ("UPDATE meta SET value = 1", OpenFault::Damaged),
+    ("DROP TABLE voids", OpenFault::Damaged),
+    ("DROP TABLE results", OpenFault::Damaged),
+    (
+        "CREATE TABLE notes (lot TEXT, owner TEXT REFERENCES owners (owner))",
+        OpenFault::Damaged,
+    ),
+    (
+        "CREATE UNIQUE INDEX lots_apart ON lots (lot)",
+        OpenFault::Damaged,
+    ),
+];
+
 #[test]
-fn a_missing_table_is_damage(rt: HostRuntime) -> Result<(), Fail> {
-    for drop in ["DROP TABLE voids", "DROP TABLE results"] {
+fn what_touches_the_tables_is_damage(rt: HostRuntime) -> Result<(), Fail> {
+    for (statement, fault) in &REFUSED {
         let conn = filled(rt.alloc())?.into_connection();
-        check_refused(rt.alloc(), conn, drop, OpenFault::Damaged)?;
+        check_refused(rt.alloc(), conn, statement, *fault)?;
     }
     Ok(())
 }
 
-#[test]
-fn tables_that_tell_version_1_are_damage(rt: HostRuntime) -> Result<(), Fail> {
-    let conn = filled(rt.alloc())?.into_connection();
-    check_refused(
-        rt.alloc(),
-        conn,
-        "UPDATE meta SET value = 1",
-        OpenFault::Damaged,
-    )
-}
-
-// Statements that make what is no harm to the office's rows.
-const OTHERS: [&str; 4] = [
-    "CREATE TABLE notes (owner TEXT, note TEXT UNIQUE)",
-    "CREATE VIEW held AS SELECT owner, sum(amount) FROM sublots GROUP BY owner",
-    "CREATE INDEX moves_by_lot ON moves (lot_owner, lot)",
-    "CREATE TABLE notes (note TEXT); CREATE INDEX lots_by_material ON lots (material); CREATE VIEW owned AS SELECT owner FROM owners",
+// Statements that make what is no harm to the office's rows, and a query that counts what stays of it.
+const OTHERS: [(&str, &str, i64); 6] = [
+    (
+        "CREATE TABLE notes (owner TEXT, note TEXT UNIQUE)",
+        "SELECT COUNT(*) FROM notes",
+        0,
+    ),
+    (
+        "CREATE VIEW held AS SELECT owner, sum(amount) FROM sublots GROUP BY owner",
+        "SELECT COUNT(*) FROM held",
+        0,
+    ),
+    (
+        "CREATE INDEX moves_by_lot ON moves (lot_owner, lot)",
+        "SELECT COUNT(*) FROM sqlite_schema WHERE name = 'moves_by_lot'",
+        1,
+    ),
+    (
+        "CREATE TABLE notes (note TEXT); CREATE INDEX lots_by_material ON lots (material); CREATE VIEW owned AS SELECT owner FROM owners",
+        "SELECT COUNT(*) FROM owned",
+        1,
+    ),
+    (
+        "CREATE TABLE notes (note TEXT); INSERT INTO notes VALUES ('a'), ('b')",
+        "SELECT COUNT(*) FROM notes",
+        2,
+    ),
+    (
+        "CREATE INDEX moves_by_batch ON moves (owner, ord, number, kind)",
+        "SELECT COUNT(*) FROM sqlite_schema WHERE type = 'index' AND name = 'moves_by_batch'",
+        1,
+    ),
 ];
 
-// Fails where the store is not adopted with its rows after these statements, or takes no more.
-fn check_adopted(alloc: Global, statements: &str) -> Result<(), Fail> {
+// Fails if the store isn't adopted with its rows after these statements, takes no more, or loses what isn't
+// the office's.
+fn check_adopted(alloc: Global, statements: &str, query: &str, count: i64) -> Result<(), Fail> {
     let mut keep = adopted(alloc, damaged(alloc, statements)?)?;
     fill(alloc, &mut keep, &acme()?.owner, batch()?)?;
-    check_all(alloc, &mut keep)
+    check_all(alloc, &mut keep)?;
+    let kept = number(&mut keep.into_connection(), query)?;
+    check(kept == count, query)
 }
 
 #[test]
 fn what_others_made_beside_the_tables_is_let_be(rt: HostRuntime) -> Result<(), Fail> {
-    for statements in OTHERS {
-        check_adopted(rt.alloc(), statements)?;
+    for (statements, query, count) in &OTHERS {
+        check_adopted(rt.alloc(), statements, query, *count)?;
     }
     Ok(())
 }
 
-#[test]
-fn rows_of_others_stay(rt: HostRuntime) -> Result<(), Fail> {
-    let alloc = rt.alloc();
-    let notes = "CREATE TABLE notes (note TEXT); INSERT INTO notes VALUES ('a'), ('b')";
-    let mut keep = adopted(alloc, damaged(alloc, notes)?)?;
-    fill(alloc, &mut keep, &acme()?.owner, batch()?)?;
-    let kept = number(&mut keep.into_connection(), "SELECT COUNT(*) FROM notes")?;
-    check(kept == 2, "other notes")
-}
-
-#[test]
-fn the_index_of_older_files_stays(rt: HostRuntime) -> Result<(), Fail> {
-    let alloc = rt.alloc();
-    let index = "CREATE INDEX moves_by_batch ON moves (owner, ord, number, kind)";
-    let mut keep = adopted(alloc, damaged(alloc, index)?)?;
-    check_all(alloc, &mut keep)?;
-    let kept = number(
-        &mut keep.into_connection(),
-        "SELECT COUNT(*) FROM sqlite_schema WHERE type = 'index' AND name = 'moves_by_batch'",
-    )?;
-    check(kept == 1, "no index")
-}
-
-#[test]
-fn what_touches_the_tables_is_damage(rt: HostRuntime) -> Result<(), Fail> {
-    for statement in [
-        "CREATE TABLE notes (lot TEXT, owner TEXT REFERENCES owners (owner))",
-        "CREATE UNIQUE INDEX lots_apart ON lots (lot)",
-    ] {
-        let conn = filled(rt.alloc())?.into_connection();
-        check_refused(rt.alloc(), conn, statement, OpenFault::Damaged)?;
-    }
-    Ok(())
-}
-
-// Statements that leave rows which nobody may take as true.
+// Statements that leave rows which must not be taken as true.
 const DAMAGES: [&str; 11] = [
     "UPDATE batches SET state = 12",
     "UPDATE batches SET closed = 2",
@@ -191,14 +173,14 @@ const DAMAGES: [&str; 11] = [
 const BOUNDS: &str =
     "INSERT INTO materials VALUES ('ACME', 'M', 'kg'); INSERT INTO lots VALUES ('ACME', 'A', 'M', '', 0, 2); INSERT INTO sublots VALUES ('ACME', 'A', 'S', 0); INSERT INTO moves WITH RECURSIVE n (i) AS (SELECT 1 UNION ALL SELECT i + 1 FROM n WHERE i < 19998) SELECT 'ACME', 'N' || i, 0, 'ACME', 'A', 'S', '', 'M', '', 0, 0, 1, 0 FROM n";
 
-// A store in which these statements were run behind the rows that were put.
+// A store in which these statements ran after the rows were put.
 fn damaged(alloc: Global, damage: &str) -> Result<Connection<MemStore>, Fail> {
     let mut conn = filled(alloc)?.into_connection();
     conn.execute_batch(damage)?;
     Ok(conn)
 }
 
-// Whether the calls that tell and change rows answer Closed.
+// Whether the calls that read and change rows answer Closed.
 fn are_rows_closed<K: Keep>(alloc: Global, keep: &mut K) -> Result<bool, Fail> {
     let closed = Some(KeepFault::Closed);
     Ok(
@@ -209,7 +191,7 @@ fn are_rows_closed<K: Keep>(alloc: Global, keep: &mut K) -> Result<bool, Fail> {
     )
 }
 
-// Whether the calls that tell who holds a unit, and edges, answer Closed.
+// Whether the calls for the holder of a unit, and for edges, answer Closed.
 fn is_genealogy_closed<K: Keep>(alloc: Global, keep: &mut K) -> Result<bool, Fail> {
     let closed = Some(KeepFault::Closed);
     Ok(
@@ -229,7 +211,7 @@ fn is_damaged<K: Keep>(alloc: Global, keep: &mut K) -> Result<bool, Fail> {
     )
 }
 
-// Fails where the damage is not found.
+// Fails if the damage isn't found.
 fn check_damage(alloc: Global, damage: &str) -> Result<(), Fail> {
     let mut keep = adopted(alloc, damaged(alloc, damage)?)?;
     check(is_damaged(alloc, &mut keep)?, damage)

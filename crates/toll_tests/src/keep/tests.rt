@@ -1,8 +1,7 @@
-//! What the contracts do not show: that ample memory meets no refusal, and what is told of rows that
-//! were put.
-use crate::keep::counting::Counting;
+//! What the contracts don't show: that ample memory meets no refusal, and that rows which were put are read
+//! back.
+use crate::keep::checks::{check_all, check_counts, check_owners};
 use crate::keep::rows::{acme, actual, batch, edge, fill, fill_all};
-use crate::keep::told::{check_counts, check_edges, check_holder, check_owners, check_rows};
 use crate::refusing::{Refused, Refusing};
 use crate::stories::check;
 use std::alloc::Global;
@@ -18,34 +17,8 @@ fn filled(alloc: Global) -> Result<MemKeep, Fail> {
 }
 
 #[test]
-fn owners_and_units_are_told(rt: HostRuntime) -> Result<(), Fail> {
-    check_owners(rt.alloc(), &mut filled(rt.alloc())?)
-}
-
-#[test]
-fn rows_are_told(rt: HostRuntime) -> Result<(), Fail> {
-    check_rows(rt.alloc(), &mut filled(rt.alloc())?)
-}
-
-#[test]
-fn a_unit_is_held(rt: HostRuntime) -> Result<(), Fail> {
-    check_holder(rt.alloc(), &mut filled(rt.alloc())?)
-}
-
-#[test]
-fn edges_are_told(rt: HostRuntime) -> Result<(), Fail> {
-    check_edges(rt.alloc(), &mut filled(rt.alloc())?)
-}
-
-#[test]
-fn one_change_is_refused(rt: HostRuntime) -> Result<(), Fail> {
-    let alloc = rt.alloc();
-    let mut keep = Refusing::new(filled(alloc)?, Refused::Apply);
-    let changes = [Change::Owner(acme()?)];
-    let refused = keep.apply(alloc, &changes).err();
-    keep.apply(alloc, &changes)?;
-    let is_one = refused == Some(KeepFault::Memory) && keep.owners(alloc)?.len() == 1;
-    check(is_one, "not the first change alone was refused")
+fn rows_are_reported(rt: HostRuntime) -> Result<(), Fail> {
+    check_all(rt.alloc(), &mut filled(rt.alloc())?)
 }
 
 // The batch closed, a movement more, and a lot of a material that is not there.
@@ -73,39 +46,38 @@ fn changes_that_do_not_fit_are_taken_back(rt: HostRuntime) -> Result<(), Fail> {
     let changes = changes_with_a_lot_too_many(owner)?;
     let refused = keep.apply(alloc, &changes).err();
     check(refused == Some(KeepFault::Memory), "not refused")?;
-    check_rows(alloc, &mut keep)?;
-    check_holder(alloc, &mut keep)
+    check_all(alloc, &mut keep)
 }
 
 #[test]
 fn remembered_rows_follow_the_changes(rt: HostRuntime) -> Result<(), Fail> {
     let alloc = rt.alloc();
-    let mut keep = CachedKeep::new(alloc, Counting::new(MemKeep::new(alloc)));
+    let mut keep = CachedKeep::new(alloc, Refusing::new(MemKeep::new(alloc), Refused::None));
     let acme = acme()?;
     keep.apply(alloc, &[Change::Owner(acme)])?;
     check_counts(alloc, &mut keep, &acme.owner, Some((0, 0)))?;
     fill(alloc, &mut keep, &acme.owner, batch()?)?;
     check_counts(alloc, &mut keep, &acme.owner, Some((1, 2)))?;
-    check(keep.inside().read() == 1, "read again")
+    check(keep.inside().reads == 1, "read again")
 }
 
 #[test]
 fn a_refused_change_makes_it_forget(rt: HostRuntime) -> Result<(), Fail> {
     let alloc = rt.alloc();
     let refusing = Refusing::new(filled(alloc)?, Refused::Apply);
-    let mut keep = CachedKeep::new(alloc, Counting::new(refusing));
+    let mut keep = CachedKeep::new(alloc, refusing);
     let owner = acme()?.owner;
     check_counts(alloc, &mut keep, &owner, Some((1, 2)))?;
     let refused = keep.apply(alloc, &[Change::Put(owner, Row::Batch(batch()?))]);
     check(refused.err() == Some(KeepFault::Memory), "not refused")?;
     check_counts(alloc, &mut keep, &owner, Some((1, 2)))?;
-    check(keep.inside().read() == 2, "not read again")
+    check(keep.inside().reads == 2, "not read again")
 }
 
 #[test]
 fn owners_and_units_are_read_again_once_one_is_added(rt: HostRuntime) -> Result<(), Fail> {
     let alloc = rt.alloc();
-    let mut keep = CachedKeep::new(alloc, Counting::new(filled(alloc)?));
+    let mut keep = CachedKeep::new(alloc, Refusing::new(filled(alloc)?, Refused::None));
     check_owners(alloc, &mut keep)?;
     check_owners(alloc, &mut keep)?;
     let mut bolt = acme()?;
@@ -113,27 +85,12 @@ fn owners_and_units_are_read_again_once_one_is_added(rt: HostRuntime) -> Result<
     keep.apply(alloc, &[Change::Owner(bolt)])?;
     let are_two = keep.owners(alloc)?.len() == 2;
     check(
-        are_two && keep.inside().read() == 3,
+        are_two && keep.inside().reads == 3,
         "not read again, or too often",
     )
 }
 
-#[test]
-fn edges_come_from_a_remembered_slice(rt: HostRuntime) -> Result<(), Fail> {
-    let alloc = rt.alloc();
-    let mut keep = CachedKeep::new(alloc, filled(alloc)?);
-    let owner = acme()?.owner;
-    let told = keep.edges(alloc, &owner)?;
-    check_counts(alloc, &mut keep, &owner, Some((1, 2)))?;
-    let remembered = keep.edges(alloc, &owner)?;
-    let is_edge = told.as_slice() == [edge()?].as_slice();
-    check(
-        is_edge && remembered.as_slice() == told.as_slice(),
-        "other edges are told",
-    )
-}
-
-// Fails where the trace from IN over ACME's batches has not so many lots.
+// Fails if the trace from IN over ACME's batches hasn't this many lots.
 fn check_traced<K: Keep>(alloc: Global, keep: &mut K, lots: usize) -> Result<(), Fail> {
     let owners = [acme()?.owner];
     let steps = keep.trace(alloc, &owners, &edge()?.from, Way::Forward)?;
@@ -143,25 +100,22 @@ fn check_traced<K: Keep>(alloc: Global, keep: &mut K, lots: usize) -> Result<(),
 #[test]
 fn a_graph_is_remembered(rt: HostRuntime) -> Result<(), Fail> {
     let alloc = rt.alloc();
-    let mut keep = CachedKeep::new(alloc, Counting::new(filled(alloc)?));
+    let mut keep = CachedKeep::new(alloc, Refusing::new(filled(alloc)?, Refused::None));
     check_traced(alloc, &mut keep, 2)?;
     check_traced(alloc, &mut keep, 2)?;
-    check(
-        keep.inside().read() == 2,
-        "not the owners and a slice, once",
-    )
+    check(keep.inside().reads == 2, "not the owners and a slice, once")
 }
 
 #[test]
 fn a_graph_is_made_again_behind_a_void(rt: HostRuntime) -> Result<(), Fail> {
     let alloc = rt.alloc();
-    let mut keep = CachedKeep::new(alloc, Counting::new(filled(alloc)?));
+    let mut keep = CachedKeep::new(alloc, Refusing::new(filled(alloc)?, Refused::None));
     check_traced(alloc, &mut keep, 2)?;
     let key = Name::parse(b"K1")?;
     let void = Change::Put(acme()?.owner, Row::Void(VoidRow { key }));
     keep.apply(alloc, &[void])?;
     check_traced(alloc, &mut keep, 1)?;
-    check(keep.inside().read() == 3, "the slice is not read again")
+    check(keep.inside().reads == 3, "the slice is not read again")
 }
 
 #[test]

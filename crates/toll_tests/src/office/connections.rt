@@ -1,5 +1,5 @@
 //! Connections to an office in a file.
-use crate::programs::fakes::run;
+use crate::programs::prints::run;
 use crate::stories::check;
 use sqlite::Unknown;
 use std::fs;
@@ -7,7 +7,8 @@ use std::fs::File;
 use std::io::{Read, Write};
 use std::net::{Ipv4Addr, Shutdown, SocketAddrV4, TcpListener, TcpStream};
 use std::test::Fail;
-use toll_office::{Served, office_at, serve_one};
+use toll_office::{Served, serve_one};
+use toll_opener::office_at;
 use toll_plant::command_of;
 use toll_programs::{ScriptEnd, execute};
 use toll_service::{take_lock, with_keep};
@@ -77,24 +78,24 @@ fn exchange(rt: &HostRuntime, path: &str, bytes: &[u8]) -> Result<(Served, Vec<u
     let mut peer = TcpStream::connect(rt, listener.local_addr()?)?;
     peer.write_all(bytes)?;
     peer.shutdown(Shutdown::Write)?;
-    let served = serve_one(rt, &listener, path);
+    let served = serve_one(&mut office_at(rt, path), &listener);
     let mut reply = Vec::new(rt.alloc());
     peer.read_to_end(&mut reply)?;
     Ok((served, reply))
 }
 
 // Whether these bytes are answered by those.
-fn is_told(rt: &HostRuntime, path: &str, bytes: &[u8], wanted: &[u8]) -> Result<bool, Fail> {
+fn is_expected(rt: &HostRuntime, path: &str, bytes: &[u8], wanted: &[u8]) -> Result<bool, Fail> {
     let (served, reply) = exchange(rt, path, bytes)?;
     Ok(served == Served::Answered && reply.as_slice() == wanted)
 }
 
-// Fails where these bytes are answered by others, once an order was placed.
-fn check_told(rt: &HostRuntime, path: &str, bytes: &[u8], wanted: &[u8]) -> Result<(), Fail> {
+// Fails if these bytes have another answer, once an order was placed.
+fn check_reply(rt: &HostRuntime, path: &str, bytes: &[u8], wanted: &[u8]) -> Result<(), Fail> {
     remove(rt, path)?;
-    let is_told = is_made(rt, path)? && is_told(rt, path, bytes, wanted)?;
+    let is_expected = is_made(rt, path)? && is_expected(rt, path, bytes, wanted)?;
     remove(rt, path)?;
-    check(is_told, "told otherwise")
+    check(is_expected, "told otherwise")
 }
 
 const SCRIPT: &[u8] =
@@ -115,20 +116,20 @@ fn is_scripted(rt: &HostRuntime, path: &str) -> Result<bool, OpenFault> {
 fn a_client_is_served_from_a_file(rt: HostRuntime) -> Result<(), Fail> {
     let path = "a_peer_is_served.db";
     remove(&rt, path)?;
-    let is_told = is_scripted(&rt, path)? && is_told(&rt, path, ASKED, TOLD)?;
+    let is_expected = is_scripted(&rt, path)? && is_expected(&rt, path, ASKED, TOLD)?;
     remove(&rt, path)?;
-    check(is_told, "told otherwise")
+    check(is_expected, "told otherwise")
 }
 
 #[test]
 fn a_client_is_served_what_commands_made(rt: HostRuntime) -> Result<(), Fail> {
-    check_told(&rt, "what_commands_made.db", ASKED, TOLD)
+    check_reply(&rt, "what_commands_made.db", ASKED, TOLD)
 }
 
 #[test]
 fn half_a_head_is_a_bad_request(rt: HostRuntime) -> Result<(), Fail> {
     let half = b"GET /orders HTTP/1.1\r\nhost";
-    check_told(&rt, "half_a_head.db", half, BAD_REQUEST)
+    check_reply(&rt, "half_a_head.db", half, BAD_REQUEST)
 }
 
 #[test]
@@ -137,9 +138,9 @@ fn a_file_that_another_uses_is_unavailable(rt: HostRuntime) -> Result<(), Fail> 
     remove(&rt, path)?;
     check(is_made(&rt, path)?, "not made")?;
     let lock = take_lock(&rt, path)?;
-    let is_unavailable = is_told(&rt, path, ASKED, UNAVAILABLE)?;
+    let is_unavailable = is_expected(&rt, path, ASKED, UNAVAILABLE)?;
     lock.unlock()?;
-    let is_there = is_told(&rt, path, ASKED, TOLD)?;
+    let is_there = is_expected(&rt, path, ASKED, TOLD)?;
     remove(&rt, path)?;
     check(is_unavailable && is_there, "told otherwise")
 }

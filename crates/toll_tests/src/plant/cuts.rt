@@ -29,7 +29,7 @@ fn field_counts(alloc: Global, file: &[u8]) -> Result<Vec<usize>, Error> {
     Ok(counts)
 }
 
-// Whether there is a line for each record under the header, bad where it hasn't twelve fields.
+// Whether there is a line for each record under the header, which is bad if it hasn't twelve fields.
 fn has_lines(report: &ImportReport, counts: &[usize]) -> bool {
     let [_header, counts @ ..] = counts else {
         return false;
@@ -51,7 +51,7 @@ fn is_imported(alloc: Global, file: &[u8]) -> Result<bool, Fail> {
     )
 }
 
-// Cuts the file at each of its bytes, and fails at one where it is imported otherwise.
+// Cuts the file at each of its bytes, and fails at one if the import has another outcome.
 fn check_cuts(alloc: Global, file: &str) -> Result<(), Fail> {
     let bytes = file.as_bytes();
     for size in 0..bytes.len() + 1 {

@@ -1,7 +1,5 @@
 //! How files are read.
-use crate::desk::setups::WITH_BATCH;
-use crate::plant::lines::{HEADER, PlantTeller};
-use crate::stories::{Line, WITH_RECIPE, check_said_over_lists, say_to_file};
+use crate::stories::{HEADER, Line, WITH_BATCH, WITH_RECIPE, check_said_over_lists, say_to_file};
 use std::alloc::{AllocError, Global};
 use std::test::Fail;
 use toll_keep::MemKeep;
@@ -22,7 +20,7 @@ const READ_ALIKE: &str =
 #[test]
 fn a_file_is_read_alike_however_it_is_written(rt: HostRuntime) -> Result<(), Fail> {
     for file in WRITTEN {
-        check_said_over_lists::<PlantTeller>(
+        check_said_over_lists(
             rt.alloc(),
             &[WITH_RECIPE, WITH_BATCH, &[(file, READ_ALIKE)]],
         )?;
@@ -65,7 +63,7 @@ const HEADERS: &[Line] = &[
 
 #[test]
 fn a_file_needs_its_header(rt: HostRuntime) -> Result<(), Fail> {
-    check_said_over_lists::<PlantTeller>(rt.alloc(), &[HEADERS])
+    check_said_over_lists(rt.alloc(), &[HEADERS])
 }
 
 // Eleven fields, thirteen, and none but an empty quoted one; and all else as it is without them.
@@ -83,10 +81,7 @@ const UNREAD: &[Line] = &[(
 
 #[test]
 fn records_that_are_no_actuals_change_nothing(rt: HostRuntime) -> Result<(), Fail> {
-    check_said_over_lists::<PlantTeller>(
-        rt.alloc(),
-        &[WITH_RECIPE, WITH_BATCH, UNREAD, BAD_RECORDS],
-    )
+    check_said_over_lists(rt.alloc(), &[WITH_RECIPE, WITH_BATCH, UNREAD, BAD_RECORDS])
 }
 
 #[test]

@@ -1,8 +1,8 @@
 //! Stories of files that are imported.
-use crate::desk::setups::WITH_BATCH;
-use crate::plant::lines::{HEADER, PlantTeller};
 use crate::refusing::{Refused, Refusing};
-use crate::stories::{Line, WITH_RECIPE, check_said, check_said_over, empty_tables, say_to_file};
+use crate::stories::{
+    HEADER, Line, WITH_BATCH, WITH_RECIPE, check_said, check_said_over, empty_tables, say_to_file,
+};
 use std::alloc::{AllocError, Global};
 use std::test::Fail;
 use toll_keep::{Keep, MemKeep};
@@ -32,10 +32,27 @@ const IMPORTED_AGAIN: &[Line] = &[
 
 #[test]
 fn a_file_that_was_imported_changes_nothing_again(rt: HostRuntime) -> Result<(), Fail> {
-    check_said::<PlantTeller>(
+    check_said(
         rt.alloc(),
         &[WITH_RECIPE, WITH_BATCH, IMPORTED, IMPORTED_AGAIN],
     )
+}
+
+// One group puts each of two sublots several times.
+const OF_ONE_SUBLOT: &[Line] = &[
+    (
+        "records K2,ACME,O,1,1,consumed,M,ACME,A,S1,40,11\nK3,ACME,O,1,1,produced,P,ACME,P1,S1,30,11\nK4,ACME,O,1,1,consumed,M,ACME,A,S1,10,11\nK5,ACME,O,1,1,produced,P,ACME,P1,S2,1,11\nK6,ACME,O,1,1,consumed,M,ACME,A,S1,50,11\nK7,ACME,O,1,1,produced,P,ACME,P1,S1,2,11\n",
+        "     1 accepted\n     2 accepted\n     3 accepted\n     4 accepted\n     5 accepted\n     6 accepted\naccepted 6 repeated 0 refused 0 bad 0 fault 0\n",
+    ),
+    (
+        "stock ACME",
+        "A                S1               M                released                 0 kg\nP1               S1               P                quarantined             32 kg\nP1               S2               P                quarantined              1 kg\n",
+    ),
+];
+
+#[test]
+fn the_last_of_several_puts_counts(rt: HostRuntime) -> Result<(), Fail> {
+    check_said(rt.alloc(), &[WITH_RECIPE, WITH_BATCH, OF_ONE_SUBLOT])
 }
 
 const VOIDED_BETWEEN: &[Line] = &[
@@ -48,7 +65,7 @@ const VOIDED_BETWEEN: &[Line] = &[
 
 #[test]
 fn a_voided_actual_is_refused_when_it_is_imported_again(rt: HostRuntime) -> Result<(), Fail> {
-    check_said::<PlantTeller>(
+    check_said(
         rt.alloc(),
         &[WITH_RECIPE, WITH_BATCH, IMPORTED, VOIDED_BETWEEN],
     )
@@ -67,8 +84,8 @@ const REFUSED_AND_LATER_ACCEPTED: &[Line] = &[
         "     1 refused 31 NotReleased\n     2 repeated\naccepted 0 repeated 1 refused 1 bad 0 fault 0\n",
     ),
     (
-        "> ACME ACMEKEY1 release P1",
-        "lot P1 P kg O/1 released, S1 30",
+        "> ACME ACMEKEY1 POST /lots/P1/release",
+        "200 {\"disposition\":\"released\",\"lot\":\"P1\",\"material\":\"P\",\"measure\":\"kg\",\"origin\":\"O/1\",\"results\":[],\"sublots\":[{\"amount\":30,\"sublot\":\"S1\"}]}",
     ),
     (
         "records K2,ACME,O,1,2,consumed,P,ACME,P1,S1,1,11\nK3,ACME,O,1,1,produced,P,ACME,P1,S1,30,11\n",
@@ -78,7 +95,7 @@ const REFUSED_AND_LATER_ACCEPTED: &[Line] = &[
 
 #[test]
 fn a_refused_record_may_be_imported_later(rt: HostRuntime) -> Result<(), Fail> {
-    check_said::<PlantTeller>(
+    check_said(
         rt.alloc(),
         &[
             WITH_RECIPE,
@@ -89,8 +106,8 @@ fn a_refused_record_may_be_imported_later(rt: HostRuntime) -> Result<(), Fail> {
     )
 }
 
-// Nothing of the file stands where its changes are refused: the first record that would have changed
-// something met the fault, be it the first of the file, one in its middle, or the last.
+// Nothing of the file stands if its changes are refused: the first record that would have changed something
+// met the fault, whether it is the first of the file, one in its middle, or the last.
 const REFUSED_AT_THE_FIRST: &[Line] = &[
     (
         "records K2,ACME,O,1,1,consumed,M,ACME,A,S1,40,11\nK3,ACME,O,1,1,produced,P,ACME,P1,S1,30,11\n",
@@ -147,12 +164,8 @@ fn check_refused<K: Keep + Drop>(
     before: &[&[Line]],
     refused: &[&[Line]],
 ) -> Result<(), Fail> {
-    check_said_over::<PlantTeller, K>(alloc, &mut keep, before)?;
-    check_said_over::<PlantTeller, Refusing<K>>(
-        alloc,
-        &mut Refusing::new(keep, Refused::Apply),
-        refused,
-    )
+    check_said_over(alloc, &mut keep, before)?;
+    check_said_over::<Refusing<K>>(alloc, &mut Refusing::new(keep, Refused::Apply), refused)
 }
 
 const REFUSED: &[(&[&[Line]], &[&[Line]])] = &[
@@ -200,7 +213,7 @@ const FIRST: &str = "K2,ACME,O,1,1,consumed,M,ACME,A,S1,40,11";
 
 const LAST: &str = "K3,ACME,O,1,1,produced,P,ACME,P1,S1,30,11";
 
-// Fails where what is said to the long file doesn't end so.
+// Fails if the answer to the long file doesn't end with this.
 fn check_long<K: Keep>(alloc: Global, keep: &mut K, wanted: &str) -> Result<(), Fail> {
     let said = say_to_file(alloc, keep, long_file(alloc, FIRST, LAST)?.as_bytes())?;
     if said.ends_with(wanted) {
@@ -212,7 +225,7 @@ fn check_long<K: Keep>(alloc: Global, keep: &mut K, wanted: &str) -> Result<(), 
 #[test]
 fn groups_before_a_refused_one_stand(rt: HostRuntime) -> Result<(), Fail> {
     let mut keep = MemKeep::new(rt.alloc());
-    check_said_over::<PlantTeller, _>(
+    check_said_over(
         rt.alloc(),
         &mut keep,
         &[WITH_RECIPE, WITH_BATCH, K2_IMPORTED],
@@ -252,7 +265,7 @@ fn bad_lines(alloc: Global) -> Result<String, AllocError> {
     Ok(lines)
 }
 
-// Whether all lines are told of a file of so many bad records.
+// Whether all lines are reported of a file of this many bad records.
 fn is_told_whole(alloc: Global) -> Result<bool, AllocError> {
     let file = bad_file(alloc)?;
     let said = say_to_file(alloc, &mut MemKeep::new(alloc), file.as_bytes())?;
@@ -283,7 +296,7 @@ const FAULTY: &[Line] = &[(
 #[test]
 fn a_fault_ends_an_import(rt: HostRuntime) -> Result<(), Fail> {
     let mut keep = MemKeep::new(rt.alloc());
-    check_said_over::<PlantTeller, _>(rt.alloc(), &mut keep, &[WITH_RECIPE, WITH_BATCH])?;
+    check_said_over(rt.alloc(), &mut keep, &[WITH_RECIPE, WITH_BATCH])?;
     let mut keep = Refusing::new(keep, Refused::Apply);
-    check_said_over::<PlantTeller, _>(rt.alloc(), &mut keep, &[FAULTY, IMPORTED])
+    check_said_over(rt.alloc(), &mut keep, &[FAULTY, IMPORTED])
 }

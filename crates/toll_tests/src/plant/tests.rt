@@ -1,8 +1,8 @@
-//! Words that are no command, or have a value that can't be read.
+//! Values that can't be read.
 use std::alloc::Global;
 use toll_base::Refusal;
 use toll_desk::PlantCmd;
-use toll_plant::{WordsFault, command_of};
+use toll_plant::command_of;
 
 const BAD_NAMES: &[&[&str]] = &[
     &["owner-add", "acme", "ACMEKEY1"],
@@ -56,33 +56,5 @@ fn the_first_value_that_can_not_be_read_is_refused(rt: HostRuntime) {
             refusal_of(rt.alloc(), words) == Some(Refusal::BadAmount),
             "at {words:?}"
         );
-    }
-}
-
-const NO_COMMANDS: &[&[&str]] = &[
-    &[],
-    &["frob", "X"],
-    &["help"],
-    &["owner-add", "ACME"],
-    &["owner-add", "ACME", "ACMEKEY1", "MORE"],
-    &["owner-add", "ACME", "help"],
-    &["material-add", "ACME", "M", "help"],
-    &["owner-add", "-ACME", "ACMEKEY1"],
-    &["owner-add", "", "ACMEKEY1"],
-    &["owner-add", "--", "ACME", "ACMEKEY1"],
-];
-
-// Whether a text is answered that says how commands are written.
-fn has_usage(alloc: Global, words: &[&str]) -> bool {
-    match command_of(alloc, words) {
-        Err(WordsFault::Usage(text)) => !text.is_empty(),
-        _ => false,
-    }
-}
-
-#[test]
-fn other_words_are_answered_with_usage(rt: HostRuntime) {
-    for words in NO_COMMANDS {
-        assert!(rt; has_usage(rt.alloc(), words), "at {words:?}");
     }
 }

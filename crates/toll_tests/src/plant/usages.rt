@@ -1,9 +1,17 @@
-//! How commands are written, as words are told that are none.
+//! How commands are written, as words that are none report it.
 use crate::stories::text_of;
 use std::alloc::Global;
 use toll_plant::{WordsFault, command_of};
 
 const RESULT: &str = "usage: toll --db FILE result OWNER LOT TEST VALUE DAY
+No value is empty, is help or begins with a dash: a negative one is written M5.
+";
+
+const OWNER_ADD: &str = "usage: toll --db FILE owner-add OWNER KEY
+No value is empty, is help or begins with a dash: a negative one is written M5.
+";
+
+const MATERIAL_ADD: &str = "usage: toll --db FILE material-add OWNER MATERIAL MEASURE
 No value is empty, is help or begins with a dash: a negative one is written M5.
 ";
 
@@ -39,12 +47,20 @@ const USAGES: &[(&[&str], &str)] = &[
     (&["result", "BERG", "DR-1", "PH", "-5", "204"], RESULT),
     (&["result"], RESULT),
     (&["result", "BERG", "DR-1", "PH", "5"], RESULT),
+    (&["owner-add", "ACME"], OWNER_ADD),
+    (&["owner-add", "ACME", "ACMEKEY1", "MORE"], OWNER_ADD),
+    (&["owner-add", "ACME", "help"], OWNER_ADD),
+    (&["owner-add", "-ACME", "ACMEKEY1"], OWNER_ADD),
+    (&["owner-add", "", "ACMEKEY1"], OWNER_ADD),
+    (&["owner-add", "--", "ACME", "ACMEKEY1"], OWNER_ADD),
+    (&["material-add", "ACME", "M", "help"], MATERIAL_ADD),
     (&["results", "BERG"], ALL),
+    (&["frob", "X"], ALL),
     (&["help"], ALL),
     (&[], ALL),
 ];
 
-// Whether these words are told this.
+// Whether the answer to these words is this usage.
 fn is_told(alloc: Global, words: &[&str], usage: &str) -> bool {
     match command_of(alloc, words) {
         Err(WordsFault::Usage(text)) => text_of(&text) == usage,
@@ -53,7 +69,7 @@ fn is_told(alloc: Global, words: &[&str], usage: &str) -> bool {
 }
 
 #[test]
-fn words_that_are_no_command_are_told_how_theirs_is_written(rt: HostRuntime) {
+fn words_that_are_no_command_get_a_usage(rt: HostRuntime) {
     for row in USAGES {
         let (words, usage) = *row;
         assert!(rt; is_told(rt.alloc(), words, usage), "at {words:?}");

@@ -1,9 +1,9 @@
-//! The day in the plant that `docs/day.toll` tells, and what `docs/day.out` says that it prints.
+//! The day in the plant of `docs/day.toll`, and the output of `docs/day.out`.
 use crate::programs::prints::check_prints;
 use std::test::Fail;
 
-/// Owners, their material, and what they order.
-pub const MORNING: (&str, &str) = (
+// Owners, their material, and what they order.
+const MORNING: (&str, &str) = (
     "# A day in the plant: two owners, the plant's own material, orders, batches, a slip that is taken back,
 # a release, shipments, traces and a recall. Run it by
 #     ./toll script < docs/day.toll

@@ -1,6 +1,5 @@
 //! The lines of scripts.
-use crate::programs::fakes::run;
-use crate::programs::prints::check_prints_over;
+use crate::programs::prints::{check_prints_over, run};
 use std::alloc::{AllocError, Global};
 use std::test::Fail;
 use toll_keep::MemKeep;

@@ -1,5 +1,5 @@
 //! A script that prints much.
-use crate::programs::fakes::run;
+use crate::programs::prints::run;
 use crate::stories::{told_stock, with_much_stock};
 use std::test::Fail;
 use toll_programs::ScriptEnd;

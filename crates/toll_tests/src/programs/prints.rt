@@ -1,13 +1,44 @@
 //! What scripts print.
-use crate::programs::fakes::run;
 use crate::stories::{empty_tables, text_of};
 use std::alloc::Global;
 use std::test::Fail;
 use toll_keep::{Keep, MemKeep};
-use toll_programs::ScriptEnd;
+use toll_programs::{ScriptEnd, script};
 
-/// Fails where one of these scripts, one after another over an empty keep, ends early or prints another
-/// thing: over lists, and over the tables as the program has them.
+/// ACME with a recipe, a released lot and a batch that runs.
+pub const BEGUN: (&str, &str) = (
+    "owner-add ACME ACMEKEY1
+owner-add BOLT BOLTKEY1
+unit-add U1
+material-add ACME M kg
+material-add ACME P kg
+recipe-add ACME R 2
+require ACME R 1 consumed ACME M 100
+require ACME R 1 produced ACME P 90
+receive ACME K1 M A S1 100 10
+> ACME ACMEKEY1 POST /orders {\"order\":\"O\",\"recipe\":\"R\",\"batches\":1}
+> ACME ACMEKEY1 POST /lots/A/release
+open ACME O U1
+do ACME O 1 start
+",
+    "accepted
+accepted
+accepted
+accepted
+accepted
+accepted
+accepted
+accepted
+accepted
+200 {\"batches\":1,\"order\":\"O\",\"recipe\":\"R\",\"status\":\"open\"}
+200 {\"disposition\":\"released\",\"lot\":\"A\",\"material\":\"M\",\"measure\":\"kg\",\"origin\":\"receipts\",\"results\":[],\"sublots\":[{\"amount\":100,\"sublot\":\"S1\"}]}
+accepted
+accepted
+",
+);
+
+/// Fails if one of these scripts, one after another over an empty keep, ends early or has another output:
+/// over lists, and over the program's tables.
 pub fn check_prints(alloc: Global, rows: &[(&str, &str)]) -> Result<(), Fail> {
     check_prints_over(alloc, &mut MemKeep::new(alloc), rows)?;
     check_prints_over(alloc, &mut empty_tables(alloc)?, rows)
@@ -25,7 +56,15 @@ pub fn check_prints_over<K: Keep>(
     Ok(())
 }
 
-// Fails with what the script prints, where that is another thing.
+/// How a script ends over this keep, and what it writes.
+pub fn run<K: Keep>(alloc: Global, keep: &mut K, text: &[u8]) -> (ScriptEnd, Vec<u8>) {
+    let mut input = text;
+    let mut output = Vec::new(alloc);
+    let end = script(alloc, &mut input, &mut output, keep);
+    (end, output)
+}
+
+// Fails with the script's output, if that isn't the wanted one.
 fn check_print<K: Keep>(alloc: Global, keep: &mut K, text: &str, wanted: &str) -> Result<(), Fail> {
     let (end, printed) = run(alloc, keep, text.as_bytes());
     let said = text_of(&printed);

@@ -1,7 +1,5 @@
 //! Commands and imports, as the program does them.
-use crate::programs::fakes::Page;
-use crate::programs::office::BEGUN;
-use crate::programs::prints::check_prints_over;
+use crate::programs::prints::{BEGUN, check_prints_over};
 use crate::stories::{REPEATED_FILE, check, empty_tables, plant_cmd};
 use std::alloc::Global;
 use std::test::Fail;
@@ -13,42 +11,14 @@ use toll_programs::{plant_import, plant_line};
 // What is written to output and to error, and the exit status.
 type Ended = (&'static str, &'static str, u64);
 
-// What comes of a command or an import, with the two streams that it may write to.
-struct Written {
-    output: Page,
-    error: Page,
+// Fails if another text was written, or the status is another.
+fn check_ended(output: &[u8], error: &[u8], status: u64, wanted: Ended) -> Result<(), Fail> {
+    let (shown, failed, ends) = wanted;
+    let is_so = output == shown.as_bytes() && error == failed.as_bytes() && status == ends;
+    check(is_so, shown)
 }
 
-// By hand, since what is derived is written out at every exit of every function that owns one.
-impl Drop for Written {
-    fn drop(self) {
-        let Written {
-            output: _,
-            error: _,
-        } = self;
-    }
-}
-
-impl Written {
-    // Nothing yet.
-    fn new(alloc: Global) -> Self {
-        Written {
-            output: Page::new(alloc, usize::MAX, usize::MAX),
-            error: Page::new(alloc, usize::MAX, usize::MAX),
-        }
-    }
-
-    // Fails where another thing was written, or it ended with another status.
-    fn check(&self, status: u64, wanted: Ended) -> Result<(), Fail> {
-        let (shown, failed, ends) = wanted;
-        let is_so = self.output.taken.as_slice() == shown.as_bytes()
-            && self.error.taken.as_slice() == failed.as_bytes()
-            && status == ends;
-        check(is_so, shown)
-    }
-}
-
-// Fails where a command ends otherwise.
+// Fails if a command ends in another way.
 fn check_command<K: Keep>(
     alloc: Global,
     keep: &mut K,
@@ -58,9 +28,10 @@ fn check_command<K: Keep>(
     let Some(command) = plant_cmd(alloc, words)? else {
         return Err("no command".into());
     };
-    let mut to = Written::new(alloc);
-    let status = plant_line(alloc, keep, &command, &mut to.output, &mut to.error);
-    to.check(status, wanted)
+    let mut output = Vec::new(alloc);
+    let mut error = Vec::new(alloc);
+    let status = plant_line(alloc, keep, &command, &mut output, &mut error);
+    check_ended(&output, &error, status, wanted)
 }
 
 const COMMANDS: &[(&[&str], Ended)] = &[
@@ -133,17 +104,18 @@ const REFUSALS: &[(Refusal, &'static str)] = &[
     (Refusal::Rejected, "refused 42 Rejected\n"),
 ];
 
-// Fails where another line is told of the refusal, or the command doesn't end as a refused one.
+// Fails if the refusal has another line, or the command doesn't end as a refused one.
 fn check_refusal(alloc: Global, why: Refusal, wanted: &'static str) -> Result<(), Fail> {
     let mut keep = MemKeep::new(alloc);
-    let mut to = Written::new(alloc);
+    let mut output = Vec::new(alloc);
+    let mut error = Vec::new(alloc);
     let command = PlantCmd::Unread(why);
-    let status = plant_line(alloc, &mut keep, &command, &mut to.output, &mut to.error);
-    to.check(status, (wanted, "", 1))
+    let status = plant_line(alloc, &mut keep, &command, &mut output, &mut error);
+    check_ended(&output, &error, status, (wanted, "", 1))
 }
 
 #[test]
-fn each_refusal_is_told_by_its_line(rt: HostRuntime) -> Result<(), Fail> {
+fn each_refusal_has_its_line(rt: HostRuntime) -> Result<(), Fail> {
     for row in REFUSALS {
         let (why, wanted) = *row;
         check_refusal(rt.alloc(), why, wanted)?;
@@ -151,7 +123,7 @@ fn each_refusal_is_told_by_its_line(rt: HostRuntime) -> Result<(), Fail> {
     Ok(())
 }
 
-// Fails where an import over an empty keep, once a batch runs in it, ends otherwise.
+// Fails if an import over an empty keep, in which a batch runs, ends in another way.
 fn check_import<K: Keep>(
     alloc: Global,
     keep: &mut K,
@@ -159,10 +131,10 @@ fn check_import<K: Keep>(
     wanted: Ended,
 ) -> Result<(), Fail> {
     check_prints_over(alloc, keep, &[BEGUN])?;
-    let mut to = Written::new(alloc);
-    let file = file.as_bytes();
-    let status = plant_import(alloc, keep, file, &mut to.output, &mut to.error);
-    to.check(status, wanted)
+    let mut output = Vec::new(alloc);
+    let mut error = Vec::new(alloc);
+    let status = plant_import(alloc, keep, file.as_bytes(), &mut output, &mut error);
+    check_ended(&output, &error, status, wanted)
 }
 
 const IMPORTS: &[(&str, Ended)] = &[

@@ -1,4 +1,4 @@
-//! What is handed to a server, and what is printed of what it tells.
+//! What is handed to a server, and what is printed of its response.
 use crate::server::frames::{STOCK, TOLD};
 use std::alloc::Global;
 use std::cell::Cell;
@@ -10,20 +10,20 @@ use toll_programs::{TrackedStream, run_on_server};
 const WORDS: &[&str] = &["stock", "ACME"];
 
 /// The handshake of this build.
-const GREETING: &[u8] = b"\0\0\0\x19toll 1.0, office format 2";
+const GREETING: &[u8] = b"\0\0\0\x19toll 1.1, office format 2";
 
 /// Nothing, an answer that was cut, or one without a status.
 const NO_ANSWERS: [&[u8]; 3] = [b"", b"\0\0\0\x0a\x01\0\0\0\x02now", b"\0\0\0\0"];
 
-/// No handshake, one that was cut, that of another build, or this one's with something behind it.
+/// No handshake, one that was cut, that of another build, or this build's with something after it.
 const OTHER_HANDSHAKES: [&[u8]; 4] = [
     b"",
-    b"\0\0\0\x19toll 1.0, office format ",
-    b"\0\0\0\x19toll 1.0, office format 1",
-    b"\0\0\0\x19toll 1.0, office format 2?",
+    b"\0\0\0\x19toll 1.1, office format ",
+    b"\0\0\0\x19toll 1.1, office format 1",
+    b"\0\0\0\x19toll 1.1, office format 2?",
 ];
 
-/// A server that gives a handshake, and its answer once it took what is asked. Behind that, reading fails.
+/// A server that sends a handshake, and its response once it received the request. After that, reading fails.
 #[derive(Drop)]
 struct Server<'a> {
     gives: &'a [u8],
@@ -63,7 +63,7 @@ impl Write for Server<'_> {
     }
 }
 
-/// Whether a server was asked, what is printed of what it told, and the exit status.
+/// Whether a server was asked, what is printed of its response, and the exit status.
 #[derive(Clone, Copy)]
 struct End {
     is_asked: bool,
@@ -93,7 +93,7 @@ const LEFT: End = End {
     error: b"",
 };
 
-// Whether handing the words over to a server that gives this and takes that comes to such an end.
+// Whether handing the words to a server that sends this and receives that ends in this way.
 fn comes_to(alloc: Global, gives: &[u8], takes: &[u8], answers: &[u8], end: &End) -> bool {
     let is_asked = Cell::new(false);
     let mut server = TrackedStream::new(Server {
@@ -111,12 +111,12 @@ fn comes_to(alloc: Global, gives: &[u8], takes: &[u8], answers: &[u8], end: &End
 }
 
 #[test]
-fn what_a_server_tells_is_printed(rt: HostRuntime) {
+fn a_servers_answer_is_printed(rt: HostRuntime) {
     assert!(rt; comes_to(rt.alloc(), GREETING, STOCK, TOLD, &PRINTED));
 }
 
 #[test]
-fn a_server_that_tells_nothing_has_lost_the_answer(rt: HostRuntime) {
+fn a_server_that_sends_nothing_has_lost_the_answer(rt: HostRuntime) {
     for answers in NO_ANSWERS {
         let is_lost = comes_to(rt.alloc(), GREETING, STOCK, answers, &LOST);
         assert!(rt; is_lost, "where it tells {:?}", answers);

@@ -80,18 +80,18 @@ const SILENT: Plan = Plan {
     mark: b'1',
 };
 
-/// What came of serving.
+/// The outcome of serving.
 #[derive(Clone, Copy, Debug, PartialEq, Eq)]
 struct Outcome {
     served: ServingEnd,
     /// How many requests were answered, and how many bytes of their replies were written.
     answered: u64,
-    told: u64,
+    replied: u64,
     late: u64,
 }
 
-// What comes of serving so many owners, where these come (or nobody can be taken), and these go on one after
-// another.
+// The outcome of serving this many owners, if these come (or none can be accepted), and these advance one
+// after another.
 fn outcome_of(
     alloc: Global,
     count: u64,
@@ -105,12 +105,12 @@ fn outcome_of(
     Outcome {
         served,
         answered: office.answered,
-        told: log.told.get(),
+        replied: log.replied.get(),
         late: log.clock.get(),
     }
 }
 
-// What comes of serving so many owners, where these come in groups of so many.
+// The outcome of serving this many owners, if these come in groups of this size.
 fn outcome_of_crowd(
     alloc: Global,
     count: u64,
@@ -124,21 +124,16 @@ fn outcome_of_crowd(
     Outcome {
         served,
         answered: office.answered,
-        told: log.told.get(),
+        replied: log.replied.get(),
         late: log.clock.get(),
     }
 }
 
-// What comes of serving one owner, who goes on so often.
-fn outcome_of_one(alloc: Global, plan: Plan, order: &[usize]) -> Outcome {
-    outcome_of(alloc, 1, &[Some(plan)], order, &Log::new())
-}
-
-fn all_with(answered: u64, told: u64, late: u64) -> Outcome {
+fn all_with(answered: u64, replied: u64, late: u64) -> Outcome {
     Outcome {
         served: ServingEnd::All,
         answered,
-        told,
+        replied,
         late,
     }
 }
@@ -183,72 +178,60 @@ fn three_clients_are_answered_whatever_order_their_bytes_come_in(rt: HostRuntime
     assert_eq!(rt; orders, 1680);
 }
 
+const SLOW: Plan = Plan {
+    takes: Takes::One,
+    ..WHOLE
+};
+
+const BROKEN: Plan = Plan {
+    takes: Takes::Broken,
+    ..WHOLE
+};
+
+const FULL: Plan = Plan {
+    takes: Takes::Nothing,
+    ..WHOLE
+};
+
+const RESET: Plan = Plan {
+    ends: Ends::Reset,
+    ..HALF
+};
+
+const CLOSED: Plan = Plan {
+    ends: Ends::Closed,
+    ..HALF
+};
+
+/// How the one owner is, how often it goes on, how many requests are answered, how many bytes of their replies
+/// are written, and at which millisecond serving ends.
+type Alone = (Plan, &'static [usize], (u64, u64, u64));
+
+// A reply is taken a byte at a time. A client leaves before its request is whole, after half of it, or before
+// its reply. A client's time is over if it sends nothing or half of its request, or takes nothing of its
+// reply.
+const ALONE: &[Alone] = &[
+    (SLOW, &[0, 0, 0], (1, 3, 0)),
+    (SLOW, &[0, 0], (1, 2, 10_000)),
+    (RESET, &[0, 0], (0, 0, 0)),
+    (CLOSED, &[0, 0], (1, 3, 0)),
+    (BROKEN, &[0], (1, 0, 0)),
+    (SILENT, &[], (0, 0, 10_000)),
+    (HALF, &[0], (0, 0, 10_000)),
+    (FULL, &[0], (1, 0, 10_000)),
+];
+
 #[test]
-fn a_reply_may_be_taken_a_byte_at_a_time(rt: HostRuntime) {
-    let slow = Plan {
-        takes: Takes::One,
-        ..WHOLE
-    };
-    assert_eq!(rt;
-        outcome_of_one(rt.alloc(), slow, &[0, 0, 0]),
-        all_with(1, 3, 0)
-    );
-    assert_eq!(rt;
-        outcome_of_one(rt.alloc(), slow, &[0, 0]),
-        all_with(1, 2, 10_000)
-    );
+fn one_client_is_answered_once_and_has_its_time(rt: HostRuntime) {
+    for row in ALONE {
+        let (plan, order, (answered, replied, late)) = *row;
+        let outcome = outcome_of(rt.alloc(), 1, &[Some(plan)], order, &Log::new());
+        assert_eq!(rt; outcome, all_with(answered, replied, late));
+    }
 }
 
 #[test]
-fn a_client_that_goes_is_not_answered_twice(rt: HostRuntime) {
-    let resets = Plan {
-        ends: Ends::Reset,
-        ..HALF
-    };
-    let closes = Plan {
-        ends: Ends::Closed,
-        ..HALF
-    };
-    let takes_none = Plan {
-        takes: Takes::Broken,
-        ..WHOLE
-    };
-    assert_eq!(rt;
-        outcome_of_one(rt.alloc(), resets, &[0, 0]),
-        all_with(0, 0, 0)
-    );
-    assert_eq!(rt;
-        outcome_of_one(rt.alloc(), closes, &[0, 0]),
-        all_with(1, 3, 0)
-    );
-    assert_eq!(rt;
-        outcome_of_one(rt.alloc(), takes_none, &[0]),
-        all_with(1, 0, 0)
-    );
-}
-
-#[test]
-fn time_is_over_in_each_state(rt: HostRuntime) {
-    let takes_nothing = Plan {
-        takes: Takes::Nothing,
-        ..WHOLE
-    };
-    assert_eq!(rt;
-        outcome_of_one(rt.alloc(), SILENT, &[]),
-        all_with(0, 0, 10_000)
-    );
-    assert_eq!(rt;
-        outcome_of_one(rt.alloc(), HALF, &[0]),
-        all_with(0, 0, 10_000)
-    );
-    assert_eq!(rt;
-        outcome_of_one(rt.alloc(), takes_nothing, &[0]),
-        all_with(1, 0, 10_000)
-    );
-}
-
-#[test]
-fn a_silent_client_holds_nobody_up(rt: HostRuntime) {
+fn a_silent_client_blocks_no_other(rt: HostRuntime) {
     let coming = [Some(WHOLE), Some(SILENT), Some(WHOLE)];
     let outcome = outcome_of(rt.alloc(), 3, &coming, &[2, 0], &Log::new());
     assert_eq!(rt; outcome, all_with(2, 6, 10_000));
@@ -259,6 +242,40 @@ fn the_oldest_is_evicted_from_a_full_server(rt: HostRuntime) {
     let coming = [Some(WHOLE); 901];
     let outcome = outcome_of(rt.alloc(), 901, &coming, &[0, 1, 900], &Log::new());
     assert_eq!(rt; outcome, all_with(2, 6, 10_000));
+}
+
+// This many of the plant and this many owners connect and send nothing, after one of the plant that asks once
+// all have come. Returns how many requests are answered.
+fn answered_beside(alloc: Global, plants: usize, owners: usize) -> u64 {
+    let idle = Plan {
+        listener: Listener::Plant,
+        ..SILENT
+    };
+    let mut coming = [Some(SILENT); 901];
+    coming[0] = Some(SEVENTH);
+    for i in 1..901 {
+        if i <= plants {
+            coming[i] = Some(idle);
+        }
+    }
+    outcome_of(alloc, owners as u64, &coming, &[0], &Log::new()).answered
+}
+
+#[test]
+fn owners_do_not_evict_the_plant_within_its_reserve(rt: HostRuntime) {
+    assert_eq!(rt; answered_beside(rt.alloc(), 0, 900), 1);
+    assert_eq!(rt; answered_beside(rt.alloc(), 7, 893), 1);
+    assert_eq!(rt; answered_beside(rt.alloc(), 8, 892), 0);
+}
+
+// While none has a turn, one party's requests join the queue until it has two places for each connection that
+// is left to others, of 892: 595. Another party's request joins after them.
+#[test]
+fn a_party_fills_two_thirds_of_the_queue_at_most(rt: HostRuntime) {
+    let mut coming = [WHOLE; 701];
+    coming[700] = asked_by(1);
+    let outcome = outcome_of_crowd(rt.alloc(), 701, &coming, &[701], &Log::new());
+    assert_eq!(rt; outcome, all_with(596, 1788, 0));
 }
 
 #[test]
@@ -322,7 +339,7 @@ fn a_task_is_done_though_its_socket_has_failed(rt: HostRuntime) {
 }
 
 #[test]
-fn time_is_over_for_nobody_who_has_a_task(rt: HostRuntime) {
+fn a_client_with_a_task_does_not_expire(rt: HostRuntime) {
     let log = Log::at(Pace {
         turns: 3,
         milliseconds: 20_000,
@@ -332,7 +349,7 @@ fn time_is_over_for_nobody_who_has_a_task(rt: HostRuntime) {
     assert_eq!(rt; outcome, all_with(1, 3, 40_000));
 }
 
-// A byte of the reply is taken behind the turn, and two as its client goes on, or else its time is over.
+// A byte of the reply is taken after the turn, and two when its client advances; otherwise its time is over.
 #[test]
 fn the_time_of_a_reply_begins_when_its_turn_is_over(rt: HostRuntime) {
     let pace = Pace {
@@ -352,7 +369,7 @@ fn the_time_of_a_reply_begins_when_its_turn_is_over(rt: HostRuntime) {
 
 // The others come in fifteen rounds, while the one has its turns; two of them are too many.
 #[test]
-fn nobody_who_has_a_task_is_evicted_from_a_full_server(rt: HostRuntime) {
+fn a_client_with_a_task_is_not_evicted(rt: HostRuntime) {
     let log = Log::at(Pace {
         turns: 40,
         milliseconds: 100,
@@ -364,13 +381,13 @@ fn nobody_who_has_a_task_is_evicted_from_a_full_server(rt: HostRuntime) {
 }
 
 #[test]
-fn a_newcomer_is_heard_at_the_key_of_one_who_left(rt: HostRuntime) {
+fn a_newcomer_is_heard_at_a_freed_key(rt: HostRuntime) {
     let outcome = outcome_of_crowd(rt.alloc(), 3, &[WHOLE; 3], &[2, 1], &Log::new());
     assert_eq!(rt; outcome, all_with(3, 9, 0));
 }
 
 #[test]
-fn all_are_heard_who_may_go_on_after_a_wait(rt: HostRuntime) {
+fn all_ready_clients_are_heard_after_a_wait(rt: HostRuntime) {
     let outcome = outcome_of_crowd(rt.alloc(), 500, &[WHOLE; 500], &[500], &Log::new());
     assert_eq!(rt; outcome, all_with(500, 1500, 0));
 }
@@ -388,7 +405,7 @@ fn the_plant_holds_up_no_end_by_sending_nothing(rt: HostRuntime) {
 }
 
 #[test]
-fn who_closes_before_it_is_accepted_holds_nobody_up(rt: HostRuntime) {
+fn a_client_closed_before_it_is_accepted_blocks_nobody(rt: HostRuntime) {
     let log = Log::new();
     log.aborted.set(1000);
     let outcome = outcome_of_crowd(rt.alloc(), 1, &[WHOLE], &[1], &log);
@@ -405,7 +422,7 @@ fn the_oldest_is_evicted_where_the_network_has_room_for_few(rt: HostRuntime) {
     assert_eq!(rt; outcome, all_with(2, 6, 0));
 }
 
-// The last one comes once the two before were told that they may go on, who are as many owners as are served.
+// The last client comes once the two before were reported ready. These two are as many owners as are served.
 #[test]
 fn nobody_is_accepted_behind_the_last_owner(rt: HostRuntime) {
     let log = Log::new();
@@ -442,8 +459,8 @@ fn asked_by(party: usize) -> Plan {
     }
 }
 
-// The parties' turns, a digit each, where their requests come in this order: each of those who wait has one in
-// turn, first who came first.
+// The parties' turns, a digit each, if their requests come in this order. Each party that waits has one in
+// turn, in the order in which they came.
 fn turns_of(order: &[usize]) -> u64 {
     let mut turns = 0u64;
     for pass in 1..=3 {
@@ -464,7 +481,7 @@ fn turns_of(order: &[usize]) -> u64 {
     turns
 }
 
-// Every order but for the parties' names: the first who comes is of the first party.
+// Every order, except for the parties' names: the first client is of the first party.
 #[test]
 fn parties_have_turns_in_every_order_of_arrival(rt: HostRuntime) {
     let mut orders = 0u64;

@@ -20,7 +20,7 @@ const GREETING: &[u8] = b"\0\0\0\x08toll 1.0";
 // Whether it asks these words, and names this file.
 fn asks(alloc: Global, text: &[u8], words: &[&str], file: Option<&[u8]>) -> bool {
     match Call::read(alloc, text) {
-        Ok(Some(asked)) => asked.words.as_slice() == words && asked.file == file,
+        Ok(Some(requested)) => requested.words.as_slice() == words && requested.file == file,
         _ => false,
     }
 }
@@ -83,19 +83,19 @@ fn a_length_of_four_gigabytes_is_read_no_further(rt: HostRuntime) {
 }
 
 #[test]
-fn what_is_told_is_packed_and_read_back(rt: HostRuntime) {
-    let told = Response {
+fn a_response_is_packed_and_read_back(rt: HostRuntime) {
+    let reported = Response {
         status: 1,
         output: b"no",
         error: b"why",
     };
-    assert_eq!(rt; Response::read(TOLD), Some(told));
-    let frame = told.encode(rt.alloc()).expect(&rt, "memory");
+    assert_eq!(rt; Response::read(TOLD), Some(reported));
+    let frame = reported.encode(rt.alloc()).expect(&rt, "memory");
     assert_eq!(rt; frame.as_slice(), TOLD);
 }
 
 #[test]
-fn no_front_tells_anything(rt: HostRuntime) {
+fn no_front_is_a_response(rt: HostRuntime) {
     for n in 0..TOLD.len() {
         assert!(rt; Response::read(&TOLD[..n]).is_none());
     }

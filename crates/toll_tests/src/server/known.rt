@@ -2,7 +2,7 @@
 //! what the clauses of `serve` about tallies say of it.
 ghost use Rattle.std.specs.Prelude.{◌≡◌, ◌≤◌, ◌+◌, ◌-◌, ◌∷◌, All, IsFalse, IsTrue, Some, length, true};
 ghost use Rattle.toll_server.specs.Networks.{ListensFor};
-ghost use Rattle.toll_tests.specs.Known.{ServesOwner, arrivals_of, backlog_of, keys_of, new_tally, owners_of, wake_of, wakes_of};
+ghost use Rattle.toll_tests.specs.Known.{ServesOwner, arrivals_of, backlog_of, known_keys, new_tally, count_of_owners, wake_of, wakes_of};
 
 use http_server::Log;
 use std::alloc::Global;
@@ -67,7 +67,7 @@ struct KnownNetwork<'l> {
     owner: Option<usize>,
     ready: Option<usize>,
     has_failed: bool,
-    /// Whether the latest call of `accept_next` found nobody.
+    /// Whether the latest call of `accept_next` found no client.
     none_waiting: bool,
     is_listening: bool,
     clock: u64,
@@ -108,7 +108,7 @@ fn one_more(count: &Log<(), ()>) -> Log<(), ()>
 
 // Counts the connection that is ready and wasn't handed out, if there is one.
 fn add_missed(missed: &mut Log<(), ()>, ready: Option<usize>)
-    ensures { length missed.new.items ≡ length missed.old.items + length (keys_of ready) }
+    ensures { length missed.new.items ≡ length missed.old.items + length (known_keys ready) }
 {
     if ready.is_some() {
         *missed = one_more(missed);
@@ -126,13 +126,13 @@ impl<'l> Network for KnownNetwork<'l> {
     type Stream = OwnerStream<'l>;
 
     ghost tally = { λ network. Some (record {
-      owners = owners_of network.owner;
+      owners = count_of_owners network.owner;
       accepts = length network.accepts.items;
       waits = length network.waits.items;
       failed = network.has_failed;
       arrivals = arrivals_of (record { unread = network.request; written = network.written }) network.owner;
       wakes = wakes_of network.wakes.items;
-      unheard = keys_of network.ready;
+      unheard = known_keys network.ready;
       missed = length network.missed.items;
       backlog = backlog_of network.none_waiting;
       is_listening = network.is_listening;
@@ -197,11 +197,11 @@ fn serve_known<'l, O: Service>(
 ) -> (ServingEnd, KnownNetwork<'l>)
     ensures requests { ServesOwner O.answers O.resumes result.1.owner result.1.request.now service.old service.new }
     ensures heard { length result.1.missed.items ≡ 0 }
-    ensures all { result.0 ≡ ServingEnd.All → owners_of result.1.owner ≡ count }
+    ensures all { result.0 ≡ ServingEnd.All → count_of_owners result.1.owner ≡ count }
     ensures fault { result.0 ≡ ServingEnd.Fault → IsTrue result.1.has_failed }
-    ensures closed { count ≤ owners_of result.1.owner → IsFalse result.1.is_listening }
+    ensures closed { count ≤ count_of_owners result.1.owner → IsFalse result.1.is_listening }
     ensures waits { All (λ wake. ListensFor (count - wake.owners) true wake.is_listening) (wakes_of result.1.wakes.items) }
-    ensures listens { owners_of result.1.owner + 1 ≤ count → IsTrue result.1.is_listening }
+    ensures listens { count_of_owners result.1.owner + 1 ≤ count → IsTrue result.1.is_listening }
 {
     let mut network = KnownNetwork::new(request, written);
     let end = serve(alloc, &mut network, service, count);

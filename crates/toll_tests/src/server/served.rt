@@ -1,12 +1,12 @@
 //! A keep that is asked at both doors, and clients that ask it side by side.
+mod fake_network;
 mod given_up;
 mod imports;
 mod long;
 mod services;
-mod street;
 
 use crate::refusing::{Refused, Refusing};
-use crate::server::served::street::{Log, Street};
+use crate::server::served::fake_network::{FakeNetwork, Log};
 use std::alloc::{AllocError, Global};
 use toll_keep::{Keep, MemKeep};
 use toll_protocol::Response;
@@ -14,54 +14,54 @@ use toll_server::{Listener, Poll, ServingEnd};
 use toll_service::{KeepService, TurnResult, answer_at, serve_keep};
 use toll_wire::OfficeRouter;
 
-/// Who comes to a door, what it asks, and what it is told.
+/// The listener at which a client comes, what it asks, and the reply to it.
 #[derive(Clone, Copy)]
-struct Visit<'a> {
+struct Client<'a> {
     listener: Listener,
-    asked: &'a [u8],
-    told: &'a [u8],
+    bytes: &'a [u8],
+    expected: &'a [u8],
 }
 
-const ADD_OWNER: Visit<'static> = Visit {
+const ADD_OWNER: Client<'static> = Client {
     listener: Listener::Plant,
-    asked: b"\0\0\0\x1c\0\0\0\x18owner-add\0ACME\0ACMEKEY1\0",
-    told: b"\0\0\0\x0e\0\0\0\0\x09accepted\n",
+    bytes: b"\0\0\0\x1c\0\0\0\x18owner-add\0ACME\0ACMEKEY1\0",
+    expected: b"\0\0\0\x0e\0\0\0\0\x09accepted\n",
 };
 
-const ADD_RECIPE: Visit<'static> = Visit {
+const ADD_RECIPE: Client<'static> = Client {
     listener: Listener::Plant,
-    asked: b"\0\0\0\x1a\0\0\0\x16recipe-add\0ACME\0R-1\02\0",
-    told: b"\0\0\0\x0e\0\0\0\0\x09accepted\n",
+    bytes: b"\0\0\0\x1a\0\0\0\x16recipe-add\0ACME\0R-1\02\0",
+    expected: b"\0\0\0\x0e\0\0\0\0\x09accepted\n",
 };
 
-const ADD_AGAIN: Visit<'static> = Visit {
+const ADD_AGAIN: Client<'static> = Client {
     listener: Listener::Plant,
-    asked: b"\0\0\0\x1c\0\0\0\x18owner-add\0ACME\0ACMEKEY1\0",
-    told: b"\0\0\0\x1b\x01\0\0\0\x16refused 4 OwnerExists\n",
+    bytes: b"\0\0\0\x1c\0\0\0\x18owner-add\0ACME\0ACMEKEY1\0",
+    expected: b"\0\0\0\x1b\x01\0\0\0\x16refused 4 OwnerExists\n",
 };
 
-const PLACE: Visit<'static> = Visit {
+const PLACE: Client<'static> = Client {
     listener: Listener::Owners,
-    asked: b"POST /orders HTTP/1.1\r\nhost: a\r\ntoll-owner: ACME\r\ntoll-key: ACMEKEY1\r\ncontent-length: 42\r\n\r\n{\"order\":\"O-1\",\"recipe\":\"R-1\",\"batches\":2}",
-    told: b"HTTP/1.1 200 OK\r\ncontent-type: application/json\r\ncontent-length: 58\r\nconnection: close\r\n\r\n{\"batches\":2,\"order\":\"O-1\",\"recipe\":\"R-1\",\"status\":\"open\"}",
+    bytes: b"POST /orders HTTP/1.1\r\nhost: a\r\ntoll-owner: ACME\r\ntoll-key: ACMEKEY1\r\ncontent-length: 42\r\n\r\n{\"order\":\"O-1\",\"recipe\":\"R-1\",\"batches\":2}",
+    expected: b"HTTP/1.1 200 OK\r\ncontent-type: application/json\r\ncontent-length: 58\r\nconnection: close\r\n\r\n{\"batches\":2,\"order\":\"O-1\",\"recipe\":\"R-1\",\"status\":\"open\"}",
 };
 
-const IMPORT: Visit<'static> = Visit {
+const IMPORT: Client<'static> = Client {
     listener: Listener::Plant,
-    asked: b"\0\0\0\x82\0\0\0\x07import\0\x01key,owner,order,batch,segment,use,material,lot_owner,lot,sublot,amount,day\nK2,NOBODY,O,1,1,consumed,M,ACME,A,S1,40,11\n",
-    told: b"\0\0\0Q\x01\0\0\0L     1 refused 3 UnknownOwner\naccepted 0 repeated 0 refused 1 bad 0 fault 0\n",
+    bytes: b"\0\0\0\x82\0\0\0\x07import\0\x01key,owner,order,batch,segment,use,material,lot_owner,lot,sublot,amount,day\nK2,NOBODY,O,1,1,consumed,M,ACME,A,S1,40,11\n",
+    expected: b"\0\0\0Q\x01\0\0\0L     1 refused 3 UnknownOwner\naccepted 0 repeated 0 refused 1 bad 0 fault 0\n",
 };
 
-const BAD_IMPORT: Visit<'static> = Visit {
+const BAD_IMPORT: Client<'static> = Client {
     listener: Listener::Plant,
-    asked: b"\0\0\0\x1b\0\0\0\rimport\0a.csv\0\x01no header",
-    told: b"\0\0\0\x10\x02\0\0\0\0bad header\n",
+    bytes: b"\0\0\0\x1b\0\0\0\rimport\0a.csv\0\x01no header",
+    expected: b"\0\0\0\x10\x02\0\0\0\0bad header\n",
 };
 
-const LIST: Visit<'static> = Visit {
+const LIST: Client<'static> = Client {
     listener: Listener::Owners,
-    asked: b"GET /orders HTTP/1.1\r\nhost: a\r\ntoll-owner: ACME\r\ntoll-key: ACMEKEY1\r\ncontent-length: 0\r\n\r\n",
-    told: b"HTTP/1.1 200 OK\r\ncontent-type: application/json\r\ncontent-length: 71\r\nconnection: close\r\n\r\n{\"orders\":[{\"batches\":2,\"order\":\"O-1\",\"recipe\":\"R-1\",\"status\":\"open\"}]}",
+    bytes: b"GET /orders HTTP/1.1\r\nhost: a\r\ntoll-owner: ACME\r\ntoll-key: ACMEKEY1\r\ncontent-length: 0\r\n\r\n",
+    expected: b"HTTP/1.1 200 OK\r\ncontent-type: application/json\r\ncontent-length: 71\r\nconnection: close\r\n\r\n{\"orders\":[{\"batches\":2,\"order\":\"O-1\",\"recipe\":\"R-1\",\"status\":\"open\"}]}",
 };
 
 /// Words that are no command, in a frame, and a front of one that would be.
@@ -69,22 +69,22 @@ const NO_COMMAND: &[u8] = b"\0\0\0\x09\0\0\0\x05frob\0";
 
 const CUT: &[u8] = b"\0\0\0\x1c\0\0\0\x18owner-add\0BOLT\0BOLT";
 
-/// What the plant is told where a change had no memory.
+/// The response to the plant if a change had no memory.
 const NO_MEMORY: &[u8] = b"\0\0\0\x12\x03\0\0\0\0fault Memory\n";
 
 /// More turns than anything takes that is asked here.
 const MOST_TURNS: usize = 4;
 
-const VISITS: &[Visit<'static>] = &[
+const VISITS: &[Client<'static>] = &[
     ADD_OWNER, ADD_RECIPE, ADD_AGAIN, PLACE, IMPORT, BAD_IMPORT, LIST,
 ];
 
-// What is there before clients come side by side, who take turns, the plant and the owner.
-const SETUP: &[Visit<'static>] = &[ADD_OWNER, ADD_RECIPE];
+// What is there before the clients that come together and take turns, the plant and the owner.
+const SETUP: &[Client<'static>] = &[ADD_OWNER, ADD_RECIPE];
 
-const SIDE_BY_SIDE: &[Visit<'static>] = &[ADD_AGAIN, PLACE, IMPORT, BAD_IMPORT, LIST];
+const SIDE_BY_SIDE: &[Client<'static>] = &[ADD_AGAIN, PLACE, IMPORT, BAD_IMPORT, LIST];
 
-// What one more turn comes to, where an import is left.
+// The outcome of one more turn, if an import is left.
 fn resume<K: Keep>(alloc: Global, keep: &mut K, reply: TurnResult) -> TurnResult {
     let TurnResult { poll, keep_usable } = reply;
     match poll {
@@ -101,9 +101,9 @@ fn answer_alone<K: Keep>(
     alloc: Global,
     keep: &mut K,
     listener: Listener,
-    asked: &[u8],
+    requested: &[u8],
 ) -> Result<TurnResult, AllocError> {
-    answer_at(alloc, &mut OfficeRouter::new(), keep, listener, asked)
+    answer_at(alloc, &mut OfficeRouter::new(), keep, listener, requested)
 }
 
 // The answer to what comes so, with all turns that it takes.
@@ -111,70 +111,70 @@ fn answer_whole<K: Keep>(
     alloc: Global,
     keep: &mut K,
     listener: Listener,
-    asked: &[u8],
+    requested: &[u8],
 ) -> Result<TurnResult, AllocError> {
-    let mut reply = answer_alone(alloc, keep, listener, asked)?;
+    let mut reply = answer_alone(alloc, keep, listener, requested)?;
     for _ in 0..MOST_TURNS {
         reply = resume(alloc, keep, reply);
     }
     Ok(reply)
 }
 
-// The exit status that is told.
+// The exit status in the response.
 fn status_of(reply: &TurnResult) -> Option<u8> {
     match &reply.poll {
-        Poll::Ready(bytes) => Response::read(bytes).map(|told| told.status),
+        Poll::Ready(bytes) => Response::read(bytes).map(|reported| reported.status),
         Poll::Pending(_) => None,
     }
 }
 
-// Whether this is told, and the keep goes on or not.
-fn tells(reply: &TurnResult, told: &[u8], keep_usable: bool) -> bool {
+// Whether this is the response, and the keep stays usable or not.
+fn tells(reply: &TurnResult, reported: &[u8], keep_usable: bool) -> bool {
     match &reply.poll {
-        Poll::Ready(bytes) => bytes.as_slice() == told && reply.keep_usable == keep_usable,
+        Poll::Ready(bytes) => bytes.as_slice() == reported && reply.keep_usable == keep_usable,
         Poll::Pending(_) => false,
     }
 }
 
-// Whether a client that comes so is told just this, and the keep goes on or not.
-fn is_told<K: Keep>(
+// Whether the response to this client is exactly this, and the keep stays usable or not.
+fn is_expected<K: Keep>(
     alloc: Global,
     keep: &mut K,
-    visit: &Visit<'_>,
+    visit: &Client<'_>,
     keep_usable: bool,
 ) -> Result<bool, AllocError> {
-    let reply = answer_whole(alloc, keep, visit.listener, visit.asked)?;
-    Ok(tells(&reply, visit.told, keep_usable))
+    let reply = answer_whole(alloc, keep, visit.listener, visit.bytes)?;
+    Ok(tells(&reply, visit.expected, keep_usable))
 }
 
 #[test]
-fn each_listener_tells_what_the_program_would(rt: HostRuntime) -> Result<(), AllocError> {
+fn each_listener_replies_as_the_program_would(rt: HostRuntime) -> Result<(), AllocError> {
     let mut keep = MemKeep::new(rt.alloc());
     for visit in VISITS {
-        let told = is_told(rt.alloc(), &mut keep, visit, true)?;
-        assert!(rt; told, "at {:?}", visit.asked);
+        let is_right = is_expected(rt.alloc(), &mut keep, visit, true)?;
+        assert!(rt; is_right, "at {:?}", visit.bytes);
     }
     Ok(())
 }
 
 #[test]
-fn clients_side_by_side_are_told_what_each_asked(rt: HostRuntime) -> Result<(), AllocError> {
+fn clients_side_by_side_get_their_own_replies(rt: HostRuntime) -> Result<(), AllocError> {
     let mut keep = MemKeep::new(rt.alloc());
     for visit in SETUP {
-        let told = is_told(rt.alloc(), &mut keep, visit, true)?;
-        assert!(rt; told, "at {:?}", visit.asked);
+        let is_right = is_expected(rt.alloc(), &mut keep, visit, true)?;
+        assert!(rt; is_right, "at {:?}", visit.bytes);
     }
     let mut office = KeepService::new(keep);
     let log = Log::new();
     let served = serve_keep(
         rt.alloc(),
-        &mut Street::new(SIDE_BY_SIDE, &log),
+        &mut FakeNetwork::new(SIDE_BY_SIDE, &log),
         &mut office,
         2,
     );
     assert_eq!(rt; served, ServingEnd::All);
-    assert_eq!(rt; log.told.get(), SIDE_BY_SIDE.len());
-    let placed = is_told(rt.alloc(), &mut office.keep, &LIST, true)?;
+    assert_eq!(rt; log.replied.get(), SIDE_BY_SIDE.len());
+    let placed = is_expected(rt.alloc(), &mut office.keep, &LIST, true)?;
     assert!(rt; placed);
     Ok(())
 }
@@ -192,13 +192,13 @@ fn a_frame_that_was_cut_does_nothing(rt: HostRuntime) -> Result<(), AllocError> 
 #[test]
 fn after_a_fault_the_keep_is_left(rt: HostRuntime) -> Result<(), AllocError> {
     let mut keep = Refusing::new(MemKeep::new(rt.alloc()), Refused::Apply);
-    let refused = Visit {
-        told: NO_MEMORY,
+    let refused = Client {
+        expected: NO_MEMORY,
         ..ADD_OWNER
     };
-    let told = is_told(rt.alloc(), &mut keep, &refused, false)?;
-    assert!(rt; told);
-    let told = is_told(rt.alloc(), &mut keep, &ADD_OWNER, true)?;
-    assert!(rt; told);
+    let is_right = is_expected(rt.alloc(), &mut keep, &refused, false)?;
+    assert!(rt; is_right);
+    let is_right = is_expected(rt.alloc(), &mut keep, &ADD_OWNER, true)?;
+    assert!(rt; is_right);
     Ok(())
 }

@@ -96,7 +96,7 @@ const LOCKED: End = End {
     opened: 0,
 };
 
-// Whether these words come to such an end.
+// Whether these words end in this way.
 fn come_to(rt: &HostRuntime, words: &[&str], end: &End) -> bool {
     let mut place = OfficePath {
         rt,

@@ -2,7 +2,7 @@
 use std::test::Fail;
 use toll_base::{Name, Refusal, Row, Slice};
 
-/// The name that this text is, and `HOUSE` where it is none.
+/// The name in this text, and `HOUSE` if it is none.
 pub(crate) fn name(text: &str) -> Name {
     match Name::parse(text.as_bytes()) {
         Ok(name) => name,

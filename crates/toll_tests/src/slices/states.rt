@@ -60,7 +60,7 @@ const LEADING: &[(&str, &str, &str)] = &[
     ("complete", "reset", "idle"),
 ];
 
-// The word of the state that the command leads to, empty where it leads nowhere.
+// The word of the state that the command leads to, empty if it leads nowhere.
 fn led(state: &str, command: &str) -> &'static str {
     for line in LEADING {
         let (from, by, to) = *line;

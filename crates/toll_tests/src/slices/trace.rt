@@ -1,5 +1,4 @@
 //! Tests of `toll_trace`: edges that actuals draw, and traces over edges.
 
 mod edges;
-mod generated;
 mod traces;

@@ -1,10 +1,6 @@
-//! Values at their bounds, and slices at their limits.
-use std::alloc::{AllocError, Global};
+//! Values at their bounds.
 use std::test::Fail;
-use toll_base::{
-    Amount, BatchNo, Day, LotId, Measure, Move, MoveRow, Name, OwnerKey, Refusal, Role, Row,
-    Segment, Slice, Value, number,
-};
+use toll_base::{Amount, BatchNo, Day, Measure, Name, OwnerKey, Refusal, Segment, Value, number};
 
 // Names as they may be written, and what the others are refused as.
 const NAMES: &[(&[u8], Option<Refusal>)] = &[
@@ -70,87 +66,10 @@ fn values_have_bounds(rt: HostRuntime) {
 }
 
 #[test]
-fn refusals_are_told(rt: HostRuntime) -> Result<(), Fail> {
+fn refusals_are_reported(rt: HostRuntime) -> Result<(), Fail> {
     let last = Refusal::LimitReached;
     let shown = Refusal::Voided.to_string(rt.alloc())?;
-    let told = (last.code(), last.title(), shown.as_str());
-    assert_eq!(rt; told, (39, "LimitReached", "Voided"));
-    Ok(())
-}
-
-// The numbers of an actual.
-#[derive(Drop)]
-struct Numbers {
-    number: BatchNo,
-    segment: Segment,
-    amount: Amount,
-    day: Day,
-}
-
-fn least_numbers() -> Result<Numbers, Refusal> {
-    Ok(Numbers {
-        number: BatchNo::new(1)?,
-        segment: Segment::new(1)?,
-        amount: Amount::new(1)?,
-        day: Day::new(0)?,
-    })
-}
-
-// An actual of one batch, with this key.
-fn actual(key: Name, numbers: &Numbers) -> Row {
-    let name = Name::house();
-    Row::Move(MoveRow {
-        key,
-        what: Move::Actual {
-            order: name,
-            number: numbers.number,
-            segment: numbers.segment,
-            role: Role::Consumed,
-            material: name,
-            lot: LotId {
-                owner: name,
-                lot: name,
-            },
-            sublot: name,
-        },
-        amount: numbers.amount,
-        day: numbers.day,
-    })
-}
-
-// The name `K` and this number.
-fn key(alloc: Global, n: u64) -> Result<Name, Fail> {
-    let text = format!(in alloc; "K{n}")?;
-    Ok(Name::parse(text.as_bytes())?)
-}
-
-// Puts the row, where it fits.
-fn put(slice: &mut Slice, row: Row) -> Result<bool, AllocError> {
-    if !slice.fits(&row) {
-        return Ok(false);
-    }
-    slice.put(row)?;
-    Ok(true)
-}
-
-// How many of the actuals with the keys `K0`, `K1` and so on fit, up to this many.
-fn put_up_to(alloc: Global, slice: &mut Slice, most: u64, numbers: &Numbers) -> Result<u64, Fail> {
-    let mut fitting = 0u64;
-    for n in 0..most {
-        let key = key(alloc, n)?;
-        if put(slice, actual(key, numbers))? {
-            fitting = fitting.saturating_add(1);
-        }
-    }
-    Ok(fitting)
-}
-
-#[test]
-fn a_batch_has_200_actuals(rt: HostRuntime) -> Result<(), Fail> {
-    let numbers = least_numbers()?;
-    let mut slice = Slice::new(rt.alloc(), Name::house());
-    let new = put_up_to(rt.alloc(), &mut slice, 201, &numbers)?;
-    let known = put_up_to(rt.alloc(), &mut slice, 200, &numbers)?;
-    assert_eq!(rt; (new, known), (200, 200));
+    let reported = (last.code(), last.title(), shown.as_str());
+    assert_eq!(rt; reported, (39, "LimitReached", "Voided"));
     Ok(())
 }

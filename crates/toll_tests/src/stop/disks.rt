@@ -30,7 +30,7 @@ fn fused_disk(alloc: Global, disk: &Fuse<Memory>, calls: u64) -> io::Result<Fuse
     Ok(Fuse::new(copy, calls))
 }
 
-/// The same two files, where this one passes so many calls on, and the other one all.
+/// The same two files. This one passes this many calls on, and the other one all.
 pub fn fused_files(
     alloc: Global,
     files: &Disks,
@@ -47,7 +47,7 @@ pub fn fused_files(
     })
 }
 
-/// What stands in these two files, in files that never stop.
+/// The content of these two files, in files that never stop.
 pub fn left_files(alloc: Global, files: &Disks) -> io::Result<Disks> {
     fused_files(alloc, files, Stopping::Log, u64::MAX)
 }
@@ -63,7 +63,7 @@ pub fn cut_power<D: Crash>(files: &mut Files<D>) {
     files.db.crash();
 }
 
-/// A connection to these files, or the files where they can't be opened.
+/// A connection to these files, or the files if they can't be opened.
 pub fn connect<D: Disk + Drop>(
     alloc: Global,
     files: Files<D>,

@@ -1,9 +1,9 @@
 //! A file of two groups that is imported while the files of the office stop.
-use crate::plant::lines::{HEADER, PlantTeller};
 use crate::stop::runs::{Run, RunResult, files_of, told_of};
 use crate::stop::stops::check_stops;
-use crate::stories::{Line, WITH_HOUSE, are_said, check_lines, say_to_file};
-use crate::wire::setups::RELEASED_AND_PLACED;
+use crate::stories::{
+    HEADER, Line, RELEASED_AND_PLACED, WITH_HOUSE, are_said, check_lines, say_to_file,
+};
 use sqlite::{Alter, Connection};
 use std::alloc::{AllocError, Global};
 use std::test::Fail;
@@ -54,19 +54,19 @@ const BOTH_STAND: &[Line] = &[
     ),
 ];
 
-// Whether both groups stand. Fails where it is neither that, nor the first alone, nor none.
+// Whether both groups stand. Fails if it is neither that, nor the first alone, nor none.
 fn both_stand<K: Keep>(alloc: Global, keep: &mut K) -> Result<bool, Fail> {
-    if are_said::<PlantTeller, K>(alloc, keep, NONE_STANDS)? {
+    if are_said(alloc, keep, NONE_STANDS)? {
         return Ok(false);
     }
-    if are_said::<PlantTeller, K>(alloc, keep, ONE_STANDS)? {
+    if are_said(alloc, keep, ONE_STANDS)? {
         return Ok(false);
     }
-    check_lines::<PlantTeller, K>(alloc, keep, BOTH_STAND)?;
+    check_lines(alloc, keep, BOTH_STAND)?;
     Ok(true)
 }
 
-// What the report of the file ends with where all was done, and where a fault ended it.
+// The end of the file's report if all was done, and if a fault ended it.
 const DONE: &str = "accepted 2 repeated 0 refused 0 bad 499 fault 0\n";
 
 const FAULT: &str = "fault 1\n";
@@ -81,7 +81,7 @@ fn told_by(said: &str) -> RunResult {
     }
 }
 
-// What comes of the file.
+// The outcome of the file.
 fn import<K: Keep>(alloc: Global, keep: &mut K) -> Result<RunResult, AllocError> {
     let said = say_to_file(alloc, keep, file_of_two_groups(alloc)?.as_bytes())?;
     Ok(told_by(said.as_str()))
@@ -99,8 +99,8 @@ impl Run for Importing {
         match SqlKeep::adopt(alloc, conn) {
             Ok(keep) => {
                 let mut keep = CachedKeep::new(alloc, keep);
-                let told = import(alloc, &mut keep).unwrap_or(RunResult::Other);
-                (keep.inside().into_connection(), told)
+                let reported = import(alloc, &mut keep).unwrap_or(RunResult::Other);
+                (keep.inside().into_connection(), reported)
             }
             Err((fault, conn)) => (conn, told_of(fault)),
         }

@@ -1,8 +1,7 @@
-//! A keep that refuses each of its calls in turn, and what is found behind it.
+//! A keep that refuses each of its calls in turn, and the rows that it leaves.
 use crate::refusing::{Refused, Refusing};
 use crate::stop::runs::Telling;
-use crate::stories::{Teller, check, check_lines, check_said_over};
-use crate::wire::lines::WireTeller;
+use crate::stories::{check, check_lines, check_said_over, say};
 use sqlite::MemStore;
 use std::alloc::Global;
 use std::test::Fail;
@@ -13,8 +12,8 @@ use toll_sql::SqlKeep;
 const MANY_CALLS: u64 = 100;
 
 /// Refuses the first call that the line makes of a keep, its second, and so on, until it makes no more: over
-/// lists, and over tables as a keep remembers them. Fails where a refused call is not told as want of memory,
-/// or where it changes rows, or the same line is not done then.
+/// lists, and over tables inside a keep with a cache. Fails if a refused call isn't reported as lack of
+/// memory, if it changes rows, or if the same line isn't done then.
 pub fn check_refused(alloc: Global, telling: &Telling) -> Result<(), Fail> {
     check_refused_of_lists(alloc, telling)?;
     check_refused_of_tables(alloc, telling)
@@ -38,10 +37,10 @@ fn check_refused_of_tables(alloc: Global, telling: &Telling) -> Result<(), Fail>
     Err("each run meets a refusal".into())
 }
 
-// Whether the line meets a refusal where the call behind so many is refused.
+// Whether the line meets a refusal if the call after this many is refused.
 fn is_refused_of_lists(alloc: Global, telling: &Telling, calls: u64) -> Result<bool, Fail> {
     let mut keep = MemKeep::new(alloc);
-    check_said_over::<WireTeller, MemKeep>(alloc, &mut keep, telling.story)?;
+    check_said_over(alloc, &mut keep, telling.story)?;
     let mut keep = Refusing::new(keep, Refused::Behind(calls));
     let is_refused = meets_refusal(alloc, &mut keep, telling)?;
     check_passed_on(is_refused, keep.refused)
@@ -49,13 +48,13 @@ fn is_refused_of_lists(alloc: Global, telling: &Telling, calls: u64) -> Result<b
 
 fn is_refused_of_tables(alloc: Global, telling: &Telling, calls: u64) -> Result<bool, Fail> {
     let mut keep = SqlKeep::in_memory(alloc)?;
-    check_said_over::<WireTeller, SqlKeep<MemStore>>(alloc, &mut keep, telling.story)?;
+    check_said_over::<SqlKeep<MemStore>>(alloc, &mut keep, telling.story)?;
     let mut keep = CachedKeep::new(alloc, Refusing::new(keep, Refused::Behind(calls)));
     let is_refused = meets_refusal(alloc, &mut keep, telling)?;
     check_passed_on(is_refused, keep.inside().refused)
 }
 
-// Fails where a refusal was passed over, or one was told that none caused.
+// Fails if a refusal was ignored, or one was reported that nothing caused.
 fn check_passed_on(is_refused: bool, left: Refused) -> Result<bool, Fail> {
     check(
         is_refused == (left == Refused::None),
@@ -64,26 +63,23 @@ fn check_passed_on(is_refused: bool, left: Refused) -> Result<bool, Fail> {
     Ok(is_refused)
 }
 
-// Whether want of memory is told to the line. Nothing has changed then, and the line is done after all.
+// Whether the line reports lack of memory. Nothing has changed then, and the line can still be done.
 fn meets_refusal<K: Keep>(alloc: Global, keep: &mut K, telling: &Telling) -> Result<bool, Fail> {
-    let (asked, done) = telling.line;
-    let said = WireTeller::say(alloc, keep, asked)?;
+    let (requested, done) = telling.line;
+    let said = say(alloc, keep, requested)?;
     if said.as_str() == done {
         return Ok(false);
     }
-    check(said.as_str() == refusal_of(asked), "told otherwise")?;
-    check_lines::<WireTeller, K>(alloc, keep, telling.before)?;
-    check(
-        WireTeller::say(alloc, keep, asked)?.as_str() == done,
-        "not done",
-    )?;
-    check_lines::<WireTeller, K>(alloc, keep, telling.after)?;
+    check(said.as_str() == refusal_of(requested), "told otherwise")?;
+    check_lines(alloc, keep, telling.before)?;
+    check(say(alloc, keep, requested)?.as_str() == done, "not done")?;
+    check_lines(alloc, keep, telling.after)?;
     Ok(true)
 }
 
-// What is said to this line for want of memory.
-fn refusal_of(asked: &str) -> &'static str {
-    if asked.starts_with('>') {
+// The answer to this line for lack of memory.
+fn refusal_of(requested: &str) -> &'static str {
+    if requested.starts_with('>') {
         "503 {\"error\":\"Unavailable\"}"
     } else {
         "fault Memory"

@@ -1,21 +1,20 @@
 //! What is done to an office while its files stop.
 use crate::stop::disks::{Disks, connect, disconnect, empty_files};
-use crate::stories::{Line, Teller, are_said, check_lines, check_said_over};
-use crate::wire::lines::WireTeller;
+use crate::stories::{Line, are_said, check_lines, check_said_over, say};
 use sqlite::{Alter, Connection};
 use std::alloc::Global;
 use std::test::Fail;
 use toll_keep::{CachedKeep, Keep};
 use toll_sql::{OpenFault, SqlKeep};
 
-/// What comes of a run.
+/// The outcome of a run.
 #[derive(Clone, Copy, PartialEq, Eq)]
 pub enum RunResult {
     /// It was done.
     Done,
-    /// A fault of the disk was told.
+    /// A fault of the disk was reported.
     Fault,
-    /// Something else was told.
+    /// Another result was reported.
     Other,
 }
 
@@ -24,12 +23,12 @@ pub trait Run {
     /// Does it to the office in this store, and hands the store back.
     fn go<S: Alter + Drop>(&self, alloc: Global, conn: Connection<S>) -> (Connection<S>, RunResult);
 
-    /// Whether the office in this store is the one from after it, and not the one from before. Fails
-    /// where it is neither.
+    /// Whether the office in this store is the one from after it, and not the one from before. Fails if it is
+    /// neither.
     fn is_after<S: Alter + Drop>(&self, alloc: Global, conn: Connection<S>) -> Result<bool, Fail>;
 }
 
-/// What comes of a run whose office isn't opened.
+/// The outcome of a run whose office isn't opened.
 pub fn told_of(fault: OpenFault) -> RunResult {
     match fault {
         OpenFault::Disk => RunResult::Fault,
@@ -37,7 +36,7 @@ pub fn told_of(fault: OpenFault) -> RunResult {
     }
 }
 
-/// The tables of the office are made. Before it there are none, and after it nobody is there.
+/// The tables of the office are made. Before it there are none, and after it there is no owner.
 pub struct Making;
 
 impl Run for Making {
@@ -61,7 +60,7 @@ impl Run for Making {
     }
 }
 
-// Fails where there is an owner or a unit.
+// Fails if there is an owner or a unit.
 fn check_empty<K: Keep>(alloc: Global, keep: &mut K) -> Result<bool, Fail> {
     if keep.owners(alloc)?.is_empty() && keep.units(alloc)?.is_empty() {
         return Ok(true);
@@ -71,7 +70,7 @@ fn check_empty<K: Keep>(alloc: Global, keep: &mut K) -> Result<bool, Fail> {
 
 /// The tables of an office of version 1 are adopted, and are of version 2 then.
 pub struct Adopting {
-    /// What was told to the office.
+    /// The lines that the office was given.
     pub story: &'static [&'static [Line]],
     /// What shows it.
     pub rows: &'static [Line],
@@ -87,7 +86,7 @@ impl Adopting {
     }
 }
 
-// The store of a new office of version 1 to which these chapters were told.
+// The store of a new office of version 1 that was given these chapters.
 fn first_version<S: Alter + Drop>(
     alloc: Global,
     conn: Connection<S>,
@@ -125,7 +124,7 @@ impl Run for Adopting {
         let version: i64 = row.get(0)?;
         match SqlKeep::adopt(alloc, conn) {
             Ok(mut keep) => {
-                check_lines::<WireTeller, SqlKeep<S>>(alloc, &mut keep, self.rows)?;
+                check_lines::<SqlKeep<S>>(alloc, &mut keep, self.rows)?;
                 Ok(version == 2)
             }
             Err((fault, _)) => Err(fault.into()),
@@ -133,13 +132,13 @@ impl Run for Adopting {
     }
 }
 
-/// A line is told to an office.
+/// A line that is given to an office.
 pub struct Telling {
-    /// What was told before.
+    /// The lines that the office was given before.
     pub story: &'static [&'static [Line]],
-    /// The line, and what is said to it where no file stops.
+    /// The line, and the answer to it if no file stops.
     pub line: Line,
-    /// What is said to it where a file stops.
+    /// The answer to the line if a file stops.
     pub fault: &'static str,
     /// What shows the office from before.
     pub before: &'static [Line],
@@ -148,32 +147,32 @@ pub struct Telling {
 }
 
 impl Telling {
-    /// The files of the office to which the line is told.
+    /// The files of the office that is given the line.
     pub fn files(&self, alloc: Global) -> Result<Disks, Fail> {
         files_of(alloc, self.story)
     }
 
-    // What comes of the line.
+    // The outcome of the line.
     fn say<K: Keep>(&self, alloc: Global, keep: &mut K) -> RunResult {
-        let (asked, done) = self.line;
-        match WireTeller::say(alloc, keep, asked) {
+        let (requested, done) = self.line;
+        match say(alloc, keep, requested) {
             Ok(said) if said.as_str() == done => RunResult::Done,
             Ok(said) if said.as_str() == self.fault => RunResult::Fault,
             _ => RunResult::Other,
         }
     }
 
-    // Whether this is the office from after it. Fails where it is neither that nor the one from before.
+    // Whether this is the office from after it. Fails if it is neither that nor the one from before.
     fn shows_after<K: Keep>(&self, alloc: Global, keep: &mut K) -> Result<bool, Fail> {
-        if are_said::<WireTeller, K>(alloc, keep, self.before)? {
+        if are_said(alloc, keep, self.before)? {
             return Ok(false);
         }
-        check_lines::<WireTeller, K>(alloc, keep, self.after)?;
+        check_lines(alloc, keep, self.after)?;
         Ok(true)
     }
 }
 
-/// The files of a new office to which these chapters were told.
+/// The files of a new office that was given these chapters.
 pub fn files_of(alloc: Global, story: &[&[Line]]) -> Result<Disks, Fail> {
     match connect(alloc, empty_files(alloc)) {
         Ok(conn) => Ok(disconnect(told_to_new(alloc, conn, story)?)),
@@ -181,14 +180,14 @@ pub fn files_of(alloc: Global, story: &[&[Line]]) -> Result<Disks, Fail> {
     }
 }
 
-// The store of a new office to which these chapters were told.
+// The store of a new office that was given these chapters.
 fn told_to_new<S: Alter + Drop>(
     alloc: Global,
     conn: Connection<S>,
     story: &[&[Line]],
 ) -> Result<Connection<S>, Fail> {
     match SqlKeep::create(conn) {
-        Ok(mut keep) => match check_said_over::<WireTeller, SqlKeep<S>>(alloc, &mut keep, story) {
+        Ok(mut keep) => match check_said_over::<SqlKeep<S>>(alloc, &mut keep, story) {
             Ok(()) => Ok(keep.into_connection()),
             Err(fail) => Err(fail),
         },
@@ -205,8 +204,8 @@ impl Run for Telling {
         match SqlKeep::adopt(alloc, conn) {
             Ok(keep) => {
                 let mut keep = CachedKeep::new(alloc, keep);
-                let told = self.say(alloc, &mut keep);
-                (keep.inside().into_connection(), told)
+                let reported = self.say(alloc, &mut keep);
+                (keep.inside().into_connection(), reported)
             }
             Err((fault, conn)) => (conn, told_of(fault)),
         }

@@ -4,10 +4,8 @@ use crate::stop::refused::check_refused;
 use crate::stop::runs::{Adopting, Making, Telling};
 use crate::stop::stops::check_stops;
 use crate::stories::{
-    A_CONSUMED, CONSUMED_AND_PRODUCED, Line, P1_PRODUCED, WITH_HOUSE, WITH_RECIPE,
-};
-use crate::wire::setups::{
-    RELEASED_AND_PLACED, WITH_ACME, WITH_BATCH, WITH_PRODUCT_OF_HOUSE, WITH_RECIPE_OF_HOUSE,
+    A_CONSUMED, CONSUMED_AND_PRODUCED, Line, P1_PRODUCED, RELEASED_AND_PLACED, WITH_ACME,
+    WITH_BATCH, WITH_HOUSE, WITH_PRODUCT_OF_HOUSE, WITH_RECIPE, WITH_RECIPE_OF_HOUSE,
 };
 use std::test::Fail;
 
@@ -158,7 +156,7 @@ fn a_stop_leaves_version_1_or_version_2_with_its_rows(rt: HostRuntime) -> Result
     check_stops(rt.alloc(), &ADOPTING, &ADOPTING.files(rt.alloc())?)
 }
 
-// An owner is shown where HOUSE's `H-1` went.
+// An owner is shown into which lots HOUSE's `H-1` went.
 const TRACING: Telling = Telling {
     story: WITH_H1_CONSUMED,
     line: (

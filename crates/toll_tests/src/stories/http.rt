@@ -11,8 +11,8 @@ fn parts_of(line: &str) -> Option<(&str, &str, &str, &str, &str)> {
     Some((owner, key, method, target, body))
 }
 
-/// The request of an owner's line: `>`, its name and its key, the method, the target and, where there is
-/// one, the body. `None` for every other line. An `Err` means that there was no memory.
+/// The request of an owner's line: `>`, its name and its key, the method, the target and, if there is one,
+/// the body. `None` for every other line. An `Err` means that there was no memory.
 pub fn request_of(alloc: Global, line: &str) -> Result<Option<Vec<u8>>, AllocError> {
     let Some((owner, key, method, target, body)) = parts_of(line) else {
         return Ok(None);
@@ -24,7 +24,7 @@ pub fn request_of(alloc: Global, line: &str) -> Result<Option<Vec<u8>>, AllocErr
     Ok(Some(text.into_bytes()))
 }
 
-/// What a reply says: its status and, where there is one, its body. An `Err` means that there was no
+/// A reply as a story shows it: its status and, if there is one, its body. An `Err` means that there was no
 /// memory.
 pub fn reply_said(alloc: Global, reply: &[u8]) -> Result<String, AllocError> {
     let text = text_of(reply);

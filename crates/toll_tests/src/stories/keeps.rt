@@ -10,12 +10,12 @@ pub type TableKeep = CachedKeep<SqlKeep<MemStore>>;
 /// An office over tables in memory that remembers nothing: each call is asked of the tables.
 pub type BareKeep = SqlKeep<MemStore>;
 
-/// Such an office without rows. Memory where there is none.
+/// Such an office without rows. An `Err` means that there was no memory.
 pub fn bare_tables(alloc: Global) -> Result<BareKeep, OpenFault> {
     SqlKeep::in_memory(alloc)
 }
 
-/// An office without rows. Memory where there is none.
+/// An office without rows. An `Err` means that there was no memory.
 pub fn empty_tables(alloc: Global) -> Result<TableKeep, OpenFault> {
     match SqlKeep::in_memory(alloc) {
         Ok(keep) => Ok(CachedKeep::new(alloc, keep)),

@@ -1,29 +1,63 @@
 //! Lines of what is asked, and what is said to each.
 use crate::stories::commands::plant_cmd;
+use crate::stories::http::{reply_said, request_of};
 use crate::stories::keeps::{BareKeep, TableKeep, bare_tables, empty_tables, taken_over};
 use crate::stories::said::{plant_said, said_text};
+use crate::wire::fakes::read_pieces;
 use std::alloc::{AllocError, Global};
 use std::test::Fail;
 use toll_desk::plant_do;
 use toll_keep::{Keep, MemKeep};
 use toll_plant::{import_actuals, import_text};
+use toll_wire::answer;
 
 /// What is asked, and what is said to it.
 pub type Line = (&'static str, &'static str);
 
-/// Who gives a line to the office.
-pub trait Teller {
-    /// What is said to the line. An `Err` means that there was no memory.
-    fn say<K: Keep>(alloc: Global, keep: &mut K, line: &str) -> Result<String, AllocError>;
+/// The first record of a file of actuals, with its line end.
+pub const HEADER: &str =
+    "key,owner,order,batch,segment,use,material,lot_owner,lot,sublot,amount,day\n";
+
+/// What is said to the line. An `Err` means that there was no memory.
+///
+/// An owner's line begins with `>`, its name and its key, and then has the method, the target and, if there is
+/// one, the body; what is said to it is the status and the body of the reply. A file of actuals follows `file`,
+/// and the records of one, without its header, follow `records`. Each other line has the plant's words, to which
+/// `unread` is said if they are no command's.
+pub fn say<K: Keep>(alloc: Global, keep: &mut K, line: &str) -> Result<String, AllocError> {
+    match line.split_once(' ') {
+        Some((">", _)) => say_to_owner(alloc, keep, line),
+        Some(("file", file)) => say_to_file(alloc, keep, file.as_bytes()),
+        Some(("records", records)) => say_to_records(alloc, keep, records),
+        _ => say_to_plant(alloc, keep, line),
+    }
 }
 
-/// What is said to these words of the plant: `unread` where they are no command's.
-pub fn say_to_plant<K: Keep>(
+// The request comes in pieces, all of it.
+fn say_to_owner<K: Keep>(alloc: Global, keep: &mut K, line: &str) -> Result<String, AllocError> {
+    let Some(bytes) = request_of(alloc, line)? else {
+        return String::from_str(alloc, "unread");
+    };
+    match read_pieces(alloc, &bytes, 7, false) {
+        Ok(came) if came.as_slice() == bytes.as_slice() => {
+            reply_said(alloc, answer(alloc, keep, &came).bytes())
+        }
+        _ => String::from_str(alloc, "unread"),
+    }
+}
+
+fn say_to_records<K: Keep>(
     alloc: Global,
     keep: &mut K,
-    asked: &[&str],
+    records: &str,
 ) -> Result<String, AllocError> {
-    match plant_cmd(alloc, asked)? {
+    let file = format!(in alloc; "{HEADER}{records}")?;
+    say_to_file(alloc, keep, file.as_bytes())
+}
+
+fn say_to_plant<K: Keep>(alloc: Global, keep: &mut K, line: &str) -> Result<String, AllocError> {
+    let words: Vec<&str> = line.split(' ').collect(alloc)?;
+    match plant_cmd(alloc, &words)? {
         Some(command) => plant_said(alloc, &plant_do(alloc, keep, &command)),
         None => String::from_str(alloc, "unread"),
     }
@@ -46,76 +80,68 @@ pub fn say_to_file<K: Keep>(
 
 /// Whether just this is said to each of these lines, over this keep. An `Err` means that there was no
 /// memory.
-pub fn are_said<T: Teller, K: Keep>(
-    alloc: Global,
-    keep: &mut K,
-    lines: &[Line],
-) -> Result<bool, AllocError> {
+pub fn are_said<K: Keep>(alloc: Global, keep: &mut K, lines: &[Line]) -> Result<bool, AllocError> {
     for line in lines {
-        let (asked, wanted) = *line;
-        if T::say(alloc, keep, asked)?.as_str() != wanted {
+        let (requested, wanted) = *line;
+        if say(alloc, keep, requested)?.as_str() != wanted {
             return Ok(false);
         }
     }
     Ok(true)
 }
 
-// Fails with what is said to the line, where that is another thing.
-fn check_line<T: Teller, K: Keep>(alloc: Global, keep: &mut K, line: &Line) -> Result<(), Fail> {
-    let (asked, wanted) = *line;
-    let said = T::say(alloc, keep, asked)?;
+// Fails with the answer to the line, if that isn't the wanted one.
+fn check_line<K: Keep>(alloc: Global, keep: &mut K, line: &Line) -> Result<(), Fail> {
+    let (requested, wanted) = *line;
+    let said = say(alloc, keep, requested)?;
     if said.as_str() == wanted {
         return Ok(());
     }
-    Err(format!(in alloc; "{asked}: {said}")?.into())
+    Err(format!(in alloc; "{requested}: {said}")?.into())
 }
 
-/// Fails where anything else is said to one of these lines, over this keep.
-pub fn check_lines<T: Teller, K: Keep>(
-    alloc: Global,
-    keep: &mut K,
-    lines: &[Line],
-) -> Result<(), Fail> {
+/// Fails if one of these lines has another answer, over this keep.
+pub fn check_lines<K: Keep>(alloc: Global, keep: &mut K, lines: &[Line]) -> Result<(), Fail> {
     for line in lines {
-        check_line::<T, K>(alloc, keep, line)?;
+        check_line(alloc, keep, line)?;
     }
     Ok(())
 }
 
 /// The same along chapters.
-pub fn check_said_over<T: Teller, K: Keep>(
+pub fn check_said_over<K: Keep>(
     alloc: Global,
     keep: &mut K,
     chapters: &[&[Line]],
 ) -> Result<(), Fail> {
     for lines in chapters {
-        check_lines::<T, K>(alloc, keep, lines)?;
+        check_lines(alloc, keep, lines)?;
     }
     Ok(())
 }
 
-/// The same over an empty office: kept in lists, and kept in tables that are given back and taken over
-/// again behind each chapter.
-pub fn check_said<T: Teller>(alloc: Global, chapters: &[&[Line]]) -> Result<(), Fail> {
-    check_said_over_lists::<T>(alloc, chapters)?;
-    check_said_over_tables::<T>(alloc, chapters)
+/// The same over an empty office: kept in lists, and kept in tables that are given back and taken over again
+/// after each chapter.
+pub fn check_said(alloc: Global, chapters: &[&[Line]]) -> Result<(), Fail> {
+    check_said_over_lists(alloc, chapters)?;
+    check_said_over_tables(alloc, chapters)
 }
 
-/// The same, and over tables of which nothing is remembered, so that edges are asked for by their joins.
-pub fn check_said_and_joined<T: Teller>(alloc: Global, chapters: &[&[Line]]) -> Result<(), Fail> {
-    check_said::<T>(alloc, chapters)?;
-    check_said_over::<T, BareKeep>(alloc, &mut bare_tables(alloc)?, chapters)
+/// The same, and over tables of which nothing is remembered, so that each trace is made of the tables.
+pub fn check_said_and_traced(alloc: Global, chapters: &[&[Line]]) -> Result<(), Fail> {
+    check_said(alloc, chapters)?;
+    check_said_over::<BareKeep>(alloc, &mut bare_tables(alloc)?, chapters)
 }
 
 /// The same over an empty office that is kept in lists.
-pub fn check_said_over_lists<T: Teller>(alloc: Global, chapters: &[&[Line]]) -> Result<(), Fail> {
-    check_said_over::<T, MemKeep>(alloc, &mut MemKeep::new(alloc), chapters)
+pub fn check_said_over_lists(alloc: Global, chapters: &[&[Line]]) -> Result<(), Fail> {
+    check_said_over::<MemKeep>(alloc, &mut MemKeep::new(alloc), chapters)
 }
 
-fn check_said_over_tables<T: Teller>(alloc: Global, chapters: &[&[Line]]) -> Result<(), Fail> {
+fn check_said_over_tables(alloc: Global, chapters: &[&[Line]]) -> Result<(), Fail> {
     let mut keep = empty_tables(alloc)?;
     for lines in chapters {
-        check_lines::<T, TableKeep>(alloc, &mut keep, lines)?;
+        check_lines::<TableKeep>(alloc, &mut keep, lines)?;
         keep = taken_over(alloc, keep)?;
     }
     Ok(())

@@ -1,4 +1,4 @@
-//! How stories begin, and what the plant says in several of them, however owners ask.
+//! How stories begin.
 use crate::stories::Line;
 
 /// ACME and BOLT, a unit, and a recipe of ACME's that consumes `M` and produces `P`.
@@ -13,26 +13,6 @@ pub const WITH_RECIPE: &[Line] = &[
     ("require ACME R 1 produced ACME P 90", "accepted"),
 ];
 
-/// A batch of `O` consumes the 100 of `M` in lot `A`, once.
-pub const CONSUMED_ONCE: &[Line] = &[
-    (
-        "actual K2 ACME O 1 1 consumed M ACME A S1 100 11",
-        "accepted",
-    ),
-    (
-        "actual K2 ACME O 1 1 consumed M ACME A S1 100 11",
-        "repeated",
-    ),
-    (
-        "actual K2 ACME O 1 1 consumed M ACME A S1 99 11",
-        "refused KeyConflict",
-    ),
-    (
-        "actual K3 ACME O 1 1 consumed M ACME A S1 1 11",
-        "refused NotEnough",
-    ),
-];
-
 /// A batch of `O` consumes 40 of `A` and produces 50 of `P1`, of which 20 are scrapped.
 pub const CONSUMED_AND_PRODUCED: &[Line] = &[
     (
@@ -44,13 +24,6 @@ pub const CONSUMED_AND_PRODUCED: &[Line] = &[
         "accepted",
     ),
     ("scrap ACME K4 P1 S1 20 12", "accepted"),
-];
-
-/// Then the consumption is voided, once.
-pub const CONSUMPTION_VOIDED: &[Line] = &[
-    ("void ACME K3", "refused NotEnough"),
-    ("void ACME K2", "accepted"),
-    ("void ACME K2", "refused Voided"),
 ];
 
 /// ACME with two lots of `M`, HOUSE with a released one of `W`, and a recipe of two segments that
@@ -89,29 +62,6 @@ pub const P1_PRODUCED: &[Line] = &[
     ("actual K6 ACME O 1 2 consumed M ACME B S 10 3", "accepted"),
 ];
 
-/// Recipe R1 makes `P` of `Q`, and R2 makes `Q` of `P`.
-pub const WITH_TWO_RECIPES: &[Line] = &[
-    ("owner-add ACME ACMEKEY1", "accepted"),
-    ("unit-add U1", "accepted"),
-    ("unit-add U2", "accepted"),
-    ("material-add ACME P kg", "accepted"),
-    ("material-add ACME Q kg", "accepted"),
-    ("recipe-add ACME R1 1", "accepted"),
-    ("require ACME R1 1 consumed ACME Q 10", "accepted"),
-    ("require ACME R1 1 produced ACME P 10", "accepted"),
-    ("recipe-add ACME R2 1", "accepted"),
-    ("require ACME R2 1 consumed ACME P 10", "accepted"),
-    ("require ACME R2 1 produced ACME Q 10", "accepted"),
-];
-
-/// Batches of `X` by R1 and of `Y` by R2 run.
-pub const BOTH_RUN: &[Line] = &[
-    ("open ACME X U1", "accepted"),
-    ("open ACME Y U2", "accepted"),
-    ("do ACME X 1 start", "accepted"),
-    ("do ACME Y 1 start", "accepted"),
-];
-
 /// A file of three actuals, of which the last one repeats the first.
 pub const REPEATED_FILE: &str =
     "key,owner,order,batch,segment,use,material,lot_owner,lot,sublot,amount,day
@@ -119,3 +69,84 @@ K2,ACME,O,1,1,consumed,M,ACME,A,S1,40,11
 K3,ACME,O,1,1,produced,P,ACME,P1,S1,30,11
 K2,ACME,O,1,1,consumed,M,ACME,A,S1,40,11
 ";
+
+/// 100 of `M` in a released lot, and a batch by the recipe that runs.
+pub const WITH_BATCH: &[Line] = &[
+    ("receive ACME K1 M A S1 100 10", "accepted"),
+    (
+        "> ACME ACMEKEY1 POST /orders {\"order\":\"O\",\"recipe\":\"R\",\"batches\":1}",
+        "200 {\"batches\":1,\"order\":\"O\",\"recipe\":\"R\",\"status\":\"open\"}",
+    ),
+    (
+        "> ACME ACMEKEY1 POST /lots/A/release",
+        "200 {\"disposition\":\"released\",\"lot\":\"A\",\"material\":\"M\",\"measure\":\"kg\",\"origin\":\"receipts\",\"results\":[],\"sublots\":[{\"amount\":100,\"sublot\":\"S1\"}]}",
+    ),
+    ("open ACME O U1", "accepted"),
+    ("do ACME O 1 start", "accepted"),
+];
+
+/// ACME with a recipe of two segments.
+pub const WITH_ACME: &[Line] = &[
+    ("owner-add ACME ACMEKEY1", "accepted"),
+    ("recipe-add ACME R-1 2", "accepted"),
+];
+
+/// An order of ACME's by that recipe.
+pub const WITH_ORDER: &[Line] = &[(
+    "> ACME ACMEKEY1 POST /orders {\"order\":\"O-1\",\"recipe\":\"R-1\",\"batches\":2}",
+    "200 {\"batches\":2,\"order\":\"O-1\",\"recipe\":\"R-1\",\"status\":\"open\"}",
+)];
+
+/// ACME's two lots of `M` are released, and `O` is placed.
+pub const RELEASED_AND_PLACED: &[Line] = &[
+    (
+        "> ACME ACMEKEY1 POST /lots/A/release",
+        "200 {\"disposition\":\"released\",\"lot\":\"A\",\"material\":\"M\",\"measure\":\"kg\",\"origin\":\"receipts\",\"results\":[],\"sublots\":[{\"amount\":10,\"sublot\":\"S\"}]}",
+    ),
+    (
+        "> ACME ACMEKEY1 POST /lots/B/release",
+        "200 {\"disposition\":\"released\",\"lot\":\"B\",\"material\":\"M\",\"measure\":\"kg\",\"origin\":\"receipts\",\"results\":[],\"sublots\":[{\"amount\":10,\"sublot\":\"S\"}]}",
+    ),
+    (
+        "> ACME ACMEKEY1 POST /orders {\"order\":\"O\",\"recipe\":\"R\",\"batches\":1}",
+        "200 {\"batches\":1,\"order\":\"O\",\"recipe\":\"R\",\"status\":\"open\"}",
+    ),
+];
+
+/// HOUSE makes `V` of `W`, of which it has a released lot, and ACME makes `P` of `V`.
+pub const WITH_RECIPE_OF_HOUSE: &[Line] = &[
+    ("owner-add ACME ACMEKEY1", "accepted"),
+    ("unit-add U1", "accepted"),
+    ("unit-add U2", "accepted"),
+    ("material-add HOUSE W kg", "accepted"),
+    ("material-add HOUSE V kg", "accepted"),
+    ("material-add ACME P kg", "accepted"),
+    ("recipe-add HOUSE HR 1", "accepted"),
+    ("require HOUSE HR 1 consumed HOUSE W 10", "accepted"),
+    ("require HOUSE HR 1 produced HOUSE V 10", "accepted"),
+    ("recipe-add ACME R 1", "accepted"),
+    ("require ACME R 1 consumed HOUSE V 4", "accepted"),
+    ("require ACME R 1 produced ACME P 5", "accepted"),
+    ("receive HOUSE K1 W H-1 S 10 1", "accepted"),
+    ("release H-1", "accepted"),
+];
+
+/// A batch of HOUSE has made a lot of it, and ACME has an order that no batch was opened for.
+pub const WITH_PRODUCT_OF_HOUSE: &[Line] = &[
+    ("order HO HR 1", "accepted"),
+    ("open HOUSE HO U1", "accepted"),
+    ("do HOUSE HO 1 start", "accepted"),
+    (
+        "actual K2 HOUSE HO 1 1 consumed W HOUSE H-1 S 10 2",
+        "accepted",
+    ),
+    (
+        "actual K3 HOUSE HO 1 1 produced V HOUSE H-2 S 10 2",
+        "accepted",
+    ),
+    ("release H-2", "accepted"),
+    (
+        "> ACME ACMEKEY1 POST /orders {\"order\":\"O\",\"recipe\":\"R\",\"batches\":1}",
+        "200 {\"batches\":1,\"order\":\"O\",\"recipe\":\"R\",\"status\":\"open\"}",
+    ),
+];

@@ -16,7 +16,7 @@ const WITH_MATERIAL: [&[&str]; 2] = [
     &["material-add", "ACME", "M", "kg"],
 ];
 
-// Fails where this command is not accepted.
+// Fails if this command is not accepted.
 fn accept<K: Keep>(alloc: Global, keep: &mut K, command: &PlantCmd) -> Result<(), Fail> {
     match plant_do(alloc, keep, command) {
         PlantReply::Accepted => Ok(()),
@@ -39,7 +39,7 @@ fn receipt(alloc: Global, number: u64) -> Result<PlantCmd, Fail> {
     })
 }
 
-/// An office whose stock is told in more than 1,048,576 bytes.
+/// An office whose stock is a text of more than 1,048,576 bytes.
 pub fn with_much_stock(alloc: Global) -> Result<TableKeep, Fail> {
     let mut keep = empty_tables(alloc)?;
     for words in WITH_MATERIAL {
@@ -53,7 +53,7 @@ pub fn with_much_stock(alloc: Global) -> Result<TableKeep, Fail> {
     Ok(keep)
 }
 
-/// What is told of its stock.
+/// The text of its stock.
 pub fn told_stock(alloc: Global) -> Result<String, AllocError> {
     let mut text = String::new(alloc);
     for number in FIRST..LAST {

@@ -23,7 +23,7 @@ pub fn tests(alloc: Global, slice: &Slice, material: Name, test: Name, limits: L
     add_test(alloc, slice, material, test, limits)
 }
 
-// Names in the order of the calls: a key, a material or a lot, a sublot, and where it goes.
+// Names in the order of the calls: a key, a material or a lot, a sublot, and its target.
 pub fn receipts(
     alloc: Global,
     slice: &Slice,

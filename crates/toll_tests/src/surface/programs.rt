@@ -6,6 +6,7 @@ use toll_keep::Keep;
 use toll_office::{Served, serve_one};
 use toll_programs::{ScriptEnd, plant_import, plant_line, script};
 use toll_protocol::{Sink, Source};
+use toll_service::{KeepOpener, OfficePath};
 
 pub fn scripts<R: Source, W: Sink, K: Keep>(
     alloc: Global,
@@ -47,8 +48,11 @@ pub fn imports<K: Keep, W: Sink, E: Sink>(
     plant_import(alloc, keep, file, output, error)
 }
 
-pub fn connections(rt: &HostRuntime, listener: &TcpListener, path: &str) -> Served {
-    serve_one(rt, listener, path)
+pub fn connections<K: Keep, O: KeepOpener<K>>(
+    office_path: &mut OfficePath<'_, O>,
+    listener: &TcpListener,
+) -> Served {
+    serve_one(office_path, listener)
 }
 
 pub fn served() -> [Served; 4] {

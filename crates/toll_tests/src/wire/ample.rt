@@ -1,7 +1,5 @@
 //! Many receipts with ample memory, each followed by a look at the stock.
-use crate::stories::{Teller, WITH_RECIPE, check_said_over, empty_tables};
-use crate::wire::lines::WireTeller;
-use crate::wire::setups::WITH_BATCH;
+use crate::stories::{WITH_BATCH, WITH_RECIPE, check_said_over, empty_tables, say};
 use std::alloc::{AllocError, Global};
 use std::test::Fail;
 use toll_keep::{Keep, MemKeep};
@@ -11,7 +9,7 @@ const RECEIPTS: u64 = 300;
 // What is said to the receipt with this number.
 fn receive<K: Keep>(alloc: Global, keep: &mut K, number: u64) -> Result<String, AllocError> {
     let line = format!(in alloc; "receive ACME Z-{number} M Z S 1 12")?;
-    WireTeller::say(alloc, keep, line.as_str())
+    say(alloc, keep, line.as_str())
 }
 
 // The stock once so many of them came, one of each.
@@ -22,10 +20,10 @@ fn stock_with(alloc: Global, amount: u64) -> Result<String, AllocError> {
     )
 }
 
-// Fails where the receipt with this number is not accepted, or the stock is another one after it.
+// Fails if the receipt with this number is not accepted, or the stock after it is another one.
 fn check_receipt<K: Keep>(alloc: Global, keep: &mut K, number: u64) -> Result<(), Fail> {
     let said = receive(alloc, keep, number)?;
-    let stock = WireTeller::say(alloc, keep, "> ACME ACMEKEY1 GET /stock")?;
+    let stock = say(alloc, keep, "> ACME ACMEKEY1 GET /stock")?;
     if said.as_str() == "accepted" && stock == stock_with(alloc, number)? {
         return Ok(());
     }
@@ -33,7 +31,7 @@ fn check_receipt<K: Keep>(alloc: Global, keep: &mut K, number: u64) -> Result<()
 }
 
 fn check_receipts<K: Keep>(alloc: Global, keep: &mut K) -> Result<(), Fail> {
-    check_said_over::<WireTeller, K>(alloc, keep, &[WITH_RECIPE, WITH_BATCH])?;
+    check_said_over(alloc, keep, &[WITH_RECIPE, WITH_BATCH])?;
     for number in 1..RECEIPTS + 1 {
         check_receipt(alloc, keep, number)?;
     }

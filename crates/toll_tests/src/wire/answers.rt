@@ -1,9 +1,8 @@
 //! Requests and what they are answered.
 use crate::refusing::{Refused, Refusing};
-use crate::stories::{check, check_lines};
-use crate::wire::lines::{WireTeller, events_of};
+use crate::stories::{WITH_ACME, check, check_lines};
+use crate::wire::lines::events_of;
 use crate::wire::requests::{keyed, reply, request};
-use crate::wire::setups::WITH_ACME;
 use std::alloc::{AllocError, Global};
 use std::test::Fail;
 use toll_desk::PlantReply;
@@ -41,7 +40,7 @@ const NONE: &[u8] =
 /// ACME with a recipe.
 pub fn office(alloc: Global) -> Result<MemKeep, Fail> {
     let mut keep = MemKeep::new(alloc);
-    check_lines::<WireTeller, _>(alloc, &mut keep, WITH_ACME)?;
+    check_lines(alloc, &mut keep, WITH_ACME)?;
     Ok(keep)
 }
 
@@ -49,14 +48,14 @@ pub fn office(alloc: Global) -> Result<MemKeep, Fail> {
 type Row = [&'static str; 4];
 
 fn check_reply(alloc: Global, keep: &mut MemKeep, row: &Row) -> Result<(), Fail> {
-    let [line, body, status, told] = *row;
+    let [line, body, status, reported] = *row;
     let bytes = request(alloc, line, body)?;
-    let wanted = reply(alloc, status, told)?;
+    let wanted = reply(alloc, status, reported)?;
     let out = answer(alloc, keep, &bytes);
     check(out.bytes() == wanted.as_slice(), line)
 }
 
-/// Fails where one of the requests, one after another, gets another reply.
+/// Fails if one of the requests, one after another, has another reply.
 fn check_replies(alloc: Global, keep: &mut MemKeep, rows: &[Row]) -> Result<(), Fail> {
     for row in rows {
         check_reply(alloc, keep, row)?;
@@ -71,7 +70,7 @@ const PLACED_AND_LISTED: &[&str] = &[
     "> ACME ACMEKEY1 GET /orders",
 ];
 
-// Whether the plant is told that both its commands are accepted, and ACME its order and the list of it.
+// Whether both commands of the plant are accepted, and ACME has its order and the list of it as replies.
 fn are_placed_and_listed(answers: &[Answer]) -> bool {
     match answers {
         [
@@ -89,13 +88,6 @@ fn an_order_is_placed_and_listed(rt: HostRuntime) -> Result<(), Fail> {
     let events = events_of(rt.alloc(), PLACED_AND_LISTED)?;
     let answers = run_events(rt.alloc(), &mut MemKeep::new(rt.alloc()), &events)?;
     check(are_placed_and_listed(&answers), "other answers")
-}
-
-const NO_ORDERS: &[Row] = &[["GET /orders", "", "200 OK", "{\"orders\":[]}"]];
-
-#[test]
-fn an_owner_without_orders_has_none(rt: HostRuntime) -> Result<(), Fail> {
-    check_replies(rt.alloc(), &mut office(rt.alloc())?, NO_ORDERS)
 }
 
 const WITH_3_BATCHES: &str = "{\"order\":\"O-1\",\"recipe\":\"R-1\",\"batches\":3}";
@@ -134,11 +126,12 @@ const LISTING: &[Row] = &[["GET /orders", "", "200 OK", ORDERS]];
 
 const ANOTHER_ORDER: &str = "{\"order\":\"O-2\",\"recipe\":\"R-1\",\"batches\":1}";
 
-/// The fields of who has no key.
+/// The fields of a client without a valid key.
 const STRANGERS: &[&str] = &[
     "toll-owner: NOBODY\r\ntoll-key: ACMEKEY1\r\n",
     "toll-owner: ACME\r\ntoll-key: ACMEKEY2\r\n",
     "toll-owner: ACME\r\n",
+    "toll-key: ACMEKEY1\r\n",
     "toll-owner: ACME\r\ntoll-key: ACMEKEY1\r\ntoll-key: ACMEKEY1\r\n",
     "toll-owner: HOUSE\r\ntoll-key: ACMEKEY1\r\n",
 ];
@@ -161,7 +154,7 @@ fn is_forbidden(
     Ok(answer(alloc, keep, &bytes).bytes() == FORBIDDEN)
 }
 
-/// Fails where anything is not forbidden with these fields.
+/// Fails if anything is not forbidden with these fields.
 fn check_forbidden(alloc: Global, keep: &mut MemKeep, fields: &str) -> Result<(), Fail> {
     for line in ASKED_BY_STRANGERS {
         check(is_forbidden(alloc, keep, line, fields)?, line)?;
@@ -178,27 +171,27 @@ fn check_strangers(alloc: Global, keep: &mut MemKeep) -> Result<(), Fail> {
 }
 
 #[test]
-fn who_has_no_key_is_forbidden(rt: HostRuntime) -> Result<(), Fail> {
+fn a_request_without_a_key_is_forbidden(rt: HostRuntime) -> Result<(), Fail> {
     check_strangers(rt.alloc(), &mut office(rt.alloc())?)
 }
 
 /// A request of ACME: method and target, and body.
 pub type Request = (&'static str, &'static str);
 
-/// Fails where ACME's request gets other bytes.
+/// Fails if ACME's request has other bytes as its reply.
 pub fn check_bytes<K: Keep>(
     alloc: Global,
     keep: &mut K,
-    asked: Request,
+    requested: Request,
     wanted: &[u8],
 ) -> Result<(), Fail> {
-    let (line, body) = asked;
+    let (line, body) = requested;
     let bytes = request(alloc, line, body)?;
     let out = answer(alloc, keep, &bytes);
     check(out.bytes() == wanted, line)
 }
 
-// Where the first change finds no memory.
+// The first change finds no memory.
 const PLACED_AT_LAST: &[(Request, &[u8])] = &[
     (("POST /orders", PLACE), UNAVAILABLE),
     (("GET /orders", ""), NONE),
@@ -210,8 +203,8 @@ const PLACED_AT_LAST: &[(Request, &[u8])] = &[
 fn an_order_that_is_not_kept_is_not_placed(rt: HostRuntime) -> Result<(), Fail> {
     let mut keep = Refusing::new(office(rt.alloc())?, Refused::Apply);
     for row in PLACED_AT_LAST {
-        let (asked, wanted) = *row;
-        check_bytes(rt.alloc(), &mut keep, asked, wanted)?;
+        let (requested, wanted) = *row;
+        check_bytes(rt.alloc(), &mut keep, requested, wanted)?;
     }
     Ok(())
 }

@@ -4,7 +4,7 @@ use std::io;
 use std::io::{ErrorKind, Read, Write};
 use toll_wire::{ReadFault, read_request};
 
-/// Gives these bytes, so many at most with each read, and then ends, where it fails once before that.
+/// Gives these bytes, at most this many with each read, and then ends. Once before that it fails.
 #[derive(Drop)]
 pub struct Source<'b> {
     pub bytes: &'b [u8],

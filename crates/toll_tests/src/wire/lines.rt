@@ -1,18 +1,10 @@
-//! Lines of what is asked, and what is said to each. Owners ask over HTTP.
-use crate::stories::{Teller, plant_cmd, plant_said, reply_said, request_of};
-use crate::wire::fakes::read_pieces;
+//! Events of the office, from lines of stories.
+use crate::stories::{plant_cmd, request_of};
 use std::alloc::{AllocError, Global};
-use toll_desk::plant_do;
-use toll_keep::Keep;
-use toll_wire::{Event, answer};
+use toll_wire::Event;
 
-/// The plant asks in its words. An owner's line begins with `>`, its name and its key, and then has the
-/// method, the target and, where there is one, the body; what is said to it is the status and, where there
-/// is one, the body.
-pub struct WireTeller;
-
-/// What comes to the office with this line: nothing with words that are no command's.
-pub fn event_of(alloc: Global, line: &str) -> Result<Option<Event>, AllocError> {
+// The event of this line: none for words that are no command's.
+fn event_of(alloc: Global, line: &str) -> Result<Option<Event>, AllocError> {
     if let Some(bytes) = request_of(alloc, line)? {
         return Ok(Some(Event::Owner(bytes)));
     }
@@ -20,7 +12,7 @@ pub fn event_of(alloc: Global, line: &str) -> Result<Option<Event>, AllocError> 
     Ok(plant_cmd(alloc, &words)?.map(Event::Plant))
 }
 
-/// What comes to the office with these lines.
+/// The events of these lines.
 pub fn events_of(alloc: Global, lines: &[&str]) -> Result<Vec<Event>, AllocError> {
     let mut events = Vec::new(alloc);
     for line in lines {
@@ -29,24 +21,4 @@ pub fn events_of(alloc: Global, lines: &[&str]) -> Result<Vec<Event>, AllocError
         }
     }
     Ok(events)
-}
-
-impl Teller for WireTeller {
-    fn say<K: Keep>(alloc: Global, keep: &mut K, line: &str) -> Result<String, AllocError> {
-        match event_of(alloc, line)? {
-            Some(Event::Owner(bytes)) => say_to_owner(alloc, keep, &bytes),
-            Some(Event::Plant(command)) => plant_said(alloc, &plant_do(alloc, keep, &command)),
-            None => String::from_str(alloc, "unread"),
-        }
-    }
-}
-
-// The request comes in pieces, all of it.
-fn say_to_owner<K: Keep>(alloc: Global, keep: &mut K, bytes: &[u8]) -> Result<String, AllocError> {
-    match read_pieces(alloc, bytes, 7, false) {
-        Ok(came) if came.as_slice() == bytes => {
-            reply_said(alloc, answer(alloc, keep, &came).bytes())
-        }
-        _ => String::from_str(alloc, "unread"),
-    }
 }

@@ -1,13 +1,13 @@
 //! What leads nowhere, and methods that are not served.
-use crate::stories::{Line, check, check_lines, check_said_over_lists, reply_said};
+use crate::stories::{
+    Line, WITH_ACME, WITH_ORDER, check, check_lines, check_said_over_lists, reply_said,
+};
 use crate::wire::answers::{check_bytes, office};
-use crate::wire::lines::WireTeller;
 use crate::wire::requests::request;
-use crate::wire::setups::{WITH_ACME, WITH_ORDER};
 use std::alloc::Global;
 use std::test::Fail;
 use toll_keep::MemKeep;
-use toll_wire::{OfficeRouter, answer_with_router};
+use toll_wire::{OfficeRouter, reply_by_router};
 
 const NOWHERE: &[Line] = &[
     (
@@ -88,7 +88,7 @@ const WITHOUT_THE_KEY: &[Line] = &[
 
 #[test]
 fn a_path_of_no_route_leads_nowhere(rt: HostRuntime) -> Result<(), Fail> {
-    check_said_over_lists::<WireTeller>(
+    check_said_over_lists(
         rt.alloc(),
         &[WITH_ACME, WITH_ORDER, NOWHERE, SOMEWHERE, WITHOUT_THE_KEY],
     )
@@ -131,7 +131,7 @@ const ODD_PATHS: &[Line] = &[
 
 #[test]
 fn odd_paths_lead_nowhere(rt: HostRuntime) -> Result<(), Fail> {
-    check_said_over_lists::<WireTeller>(rt.alloc(), &[WITH_ACME, ODD_PATHS])
+    check_said_over_lists(rt.alloc(), &[WITH_ACME, ODD_PATHS])
 }
 
 const GET_ALONE: &str =
@@ -140,7 +140,7 @@ const GET_ALONE: &str =
 const POST_ALONE: &str =
     "HTTP/1.1 405 Method Not Allowed\r\ncontent-type: application/json\r\ncontent-length: 28\r\nallow: POST\r\nconnection: close\r\n\r\n{\"error\":\"MethodNotAllowed\"}";
 
-/// A method that a route is not served with, and what it is told. `/orders` is served with both.
+/// A method that a route doesn't serve, and the reply to it. `/orders` serves both.
 const OTHER_METHODS: &[(&str, &str)] = &[
     ("POST /orders/O-1", GET_ALONE),
     ("GET /orders/O-1/cancel", POST_ALONE),
@@ -159,7 +159,7 @@ const OTHER_METHODS: &[(&str, &str)] = &[
 ];
 
 #[test]
-fn another_method_is_told(rt: HostRuntime) -> Result<(), Fail> {
+fn another_method_is_refused(rt: HostRuntime) -> Result<(), Fail> {
     let mut keep = office(rt.alloc())?;
     for row in OTHER_METHODS {
         let (line, wanted) = *row;
@@ -216,7 +216,7 @@ const NEAR_MISSES: &[Line] = &[
     ("GET /trace/house/A/B", NO_ROUTE),
 ];
 
-// Fails where one of the requests of ACME, all by this router, is told something else.
+// Fails if one of ACME's requests, all by this router, has another reply.
 fn check_routed(
     alloc: Global,
     router: &mut OfficeRouter,
@@ -226,7 +226,7 @@ fn check_routed(
     for row in lines {
         let (line, wanted) = *row;
         let bytes = request(alloc, line, "")?;
-        let out = answer_with_router(alloc, router, keep, &bytes);
+        let out = reply_by_router(alloc, router, keep, &bytes);
         let said = reply_said(alloc, out.bytes())?;
         check(said.as_str() == wanted, line)?;
     }
@@ -236,7 +236,7 @@ fn check_routed(
 #[test]
 fn one_router_serves_all_routes(rt: HostRuntime) -> Result<(), Fail> {
     let mut keep = office(rt.alloc())?;
-    check_lines::<WireTeller, _>(rt.alloc(), &mut keep, WITH_ORDER)?;
+    check_lines(rt.alloc(), &mut keep, WITH_ORDER)?;
     let mut router = OfficeRouter::new();
     for lines in &[EVERY_ROUTE, NEAR_MISSES, EVERY_ROUTE, NEAR_MISSES] {
         check_routed(rt.alloc(), &mut router, &mut keep, lines)?;

@@ -47,24 +47,24 @@ const BESIDE_BOLT: &[&str] = &[
 fn told_to_acme(alloc: Global, lines: &[&str]) -> Result<Vec<u8>, AllocError> {
     let events = events_of(alloc, lines)?;
     let answers = run_events(alloc, &mut MemKeep::new(alloc), &events)?;
-    let mut told = Vec::new(alloc);
+    let mut reported = Vec::new(alloc);
     for (line, answer) in lines.iter().zip(answers.iter()) {
         if let Answer::Bytes(out) = answer
             && line.starts_with("> ACME ACMEKEY1")
         {
-            told.extend_from_slice(out.bytes())?;
+            reported.extend_from_slice(out.bytes())?;
         }
     }
-    Ok(told)
+    Ok(reported)
 }
 
 #[test]
-fn an_owner_is_told_the_same_beside_others(rt: HostRuntime) -> Result<(), Fail> {
-    let told = told_to_acme(rt.alloc(), BY_THEMSELVES)?;
+fn an_owner_gets_the_same_replies_beside_others(rt: HostRuntime) -> Result<(), Fail> {
+    let reported = told_to_acme(rt.alloc(), BY_THEMSELVES)?;
     let beside = told_to_acme(rt.alloc(), BESIDE_BOLT)?;
-    let is_same = told.as_slice() == beside.as_slice();
+    let is_same = reported.as_slice() == beside.as_slice();
     check(
-        is_same && told.starts_with(b"HTTP/1.1 200 OK\r\n"),
+        is_same && reported.starts_with(b"HTTP/1.1 200 OK\r\n"),
         "told otherwise",
     )
 }

@@ -25,7 +25,7 @@ fn is_answered_in_pieces(
     Ok(is_answered(alloc, keep, &came, status))
 }
 
-/// Fails where a request is answered with another status, as it stands or however it comes.
+/// Fails if a request has a reply with another status, whole or in whatever pieces it comes.
 fn check_status(alloc: Global, bytes: &[u8], status: &str) -> Result<(), Fail> {
     let mut keep = office(alloc)?;
     let is_so = is_answered(alloc, &mut keep, bytes, status)
@@ -65,7 +65,7 @@ fn a_long_path_is_of_no_route(rt: HostRuntime) -> Result<(), Fail> {
     check_status(rt.alloc(), &bytes, "404")
 }
 
-/// How many blanks stand before the body, what its head claims, the body, and the status.
+/// How many blanks come before the body, what its head claims, the body, and the status.
 const BODIES: &[(usize, &str, &str, &str)] = &[
     (4096 - PLACE.len(), "content-length: 4096\r\n", PLACE, "200"),
     (4096 - PLACE.len(), "content-length: 4097\r\n", PLACE, "413"),
@@ -133,7 +133,7 @@ const FORMS: &[(&str, &str)] = &[
 ];
 
 #[test]
-fn forms_of_heads_are_told_apart(rt: HostRuntime) -> Result<(), Fail> {
+fn forms_of_heads_are_distinguished(rt: HostRuntime) -> Result<(), Fail> {
     for row in FORMS {
         let (text, status) = *row;
         check_status(rt.alloc(), text.as_bytes(), status)?;
@@ -149,7 +149,7 @@ fn is_read(alloc: Global, bytes: &[u8]) -> bool {
     }
 }
 
-// Whether the failure is told where the last of these bytes is missing.
+// Whether the failure is reported if the last of these bytes is missing.
 fn is_cut_short(alloc: Global, bytes: &[u8]) -> bool {
     match bytes.split_last() {
         Some((_, early)) => matches!(read_pieces(alloc, early, 100, true), Err(ReadFault::Io)),
@@ -164,8 +164,8 @@ fn a_request_that_came_is_enough(rt: HostRuntime) -> Result<(), Fail> {
     check(is_enough, "read otherwise")
 }
 
-// What comes of writing the reply to a stream that takes so many bytes with each write, and has room for
-// so many; and how many it took, where these are a front of the reply.
+// The outcome of writing the reply to a stream that takes this many bytes with each write, and has room for
+// so many; and how many it took, if these are a first part of the reply.
 fn write_to(alloc: Global, piece: usize, room: usize) -> (Result<(), WriteFault>, Option<usize>) {
     let mut sink = Sink {
         taken: Vec::new(alloc),
@@ -178,15 +178,15 @@ fn write_to(alloc: Global, piece: usize, room: usize) -> (Result<(), WriteFault>
 }
 
 #[test]
-fn a_writer_that_fails_is_told(rt: HostRuntime) {
+fn a_failed_write_is_reported(rt: HostRuntime) {
     for room in 0..PLACED.len() {
         let written = room as u64;
-        let told = write_to(rt.alloc(), PLACED.len(), room);
+        let reported = write_to(rt.alloc(), PLACED.len(), room);
         assert!(rt;
-            told == (Err(WriteFault { written }), Some(room)),
+            reported == (Err(WriteFault { written }), Some(room)),
             "at {room}"
         );
     }
-    let told = write_to(rt.alloc(), 1, PLACED.len());
-    assert!(rt; told == (Ok(()), Some(PLACED.len())));
+    let reported = write_to(rt.alloc(), 1, PLACED.len());
+    assert!(rt; reported == (Ok(()), Some(PLACED.len())));
 }

@@ -18,7 +18,7 @@ pub fn batch_body(alloc: Global, view: &BatchView) -> Result<String, AllocError>
 }
 
 impl JsonValue for BatchView {
-    ghost said = { λ view. batch_data view.row view.lines.items };
+    ghost as_data = { λ view. batch_data view.row view.lines.items };
 
     ghost exact = { λ view. batch_exact view.row view.lines.items };
 
@@ -35,7 +35,7 @@ impl JsonValue for BatchView {
 }
 
 impl JsonValue for RequirementLine {
-    ghost said = { requirement_data };
+    ghost as_data = { requirement_data };
 
     ghost exact = { λ _. refl };
 

@@ -2,7 +2,7 @@
 ghost use Rattle.std.specs.Prelude.{◌≡◌, ◌↔◌, ◌<◌, None, IfOk, IsErr, IsUtf8, OnErr, length};
 ghost use Rattle.serde_json.specs.Errors.{IsMemory};
 ghost use Rattle.serde_json.specs.View.{view};
-ghost use Rattle.toll_wire.specs.Bodies.{AsksOrder, batches_at, name_at, order_in};
+ghost use Rattle.toll_wire.specs.Bodies.{IsBodyOf, batches_at, name_member, order_in};
 
 use serde_json::{Error, Value};
 use std::alloc::{AllocError, Global};
@@ -22,8 +22,8 @@ pub struct Placing {
 ///
 /// Memory is needed only for a body that may be JSON: a body of no bytes, or of bytes that are no text,
 /// always has an answer.
-pub fn order_asked(alloc: Global, body: &[u8]) -> Result<Option<Placing>, AllocError>
-    ensures order { IfOk result (AsksOrder body.now) }
+pub fn requested_order(alloc: Global, body: &[u8]) -> Result<Option<Placing>, AllocError>
+    ensures order { IfOk result (IsBodyOf body.now) }
     ensures memory { OnErr result (IsUtf8 body.now × (0 < length body.now)) }
 {
     let Ok(text) = str::from_utf8(body) else {
@@ -61,7 +61,7 @@ fn order_in(value: &Value) -> Option<Placing>
 }
 
 fn name_at(value: &Value, member: &str) -> Option<Name>
-    ensures { result ≡ name_at member.now (view value.now) }
+    ensures { result ≡ name_member member.now (view value.now) }
 {
     Name::parse(value.get(member)?.as_str()?.as_bytes()).ok()
 }

@@ -24,7 +24,7 @@ pub fn error_body(alloc: Global, word: &str) -> Result<String, AllocError>
 }
 
 impl JsonValue for Refusal {
-    ghost said = { refusal_data };
+    ghost as_data = { refusal_data };
 
     ghost exact = { λ _. refl };
 
@@ -41,7 +41,7 @@ impl JsonValue for Refusal {
 struct ErrorWord<'a>(&'a str);
 
 impl JsonValue for ErrorWord<'_> {
-    ghost said = { λ told. error_data told.0.now };
+    ghost as_data = { λ value. error_data value.0.now };
 
     ghost exact = { λ _. refl };
 

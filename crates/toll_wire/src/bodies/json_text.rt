@@ -12,7 +12,7 @@ use std::alloc::{AllocError, Global};
 struct JsonText<'a, T>(&'a T);
 
 impl<T: JsonValue> Described for JsonText<'_, T> {
-    ghost writes = { λ sent. SendsValue (T.said sent.0.now) };
+    ghost writes = { λ sent. SendsValue (T.as_data sent.0.now) };
 }
 
 impl<T: JsonValue> Serialize for JsonText<'_, T> {
@@ -22,10 +22,10 @@ impl<T: JsonValue> Serialize for JsonText<'_, T> {
 }
 
 /// The text of a value, with no space.
-pub(crate) fn text_of<T: JsonValue>(alloc: Global, told: &T) -> Result<String, AllocError>
-    ensures { IfOk result (λ text. string_bytes text ≡ compact_text (T.said told.now)) }
+pub(crate) fn text_of<T: JsonValue>(alloc: Global, value: &T) -> Result<String, AllocError>
+    ensures { IfOk result (λ text. string_bytes text ≡ compact_text (T.as_data value.now)) }
 {
-    match serde_json::to_string(alloc, &JsonText(told)) {
+    match serde_json::to_string(alloc, &JsonText(value)) {
         Ok(text) => Ok(text),
         Err(_) => Err(AllocError),
     }

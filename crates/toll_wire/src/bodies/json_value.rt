@@ -9,23 +9,23 @@ use serde::Serializer;
 
 /// A value in a body as one JSON value, which holds no fraction.
 pub(crate) trait JsonValue {
-    ghost said: { Self → Data };
+    ghost as_data: { Self → Data };
 
     /// Sends the value.
     fn send<S: Serializer>(&self, out: &mut S) -> Result<(), S::Error>
-        ensures { OnOk result (SendsValue (said self.now) (S.written out.old) (S.written out.new)) };
+        ensures { OnOk result (SendsValue (as_data self.now) (S.written out.old) (S.written out.new)) };
 
-    ghost exact: { (told : Self) → has_float (said told) ≡ false };
+    ghost exact: { (value : Self) → has_float (as_data value) ≡ false };
 }
 
 /// Sends a member of an object that is open: its name and its value.
 pub(crate) fn send_member<T: JsonValue, S: Serializer>(
     name: &str,
-    told: &T,
+    value: &T,
     out: &mut S,
 ) -> Result<(), S::Error>
-    ensures { OnOk result (SendsMember name.now (T.said told.now) (S.written out.old) (S.written out.new)) }
+    ensures { OnOk result (SendsMember name.now (T.as_data value.now) (S.written out.old) (S.written out.new)) }
 {
     out.key(name)?;
-    told.send(out)
+    value.send(out)
 }

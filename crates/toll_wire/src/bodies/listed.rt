@@ -3,7 +3,7 @@ ghost use Rattle.std.specs.Prelude.{◌≡◌, IfOk, refl, string_bytes};
 ghost use Rattle.serde_json.specs.Written.{compact_text};
 ghost use Rattle.toll_wire.specs.Exact.{listed_exact};
 ghost use Rattle.toll_wire.specs.ReplyBodies.{
-  listed,
+  named_list_data,
   orders_data,
   step_data,
   stock_data,
@@ -42,7 +42,7 @@ pub fn trace_body(alloc: Global, steps: &[Step]) -> Result<String, AllocError>
 
 // The text of an object of one member: all these rows under this name.
 fn list_text<R: JsonValue>(alloc: Global, name: &str, rows: &[R]) -> Result<String, AllocError>
-    ensures { IfOk result (λ text. string_bytes text ≡ compact_text (listed name.now R.said rows.now)) }
+    ensures { IfOk result (λ text. string_bytes text ≡ compact_text (named_list_data name.now R.as_data rows.now)) }
 {
     text_of(alloc, &Listed { name, rows })
 }
@@ -55,9 +55,9 @@ struct Listed<'a, R> {
 }
 
 impl<R: JsonValue> JsonValue for Listed<'_, R> {
-    ghost said = { λ told. listed told.name.now R.said told.rows.now };
+    ghost as_data = { λ value. named_list_data value.name.now R.as_data value.rows.now };
 
-    ghost exact = { λ told. listed_exact told.name.now R.said R.exact told.rows.now };
+    ghost exact = { λ value. listed_exact value.name.now R.as_data R.exact value.rows.now };
 
     fn send<S: Serializer>(&self, out: &mut S) -> Result<(), S::Error> {
         out.begin_map(Some(1))?;
@@ -67,7 +67,7 @@ impl<R: JsonValue> JsonValue for Listed<'_, R> {
 }
 
 impl JsonValue for StockLine {
-    ghost said = { stock_line_data };
+    ghost as_data = { stock_line_data };
 
     ghost exact = { λ _. refl };
 
@@ -83,7 +83,7 @@ impl JsonValue for StockLine {
 }
 
 impl JsonValue for Step {
-    ghost said = { step_data };
+    ghost as_data = { step_data };
 
     ghost exact = { λ _. refl };
 

@@ -48,9 +48,9 @@ struct LotBody<'a> {
 }
 
 impl JsonValue for LotBody<'_> {
-    ghost said = { λ told. lot_from told.origin.now told.view.now.row told.view.now.measure told.view.now.results.items told.view.now.sublots.items };
+    ghost as_data = { λ value. lot_from value.origin.now value.view.now.row value.view.now.measure value.view.now.results.items value.view.now.sublots.items };
 
-    ghost exact = { λ told. lot_exact told.origin.now told.view.now.row told.view.now.measure told.view.now.results.items told.view.now.sublots.items };
+    ghost exact = { λ value. lot_exact value.origin.now value.view.now.row value.view.now.measure value.view.now.results.items value.view.now.sublots.items };
 
     fn send<S: Serializer>(&self, out: &mut S) -> Result<(), S::Error> {
         out.begin_map(Some(7))?;
@@ -66,7 +66,7 @@ impl JsonValue for LotBody<'_> {
 }
 
 impl JsonValue for ResultRow {
-    ghost said = { result_data };
+    ghost as_data = { result_data };
 
     ghost exact = { result_exact };
 
@@ -80,7 +80,7 @@ impl JsonValue for ResultRow {
 }
 
 impl JsonValue for SublotRow {
-    ghost said = { sublot_data };
+    ghost as_data = { sublot_data };
 
     ghost exact = { λ _. refl };
 

@@ -17,7 +17,7 @@ pub fn order_body(alloc: Global, row: &OrderRow) -> Result<String, AllocError>
 }
 
 impl JsonValue for OrderRow {
-    ghost said = { order_data };
+    ghost as_data = { order_data };
 
     ghost exact = { λ _. refl };
 

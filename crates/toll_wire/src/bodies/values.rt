@@ -4,7 +4,7 @@ ghost use Rattle.serde_json.specs.Data.{boolean, string};
 ghost use Rattle.toll_base.specs.States.{word_of_state};
 ghost use Rattle.toll_base.specs.ValueWords.{disposition_word, use_word};
 ghost use Rattle.toll_wire.specs.Exact.{whole_exact};
-ghost use Rattle.toll_wire.specs.ReplyBodies.{count, whole};
+ghost use Rattle.toll_wire.specs.ReplyBodies.{count_data, whole_data};
 
 use crate::bodies::json_value::JsonValue;
 use serde::Serializer;
@@ -13,7 +13,7 @@ use toll_base::{Bounded, Disposition, Measure, Name, Role, State, Value};
 use toll_work::StateWord;
 
 impl JsonValue for &str {
-    ghost said = { λ text. string text.now };
+    ghost as_data = { λ text. string text.now };
 
     ghost exact = { λ _. refl };
 
@@ -23,7 +23,7 @@ impl JsonValue for &str {
 }
 
 impl JsonValue for bool {
-    ghost said = { boolean };
+    ghost as_data = { boolean };
 
     ghost exact = { λ _. refl };
 
@@ -33,7 +33,7 @@ impl JsonValue for bool {
 }
 
 impl JsonValue for u64 {
-    ghost said = { count };
+    ghost as_data = { count_data };
 
     ghost exact = { λ _. refl };
 
@@ -43,7 +43,7 @@ impl JsonValue for u64 {
 }
 
 impl<const LEAST: u64, const MOST: u64> JsonValue for Bounded<LEAST, MOST> {
-    ghost said = { count };
+    ghost as_data = { count_data };
 
     ghost exact = { λ _. refl };
 
@@ -53,7 +53,7 @@ impl<const LEAST: u64, const MOST: u64> JsonValue for Bounded<LEAST, MOST> {
 }
 
 impl JsonValue for Value {
-    ghost said = { whole };
+    ghost as_data = { whole_data };
 
     ghost exact = { whole_exact };
 
@@ -66,7 +66,7 @@ impl JsonValue for Value {
 }
 
 impl JsonValue for Name {
-    ghost said = { string };
+    ghost as_data = { string };
 
     ghost exact = { λ _. refl };
 
@@ -76,7 +76,7 @@ impl JsonValue for Name {
 }
 
 impl JsonValue for Measure {
-    ghost said = { string };
+    ghost as_data = { string };
 
     ghost exact = { λ _. refl };
 
@@ -86,7 +86,7 @@ impl JsonValue for Measure {
 }
 
 impl JsonValue for Disposition {
-    ghost said = { λ disposition. string (disposition_word disposition) };
+    ghost as_data = { λ disposition. string (disposition_word disposition) };
 
     ghost exact = { λ _. refl };
 
@@ -96,7 +96,7 @@ impl JsonValue for Disposition {
 }
 
 impl JsonValue for Role {
-    ghost said = { λ role. string (use_word role) };
+    ghost as_data = { λ role. string (use_word role) };
 
     ghost exact = { λ _. refl };
 
@@ -106,7 +106,7 @@ impl JsonValue for Role {
 }
 
 impl JsonValue for State {
-    ghost said = { λ state. string (word_of_state state) };
+    ghost as_data = { λ state. string (word_of_state state) };
 
     ghost exact = { λ _. refl };
 

@@ -2,7 +2,7 @@
 ghost use Rattle.std.specs.Prelude.{IfOk, IfSome, Option};
 ghost use Rattle.toll_wire.specs.Routers.{IsOffice, OfficeRows};
 
-use crate::routes::route::{ROUTES, Route};
+use crate::routes::route::{Endpoint, ROUTES};
 use matchit::{InsertError, Router};
 use std::alloc::{AllocError, Global};
 use std::marker::Model;
@@ -10,7 +10,7 @@ use std::marker::Model;
 /// The router of the office, which routes many requests: the first of them builds it.
 #[derive(Drop)]
 pub struct OfficeRouter {
-    built: Option<Router<Route>>,
+    built: Option<Router<Endpoint>>,
 }
 
 impl Model for OfficeRouter {
@@ -29,26 +29,23 @@ impl OfficeRouter {
 
     /// The router, which is built now if it wasn't before. An `Err` means that there was no memory for it;
     /// the next request tries again.
-    pub fn built(&mut self, alloc: Global) -> Result<&Router<Route>, AllocError>
+    pub fn built(&mut self, alloc: Global) -> Result<&Router<Endpoint>, AllocError>
         ensures { IfOk result (λ router. IsOffice router.now) }
     {
         if self.built.is_none() {
             self.built = Some(build(alloc)?);
         }
-        match &self.built {
-            Some(router) => Ok(router),
-            None => unreachable!(),
-        }
+        Ok(self.built.as_ref().unwrap())
     }
 }
 
 // Builds the router.
-fn build(alloc: Global) -> Result<Router<Route>, AllocError>
+fn build(alloc: Global) -> Result<Router<Endpoint>, AllocError>
     ensures { IfOk result IsOffice }
 {
     let mut router = Router::new(alloc);
     for route in &ROUTES {
-        if let Err(error) = router.insert(route.pattern, *route) {
+        if let Err(error) = router.insert(route.pattern, route.endpoint) {
             prove!(matches!(&error, InsertError::OutOfMemory));
             return Err(AllocError);
         }

@@ -2,7 +2,7 @@
 ghost use Rattle.std.specs.Prelude.{◌≡◌, length, map};
 ghost use Rattle.std.specs.List.{AllByRecursion};
 ghost use Rattle.std.specs.Str.{IsUtf8};
-ghost use Rattle.toll_wire.specs.Places.{AreReadFrom, IsNumberRead, count};
+ghost use Rattle.toll_wire.specs.Places.{AreValuesReadFrom, IsNumberRead, count_parts};
 
 use crate::routes::values::Values;
 use matchit::ParamsIter;
@@ -22,9 +22,9 @@ pub enum Parts {
 impl Parts {
     /// The values that these texts write in these parts; `None` if they write none.
     pub fn read(self, mut texts: ParamsIter<'_, '_, '_>) -> Option<Values>
-        requires count { length texts ≡ count self }
+        requires count { length texts ≡ count_parts self }
         requires text { AllByRecursion (λ p. IsUtf8 p.1) texts }
-        ensures { AreReadFrom self (map (λ p. p.1) texts.entry) result }
+        ensures { AreValuesReadFrom self (map (λ p. p.1) texts.entry) result }
     {
         match self {
             Parts::Nothing => Some(Values::Nothing),

@@ -1,9 +1,10 @@
-//! The route of a path.
+//! The endpoint of a path.
 ghost use Rattle.std.specs.Prelude.{◌≡◌, ◌==◌, position};
-ghost use Rattle.toll_wire.specs.Places.{path_of};
-ghost use Rattle.toll_wire.specs.Routers.{IsOffice, LeadsBy};
+ghost use Rattle.toll_wire.specs.Places.{PathLeadsTo, path_of};
+ghost use Rattle.toll_wire.specs.Routers.{IsOffice};
+ghost use Rattle.toll_wire.specs.Routes.{routes};
 
-use crate::routes::route::Route;
+use crate::routes::route::Endpoint;
 use crate::routes::values::Values;
 use matchit::Router;
 use std::str::from_utf8;
@@ -24,13 +25,13 @@ fn query_start(target: &[u8]) -> Option<usize>
     target.iter().position(|b| *b == b'?')
 }
 
-/// The route of a path by the router of the office, with the values that the path has there; `None` if the
+/// The endpoint of a path by the router of the office, with the values that the path has there; `None` if the
 /// path has no route.
-pub fn route_of<'r>(router: &'r Router<Route>, path: &[u8]) -> Option<(&'r Route, Values)>
+pub fn endpoint_of(router: &Router<Endpoint>, path: &[u8]) -> Option<(Endpoint, Values)>
     requires { IsOffice router.now }
-    ensures { LeadsBy path.now result }
+    ensures { PathLeadsTo routes path.now result }
 {
     let found = router.at(from_utf8(path).ok()?).ok()?;
     let values = found.value.parts.read(found.params.iter())?;
-    Some((found.value, values))
+    Some((*found.value, values))
 }

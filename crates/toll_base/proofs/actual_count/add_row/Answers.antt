@@ -1,5 +1,5 @@
 use Rattle.std.proofs.Common.{◌≡◌, true, is_some, sym, ap, ◌∙◌}
-use Rattle.toll_base.specs.ActualCounts.{counted}
+use Rattle.toll_base.specs.ActualCounts.{actual_count_at}
 use Rattle.toll_base.specs.SliceRules.{is_actual_of}
 use Rattle.toll_base.proofs.ActualCountLemmas.{as_many, still_counted, now_counted, no_row, same_along}
 use Rattle.toll_base.proofs.actual_count.add_row.Goals as goal
@@ -17,6 +17,6 @@ returns-in_ok-put-clause-row c = λ o n h. rw c.in_ok-put.ensures.ok (now_counte
 
 pub returns-else-is_none-clause-row : goal.returns-else-is_none-clause-row
 returns-else-is_none-clause-row c = λ o n h.
-    same_along (λ o' n'. is_some (counted c.args.counts.now o' n') ≡ true) o c.in-Actual.order n c.in-Actual.number
+    same_along (λ o' n'. is_some (actual_count_at c.args.counts.now o' n') ≡ true) o c.in-Actual.order n c.in-Actual.number
     (sym (ap (is_actual_of o n) c.in-Actual.is) ∙ h)
     (sym (ap is_some c.get.ensures) ∙ c.if-is_none.ensures)

@@ -1,4 +1,4 @@
-use Rattle.toll_desk.proofs.Held.{through_fault}
+use Rattle.toll_desk.proofs.OccupiedLemmas.{through_fault}
 use Rattle.toll_desk.proofs.deciding.both_over.Goals as goal
 
 pub returns-in-Err-clause-reading : goal.returns-in-Err-clause-reading

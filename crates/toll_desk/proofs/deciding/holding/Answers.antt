@@ -1,5 +1,5 @@
 use Rattle.std.proofs.Common.{refl}
-use Rattle.toll_desk.proofs.DeedPlans.{free_alike}
+use Rattle.toll_desk.proofs.CommandPlans.{free_alike}
 use Rattle.toll_desk.proofs.deciding.holding.Goals as goal
 
 pub returns-in-Ok-clause-over : goal.returns-in-Ok-clause-over

@@ -1,4 +1,4 @@
-use Rattle.toll_desk.proofs.DeedPlans.{opened_own}
+use Rattle.toll_desk.proofs.CommandPlans.{opened_own}
 use Rattle.toll_desk.proofs.deciding.open_on.Goals as goal
 
 pub returns-in-Ok-open_batch-clause-over : goal.returns-in-Ok-open_batch-clause-over

@@ -1,5 +1,5 @@
 use Rattle.toll_desk.proofs.Common.{IfOk-weaker, changes_of}
-use Rattle.toll_desk.proofs.Lift.{own_keep_others, shared_by_own, shared_by_named}
+use Rattle.toll_desk.proofs.SliceToContent.{own_keep_others, shared_by_own, shared_by_named}
 use Rattle.toll_desk.proofs.decisions.decide_shared.Goals as goal
 
 pub returns-in-Require-clause-house_rules : goal.returns-in-Require-clause-house_rules

@@ -1,6 +1,6 @@
 use Rattle.std.proofs.Common.{◌≡◌, true, false, sym, subst, ◌∙◌}
-use Rattle.toll_desk.proofs.Common.{IfOk-weaker, is_some, IfSome, same_bytes, order_at, house_name, owner_known, has_key}
-use Rattle.toll_desk.specs.Translations.{asked_of, told_of}
+use Rattle.toll_desk.proofs.Common.{IfOk-weaker, is_some, IfSome, same_bytes, order_at, house_name, owner_known, has_owner_key}
+use Rattle.toll_desk.specs.Translations.{meaning_of_reply}
 use Rattle.toll_desk.specs.Plans.{IsPlanFor}
 use Rattle.toll_desk.proofs.OwnerPlans.{right_key, wrong_key, key_known, not_house_by, plan_admitted, plan_forbidden}
 use Rattle.toll_desk.proofs.owner.owner_plan.Goals as goal
@@ -9,12 +9,12 @@ pub returns-in-Ok-Some-clause-plan : goal.returns-in-Ok-Some-clause-plan
 returns-in-Ok-Some-clause-plan g c honest content H held stands lawful =
     let o = c.args.owner.now in
     let key = c.args.key.now in
-    let q = asked_of c.args.request.now in
+    let q = c.args.request.now in
     let changes = c.plan_for.result.changes.items in
     let before = c.plan_for.ensures.reads.goes.honest honest in
-    let found = right_key o c.in-Ok-Some.owner (has_key o key H) (sym c.in-Ok-Some.field-0-is ∙ c.in-Ok-Some.ensures.found before content held H stands) in
+    let found = right_key o c.in-Ok-Some.owner (has_owner_key o key H) (sym c.in-Ok-Some.field-0-is ∙ c.in-Ok-Some.ensures.found before content held H stands) in
     let known = key_known content H o key stands found.0 in
-    IfOk-weaker (told_of c.plan_for.result.reply) _ _ (λ told plan. plan_admitted content H o key q told changes found.0 (subst (λ p. IsPlanFor content H p q told changes) found.1 plan))
+    IfOk-weaker (meaning_of_reply c.plan_for.result.reply) _ _ (λ reported plan. plan_admitted content H o key q reported changes found.0 (subst (λ p. IsPlanFor content H p q reported changes) found.1 plan))
     (c.plan_for.ensures.plan honest content H ((c.in-Ok-Some.ensures.reads.keeps before).content content held) stands lawful (subst (λ p. owner_known H p ≡ true) (sym found.1) known)
     (subst (λ p. same_bytes p house_name ≡ false) (sym found.1) (not_house_by H o key found.0)))
 
@@ -22,8 +22,8 @@ pub returns-in-Ok-None-clause-plan : goal.returns-in-Ok-None-clause-plan
 returns-in-Ok-None-clause-plan g c honest content H held stands lawful =
     let o = c.args.owner.now in
     let key = c.args.key.now in
-    let wrong = wrong_key o (has_key o key H) (sym c.in-Ok-None.field-0-is ∙ c.in-Ok-None.ensures.found honest content held H stands) in
-    rw (c.unchanged.ensures.reply, c.unchanged.ensures.changes) (plan_forbidden content H o key (asked_of c.args.request.now) stands wrong)
+    let wrong = wrong_key o (has_owner_key o key H) (sym c.in-Ok-None.field-0-is ∙ c.in-Ok-None.ensures.found honest content held H stands) in
+    rw (c.unchanged.ensures.reply, c.unchanged.ensures.changes) (plan_forbidden content H o key c.args.request.now stands wrong)
 
 pub returns-in-Ok-Some-clause-idle : goal.returns-in-Ok-Some-clause-idle
 returns-in-Ok-Some-clause-idle g c = record {

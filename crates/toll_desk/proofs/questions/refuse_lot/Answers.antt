@@ -1,5 +1,5 @@
 use Rattle.std.proofs.Common.{sym, ◌∙◌}
-use Rattle.toll_desk.proofs.OwnerPlans.{some_read, none_read}
+use Rattle.toll_desk.proofs.OwnerPlans.{some_read, unread_is_unknown}
 use Rattle.toll_desk.proofs.PlantShown.{owner_unknown, lot_refused}
 use Rattle.toll_desk.proofs.questions.refuse_lot.Goals as goal
 
@@ -9,4 +9,4 @@ returns-in-Ok-Some-clause-over g c honest content H held stands lawful unknown =
 
 pub returns-in-Ok-None-clause-over : goal.returns-in-Ok-None-clause-over
 returns-in-Ok-None-clause-over g c honest content H held stands lawful unknown =
-    owner_unknown H c.args.lot.now _ (none_read content H c.args.lot.now.owner stands (sym c.in-Ok-None.field-0-is ∙ c.in-Ok-None.ensures.reads honest content held))
+    owner_unknown H c.args.lot.now _ (unread_is_unknown content H c.args.lot.now.owner stands (sym c.in-Ok-None.field-0-is ∙ c.in-Ok-None.ensures.reads honest content held))

@@ -1,6 +1,6 @@
 use Rattle.std.proofs.Common.{subst, ◌∙◌}
 use Rattle.toll_desk.proofs.Common.{acts, order_of, batch_of, IsViewOver}
-use Rattle.toll_desk.proofs.ReadOver.{given_orders, none_by, order_absent, batch_absent, batch_told}
+use Rattle.toll_desk.proofs.ReadOver.{given_orders, none_by, order_absent, batch_absent, batch_replied}
 use Rattle.toll_desk.proofs.reading.batch_shown.Goals as goal
 
 pub returns-then-is_none-clause-over : goal.returns-then-is_none-clause-over
@@ -11,16 +11,16 @@ returns-then-is_none-clause-over c H lawful there =
     (none_by c.order.result _ c.is_none.result c.is_none.ensures (c.order.ensures ∙ given_orders H s there c.args.order.now) ∙ c.if-is_none.true)
 
 pub returns-in-Ok-Some-clause-over : goal.returns-in-Ok-Some-clause-over
-unfolding Rattle.toll_work.specs.BatchView.TellsOverHistories
+unfolding Rattle.toll_work.specs.BatchView.IsViewOfHistories
 returns-in-Ok-Some-clause-over c H lawful there =
     let o = c.args.slice.now.owner in
     let order = c.args.order.now in
     let number = c.args.number in
-    batch_told H o order number c.in-Ok-Some.view _
+    batch_replied H o order number c.in-Ok-Some.view _
     (subst (IsViewOver H o order number (order_of (acts o H) order) (batch_of (acts o H) (order, number))) c.in-Ok-Some.field-0-is (c.in-Ok-Some.ensures.over_histories H lawful there))
 
 pub returns-in-Ok-None-clause-over : goal.returns-in-Ok-None-clause-over
-unfolding Rattle.toll_work.specs.BatchView.TellsOverHistories
+unfolding Rattle.toll_work.specs.BatchView.IsViewOfHistories
 returns-in-Ok-None-clause-over c H lawful there =
     let s = c.args.slice.now in
     let o = s.owner in

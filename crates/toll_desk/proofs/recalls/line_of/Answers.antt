@@ -1,4 +1,4 @@
-use Rattle.toll_desk.proofs.RecallLines.{slice_at, no_slice, line_given}
+use Rattle.toll_desk.proofs.RecallLines.{slice_at, slice_is_there, line_given}
 use Rattle.toll_desk.proofs.recalls.line_of.Goals as goal
 
 pub returns-in-Some : goal.returns-in-Some
@@ -7,4 +7,4 @@ returns-in-Some c H steps lawful are there =
     line_given H c.args.step.now c.line_in.result (c.line_in.ensures H lawful (are.rows c.index-slices-at.result found.0) found.1)
 
 pub returns-in-None : goal.returns-in-None
-returns-in-None c H steps lawful are there known = absurd (no_slice c.args.slices.now c.args.step.now.lot.owner c.in-None.ensures (are.every c.args.step.now there known))
+returns-in-None c H steps lawful are there known = absurd (slice_is_there c.args.slices.now c.args.step.now.lot.owner c.in-None.ensures (are.every c.args.step.now there known))

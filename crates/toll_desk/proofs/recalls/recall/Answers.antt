@@ -1,8 +1,8 @@
 use Rattle.std.proofs.Common.{is_some, ◌&&◌, sym, ap, ◌∙◌}
 use Rattle.toll_desk.proofs.Common.{lot_row}
-use Rattle.toll_desk.proofs.KeptRules.{standing_keeps_rules}
+use Rattle.toll_desk.proofs.KeptRules.{represented_keeps_rules}
 use Rattle.toll_desk.proofs.Going.{going_then, going_fault_as, going_honest}
-use Rattle.toll_desk.proofs.OwnerPlans.{some_read, none_read}
+use Rattle.toll_desk.proofs.OwnerPlans.{some_read, unread_is_unknown}
 use Rattle.toll_desk.proofs.OwnTraces.{rows_read}
 use Rattle.toll_desk.proofs.RecallLines.{lot_missing, lot_there}
 use Rattle.toll_desk.proofs.recalls.recall.Goals as goal
@@ -15,11 +15,11 @@ returns-then-is_none-clause-over g c honest content H held stands lawful =
 
 pub returns-in-Ok-None-clause-over : goal.returns-in-Ok-None-clause-over
 returns-in-Ok-None-clause-over g c honest content H held stands lawful =
-    ap (λ b. b && is_some (lot_row H c.args.lot.now.owner c.args.lot.now.lot)) (none_read content H c.args.lot.now.owner stands (sym c.in-Ok-None.field-0-is ∙ c.in-Ok-None.ensures.reads honest content held))
+    ap (λ b. b && is_some (lot_row H c.args.lot.now.owner c.args.lot.now.lot)) (unread_is_unknown content H c.args.lot.now.owner stands (sym c.in-Ok-None.field-0-is ∙ c.in-Ok-None.ensures.reads honest content held))
 
 pub returns-in-Err-clause-whole : goal.returns-in-Err-clause-whole
 returns-in-Err-clause-whole g c honest content H held stands lawful is =
-    c.in-Err.ensures.reading.whole honest content held (standing_keeps_rules H content lawful stands) (cc)
+    c.in-Err.ensures.reading.whole honest content held (represented_keeps_rules H content lawful stands) (cc)
 
 pub returns-in-Ok-clause-over : goal.returns-in-Ok-clause-over
 returns-in-Ok-clause-over g c honest content H held stands lawful =

@@ -1,6 +1,6 @@
 use Rattle.std.proofs.Common.{inl, sym, subst}
 use Rattle.toll_desk.proofs.Common.{IsTrace, Forward, IsPlantJoined}
-use Rattle.toll_desk.proofs.KeptRules.{standing_keeps_rules}
+use Rattle.toll_desk.proofs.KeptRules.{represented_keeps_rules}
 use Rattle.toll_desk.proofs.Going.{reads_as, fault_as}
 use Rattle.toll_desk.proofs.recalls.recall_known.Goals as goal
 
@@ -27,4 +27,4 @@ returns-in-Err-clause-going g c = inl (fault_as g.K.Keep.meaning c.args.keep.now
 
 pub returns-in-Err-clause-whole : goal.returns-in-Err-clause-whole
 returns-in-Err-clause-whole g c honest content H held stands lawful rows known is =
-    c.in-Err.ensures.reading.whole honest content held (standing_keeps_rules H content lawful stands) (cc)
+    c.in-Err.ensures.reading.whole honest content held (represented_keeps_rules H content lawful stands) (cc)

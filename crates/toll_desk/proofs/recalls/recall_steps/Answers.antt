@@ -1,5 +1,5 @@
 use Rattle.std.proofs.Common.{refl, inl, inr, sym, subst}
-use Rattle.toll_desk.proofs.KeptRules.{standing_keeps_rules}
+use Rattle.toll_desk.proofs.KeptRules.{represented_keeps_rules}
 use Rattle.toll_desk.proofs.Common.{read_memory}
 use Rattle.toll_desk.specs.Questions.{AreSlicesFor, AreLinesOf}
 use Rattle.toll_desk.proofs.Going.{reads_as, fault_as}
@@ -22,7 +22,7 @@ returns-clause-going g c first have = inl (fault_as g.K.Keep.meaning first c.sli
 
 pub returns-clause-whole : goal.returns-clause-whole
 returns-clause-whole g c first have honest content H held stands lawful lot rows known traced is =
-    (c.in-Err.ensures.reads first have).whole honest content held (standing_keeps_rules H content lawful stands) (cc)
+    (c.in-Err.ensures.reads first have).whole honest content held (represented_keeps_rules H content lawful stands) (cc)
 
 pub returns-in-Ok-Some-clause-over : goal.returns-in-Ok-Some-clause-over
 returns-in-Ok-Some-clause-over g c first have honest content H held stands lawful lot rows traced =

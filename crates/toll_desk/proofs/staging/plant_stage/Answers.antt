@@ -1,4 +1,4 @@
-use Rattle.toll_desk.proofs.Held.{unread_held}
+use Rattle.toll_desk.proofs.OccupiedLemmas.{unread_held}
 use Rattle.toll_desk.proofs.staging.plant_stage.Goals as goal
 
 pub returns-in-Unread-clause-held : goal.returns-in-Unread-clause-held

@@ -1,23 +1,41 @@
-use Rattle.std.proofs.Common.{sym, ap, ◌∙◌}
-use mathlib.Core.Bool.{false≢true}
-use Rattle.toll_desk.specs.Questions.{may_trace}
-use Rattle.toll_desk.proofs.OwnerPlans.{none_read}
-use Rattle.toll_desk.proofs.OwnTraces.{rows_read, not_traced}
+use Rattle.std.proofs.Common.{[], ◌∷◌, refl, sym, subst, ◌∙◌}
+use Rattle.toll_trace.specs.Chain.{edge_of}
+use Rattle.toll_desk.proofs.Common.{Bytes, IsTrace, ReplyTrace, ReplyRefused, UnknownLot, read_ok, read_fault, reads_then}
+use Rattle.toll_keep.specs.Holding.{IsEdgeOfOne}
+use Rattle.toll_desk.proofs.PlantTraces.{own_trace}
 use Rattle.toll_desk.proofs.tracing.trace_own.Goals as goal
 
-pub returns-else-not-may_trace-clause-over : goal.returns-else-not-may_trace-clause-over
-returns-else-not-may_trace-clause-over g c honest content H held stands lawful known other =
-    let t = c.args.tracing.now in
-    let before = c.trace_known.ensures.reads.goes.honest honest in
-    let read = rows_read content H c.args.owner.now c.in-Ok-Some.slice stands (sym c.in-Ok-Some.field-0-is ∙ c.in-Ok-Some.ensures.reads before content held) in
-    c.trace_known.ensures.over honest content H ((c.in-Ok-Some.ensures.reading.keeps before).content content held) stands lawful known (ap (λ p. may_trace H p t) (sym read.1) ∙ sym (c.may_trace.ensures H lawful read.0) ∙ c.if-not-may_trace.false)
+pub returns-then-not-may_trace-clause-reads : goal.returns-then-not-may_trace-clause-reads
+returns-then-not-may_trace-clause-reads g c first read = read_ok g.K.Keep.meaning first c.args.keep.now tt (ReplyRefused UnknownLot) read.goes read.keeps
+
+pub returns-in-Ok-clause-reads : goal.returns-in-Ok-clause-reads
+returns-in-Ok-clause-reads g c first read =
+    let K = g.K.Keep in
+    let new = c.trace.new.self in
+    let steps = c.in-Ok.steps in
+    let both = reads_then K.meaning first c.args.keep.now new tt _ read c.in-Ok.ensures.reading in
+    read_ok K.meaning first new steps (ReplyTrace steps.items) both.goes both.keeps
+
+pub returns-in-Err-clause-reads : goal.returns-in-Err-clause-reads
+returns-in-Err-clause-reads g c first read =
+    let K = g.K.Keep in
+    let new = c.trace.new.self in
+    let both = reads_then K.meaning first c.args.keep.now new tt _ read c.in-Err.ensures.reading in
+    read_fault K.meaning first new c.in-Err.fault both.goes both.keeps both.whole
 
 pub returns-then-not-may_trace-clause-over : goal.returns-then-not-may_trace-clause-over
-returns-then-not-may_trace-clause-over g c honest content H held stands lawful known other =
-    let t = c.args.tracing.now in
-    let read = rows_read content H c.args.owner.now c.in-Ok-Some.slice stands (sym c.in-Ok-Some.field-0-is ∙ c.in-Ok-Some.ensures.reads honest content held) in
-    not_traced H c.args.owner.now t (ap (λ p. may_trace H p t) (sym read.1) ∙ sym (c.may_trace.ensures H lawful read.0) ∙ c.if-not-may_trace.true)
+returns-then-not-may_trace-clause-over g c honest content H held stands lawful rows =
+    rw (sym (c.may_trace.ensures H lawful rows) ∙ c.if-not-may_trace.true) refl
 
-pub returns-in-Ok-None-clause-over : goal.returns-in-Ok-None-clause-over
-returns-in-Ok-None-clause-over g c honest content H held stands lawful known other =
-    absurd (false≢true (sym (none_read content H c.args.owner.now stands (sym c.in-Ok-None.field-0-is ∙ c.in-Ok-None.ensures.reads honest content held)) ∙ known))
+pub returns-in-Ok-clause-over : goal.returns-in-Ok-clause-over
+returns-in-Ok-clause-over g c honest content H held stands lawful rows =
+    let s = c.args.slice.now in
+    let lot = c.args.lot.now in
+    let w = c.args.way in
+    let steps = c.in-Ok.steps.items in
+    let is = c.in-Ok.ensures.reads honest content held in
+    rw (sym (c.may_trace.ensures H lawful rows) ∙ c.if-not-may_trace.false) (record {
+      trace = steps;
+      traced = own_trace H content lawful stands s.owner w lot steps (subst (λ (o : Bytes). IsTrace (λ a b. IsEdgeOfOne content (o ∷ []) (edge_of w a b)) lot steps) c.owner.ensures.owner is);
+      reported = refl;
+    })

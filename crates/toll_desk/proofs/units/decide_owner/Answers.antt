@@ -1,7 +1,7 @@
 use Rattle.std.proofs.Common.{[], ◌∷◌, subst, ◌∙◌}
 use Rattle.toll_desk.proofs.Common.{IsDecided, Owner, OwnerRow}
 use Rattle.toll_desk.specs.Admission.{owner_row_checks}
-use Rattle.toll_desk.proofs.DeedPlans.{decided_owner}
+use Rattle.toll_desk.proofs.CommandPlans.{decided_owner}
 use Rattle.toll_desk.proofs.units.decide_owner.Goals as goal
 
 pub returns-in-Ok-judge_owner-clause-over : goal.returns-in-Ok-judge_owner-clause-over

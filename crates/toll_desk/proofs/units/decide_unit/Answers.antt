@@ -1,7 +1,7 @@
 use Rattle.std.proofs.Common.{[], ◌∷◌, subst, ◌∙◌}
 use Rattle.toll_desk.proofs.Common.{IsDecided, Unit, UnitRow}
 use Rattle.toll_desk.specs.Admission.{unit_row_checks}
-use Rattle.toll_desk.proofs.DeedPlans.{decided_unit}
+use Rattle.toll_desk.proofs.CommandPlans.{decided_unit}
 use Rattle.toll_desk.proofs.units.decide_unit.Goals as goal
 
 pub returns-in-Ok-judge_unit-clause-over : goal.returns-in-Ok-judge_unit-clause-over

@@ -1,5 +1,5 @@
 use Rattle.toll_base.specs.Values.{house_name}
-use Rattle.toll_history.proofs.OwnTables.{tables-other, tables_but_amounts-other}
+use Rattle.toll_history.proofs.OwnFacts.{tables-other, tables_but_amounts-other}
 use Rattle.toll_history.proofs.isolation.commands_keep_the_tables_of_others.Goals as goal
 
 pub returns-clause-owners : goal.returns-clause-owners

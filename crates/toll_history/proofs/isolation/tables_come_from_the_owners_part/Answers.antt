@@ -1,5 +1,5 @@
 use Rattle.toll_base.specs.Values.{house_name}
-use Rattle.toll_history.proofs.OwnTables.{tables-part, tables_but_amounts-part}
+use Rattle.toll_history.proofs.OwnFacts.{tables-part, tables_but_amounts-part}
 use Rattle.toll_history.proofs.isolation.tables_come_from_the_owners_part.Goals as goal
 
 pub returns-clause-owners : goal.returns-clause-owners

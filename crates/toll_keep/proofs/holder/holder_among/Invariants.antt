@@ -3,6 +3,6 @@ use Rattle.std.specs.List.{AllWithin}
 use Rattle.toll_keep.specs.Holding.{IsHolderIn}
 use Rattle.toll_keep.proofs.holder.holder_among.Given as goal
 
--- none of the slices so far has a batch that holds the unit
+-- None of the slices so far has a batch that holds the unit.
 abbrev pub invariant-loop-slice : goal.invariant-loop-slice
 invariant-loop-slice l = AllWithin (λ s. IsHolderIn s l.unit None) l.slices 0 l.slice-index

@@ -2,10 +2,10 @@ use Rattle.std.proofs.Common.{map, ap, subst, ◌∙◌}
 use Rattle.std.specs.Prelude.{IfOk}
 use Rattle.toll_trace.specs.Graph.{LeadAmong}
 use Rattle.toll_trace.specs.Trace.{IsTrace}
-use Rattle.toll_keep.proofs.Learning.{tells_trace}
+use Rattle.toll_keep.proofs.Learning.{gives_trace}
 use Rattle.toll_keep.proofs.tracing.trace_known.Goals as goal
 
 pub returns : goal.returns
 returns c = λ content are each.
-    tells_trace content c.args.owners.now c.args.graphs.now are each c.args.way c.args.from.now c.trace_among.result
+    gives_trace content c.args.owners.now c.args.graphs.now are each c.args.way c.args.from.now c.trace_among.result
     (subst (λ graphs. IfOk c.trace_among.result (λ steps. IsTrace (LeadAmong graphs c.args.way) c.args.from.now steps.items)) (ap (map (λ graph. graph.now)) c.deref.ensures.value ∙ c.in_ok-chosen.ensures) c.trace_among.ensures)

@@ -1,10 +1,10 @@
 use Rattle.std.proofs.Common.{◌≡◌, ap, sym, ◌∙◌, map, drop, true, false, ◌∷◌}
 use Rattle.csv.specs.Records.{fields_of}
-use Rattle.toll_plant.proofs.FileLemmas.{none_first, none_there, other_first, first_there, rest_whole}
+use Rattle.toll_plant.proofs.FileLemmas.{none_first, empty_if_below_one, other_first, first_there, rest_whole}
 use Rattle.toll_plant.proofs.actuals.under_header.Goals as goal
 
 pub returns-in_default-clause-refused : goal.returns-in_default-clause-refused
-returns-in_default-clause-refused c = λ refused. none_first c.args.records.now (none_there c.args.records.now c.in_default.len_below)
+returns-in_default-clause-refused c = λ refused. none_first c.args.records.now (empty_if_below_one c.args.records.now c.in_default.len_below)
 
 pub returns-then-is_header-clause-under : goal.returns-then-is_header-clause-under
 returns-then-is_header-clause-under c =

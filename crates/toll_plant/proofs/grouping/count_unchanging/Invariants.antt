@@ -3,7 +3,7 @@ use Rattle.std.specs.Prelude.{take}
 use Rattle.toll_plant.specs.Imports.{before_accepted}
 use Rattle.toll_plant.proofs.grouping.count_unchanging.Given as goal
 
--- none so far was accepted
+-- No outcome so far was accepted.
 abbrev pub invariant-loop-outcome : goal.invariant-loop-outcome
 invariant-loop-outcome l = record {
   count : l.count ≡ l.outcome-index;

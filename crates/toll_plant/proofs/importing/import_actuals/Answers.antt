@@ -2,16 +2,16 @@ use Rattle.std.proofs.Common.{◌≡◌, Bool, true, false, sym, subst, ap, ◌�
 use Rattle.toll_plant.proofs.Common.{AllByRecursion, false≢true}
 use Rattle.toll_plant.specs.Imports.{AreRecordsServed, IsOpenOutcome, IsWholeOutcome, commands_in, outcomes_in}
 use Rattle.toll_plant.proofs.GroupChains.{all_honest, all_open, all_whole, run_of, steps_of}
-use Rattle.toll_plant.proofs.ImportDone.{fewer, so_on, so_over}
+use Rattle.toll_plant.proofs.ImportDone.{fewer_left, so_on, so_over}
 use Rattle.toll_plant.proofs.importing.import_actuals.Goals as goal
 
--- where it is not over, not all is done
+-- If the import isn't over, not all is done.
 not_over : {X : Type 0} (over : Bool) → (X → over ≡ true) → over ≡ false → X → ⊥
 not_over over is not done = false≢true (sym not ∙ is done)
 
 pub loop-alloc-smaller : goal.loop-alloc-smaller
 loop-alloc-smaller g c =
-    fewer g.K.Keep.meaning c.loop-alloc.keep c.resume.new.keep c.loop-alloc.import c.resume.new.self (not_over c.is_over.result c.is_over.ensures.1 c.loop-alloc-test.true) c.resume.ensures
+    fewer_left g.K.Keep.meaning c.loop-alloc.keep c.resume.new.keep c.loop-alloc.import c.resume.new.self (not_over c.is_over.result c.is_over.ensures.1 c.loop-alloc-test.true) c.resume.ensures
 
 pub loop-alloc-preserved : goal.loop-alloc-preserved
 loop-alloc-preserved g c =
@@ -22,15 +22,15 @@ loop-alloc-preserved g c =
           (not_over c.is_over.result c.is_over.ensures.1 c.loop-alloc-test.true) so c.resume.ensures,
     )
 
--- all records of the file were served, or those up to a fault, and the report tells it
+-- All records of the file were served, or those up to a fault, and the report has their outcomes.
 served : goal.returns-clause-served
 served g c =
     let K = g.K.Keep in
     let (records, read, so) = c.loop-alloc.invariant in
-    let told = ap outcomes_in (sym c.into_report.ensures.lines) in (
+    let reported = ap outcomes_in (sym c.into_report.ensures.lines) in (
       records,
       read,
-      subst (λ outcomes. AreRecordsServed K.meaning c.args.keep.now (commands_in records) outcomes c.loop-alloc.keep) told
+      subst (λ outcomes. AreRecordsServed K.meaning c.args.keep.now (commands_in records) outcomes c.loop-alloc.keep) reported
           (so_over K.meaning c.args.keep.now (commands_in records) c.loop-alloc.keep c.loop-alloc.import (c.is_over.ensures.0 c.loop-alloc-test.false) so),
     )
 

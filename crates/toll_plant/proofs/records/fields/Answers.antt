@@ -1,7 +1,7 @@
 use Rattle.std.proofs.Common.{◌≡◌, rules, true, ap, sym, subst, ◌∙◌, Some, None}
 use Rattle.std.specs.Result.{is_ok}
 use Rattle.csv.specs.Records.{Row, fields_of, field_at}
-use Rattle.toll_plant.proofs.FieldLemmas.{one_more, all_there}
+use Rattle.toll_plant.proofs.FieldLemmas.{field_one_more, all_there}
 use Rattle.toll_plant.proofs.records.fields.Goals as goal
 
 pub loop-field-preserved : goal.loop-field-preserved
@@ -12,7 +12,7 @@ loop-field-preserved c =
     let here = subst (λ (r : Row). field_at (fields_of r) at ≡ Some c.in-Some.field.now) c.loop-field.invariant.same (sym step.1) in
     record {
       same = ap (λ r. r.now) step.0 ∙ c.loop-field.invariant.same;
-      whole = one_more (λ f. f.now) (fields_of c.args.row.now) c.loop-field.fields.items c.push.new.self.items at c.next.new.self.at c.in-Some.field c.loop-field.invariant.whole (rw good at c.push.ensures.items) here step.2;
+      whole = field_one_more (λ f. f.now) (fields_of c.args.row.now) c.loop-field.fields.items c.push.new.self.items at c.next.new.self.at c.in-Some.field c.loop-field.invariant.whole (rw good at c.push.ensures.items) here step.2;
     }
 
 pub returns : goal.returns

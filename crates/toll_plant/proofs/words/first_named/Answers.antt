@@ -1,5 +1,5 @@
-use Rattle.toll_plant.proofs.WordLemmas.{name_at}
+use Rattle.toll_plant.proofs.WordLemmas.{line_named_at}
 use Rattle.toll_plant.proofs.words.first_named.Goals as goal
 
 pub returns-in-Some : goal.returns-in-Some
-returns-in-Some c = name_at c.args.lines.now c.args.words.now c.in-Some.name.now _ c.named.result c.in-Some.ensures.cases.0 c.named.ensures
+returns-in-Some c = line_named_at c.args.lines.now c.args.words.now c.in-Some.name.now _ c.named.result c.in-Some.ensures.cases.0 c.named.ensures

@@ -1,5 +1,5 @@
 use Rattle.std.proofs.Common.{◌∙◌, sym, None, Some}
-use Rattle.toll_plant.proofs.WordLemmas.{line_at, takes_it, takes_not}
+use Rattle.toll_plant.proofs.WordLemmas.{line_at, takes_it, line_not_taken}
 use Rattle.toll_plant.proofs.words.fitting.Goals as goal
 
 pub returns-in-None-named : goal.returns-in-None-named
@@ -13,5 +13,5 @@ returns-in-Some-named c =
 
 pub returns-in-Some-2 : goal.returns-in-Some-2
 returns-in-Some-2 c =
-    takes_not c.in-Some-named.line.now _ c.if-takes.ensures
+    line_not_taken c.in-Some-named.line.now _ c.if-takes.ensures
     ∙ sym (line_at c.args.lines.now c.args.words.now c.in-Some.name.now c.in-Some.values.now (Some c.in-Some-named.line.now) c.in-Some.ensures.cases.0 c.in-Some-named.ensures)

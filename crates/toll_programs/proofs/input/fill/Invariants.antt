@@ -1,4 +1,4 @@
--- What was filled is what the reader gave, and no read failed.
+-- The buffer was filled with what the reader gave, and no read failed.
 use Rattle.std.proofs.Common.{◌≤◌, ◌-◌, false, length, take}
 use Rattle.std.specs.Io.KnownBytes.{Consumes}
 use Rattle.toll_protocol.specs.Streams.{RecordsFailure}

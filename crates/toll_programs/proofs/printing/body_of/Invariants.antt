@@ -1,4 +1,4 @@
--- The body is behind what is left.
+-- The body begins in what is left.
 use Rattle.std.proofs.Common.{◌≡◌, length}
 use Rattle.toll_programs.specs.Printing as spec
 use Rattle.toll_programs.proofs.printing.body_of.Given as goal

@@ -1,4 +1,4 @@
--- Those with a key that was looked at are closed if they are late, and all others are as they were.
+-- The connections with a key below the loop's are closed if they are late, and all others are unchanged.
 use Rattle.std.proofs.Common.{◌≤◌}
 use Rattle.slab.specs.Slab.{slab_len}
 use Rattle.toll_server.proofs.ExpiryLemmas.{ClosedBelow}

@@ -1,4 +1,4 @@
--- Who is not reading is there still, and nobody else has come.
+-- The connections that aren't reading are still there, and no other was added.
 use Rattle.std.proofs.Common.{◌≤◌}
 use Rattle.slab.specs.Slab.{slab_len}
 use Rattle.toll_server.specs.Connections.{KeepsSubmitted, NoneNew}

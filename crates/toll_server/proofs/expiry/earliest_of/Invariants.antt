@@ -1,4 +1,4 @@
--- The first of those with a key that was looked at.
+-- The earliest of the connections with a key below the loop's.
 use Rattle.toll_server.proofs.ExpiryLemmas.{Found}
 use Rattle.toll_server.proofs.expiry.earliest_of.Given as goal
 

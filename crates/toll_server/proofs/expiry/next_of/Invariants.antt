@@ -1,4 +1,4 @@
--- Who has waited longest of those with a key that was looked at.
+-- The connection that has waited longest, of those with a key below the loop's.
 use Rattle.toll_server.proofs.ExpiryLemmas.{FoundNext}
 use Rattle.toll_server.proofs.expiry.next_of.Given as goal
 

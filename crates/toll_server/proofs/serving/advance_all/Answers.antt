@@ -6,7 +6,7 @@ pub loop-init : goal.loop-init
 loop-init g c = record {
   hearing = none_heard g.O.Party.PartialEq.eq g.O.Service.is_by g.W.Stream.Source g.W.Stream.Sink c.args.connections.now _ _ refl;
   tasks = λ k. refl;
-  moment = omega arith;
+  event_count = omega arith;
   owners_left = refl;
   most_open = refl;
 }
@@ -14,9 +14,9 @@ loop-init g c = record {
 pub loop-preserved : goal.loop-preserved
 loop-preserved g c = record {
   hearing = one_heard g.O.Party.PartialEq.eq g.O.Service.is_by g.W.Stream.Source g.W.Stream.Sink c.args.connections.now c.loop.connections c.advance.new.self c.loop.counter c.in-Some.key _ _ _ c.loop.invariant.hearing
-      c.in-Some.ensures c.advance.ensures.joins c.advance.ensures.tasks c.advance.ensures.hears;
+      c.in-Some.ensures c.advance.ensures.joins c.advance.ensures.tasks c.loop.invariant.most_open c.advance.ensures.hears;
   tasks = λ k. c.advance.ensures.tasks k ∙ c.loop.invariant.tasks k;
-  moment = omega (arith, c.advance.ensures.more, c.loop.invariant.moment);
+  event_count = omega (arith, c.advance.ensures.more, c.loop.invariant.event_count);
   most_open = c.advance.ensures.most_open ∙ c.loop.invariant.most_open;
   owners_left = c.advance.ensures.owners_left ∙ c.loop.invariant.owners_left;
 }

@@ -1,4 +1,4 @@
--- So many were heard, one after another, and what is left to do is what it was.
+-- This many ready connections were read, one after another, and the tasks left are unchanged.
 use Rattle.std.proofs.Common.{◌≡◌, ◌≤◌, ◌+◌}
 use Rattle.toll_server.specs.Connections.{KeepsTasks}
 use Rattle.toll_server.proofs.RoundLemmas.{Hearing}
@@ -8,7 +8,7 @@ abbrev pub invariant-loop : goal.invariant-loop
 invariant-loop g l = record {
   hearing : Hearing g.O.Party.PartialEq.eq g.O.Service.is_by g.W.Stream.Source g.W.Stream.Sink l.initial.connections l.connections l.counter (g.W.Network.tally l.initial.network) (g.W.Network.tally l.network);
   tasks : KeepsTasks l.initial.connections.slots l.connections.slots;
-  moment : l.connections.moment ≤ l.initial.connections.moment + l.counter;
+  event_count : l.connections.event_count ≤ l.initial.connections.event_count + l.counter;
   most_open : l.connections.most_open ≡ l.initial.connections.most_open;
   owners_left : l.connections.owners_left ≡ l.initial.connections.owners_left;
 }

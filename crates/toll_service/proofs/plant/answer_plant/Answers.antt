@@ -1,22 +1,22 @@
 use Rattle.std.proofs.Common.{◌∙◌, ap, map, option_map, rules, subst, sym}
 use Rattle.toll_protocol.specs.PlantMessages.{IsCall}
 use Rattle.toll_programs.specs.Outputs.{printout_of}
-use Rattle.toll_service.specs.Listeners.{IsDone}
+use Rattle.toll_service.specs.Listeners.{IsRequestedDone}
 use Rattle.toll_service.specs.Requested.{requested_by_words}
 use Rattle.toll_service.proofs.PlantTurns.{import_turn, plant_turn}
 use Rattle.toll_service.proofs.plant.answer_plant.Goals as goal
 
 pub returns-in-Some-import_in-clause-served : goal.returns-in-Some-import_in-clause-served
 returns-in-Some-import_in-clause-served g c =
-    let read = c.in-Some.asked in
-    let asks : IsCall c.args.asked.now (map (λ word. word.now) read.words.items) (option_map (λ file. file.now) read.file) = search rules in
-    import_turn g.K.Keep.meaning c.args.keep.now c.args.asked.now c.begin.result.poll c.begin.result.keep_usable _ _ c.in-Some-import_in.file.now asks c.in-Some-import_in.ensures.some c.begin.ensures
+    let read = c.in-Some.call in
+    let asks : IsCall c.args.bytes.now (map (λ word. word.now) read.words.items) (option_map (λ file. file.now) read.file) = search rules in
+    import_turn g.K.Keep.meaning c.args.keep.now c.args.bytes.now c.begin.result.poll c.begin.result.keep_usable _ _ c.in-Some-import_in.file.now asks c.in-Some-import_in.ensures.some c.begin.ensures
 
 pub returns-clause-served : goal.returns-clause-served
 returns-clause-served g c =
-    let read = c.in-Some.asked in
+    let read = c.in-Some.call in
     let p = printout_of c.in_ok-done-in-None.done in
-    let asks : IsCall c.args.asked.now (map (λ word. word.now) read.words.items) (option_map (λ file. file.now) read.file) = search rules in
+    let asks : IsCall c.args.bytes.now (map (λ word. word.now) read.words.items) (option_map (λ file. file.now) read.file) = search rules in
     let wants = c.in-None.ensures.none ∙ ap (λ words. requested_by_words (map (λ w. w.now) words)) (sym c.deref.ensures.value) in
-    plant_turn g.K.Keep.meaning c.args.keep.now c.execute_words.new.keep c.args.asked.now c.tell.result.poll c.tell.result.keep_usable _ _ p asks
-    (subst (λ wanted. IsDone g.K.Keep.meaning c.args.keep.now c.execute_words.new.keep wanted p) (sym wants) c.in_ok-done-in-None.ensures.done) c.tell.ensures
+    plant_turn g.K.Keep.meaning c.args.keep.now c.execute_words.new.keep c.args.bytes.now c.write.result.poll c.write.result.keep_usable _ _ p asks
+    (subst (λ wanted. IsRequestedDone g.K.Keep.meaning c.args.keep.now c.execute_words.new.keep wanted p) (sym wants) c.in_ok-done-in-None.ensures.done) c.write.ensures

@@ -1,5 +1,5 @@
 use Rattle.std.proofs.Common.{subst, sym}
-use Rattle.toll_keep.specs.Goes.{IsReading}
+use Rattle.toll_keep.specs.CallEffects.{IsReading}
 use Rattle.toll_desk.proofs.RecallLines.{passed_on}
 use Rattle.toll_service.proofs.reading_ahead.read_each.Goals as goal
 

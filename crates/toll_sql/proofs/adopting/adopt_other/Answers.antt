@@ -8,7 +8,7 @@ returns-in-Ok g c =
     let new = state g.S.Store c.find_version.new.conn in
     let v = c.find_version.ensures in
     let f = c.fault_of_others.ensures in
-    record { adopts = others_told old new c.requires.unlimited c.requires.other.0 c.requires.other.1 c.in-Ok.told c.find_version.result c.in-Ok.is v.left v.found c.fault_of_others.result f.damaged f.foreign f.known }
+    record { adopts = others_told old new c.requires.unlimited c.requires.other.0 c.requires.other.1 c.in-Ok.stored_version c.find_version.result c.in-Ok.is v.left v.found c.fault_of_others.result f.damaged f.foreign f.known }
 
 pub returns-in-Err : goal.returns-in-Err
 returns-in-Err g c =

@@ -1,9 +1,9 @@
 use Rattle.std.proofs.Common.{◌≡◌, ◌+◌, Ok, Err, rules, subst, arith}
 use Rattle.sqlite.specs.Held.{state}
-use Rattle.toll_sql.specs.Create.{IsMaking, IsStep, MakesAllTables}
+use Rattle.toll_sql.specs.Create.{IsMaking, IsTransactionStep, MakesAllTables}
 use Rattle.toll_sql.specs.Plain.{no_schema}
 use Rattle.toll_sql.proofs.MakeLemmas.{MakesFirst, next_step, none_yet}
-use Rattle.toll_sql.proofs.StepLemmas.{done, makes_more, stopped}
+use Rattle.toll_sql.proofs.StepLemmas.{step_with_other_answer, makes_more, stopped_at_first}
 use Rattle.toll_sql.proofs.creating.make_tables.Goals as goal
 
 pub loop-table-preserved : goal.loop-table-preserved
@@ -12,7 +12,7 @@ loop-table-preserved g c =
     let next = state g.S.Store c.make_table.new.tx.conn.now in
     let n = c.loop-table.table-index in
     let step = next_step _ c.every_table-table-items.ensures n c.loop-table-test.true first (state g.S.Store c.loop-table.tx.conn.now) next (Ok c.in_ok-make_table.field-0) c.loop-table.invariant.steps c.in_ok-make_table.ensures.steps in
-    record { same_reference = search rules; steps = done (IsMaking no_schema) (MakesFirst (n + 1)) first next c.in_ok-make_table.field-0 tt step }
+    record { same_reference = search rules; steps = step_with_other_answer (IsMaking no_schema) (MakesFirst (n + 1)) first next c.in_ok-make_table.field-0 tt step }
 
 pub returns-in_err-make_table-clause-steps : goal.returns-in_err-make_table-clause-steps
 returns-in_err-make_table-clause-steps g c =
@@ -22,7 +22,7 @@ returns-in_err-make_table-clause-steps g c =
     let r = c.make_table.result in
     let step = next_step _ c.every_table-table-items.ensures n c.loop-table-test.true first (state g.S.Store c.loop-table.tx.conn.now) next r c.loop-table.invariant.steps c.make_table.ensures.steps in
     let is : c.from_residual.result ≡ Err c.in_err-make_table.field-0.0 = search rules in
-    stopped (IsMaking no_schema) (MakesFirst (n + 1)) MakesAllTables first next c.in_err-make_table.field-0.0 r c.from_residual.result c.in_err-make_table.was is step
+    stopped_at_first (IsMaking no_schema) (MakesFirst (n + 1)) MakesAllTables first next c.in_err-make_table.field-0.0 r c.from_residual.result c.in_err-make_table.was is step
 
 pub returns-clause-steps : goal.returns-clause-steps
 returns-clause-steps g c =
@@ -30,4 +30,4 @@ returns-clause-steps g c =
     let last = state g.S.Store c.loop-table.tx.conn.now in
     let all : c.loop-table.table-index ≡ 14 = omega (arith, c.loop-table-test.false, c.loop-table.auto.table-index-end) in
     makes_more (IsMaking no_schema) (MakesFirst 14) MakesAllTables first last none_yet (λ _ h. record { making = h.making; empty = h.empty })
-    (subst (λ n. IsStep (IsMaking no_schema) (MakesFirst n) first last none_yet) all c.loop-table.invariant.steps)
+    (subst (λ n. IsTransactionStep (IsMaking no_schema) (MakesFirst n) first last none_yet) all c.loop-table.invariant.steps)

@@ -5,10 +5,10 @@ use Rattle.toll_sql.specs.Create.{IsShapedAs, WritesVersion}
 use Rattle.toll_sql.specs.Encode.{meta_cells}
 use Rattle.toll_sql.specs.Holds.{version}
 use Rattle.toll_sql.specs.Stores.{IsReady, IsWriting, MakesRow}
-use Rattle.toll_sql.specs.Tables.{made_all}
+use Rattle.toll_sql.specs.Schema.{made_all}
 use Rattle.toll_sql.specs.declared.table_kind.TableKind.TheVariants.{Meta}
-use Rattle.toll_sql.proofs.MakeLemmas.{ready, version_written}
-use Rattle.toll_sql.proofs.StepLemmas.{from_more, makes_more, put_step}
+use Rattle.toll_sql.proofs.MakeLemmas.{make_ready, version_written}
+use Rattle.toll_sql.proofs.StepLemmas.{step_from_more, makes_more, put_step}
 use Rattle.toll_sql.proofs.creating.write_version.Goals as goal
 
 pub returns-clause-steps : goal.returns-clause-steps
@@ -18,4 +18,4 @@ returns-clause-steps g c =
     let r = c.put.result in
     let put = subst (λ cells. fill Meta cells ≡ true → IsWriting (MakesRow Meta cells) old new r) c.meta_values.ensures.cells c.put.ensures.writes refl in
     let step = put_step (MakesRow Meta (meta_cells version)) old new r put in
-    makes_more (IsShapedAs made_all) (MakesRow Meta (meta_cells version)) WritesVersion old new r (version_written old new) (from_more IsReady (IsShapedAs made_all) (MakesRow Meta (meta_cells version)) old new r (ready old) step)
+    makes_more (IsShapedAs made_all) (MakesRow Meta (meta_cells version)) WritesVersion old new r (version_written old new) (step_from_more IsReady (IsShapedAs made_all) (MakesRow Meta (meta_cells version)) old new r (make_ready old) step)

@@ -1,6 +1,6 @@
 use Rattle.std.proofs.Common.{[], refl}
 use Rattle.toll_sql.proofs.Common.{IfOk-weaker, state}
-use Rattle.toll_sql.proofs.AskLemmas.{asked}
+use Rattle.toll_sql.proofs.AskLemmas.{select_answered}
 use Rattle.toll_sql.proofs.AskedLemmas.{read_with}
 use Rattle.toll_sql.proofs.EdgesShown.{all_shown}
 use Rattle.toll_sql.specs.AskedTexts.{all_text}
@@ -12,7 +12,7 @@ returns g c =
     let old = state g.S.Store c.args.conn.now in
     let new = state g.S.Store c.query_all.new.self in
     let called = c.query_all.ensures in
-    let it = asked all_text [] old new all_plain (λ rows. rows.items) c.query_all.result all_text [] refl refl called.mode called.ok called.err called.survives in
+    let it = select_answered all_text [] old new all_plain (λ rows. rows.items) c.query_all.result all_text [] refl refl called.mode called.ok called.err called.survives in
     record {
       asks = it.0;
       read = λ clean. IfOk-weaker c.query_all.result _ _ (λ rows h. read_with all_text [] old new rows.items h) (it.1 clean);

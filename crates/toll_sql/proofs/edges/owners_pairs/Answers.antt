@@ -1,6 +1,6 @@
 use Rattle.std.proofs.Common.{[], ◌∷◌, refl, ap}
 use Rattle.toll_sql.proofs.Common.{IfOk-weaker, state, Bytes, Text}
-use Rattle.toll_sql.proofs.AskLemmas.{asked}
+use Rattle.toll_sql.proofs.AskLemmas.{select_answered}
 use Rattle.toll_sql.proofs.AskedLemmas.{read_with}
 use Rattle.toll_sql.proofs.EdgesShown.{owners_shown}
 use Rattle.toll_sql.specs.AskedTexts.{owners_text}
@@ -13,7 +13,7 @@ returns g c =
     let old = state g.S.Store c.args.conn.now in
     let new = state g.S.Store c.query_all.new.self in
     let called = c.query_all.ensures in
-    let it = asked owners_text (Text o ∷ []) old new owners_plain (λ rows. rows.items) c.query_all.result owners_text _ refl (ap (λ (o : Bytes). Text o ∷ []) c.as_bytes.ensures.bytes) called.mode called.ok called.err called.survives in
+    let it = select_answered owners_text (Text o ∷ []) old new owners_plain (λ rows. rows.items) c.query_all.result owners_text _ refl (ap (λ (o : Bytes). Text o ∷ []) c.as_bytes.ensures.bytes) called.mode called.ok called.err called.survives in
     record {
       asks = it.0;
       read = λ clean. IfOk-weaker c.query_all.result _ _ (λ rows h. read_with owners_text (Text o ∷ []) old new rows.items h) (it.1 clean);

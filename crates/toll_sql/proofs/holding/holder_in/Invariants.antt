@@ -4,7 +4,7 @@ use Rattle.toll_sql.proofs.Common.{Row}
 use Rattle.toll_sql.specs.HolderRows.{AreBatchRows, IsRowOfBatch}
 use Rattle.toll_sql.proofs.holding.holder_in.Given as goal
 
--- the rows so far are those of batches, one of them of the batch that was found
+-- The rows so far are those of batches, and one of them is that of the batch that was found.
 abbrev pub invariant-loop-row : goal.invariant-loop-row
 invariant-loop-row l = record {
   shown : IfSome l.found (λ h. (row : Row) × Contains l.rows row × IsRowOfBatch row h);

@@ -1,6 +1,6 @@
 use Rattle.std.proofs.Common.{[], ◌∷◌, refl, ap}
 use Rattle.toll_sql.proofs.Common.{IfOk-weaker, state, Bytes, Text}
-use Rattle.toll_sql.proofs.AskLemmas.{asked}
+use Rattle.toll_sql.proofs.AskLemmas.{select_answered}
 use Rattle.toll_sql.proofs.AskedLemmas.{read_with}
 use Rattle.toll_sql.specs.AskedTexts.{unit_text}
 use Rattle.toll_sql.proofs.HolderShown.{unit_plain, unit_answered, found_on, holders_shown}
@@ -12,7 +12,7 @@ returns g c =
     let old = state g.S.Store c.args.conn.now in
     let new = state g.S.Store c.query_all.new.self in
     let called = c.query_all.ensures in
-    let it = asked unit_text (Text unit ∷ []) old new unit_plain (λ rows. rows.items) c.query_all.result unit_text _ refl (ap (λ (u : Bytes). Text u ∷ []) c.as_bytes.ensures.bytes) called.mode called.ok called.err called.survives in
+    let it = select_answered unit_text (Text unit ∷ []) old new unit_plain (λ rows. rows.items) c.query_all.result unit_text _ refl (ap (λ (u : Bytes). Text u ∷ []) c.as_bytes.ensures.bytes) called.mode called.ok called.err called.survives in
     record {
       asks = it.0;
       read = λ clean. IfOk-weaker c.query_all.result _ _ (λ rows h. read_with unit_text (Text unit ∷ []) old new rows.items h) (it.1 clean);

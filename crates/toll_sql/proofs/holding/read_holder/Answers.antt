@@ -2,7 +2,7 @@ use Rattle.std.proofs.Common.{[], ◌∷◌, IfOk, OnOk, subst}
 use Rattle.toll_sql.proofs.Common.{state, Text}
 use Rattle.toll_sql.specs.AskedTexts.{unit_text}
 use Rattle.toll_sql.specs.HolderRows.{AreBatchRows, HasNoBatch, IsShownIn, open_on}
-use Rattle.toll_sql.proofs.HolderShown.{each_named, read_from, shown_whole, told_too, unnamed_too, whole_too}
+use Rattle.toll_sql.proofs.HolderShown.{holder_each_named, holder_read_from, shown_whole, told_too, unnamed_too, whole_too}
 use Rattle.toll_sql.proofs.LookLemmas.{looking}
 use Rattle.toll_sql.proofs.holding.read_holder.Goals as goal
 
@@ -15,11 +15,12 @@ returns-in-Ok g c =
     let whole = subst (λ rows. OnOk r (AreBatchRows rows)) c.deref.ensures.value c.holder_in.ensures.whole in
     record {
       looks = looking (state g.S.Store c.args.conn.now) (state g.S.Store c.open_batches.new.conn) c.in-Ok.rows r c.in-Ok.ensures.asks.asks c.holder_in.ensures.disk c.holder_in.ensures.closed;
-      reads = λ clean content held. read_from content c.args.unit.now rows (c.in-Ok.ensures.rows clean content held) r read;
+      reads = λ clean content held. holder_read_from content c.args.unit.now rows (c.in-Ok.ensures.rows clean content held) r read;
       shown = λ clean. shown_whole (state g.S.Store c.args.conn.now).now unit_text (Text c.args.unit.now ∷ []) rows (c.in-Ok.ensures.read clean) r read whole;
-      whole = λ clean content held is. each_named content c.args.unit.now rows (c.in-Ok.ensures.rows clean content held) (subst HasNoBatch c.deref.ensures.value (c.holder_in.ensures.damaged is));
+      whole = λ clean content held is. holder_each_named content c.args.unit.now rows (c.in-Ok.ensures.rows clean content held) (subst HasNoBatch c.deref.ensures.value (c.holder_in.ensures.damaged is));
+      lack = λ is. absurd (c.holder_in.ensures.memory is);
       alone = λ clean has. record {
-        told = told_too listed rows (c.in-Ok.ensures.found clean has) r read;
+        reported = told_too listed rows (c.in-Ok.ensures.found clean has) r read;
         whole = whole_too listed rows (c.in-Ok.ensures.found clean has) r whole;
         damaged = λ is. unnamed_too listed rows (c.in-Ok.ensures.found clean has) (subst HasNoBatch c.deref.ensures.value (c.holder_in.ensures.damaged is));
       };

@@ -1,7 +1,7 @@
 use Rattle.std.proofs.Common.{◌≡◌, ◌-◌, ◌∷◌, drop, reverse, ap, subst, sym, ◌∙◌, arith}
 use Rattle.toll_sql.proofs.Common.{AllByRecursion}
 use Rattle.toll_sql.specs.LastPuts.{AreNoted, IsSublotValid, last_puts}
-use Rattle.toll_sql.proofs.PutAgain.{one_before, one_kept, one_left}
+use Rattle.toll_sql.proofs.PutAgain.{one_before, one_kept, last_left}
 use Rattle.toll_sql.proofs.last_puts.last_puts.Goals as goal
 
 pub loop-i-preserved-in-Continue-branch-3 : goal.loop-i-preserved-in-Continue-branch-3
@@ -27,7 +27,7 @@ loop-i-preserved c =
     let note = c.in_ok-note.ensures in
     let next : drop (c.loop-i.i - 1) changes ≡ change ∷ later = one_before changes c.loop-i.i change (omega (arith, c.loop-i-test.true)) (omega (arith, c.loop-i.auto.i)) c.index-changes-i.is in
     record {
-      last = one_left change later c.in_ok-note.field-0 (note.is_last later so_far.noted) c.loop-i.last.items so_far.last c.if-branch.false ∙ ap (λ left. reverse (last_puts left)) (sym next);
+      last = last_left change later c.in_ok-note.field-0 (note.is_last later so_far.noted) c.loop-i.last.items so_far.last c.if-branch.false ∙ ap (λ left. reverse (last_puts left)) (sym next);
       noted = subst (λ left. AreNoted left c.note.new.noted) (sym next) (note.noted later so_far.noted);
       valid = subst (AllByRecursion IsSublotValid) (sym next) (note.valid, so_far.valid);
     }

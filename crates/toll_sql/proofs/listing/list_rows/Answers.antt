@@ -1,25 +1,23 @@
 use Rattle.std.proofs.Common.{◌∙◌, ap, map, rules}
 use Rattle.toll_sql.specs.Cells.{columns_from}
 use Rattle.toll_sql.specs.PlantRows.{ShowsRow}
-use Rattle.toll_sql.specs.Tables.{width_of}
-use Rattle.toll_sql.proofs.ListLemmas.{it, it_is, it_valid, more_shown, more_valid, read_it, take_past, with_it}
+use Rattle.toll_sql.specs.Schema.{width_of}
+use Rattle.toll_sql.proofs.ListLemmas.{list_item, list_item_is, list_item_valid, more_shown, more_valid, read_it, take_past, with_list_item}
 use Rattle.toll_sql.proofs.SoFar.{first_good}
 use Rattle.toll_sql.proofs.listing.list_rows.Goals as goal
 
 pub loop-row-preserved : goal.loop-row-preserved
 loop-row-preserved g c =
-    let X = g.X.PlantRow in
+    let X = g.X.StoredPlantRow in
     let i = c.loop-row.row-index in
     let lt = c.loop-row-test.true in
     let rows = c.args.rows.now in
-    let pushed = c.push.ensures.items in
-    let went = c.if-is_err.false in
-    let told = c.is_err.ensures in
+    let pushed = c.in-Ok.ensures.items in
     record {
       reads = λ alone l are valid.
-          let is = c.row-item.is ∙ it_is X.kind X.cells X.is_valid alone l rows are valid i lt c.row-item.result in
+          let is = c.row-item.is ∙ list_item_is X.kind X.cells X.is_valid alone l rows are valid i lt c.row-item.result in
           let same = read_it X.kind X.cells X.is_valid alone l rows are valid i lt c.row-item.result c.in-Some.it is c.in-Some.ensures.valid c.in-Some.ensures.some in
-          let more = with_it X.kind X.cells X.is_valid alone l rows are valid i lt c.loop-row.listed.items c.in-Some.it (c.loop-row.invariant.reads alone l are valid) same in
+          let more = with_list_item X.kind X.cells X.is_valid alone l rows are valid i lt c.loop-row.listed.items c.in-Some.it (c.loop-row.invariant.reads alone l are valid) same in
           search rules;
       shown =
           let more = more_shown X.cells (columns_from 0 (width_of X.kind)) rows i lt c.row-item.result c.row-item.is c.loop-row.listed.items c.in-Some.it c.loop-row.invariant.shown c.in-Some.ensures.some in
@@ -32,17 +30,17 @@ loop-row-preserved g c =
 
 pub returns-clause-shown : goal.returns-clause-shown
 returns-clause-shown g c =
-    let X = g.X.PlantRow in
+    let X = g.X.StoredPlantRow in
     (c.loop-row.invariant.shown ∙ ap (map (columns_from 0 (width_of X.kind))) (take_past c.args.rows.now c.loop-row.row-index c.loop-row-test.false), c.loop-row.invariant.valid)
 
 pub returns-in_default-clause-whole : goal.returns-in_default-clause-whole
 returns-in_default-clause-whole g c = λ alone l are valid.
-    let X = g.X.PlantRow in
+    let X = g.X.StoredPlantRow in
     let i = c.loop-row.row-index in
     let lt = c.loop-row-test.true in
     let rows = c.args.rows.now in
-    let x = it X.kind X.cells X.is_valid alone l rows are valid i lt in
-    let is = c.row-item.is ∙ it_is X.kind X.cells X.is_valid alone l rows are valid i lt c.row-item.result in
+    let x = list_item X.kind X.cells X.is_valid alone l rows are valid i lt in
+    let is = c.row-item.is ∙ list_item_is X.kind X.cells X.is_valid alone l rows are valid i lt c.row-item.result in
     let none = c.in_default.ensures.none in
-    let good = it_valid X.kind X.cells X.is_valid alone l rows are valid i lt in
+    let good = list_item_valid X.kind X.cells X.is_valid alone l rows are valid i lt in
     search rules

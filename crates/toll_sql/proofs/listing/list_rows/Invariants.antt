@@ -3,15 +3,15 @@ use Rattle.std.specs.List.{AllByRecursion}
 use Rattle.toll_sql.specs.Cells.{columns_from}
 use Rattle.toll_sql.specs.PlantRows.{ShowsRow}
 use Rattle.toll_sql.specs.Shown.{FirstIs}
-use Rattle.toll_sql.specs.StoredLaws.{StandAlone}
-use Rattle.toll_sql.specs.Tables.{width_of}
+use Rattle.toll_sql.specs.StoredLaws.{AreStoredOfPlant}
+use Rattle.toll_sql.specs.Schema.{width_of}
 use Rattle.toll_sql.proofs.listing.list_rows.Given as goal
 
--- the rows so far are listed
+-- The rows so far are listed.
 abbrev pub invariant-loop-row : goal.invariant-loop-row
 invariant-loop-row g x = record {
-  reads : StandAlone g.X.PlantRow.kind g.X.PlantRow.cells g.X.PlantRow.is_valid → (l : List g.row.X.Denot) → x.rows ≡ map g.X.PlantRow.cells l → AllByRecursion g.X.PlantRow.is_valid l → x.listed.items ≡ take x.row-index l;
-  shown : map g.X.PlantRow.cells x.listed.items ≡ map (columns_from 0 (width_of g.X.PlantRow.kind)) (take x.row-index x.rows);
-  valid : AllByRecursion g.X.PlantRow.is_valid x.listed.items;
-  first : 1 ≤ x.row-index → FirstIs (ShowsRow g.X.PlantRow.kind g.X.PlantRow.cells g.X.PlantRow.is_valid) x.rows;
+  reads : AreStoredOfPlant g.X.StoredPlantRow.kind g.X.StoredPlantRow.cells g.X.StoredPlantRow.is_valid → (l : List g.row.X.Denot) → x.rows ≡ map g.X.StoredPlantRow.cells l → AllByRecursion g.X.StoredPlantRow.is_valid l → x.listed.items ≡ take x.row-index l;
+  shown : map g.X.StoredPlantRow.cells x.listed.items ≡ map (columns_from 0 (width_of g.X.StoredPlantRow.kind)) (take x.row-index x.rows);
+  valid : AllByRecursion g.X.StoredPlantRow.is_valid x.listed.items;
+  first : 1 ≤ x.row-index → FirstIs (ShowsRow g.X.StoredPlantRow.kind g.X.StoredPlantRow.cells g.X.StoredPlantRow.is_valid) x.rows;
 }

@@ -2,7 +2,7 @@ use Rattle.std.proofs.Common.{◌≡◌, false, map, sym, ap, subst, ◌∙◌}
 use Rattle.toll_sql.proofs.Common.{IfOk-weaker, state}
 use Rattle.toll_sql.specs.Asked.{AreReadBy}
 use Rattle.toll_sql.specs.Cells.{columns_from}
-use Rattle.toll_sql.specs.Tables.{is_owned, select_text, width_of}
+use Rattle.toll_sql.specs.Schema.{is_owned, select_text, width_of}
 use Rattle.toll_sql.proofs.LookLemmas.{looking, plant_rows}
 use Rattle.toll_sql.proofs.listing.read_all.Goals as goal
 
@@ -13,19 +13,19 @@ returns-in-Ok-clause-looks g c alone =
 
 pub returns-in-Ok-clause-reads : goal.returns-in-Ok-clause-reads
 returns-in-Ok-clause-reads g c alone clean has l held =
-    let X = g.X.PlantRow in
+    let X = g.X.StoredPlantRow in
     let are = plant_rows X.kind X.cells X.is_valid alone c.table.result c.table.ensures (state g.S.Store c.args.conn.now).now.trees c.in-Ok.rows.items (λ own. c.in-Ok.ensures.rows own clean has) l held in
     c.list_rows.ensures.reads alone l (c.deref.ensures.value ∙ are) held.valid
 
 pub returns-in-Ok-clause-whole : goal.returns-in-Ok-clause-whole
 returns-in-Ok-clause-whole g c alone clean has l held =
-    let X = g.X.PlantRow in
+    let X = g.X.StoredPlantRow in
     let are = plant_rows X.kind X.cells X.is_valid alone c.table.result c.table.ensures (state g.S.Store c.args.conn.now).now.trees c.in-Ok.rows.items (λ own. c.in-Ok.ensures.rows own clean has) l held in
     c.list_rows.ensures.whole alone l (c.deref.ensures.value ∙ are) held.valid
 
 pub returns-in-Ok-clause-shown : goal.returns-in-Ok-clause-shown
 returns-in-Ok-clause-shown g c clean =
-    let X = g.X.PlantRow in
+    let X = g.X.StoredPlantRow in
     let old = state g.S.Store c.args.conn.now in
     IfOk-weaker c.list_rows.result _ _ (λ listed it. record {
       rows = c.in-Ok.rows.items;

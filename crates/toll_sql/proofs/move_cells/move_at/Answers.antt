@@ -1,6 +1,6 @@
 use Rattle.std.proofs.Common.{◌≡◌, ℕ, pos, refl, ap, ◌∙◌}
 use Rattle.toll_sql.proofs.Common.{Value, Int, column}
-use Rattle.toll_sql.proofs.MoveKinds.{text_of, unshown}
+use Rattle.toll_sql.proofs.MoveKinds.{value_text, unshown}
 use Rattle.toll_sql.proofs.move_cells.move_at.Goals as goal
 
 number : (v : Value) (m n : ℕ) → v ≡ Int (pos m) → m ≡ n → v ≡ Int (pos n)
@@ -10,13 +10,13 @@ pub returns-in_err-lot-in-2-clause-none : goal.returns-in_err-lot-in-2-clause-no
 returns-in_err-lot-in-2-clause-none c none o m own =
     let row = c.args.row.now in
     unshown 2 o row m (number _ _ 2 c.in_ok-number_at.ensures.some c.in-2.is)
-    (λ v s. c.in_err-lot-in-2.ensures.none refl o (text_of (column row 4)) (text_of (column row 5)) own v.0 v.1 (assumption s))
+    (λ v s. c.in_err-lot-in-2.ensures.none refl o (value_text (column row 4)) (value_text (column row 5)) own v.0 v.1 (assumption s))
 
 pub returns-in_err-lot-in-3-clause-none : goal.returns-in_err-lot-in-3-clause-none
 returns-in_err-lot-in-3-clause-none c none o m own =
     let row = c.args.row.now in
     unshown 3 o row m (number _ _ 3 c.in_ok-number_at.ensures.some c.in-3.is)
-    (λ v s. c.in_err-lot-in-3.ensures.none refl o (text_of (column row 4)) (text_of (column row 5)) own v.0 v.1 (assumption s))
+    (λ v s. c.in_err-lot-in-3.ensures.none refl o (value_text (column row 4)) (value_text (column row 5)) own v.0 v.1 (assumption s))
 
 pub returns-in-0-clause-none : goal.returns-in-0-clause-none
 returns-in-0-clause-none c none o m own = unshown 0 o c.args.row.now m (number _ _ 0 c.in_ok-number_at.ensures.some c.in-0.is) (c.receipt_at.ensures.none none o _ _ _ own)

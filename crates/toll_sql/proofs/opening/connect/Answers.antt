@@ -22,4 +22,4 @@ returns-clause-memory g c is = ap (λ (fault : OpenFault). Err fault) (c.file_fa
 pub returns-clause-unopened : goal.returns-clause-unopened
 returns-clause-unopened g c =
     let e = c.in-Err.ensures in
-    (c.in-Err.error, c.in-Err.field-0-1, record { named = e.named; told = c.file_fault_of.ensures; none = e.unopened; some = weaker _ _ (λ rest h. (h.0, h.3)) c.in-Err.field-0-1 e.cause })
+    (c.in-Err.error, c.in-Err.field-0-1, record { named = e.named; reported = c.file_fault_of.ensures; none = e.unopened; some = weaker _ _ (λ rest h. (h.0, h.3)) c.in-Err.field-0-1 e.cause })

@@ -1,10 +1,10 @@
 use Rattle.std.proofs.Common.{◌≡◌, ◌∙◌, Err, rules}
 use Rattle.toll_sql.proofs.Common.{column, Text}
 use Rattle.toll_sql.specs.Reading.{TakesRows}
-use Rattle.toll_sql.specs.Shown.{IsRowOf}
-use Rattle.toll_sql.proofs.SoFar.{all_behind, one_more, value_there}
+use Rattle.toll_sql.specs.Shown.{IsRowOfOwner}
+use Rattle.toll_sql.proofs.SoFar.{all_behind, all_with_one_more, value_there}
 use Rattle.toll_sql.proofs.Taken.{all_taken, lacks_here, one_more_taken}
-use Rattle.toll_sql.proofs.RowsIn.{it, it_is, it_valid, with_it, with_it_keeps}
+use Rattle.toll_sql.proofs.RowsIn.{table_item, table_item_is, table_item_valid, with_table_item, with_it_keeps}
 use Rattle.toll_sql.proofs.reading.read_rows.Goals as goal
 
 pub loop-row-preserved : goal.loop-row-preserved
@@ -16,12 +16,12 @@ loop-row-preserved g c =
     let row = c.row-item.result in
     record {
       reads = λ stand s stored first.
-          let x = it X.kind X.cells X.is_valid X.any_row X.listed stand s rows stored i lt in
-          let is = c.row-item.is ∙ it_is X.kind X.cells X.is_valid X.any_row X.listed stand s rows stored i lt row in
-          c.in_ok-read_row.ensures.reads stand s.owner x (it_valid X.kind X.cells X.is_valid X.any_row X.listed stand s rows stored i lt) is
-          ∙ with_it X.kind X.cells X.is_valid X.any_row X.listed stand s rows stored i lt c.loop-row.slice (c.loop-row.invariant.reads stand s stored first);
+          let x = table_item X.kind X.cells X.is_valid X.any_row X.listed stand s rows stored i lt in
+          let is = c.row-item.is ∙ table_item_is X.kind X.cells X.is_valid X.any_row X.listed stand s rows stored i lt row in
+          c.in_ok-read_row.ensures.reads stand s.owner x (table_item_valid X.kind X.cells X.is_valid X.any_row X.listed stand s rows stored i lt) is
+          ∙ with_table_item X.kind X.cells X.is_valid X.any_row X.listed stand s rows stored i lt c.loop-row.slice (c.loop-row.invariant.reads stand s stored first);
       taken = λ stand o all. one_more_taken X.kind o rows i row lt c.row-item.is c.args.slice.now c.loop-row.slice c.read_row.new.slice (c.loop-row.invariant.taken stand o all) (c.in_ok-read_row.ensures.takes stand o (value_there (λ r. column r 0 ≡ Text o) rows i row lt c.row-item.is all, tt)).taken;
-      shown = λ o all. one_more (IsRowOf X.kind X.cells X.is_valid o) rows i row lt c.row-item.is (c.loop-row.invariant.shown o all) (c.in_ok-read_row.ensures.shown o (value_there (λ r. column r 0 ≡ Text o) rows i row lt c.row-item.is all));
+      shown = λ o all. all_with_one_more (IsRowOfOwner X.kind X.cells X.is_valid o) rows i row lt c.row-item.is (c.loop-row.invariant.shown o all) (c.in_ok-read_row.ensures.shown o (value_there (λ r. column r 0 ≡ Text o) rows i row lt c.row-item.is all));
     }
 
 pub returns-in_err-read_row-clause-whole : goal.returns-in_err-read_row-clause-whole
@@ -30,17 +30,17 @@ returns-in_err-read_row-clause-whole g c = λ stand s stored first keeps.
     let i = c.loop-row.row-index in
     let lt = c.loop-row-test.true in
     let rows = c.args.rows.now in
-    let x = it X.kind X.cells X.is_valid X.any_row X.listed stand s rows stored i lt in
-    let is = c.row-item.is ∙ it_is X.kind X.cells X.is_valid X.any_row X.listed stand s rows stored i lt c.row-item.result in
+    let x = table_item X.kind X.cells X.is_valid X.any_row X.listed stand s rows stored i lt in
+    let is = c.row-item.is ∙ table_item_is X.kind X.cells X.is_valid X.any_row X.listed stand s rows stored i lt c.row-item.result in
     let fits = with_it_keeps X.kind X.cells X.is_valid X.any_row X.listed stand s rows stored i lt c.loop-row.slice (c.loop-row.invariant.reads stand s stored first) keeps in
-    let whole = c.in_err-read_row.ensures.whole stand s.owner x (it_valid X.kind X.cells X.is_valid X.any_row X.listed stand s rows stored i lt) is fits in
+    let whole = c.in_err-read_row.ensures.whole stand s.owner x (table_item_valid X.kind X.cells X.is_valid X.any_row X.listed stand s rows stored i lt) is fits in
     let f = c.from_residual.ensures in
     search rules
 
 pub returns-clause-shown : goal.returns-clause-shown
 returns-clause-shown g c = λ o all.
     let X = g.X.StoredRow in
-    all_behind (IsRowOf X.kind X.cells X.is_valid o) c.args.rows.now c.loop-row.row-index c.loop-row-test.false (c.loop-row.invariant.shown o all)
+    all_behind (IsRowOfOwner X.kind X.cells X.is_valid o) c.args.rows.now c.loop-row.row-index c.loop-row-test.false (c.loop-row.invariant.shown o all)
 
 pub returns-clause-takes : goal.returns-clause-takes
 returns-clause-takes g c = λ stand o all. record { taken = all_taken g.X.StoredRow.kind o c.args.rows.now c.loop-row.row-index c.loop-row-test.false c.args.slice.now c.loop-row.slice (c.loop-row.invariant.taken stand o all); lacks = λ is. absurd (cc) }

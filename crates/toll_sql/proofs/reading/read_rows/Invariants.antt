@@ -1,15 +1,15 @@
 use Rattle.std.proofs.Common.{◌≡◌, take}
 use Rattle.toll_sql.proofs.Common.{AllByRecursion, Bytes, Slice}
-use Rattle.toll_sql.specs.Fronts.{front, IsStoredAs}
+use Rattle.toll_sql.specs.Fronts.{front_slice, IsStoredAs}
 use Rattle.toll_sql.specs.Reading.{AreTaken}
-use Rattle.toll_sql.specs.Shown.{AreOwnedBy, IsRowOf}
-use Rattle.toll_sql.specs.StoredLaws.{StandIn}
+use Rattle.toll_sql.specs.Shown.{AreOwnedBy, IsRowOfOwner}
+use Rattle.toll_sql.specs.StoredLaws.{AreStoredOfOwner}
 use Rattle.toll_sql.proofs.reading.read_rows.Given as goal
 
--- the rows so far are in, and each is one of its kind
+-- The rows so far are in, and each is one of its kind.
 abbrev pub invariant-loop-row : goal.invariant-loop-row
 invariant-loop-row g l = record {
-  reads : StandIn g.X.StoredRow.kind g.X.StoredRow.cells g.X.StoredRow.is_valid g.X.StoredRow.any_row g.X.StoredRow.listed → (s : Slice) → IsStoredAs g.X.StoredRow.kind s l.rows → l.fn.slice ≡ front g.X.StoredRow.kind 0 s → l.slice ≡ front g.X.StoredRow.kind l.row-index s;
-  shown : (o : Bytes) → AreOwnedBy o l.rows → AllByRecursion (IsRowOf g.X.StoredRow.kind g.X.StoredRow.cells g.X.StoredRow.is_valid o) (take l.row-index l.rows);
-  taken : StandIn g.X.StoredRow.kind g.X.StoredRow.cells g.X.StoredRow.is_valid g.X.StoredRow.any_row g.X.StoredRow.listed → (o : Bytes) → AreOwnedBy o l.rows → AreTaken g.X.StoredRow.kind o (take l.row-index l.rows) l.fn.slice l.slice;
+  reads : AreStoredOfOwner g.X.StoredRow.kind g.X.StoredRow.cells g.X.StoredRow.is_valid g.X.StoredRow.any_row g.X.StoredRow.listed → (s : Slice) → IsStoredAs g.X.StoredRow.kind s l.rows → l.fn.slice ≡ front_slice g.X.StoredRow.kind 0 s → l.slice ≡ front_slice g.X.StoredRow.kind l.row-index s;
+  shown : (o : Bytes) → AreOwnedBy o l.rows → AllByRecursion (IsRowOfOwner g.X.StoredRow.kind g.X.StoredRow.cells g.X.StoredRow.is_valid o) (take l.row-index l.rows);
+  taken : AreStoredOfOwner g.X.StoredRow.kind g.X.StoredRow.cells g.X.StoredRow.is_valid g.X.StoredRow.any_row g.X.StoredRow.listed → (o : Bytes) → AreOwnedBy o l.rows → AreTaken g.X.StoredRow.kind o (take l.row-index l.rows) l.fn.slice l.slice;
 }

@@ -5,14 +5,14 @@ use Rattle.toll_sql.specs.Reading.{TakesRows}
 use Rattle.toll_sql.specs.Rows.{AreOfOwner}
 use Rattle.toll_sql.specs.Stores.{HoldsPartIn}
 use Rattle.toll_sql.specs.Others.{HasOurs}
-use Rattle.toll_sql.specs.Tables.{is_owned}
-use Rattle.toll_sql.specs.Shown.{AreOwnedBy, IsRowOf}
+use Rattle.toll_sql.specs.Schema.{is_owned}
+use Rattle.toll_sql.specs.Shown.{AreOwnedBy, IsRowOfOwner}
 use Rattle.toll_sql.proofs.LookLemmas.{looking, stored_as}
 use Rattle.toll_sql.proofs.SoFar.{read_owned, stored_shown}
 use Rattle.toll_sql.proofs.reading.read_table.Goals as goal
 
-pub returns-in-Ok : goal.returns-in-Ok
-returns-in-Ok g c stand =
+pub returns-in-Ok-clause-reads : goal.returns-in-Ok-clause-reads
+returns-in-Ok-clause-reads g c stand =
     let X = g.X.StoredRow in
     let old = state g.S.Store c.args.conn.now in
     let new = state g.S.Store c.owners_rows.new.conn in
@@ -28,7 +28,7 @@ returns-in-Ok g c stand =
       looks = looking old new c.in-Ok.rows c.read_rows.result (c.in-Ok.ensures.asks own).asks c.read_rows.ensures.disk c.read_rows.ensures.closed;
       shows = λ clean has idle.
           let here = subst (λ (rows : List Row). AreOwnedBy o rows) (sym c.deref.ensures.value) (read_owned X.kind o old.now.trees c.in-Ok.rows.items (rows clean has)) in
-          on_ok_weaker c.read_rows.result (λ all. (stand.shown o old.now.trees (stored_shown X.kind X.cells X.is_valid o old.now.trees c.in-Ok.rows.items (rows clean has) (subst (λ (rows : List Row). AllByRecursion (IsRowOf X.kind X.cells X.is_valid o) rows) c.deref.ensures.value all)), tt)) (c.read_rows.ensures.shown o here);
+          on_ok_weaker c.read_rows.result (λ all. (stand.shown o old.now.trees (stored_shown X.kind X.cells X.is_valid o old.now.trees c.in-Ok.rows.items (rows clean has) (subst (λ (rows : List Row). AllByRecursion (IsRowOfOwner X.kind X.cells X.is_valid o) rows) c.deref.ensures.value all)), tt)) (c.read_rows.ensures.shown o here);
       reads = λ clean s held first. c.read_rows.ensures.reads stand s (stored s clean held) first;
       whole = λ clean s held keeps first. c.read_rows.ensures.whole stand s (stored s clean held) first keeps;
       taken = λ clean has idle. on_ok_weaker c.read_rows.result (λ all. (c.in-Ok.rows.items, rows clean has, (c.read_rows.new.slice, all, refl))) (takes clean has).taken;

@@ -2,10 +2,10 @@ use Rattle.std.proofs.Common.{[], rules, Option, Ok, Err, sym, subst, ◌∙◌}
 use Rattle.toll_sql.proofs.Common.{false≢true, state, Slice}
 use Rattle.toll_sql.specs.Asking.{IsLooking}
 use Rattle.toll_sql.specs.Encode.{owner_cells}
-use Rattle.toll_sql.specs.Shown.{AreTold, tables_of_owners}
+use Rattle.toll_sql.specs.Shown.{AreReported, tables_of_owners}
 use Rattle.toll_sql.specs.Valid.{IsOwner}
 use Rattle.toll_sql.specs.declared.table_kind.TableKind.TheVariants.{Owners}
-use Rattle.toll_sql.proofs.Alone.{all_rows, no_rows, told_reads, told_whole}
+use Rattle.toll_sql.proofs.Alone.{all_rows, no_rows_read, told_reads, told_whole}
 use Rattle.toll_sql.proofs.ReadOn.{looks_then, looks_as, shows_then}
 use Rattle.toll_sql.proofs.slice_reading.read_slice.Goals as goal
 
@@ -23,7 +23,7 @@ returns-in_err-slice-clause-looks g c =
 pub returns-then-not-is_known-clause-known : goal.returns-then-not-is_known-clause-known
 returns-then-not-is_known-clause-known g c clean none =
     let old = state g.S.Store c.args.conn.now in
-    (c.deref.result.now, subst (λ owners. AreTold Owners owner_cells IsOwner old.now owners) (sym c.deref.ensures.value) (c.in_ok-owners.ensures.shown clean), sym c.is_known.ensures ∙ c.if-not-is_known.true)
+    (c.deref.result.now, subst (λ owners. AreReported Owners owner_cells IsOwner old.now owners) (sym c.deref.ensures.value) (c.in_ok-owners.ensures.shown clean), sym c.is_known.ensures ∙ c.if-not-is_known.true)
 
 pub returns : goal.returns
 returns g c =
@@ -42,6 +42,7 @@ returns g c =
       known = λ clean none. absurd (cc none);
       whole = told_whole o old two _ alone;
       alone = alone;
+      lack = λ is. absurd (cc);
     }
 
 pub returns-in_err-slice-clause-whole : goal.returns-in_err-slice-clause-whole
@@ -51,7 +52,7 @@ returns-in_err-slice-clause-whole g c clean content held keeps =
     let one = state g.S.Store c.read_owners.new.conn in
     let two = state g.S.Store c.read_rows_of.new.conn in
     let e = c.in_err-slice.field-0.0 in
-    let alone = no_rows o old one two _ c.in_ok-owners.ensures.looks e c.in_err-slice.ensures.looks c.in_err-slice.ensures.whole in
+    let alone = no_rows_read o old one two _ c.in_ok-owners.ensures.looks e c.in_err-slice.ensures.looks c.in_err-slice.ensures.whole in
     let whole = told_whole o old two (Err e) alone clean content held keeps in
     let f = c.from_residual-in_err-slice.ensures in
     search rules

@@ -2,7 +2,7 @@ use Rattle.std.proofs.Common.{arith, subst}
 use Rattle.std.proofs.lemmas.Grind.{common_steps}
 use Rattle.toll_sql.proofs.Common.{keeps_then, state, HasCleanDisk}
 use Rattle.toll_keep.proofs.Changed.{next_left}
-use Rattle.toll_sql.proofs.Going.{GoesOn, one_more}
+use Rattle.toll_sql.proofs.Going.{GoesOn, one_put_more}
 use Rattle.toll_sql.proofs.writing.put_each.Goals as goal
 
 pub loop-change-preserved : goal.loop-change-preserved
@@ -15,7 +15,7 @@ loop-change-preserved g c =
       puts = λ clean ready.
           let before : HasCleanDisk now = omega (arith, clean, c.in_ok-put_change.ensures.writes.survives.clean) in
           let so = subst (λ rest. GoesOn c.args.changes.now rest first now) (next_left c.args.changes.now c.loop-change.change-index c.change-item.result c.loop-change-test.true c.change-item.is) (c.loop-change.invariant.puts before ready) in
-          one_more c.args.changes.now _ c.change-item.result first now next so (c.in_ok-put_change.ensures.writes.makes clean so.ready);
+          one_put_more c.args.changes.now _ c.change-item.result first now next so (c.in_ok-put_change.ensures.writes.makes clean so.ready);
       inside = λ clean was.
           let before : HasCleanDisk now = omega (arith, clean, c.in_ok-put_change.ensures.writes.survives.clean) in
           c.in_ok-put_change.ensures.writes.inside clean (c.loop-change.invariant.inside before was);

@@ -1,4 +1,4 @@
--- With the shipments to come, the sum is that of all; and it is small.
+-- With the shipments to come, the sum is that of all; and it fits 64 bits.
 use Rattle.std.proofs.Common.{◌≡◌, ◌+◌, ◌*◌, ◌≤◌, length}
 use Rattle.toll_stock.proofs.Common.{total}
 use Rattle.toll_stock.specs.LotTotals.{shipped_by}

@@ -1,26 +1,27 @@
-//! A world in which clients come in groups. All of a group may go on at once, and are told so once, by the keys
-//! by which the server knows them.
+//! A network in memory whose clients come in groups. All of a group are ready at once, and are reported once,
+//! by the keys under which the server knows them.
 use crate::server::connections::wire::{Log, Plan, Wire};
 use std::alloc::Global;
 use toll_server::{Accepted, MOST_CONNECTIONS, Network, NetworkFault};
 
-/// Who comes, one after another, in groups of so many. The next group comes once the one before was told.
+/// The clients that come, one after another, in groups of this size. The next group comes once the one before
+/// was reported.
 #[derive(Drop)]
 pub struct Crowd<'l> {
     coming: &'l [Plan],
     groups: &'l [usize],
-    /// How many have come to the door, and how many of them were accepted.
+    /// How many clients have come, and how many of them were accepted.
     at_door: usize,
     came: usize,
     keys: Vec<usize>,
-    /// How many keys were told to be ready, and how many of them were handed out.
-    told: usize,
+    /// How many keys were reported ready, and how many of them were handed out.
+    replied: usize,
     handed: usize,
     log: &'l Log,
 }
 
 impl<'l> Crowd<'l> {
-    /// Nobody has come yet.
+    /// No client has come yet.
     pub fn new(alloc: Global, coming: &'l [Plan], groups: &'l [usize], log: &'l Log) -> Self {
         let mut crowd = Crowd {
             coming,
@@ -28,7 +29,7 @@ impl<'l> Crowd<'l> {
             at_door: 0,
             came: 0,
             keys: Vec::new(alloc),
-            told: 0,
+            replied: 0,
             handed: 0,
             log,
         };
@@ -52,10 +53,10 @@ impl<'l> Network for Crowd<'l> {
     }
 
     fn wait(&mut self, most: Option<u64>) -> Result<u64, NetworkFault> {
-        self.handed = self.told;
+        self.handed = self.replied;
         let is_whole = self.came == self.at_door;
-        if is_whole && self.told < self.keys.len() {
-            self.told = self.keys.len();
+        if is_whole && self.replied < self.keys.len() {
+            self.replied = self.keys.len();
             self.let_next_come();
             return Ok(self.log.clock.get());
         }
@@ -67,7 +68,7 @@ impl<'l> Network for Crowd<'l> {
     }
 
     fn next_ready(&mut self) -> Option<usize> {
-        if self.handed == self.told {
+        if self.handed == self.replied {
             return None;
         }
         let key = self.keys.get(self.handed)?;

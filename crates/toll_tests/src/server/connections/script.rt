@@ -3,8 +3,8 @@ use crate::server::connections::wire::{Log, Plan, Wire};
 use std::alloc::Global;
 use toll_server::{Accepted, Listener, MOST_CONNECTIONS, Network, NetworkFault, Poll, Service};
 
-/// Who comes, and who goes on, one after another; where nobody does, a wait is as long as it may be. One
-/// that may not wait sees who goes on while the office has a task, and nobody else.
+/// The clients that come, and those that advance, one after another. If none does, a wait is as long as it
+/// may be. A wait without time sees clients that advance while the office has a task, and no others.
 #[derive(Drop)]
 pub struct Script<'l> {
     coming: &'l [Option<Plan>],
@@ -14,7 +14,7 @@ pub struct Script<'l> {
 }
 
 impl<'l> Script<'l> {
-    /// Nobody has come yet. `None` among them is a time when nobody can be taken.
+    /// No client has come yet. `None` among them is a time when none can be accepted.
     pub fn new(coming: &'l [Option<Plan>], order: &'l [usize], log: &'l Log) -> Self {
         Script {
             coming,
@@ -87,7 +87,7 @@ impl<'l> Scribe<'l> {
         Scribe { answered: 0, log }
     }
 
-    // What this turn comes to, behind which so many are left.
+    // The outcome of this turn, after which this many are left.
     fn turn(&self, alloc: Global, digit: u8, left: u64) -> Poll<Chore> {
         self.log.note(digit);
         if left > 0 {
@@ -97,7 +97,7 @@ impl<'l> Scribe<'l> {
     }
 }
 
-/// A digit that is to be told after so many turns.
+/// A digit that is the reply after this many turns.
 #[derive(Drop)]
 pub struct Chore {
     digit: u8,
@@ -111,25 +111,25 @@ impl Service for Scribe<'_> {
 
     type Party = u8;
 
-    ghost is_by = { λ listener asked party. ⊤ };
+    ghost is_by = { λ listener requested party. ⊤ };
 
-    ghost answers = { λ old listener asked poll new. ⊤ };
+    ghost answers = { λ old listener requested poll new. ⊤ };
 
     ghost resumes = { λ old task poll new. ⊤ };
 
-    // Whom it is of is told by its first digit.
-    fn party(_listener: Listener, asked: &[u8]) -> u8
+    // The first digit of a request is its party.
+    fn party(_listener: Listener, requested: &[u8]) -> u8
         ensures { ⊤ }
     {
-        match asked.iter().find(|byte| byte.is_ascii_digit()) {
+        match requested.iter().find(|byte| byte.is_ascii_digit()) {
             Some(digit) => *digit,
             None => 0,
         }
     }
 
-    fn answer(&mut self, alloc: Global, listener: Listener, asked: &[u8]) -> Poll<Chore> {
+    fn answer(&mut self, alloc: Global, listener: Listener, requested: &[u8]) -> Poll<Chore> {
         self.answered = self.answered.saturating_add(1);
-        let Some(digit) = asked.iter().find(|byte| byte.is_ascii_digit()) else {
+        let Some(digit) = requested.iter().find(|byte| byte.is_ascii_digit()) else {
             self.log.wrong.set(true);
             return Poll::Ready(Vec::new(alloc));
         };

@@ -5,7 +5,7 @@ use std::io::{ErrorKind, Read, Write};
 use toll_protocol::Stream;
 use toll_server::{Listener, MOST_CONNECTIONS};
 
-/// What stands behind the last piece.
+/// What follows the last piece.
 #[derive(Clone, Copy)]
 pub enum Ends {
     Silent,
@@ -47,12 +47,12 @@ pub struct Pace {
 pub struct Log {
     pub pace: Pace,
     /// How many bytes were written, and whether one went to another client.
-    pub told: Cell<u64>,
+    pub replied: Cell<u64>,
     pub wrong: Cell<bool>,
     /// The milliseconds that have gone, and how many tasks are left to do.
     pub clock: Cell<u64>,
     pub tasks: Cell<u64>,
-    /// The digit of whom each turn was for, one after another.
+    /// The digit of the client of each turn, one after another.
     pub turns: Cell<u64>,
     /// How many close before they are accepted, ahead of all others.
     pub aborted: Cell<u64>,
@@ -75,7 +75,7 @@ impl Log {
     pub fn at(pace: Pace) -> Self {
         Log {
             pace,
-            told: Cell::new(0),
+            replied: Cell::new(0),
             wrong: Cell::new(false),
             clock: Cell::new(0),
             tasks: Cell::new(0),
@@ -93,7 +93,7 @@ impl Log {
         }
     }
 
-    /// A turn was for whom this digit is.
+    /// A turn was for the client with this digit.
     pub fn note(&self, digit: u8) {
         let before = self.turns.get().saturating_mul(10);
         let turn = u64::from(digit.saturating_sub(b'0'));
@@ -107,7 +107,7 @@ impl Log {
     }
 }
 
-/// A connection by a plan. It would wait behind each piece.
+/// A connection by a plan. It would wait after each piece.
 #[derive(Drop)]
 pub struct Wire<'l> {
     plan: Plan,
@@ -168,8 +168,8 @@ impl Write for Wire<'_> {
         let is_its_own = bytes[..n].iter().all(|byte| *byte == self.plan.mark);
         self.log.wrong.set(self.log.wrong.get() || !is_its_own);
         self.log
-            .told
-            .set(self.log.told.get().saturating_add(n as u64));
+            .replied
+            .set(self.log.replied.get().saturating_add(n as u64));
         Ok(n)
     }
 

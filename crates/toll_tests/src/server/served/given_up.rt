@@ -1,7 +1,7 @@
 //! An import that is given up, since its office was closed and can't be opened.
 use crate::refusing::{Refused, Refusing};
 use crate::server::served::imports::{import_of_records, push_lines};
-use crate::server::served::{ADD_OWNER, NO_MEMORY, Visit};
+use crate::server::served::{ADD_OWNER, Client, NO_MEMORY};
 use std::alloc::Global;
 use std::fs;
 use std::fs::File;
@@ -47,20 +47,20 @@ impl KeepOpener<Refusing<MemKeep>> for Once {
     fn close(&mut self, _keep: Refusing<MemKeep>) {}
 }
 
-// What the plant is told: what came of the first group, and why no more act.
+// The response to the plant: the outcomes of the first group, and why no more act.
 fn wanted(alloc: Global) -> Result<Vec<u8>, EncodeFault> {
     let mut text = String::new(alloc);
     push_lines(alloc, &mut text, 1, GROUP_RECORDS, "refused 3 UnknownOwner")?;
     text.push_str("accepted 0 repeated 0 refused 500 bad 0 fault 0\n")?;
-    let told = Response {
+    let reported = Response {
         status: 3,
         output: text.as_bytes(),
         error: b"fault Disk\n",
     };
-    told.encode(alloc)
+    reported.encode(alloc)
 }
 
-// What one more turn comes to, where something is left.
+// The outcome of one more turn, if something is left.
 fn resume<O: Service>(alloc: Global, office: &mut O, poll: Poll<O::Task>) -> Poll<O::Task> {
     match poll {
         Poll::Pending(task) => office.resume(alloc, task),
@@ -68,37 +68,37 @@ fn resume<O: Service>(alloc: Global, office: &mut O, poll: Poll<O::Task>) -> Pol
     }
 }
 
-fn is_told<T: Drop>(poll: &Poll<T>, wanted: &[u8]) -> bool {
+fn is_expected<T: Drop>(poll: &Poll<T>, wanted: &[u8]) -> bool {
     match poll {
         Poll::Ready(bytes) => bytes.as_slice() == wanted,
         Poll::Pending(_) => false,
     }
 }
 
-// Whether that is told of the import, behind whose first group somebody meets a fault.
-fn is_given_up<O: Service>(alloc: Global, office: &mut O, asked: &[u8], wanted: &[u8]) -> bool {
-    let poll = office.answer(alloc, Listener::Plant, asked);
+// Whether that is the response to the import, if a fault is met after its first group.
+fn is_given_up<O: Service>(alloc: Global, office: &mut O, requested: &[u8], wanted: &[u8]) -> bool {
+    let poll = office.answer(alloc, Listener::Plant, requested);
     let poll = resume(alloc, office, poll);
-    let Visit {
+    let Client {
         listener,
-        asked,
+        bytes,
         ..
     } = ADD_OWNER;
-    let between = office.answer(alloc, listener, asked);
+    let between = office.answer(alloc, listener, bytes);
     let poll = resume(alloc, office, poll);
-    is_told(&between, NO_MEMORY) && is_told(&poll, wanted)
+    is_expected(&between, NO_MEMORY) && is_expected(&poll, wanted)
 }
 
 #[test]
-fn what_came_of_an_import_that_is_given_up_is_told(rt: HostRuntime) -> Result<(), Fail> {
-    let asked = import_of_records(rt.alloc())?;
+fn outcomes_of_a_given_up_import_are_reported(rt: HostRuntime) -> Result<(), Fail> {
+    let requested = import_of_records(rt.alloc())?;
     let wanted = wanted(rt.alloc())?;
     let mut desk = OfficeService::new(OfficePath {
         rt: &rt,
         path: "given_up.db",
         opener: Once { is_opened: false },
     });
-    let is_given_up = is_given_up(rt.alloc(), &mut desk, &asked, &wanted);
+    let is_given_up = is_given_up(rt.alloc(), &mut desk, &requested, &wanted);
     desk.close();
     let _ = fs::remove_file(&rt, "given_up.db.lock");
     assert!(rt; is_given_up);

@@ -1,8 +1,8 @@
 //! Imports in turns, with others in between.
 use crate::refusing::{Refused, Refusing};
-use crate::server::served::street::{Log, Street};
+use crate::server::served::fake_network::{FakeNetwork, Log};
 use crate::server::served::{
-    ADD_OWNER, ADD_RECIPE, LIST, PLACE, Visit, answer_alone, is_told, resume, tells,
+    ADD_OWNER, ADD_RECIPE, Client, LIST, PLACE, answer_alone, is_expected, resume, tells,
 };
 use std::alloc::{AllocError, Global};
 use std::test::Fail;
@@ -19,8 +19,8 @@ const RECORD: &str = "K2,ACME,O-1,1,1,consumed,M,ACME,A,S1,40,11\n";
 /// Those of two groups, and one more.
 const RECORDS: usize = 2 * GROUP_RECORDS + 1;
 
-/// What is asked behind each of the first two groups, and changes what comes of the records behind it.
-const BETWEEN: [&[Visit<'static>]; 2] = [&[ADD_OWNER], &[ADD_RECIPE, PLACE]];
+/// The requests after each of the first two groups, which change the outcomes of the records after it.
+const BETWEEN: [&[Client<'static>]; 2] = [&[ADD_OWNER], &[ADD_RECIPE, PLACE]];
 
 /// What asks for the import of the records.
 pub fn import_of_records(alloc: Global) -> Result<Vec<u8>, EncodeFault> {
@@ -31,7 +31,7 @@ pub fn import_of_records(alloc: Global) -> Result<Vec<u8>, EncodeFault> {
     Call::encode(alloc, &["import"], Some(file.as_bytes()))
 }
 
-/// What is printed of this import, where so many records behind these come to that.
+/// What is printed of this import, if this many records after these have that outcome.
 pub fn push_lines(
     alloc: Global,
     text: &mut String,
@@ -47,17 +47,17 @@ pub fn push_lines(
     Ok(())
 }
 
-// What the plant is told where this was printed.
-fn told(alloc: Global, status: u8, text: &str) -> Result<Vec<u8>, EncodeFault> {
-    let told = Response {
+// The response to the plant if this was printed.
+fn reported(alloc: Global, status: u8, text: &str) -> Result<Vec<u8>, EncodeFault> {
+    let reported = Response {
         status,
         output: text.as_bytes(),
         error: b"",
     };
-    told.encode(alloc)
+    reported.encode(alloc)
 }
 
-// What the plant is told where others asked in between.
+// The response to the plant if others asked in between.
 fn told_with_others(alloc: Global) -> Result<Vec<u8>, EncodeFault> {
     let mut text = String::new(alloc);
     push_lines(alloc, &mut text, 1, GROUP_RECORDS, "refused 3 UnknownOwner")?;
@@ -70,26 +70,26 @@ fn told_with_others(alloc: Global) -> Result<Vec<u8>, EncodeFault> {
     )?;
     push_lines(alloc, &mut text, 1001, 1, "refused 22 UnknownBatch")?;
     text.push_str("accepted 0 repeated 0 refused 1001 bad 0 fault 0\n")?;
-    told(alloc, 1, text.as_str())
+    reported(alloc, 1, text.as_str())
 }
 
-// What it is told where the second group met a fault.
+// The response to the plant if the second group met a fault.
 fn told_with_a_fault(alloc: Global) -> Result<Vec<u8>, EncodeFault> {
     let mut text = String::new(alloc);
     push_lines(alloc, &mut text, 1, GROUP_RECORDS, "refused 3 UnknownOwner")?;
     push_lines(alloc, &mut text, 501, 1, "fault Memory")?;
     text.push_str("accepted 0 repeated 0 refused 500 bad 0 fault 1\n")?;
-    told(alloc, 3, text.as_str())
+    reported(alloc, 3, text.as_str())
 }
 
-// Whether all who come so are told what they are to be told.
+// Whether all of these clients have the replies that they should have.
 fn are_told<K: Keep>(
     alloc: Global,
     keep: &mut K,
-    visits: &[Visit<'static>],
+    visits: &[Client<'static>],
 ) -> Result<bool, AllocError> {
     for visit in visits {
-        if !is_told(alloc, keep, visit, true)? {
+        if !is_expected(alloc, keep, visit, true)? {
             return Ok(false);
         }
     }
@@ -99,8 +99,8 @@ fn are_told<K: Keep>(
 #[test]
 fn each_group_finds_what_was_done_before_it(rt: HostRuntime) -> Result<(), Fail> {
     let mut keep = MemKeep::new(rt.alloc());
-    let asked = import_of_records(rt.alloc())?;
-    let mut reply = answer_alone(rt.alloc(), &mut keep, Listener::Plant, &asked)?;
+    let requested = import_of_records(rt.alloc())?;
+    let mut reply = answer_alone(rt.alloc(), &mut keep, Listener::Plant, &requested)?;
     for visits in BETWEEN {
         reply = resume(rt.alloc(), &mut keep, reply);
         let are_told = are_told(rt.alloc(), &mut keep, visits)?;
@@ -115,8 +115,8 @@ fn each_group_finds_what_was_done_before_it(rt: HostRuntime) -> Result<(), Fail>
 #[test]
 fn behind_a_fault_no_group_acts(rt: HostRuntime) -> Result<(), Fail> {
     let mut keep = MemKeep::new(rt.alloc());
-    let asked = import_of_records(rt.alloc())?;
-    let reply = answer_alone(rt.alloc(), &mut keep, Listener::Plant, &asked)?;
+    let requested = import_of_records(rt.alloc())?;
+    let reply = answer_alone(rt.alloc(), &mut keep, Listener::Plant, &requested)?;
     let reply = resume(rt.alloc(), &mut keep, reply);
     let mut keep = Refusing::new(keep, Refused::Behind(0));
     let reply = resume(rt.alloc(), &mut keep, reply);
@@ -125,22 +125,22 @@ fn behind_a_fault_no_group_acts(rt: HostRuntime) -> Result<(), Fail> {
     Ok(())
 }
 
-// What is told where a batch's order is known, and the batch is not.
+// The response if a batch's order is known, and the batch is not.
 fn told_of_a_batch(alloc: Global) -> Result<Vec<u8>, EncodeFault> {
     let mut text = String::new(alloc);
     push_lines(alloc, &mut text, 1, RECORDS, "refused 22 UnknownBatch")?;
     text.push_str("accepted 0 repeated 0 refused 1001 bad 0 fault 0\n")?;
-    told(alloc, 1, text.as_str())
+    reported(alloc, 1, text.as_str())
 }
 
 #[test]
 fn owners_are_answered_before_an_import_is_over(rt: HostRuntime) -> Result<(), Fail> {
-    let asked = import_of_records(rt.alloc())?;
-    let told = told_of_a_batch(rt.alloc())?;
-    let import = Visit {
+    let requested = import_of_records(rt.alloc())?;
+    let reported = told_of_a_batch(rt.alloc())?;
+    let import = Client {
         listener: Listener::Plant,
-        asked: &asked,
-        told: &told,
+        bytes: &requested,
+        expected: &reported,
     };
     let mut keep = MemKeep::new(rt.alloc());
     let is_ready = are_told(rt.alloc(), &mut keep, &[ADD_OWNER, ADD_RECIPE])?;
@@ -148,9 +148,14 @@ fn owners_are_answered_before_an_import_is_over(rt: HostRuntime) -> Result<(), F
     let visits = [import, PLACE, LIST];
     let mut office = KeepService::new(keep);
     let log = Log::new();
-    let served = serve_keep(rt.alloc(), &mut Street::new(&visits, &log), &mut office, 2);
+    let served = serve_keep(
+        rt.alloc(),
+        &mut FakeNetwork::new(&visits, &log),
+        &mut office,
+        2,
+    );
     assert_eq!(rt; served, ServingEnd::All);
-    assert_eq!(rt; log.told.get(), visits.len());
+    assert_eq!(rt; log.replied.get(), visits.len());
     assert_eq!(rt; log.last.get(), Some(Listener::Plant));
     Ok(())
 }

@@ -1,7 +1,7 @@
-//! What is long: a stock of more than 1,048,576 bytes that is told, and a file of just so many that is
+//! Long texts: a stock of more than 1,048,576 bytes that is shown, and a file of exactly this length that is
 //! imported.
-use crate::server::served::street::{Log, Street};
-use crate::server::served::{Visit, answer_alone, tells};
+use crate::server::served::fake_network::{FakeNetwork, Log};
+use crate::server::served::{Client, answer_alone, tells};
 use crate::stories::{told_stock, with_much_stock};
 use std::alloc::{AllocError, Global};
 use std::test::Fail;
@@ -16,7 +16,7 @@ const FILE_BYTES: usize = 1_048_576;
 const HEADER: &[u8] =
     b"key,owner,order,batch,segment,use,material,lot_owner,lot,sublot,amount,day\n";
 
-/// What is told of one record that is none.
+/// The response to one record that is bad.
 const ONE_BAD: Response<'static> = Response {
     status: 1,
     output: b"     1 bad-record\naccepted 0 repeated 0 refused 0 bad 1 fault 0\n",
@@ -24,24 +24,24 @@ const ONE_BAD: Response<'static> = Response {
 };
 
 #[test]
-fn a_stock_of_a_megabyte_is_told(rt: HostRuntime) -> Result<(), Fail> {
+fn a_stock_of_a_megabyte_is_replied(rt: HostRuntime) -> Result<(), Fail> {
     let mut keep = with_much_stock(rt.alloc())?;
     let stock = told_stock(rt.alloc())?;
-    let asked = Call::encode(rt.alloc(), &["stock", "ACME"], None)?;
-    let reply = answer_alone(rt.alloc(), &mut keep, Listener::Plant, &asked)?;
+    let requested = Call::encode(rt.alloc(), &["stock", "ACME"], None)?;
+    let reply = answer_alone(rt.alloc(), &mut keep, Listener::Plant, &requested)?;
     assert!(rt; stock.len() > FILE_BYTES);
     assert!(rt; is_whole(rt.alloc(), &reply, stock.as_bytes())?);
     Ok(())
 }
 
-// Whether all of this output is told, of something that is done.
+// Whether the response has all of this output and reports success.
 fn is_whole(alloc: Global, reply: &TurnResult, output: &[u8]) -> Result<bool, EncodeFault> {
-    let told = Response {
+    let reported = Response {
         status: 0,
         output,
         error: b"",
     };
-    Ok(tells(reply, &told.encode(alloc)?, true))
+    Ok(tells(reply, &reported.encode(alloc)?, true))
 }
 
 // A file that is as long as one may be, of one record that is none.
@@ -56,21 +56,21 @@ fn longest_file(alloc: Global) -> Result<Vec<u8>, AllocError> {
 #[test]
 fn the_longest_file_is_imported_whole(rt: HostRuntime) -> Result<(), Fail> {
     let file = longest_file(rt.alloc())?;
-    let asked = Call::encode(rt.alloc(), &["import"], Some(&file))?;
-    let told = ONE_BAD.encode(rt.alloc())?;
-    let visit = Visit {
+    let requested = Call::encode(rt.alloc(), &["import"], Some(&file))?;
+    let reported = ONE_BAD.encode(rt.alloc())?;
+    let visit = Client {
         listener: Listener::Plant,
-        asked: &asked,
-        told: &told,
+        bytes: &requested,
+        expected: &reported,
     };
     let keep = MemKeep::new(rt.alloc());
     let log = Log::new();
     let _ = serve_keep(
         rt.alloc(),
-        &mut Street::new(&[visit], &log),
+        &mut FakeNetwork::new(&[visit], &log),
         &mut KeepService::new(keep),
         1,
     );
-    assert_eq!(rt; log.told.get(), 1);
+    assert_eq!(rt; log.replied.get(), 1);
     Ok(())
 }

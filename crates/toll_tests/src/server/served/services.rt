@@ -1,6 +1,6 @@
 //! An office in a file: when it is opened anew, and when its lock is kept.
 use crate::server::served::imports::import_of_records;
-use crate::server::served::{ADD_AGAIN, ADD_OWNER, MOST_TURNS, Visit};
+use crate::server::served::{ADD_AGAIN, ADD_OWNER, Client, MOST_TURNS};
 use std::alloc::Global;
 use std::cell::Cell;
 use std::fs::{File, OpenOptions};
@@ -84,17 +84,22 @@ fn open_file(rt: &HostRuntime, path: &str) -> io::Result<File> {
         .open(rt, path)
 }
 
-// Whether a client that comes so is told just this.
-fn is_told<O: Service>(alloc: Global, office: &mut O, visit: &Visit<'_>) -> bool {
-    match office.answer(alloc, visit.listener, visit.asked) {
-        Poll::Ready(bytes) => bytes.as_slice() == visit.told,
+// Whether the response to this client is exactly this.
+fn is_expected<O: Service>(alloc: Global, office: &mut O, visit: &Client<'_>) -> bool {
+    match office.answer(alloc, visit.listener, visit.bytes) {
+        Poll::Ready(bytes) => bytes.as_slice() == visit.expected,
         Poll::Pending(_) => false,
     }
 }
 
-// Behind how many turns of an import somebody else finds the file locked.
-fn locked_turns<O: Service>(rt: &HostRuntime, office: &mut O, path: &str, asked: &[u8]) -> usize {
-    let mut poll = office.answer(rt.alloc(), Listener::Plant, asked);
+// The number of turns of an import after which another process finds the file locked.
+fn locked_turns<O: Service>(
+    rt: &HostRuntime,
+    office: &mut O,
+    path: &str,
+    requested: &[u8],
+) -> usize {
+    let mut poll = office.answer(rt.alloc(), Listener::Plant, requested);
     let mut locked = 0usize;
     for _ in 0..MOST_TURNS {
         let Poll::Pending(task) = poll else {
@@ -108,7 +113,7 @@ fn locked_turns<O: Service>(rt: &HostRuntime, office: &mut O, path: &str, asked:
     locked
 }
 
-// The desk of the office at such a place.
+// The office's desk at this path.
 fn desk_at<'a>(
     rt: &'a HostRuntime,
     path: &'a str,
@@ -121,11 +126,11 @@ fn desk_at<'a>(
     })
 }
 
-// Whether two who ask the same find a new office each.
+// Whether two clients with the same request each find a new office.
 fn are_apart(rt: &HostRuntime, path: &str, counts: &Counts) -> bool {
     let mut desk = desk_at(rt, path, counts);
-    let is_first = is_told(rt.alloc(), &mut desk, &ADD_OWNER);
-    let is_new = is_told(rt.alloc(), &mut desk, &ADD_OWNER);
+    let is_first = is_expected(rt.alloc(), &mut desk, &ADD_OWNER);
+    let is_new = is_expected(rt.alloc(), &mut desk, &ADD_OWNER);
     desk.close();
     is_first && is_new
 }
@@ -142,13 +147,14 @@ fn an_office_whose_file_is_not_there_is_opened_for_each_request(
     Ok(())
 }
 
-// Whether the second finds what the first did, and the third, before whom the file was written, a new office.
+// Whether the second client finds the office of the first; and the third, before which the file was written,
+// a new one.
 fn is_new_once_written(rt: &HostRuntime, path: &str, file: &mut File, counts: &Counts) -> bool {
     let mut desk = desk_at(rt, path, counts);
-    let is_first = is_told(rt.alloc(), &mut desk, &ADD_OWNER);
-    let is_kept = is_told(rt.alloc(), &mut desk, &ADD_AGAIN);
+    let is_first = is_expected(rt.alloc(), &mut desk, &ADD_OWNER);
+    let is_kept = is_expected(rt.alloc(), &mut desk, &ADD_AGAIN);
     let is_written = file.write_all(b"another's").is_ok();
-    let is_new = is_told(rt.alloc(), &mut desk, &ADD_OWNER);
+    let is_new = is_expected(rt.alloc(), &mut desk, &ADD_OWNER);
     desk.close();
     is_first && is_kept && is_written && is_new
 }
@@ -166,10 +172,10 @@ fn an_office_stays_open_until_others_write_its_file(rt: HostRuntime) -> Result<(
     Ok(())
 }
 
-// Behind how many turns of an import the lock of its file is kept, and whether it is given back then.
-fn turns_of(rt: &HostRuntime, path: &str, asked: &[u8], counts: &Counts) -> (usize, bool) {
+// The number of turns of an import for which the lock of its file is kept, and whether it is given back then.
+fn turns_of(rt: &HostRuntime, path: &str, requested: &[u8], counts: &Counts) -> (usize, bool) {
     let mut desk = desk_at(rt, path, counts);
-    let locked = locked_turns(rt, &mut desk, path, asked);
+    let locked = locked_turns(rt, &mut desk, path, requested);
     let is_free = take_lock(rt, path).is_ok();
     desk.close();
     (locked, is_free)
@@ -178,8 +184,8 @@ fn turns_of(rt: &HostRuntime, path: &str, asked: &[u8], counts: &Counts) -> (usi
 #[test]
 fn the_lock_is_kept_while_an_import_is_under_way(rt: HostRuntime) -> Result<(), Fail> {
     let counts = Counts::new();
-    let asked = import_of_records(rt.alloc())?;
-    let turns = turns_of(&rt, "under_way.db", &asked, &counts);
+    let requested = import_of_records(rt.alloc())?;
+    let turns = turns_of(&rt, "under_way.db", &requested, &counts);
     remove(&rt, "under_way.db")?;
     assert_eq!(rt; turns, (3, true));
     Ok(())

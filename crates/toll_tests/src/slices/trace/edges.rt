@@ -20,23 +20,18 @@ fn lot_of((owner, lot): Named) -> LotId {
     }
 }
 
-fn what((_, number, segment, role, lot): Recorded) -> Result<Move, Refusal> {
-    let order = name("O");
-    Ok(Move::Actual {
-        order,
-        number: BatchNo::new(number)?,
-        segment: Segment::new(segment)?,
-        role,
-        material: order,
-        lot: lot_of(lot),
-        sublot: order,
-    })
-}
-
-fn movement(recorded: Recorded) -> Result<MoveRow, Refusal> {
+fn movement((key, number, segment, role, lot): Recorded) -> Result<MoveRow, Refusal> {
     Ok(MoveRow {
-        key: name(recorded.0),
-        what: what(recorded)?,
+        key: name(key),
+        what: Move::Actual {
+            order: name("O"),
+            number: BatchNo::new(number)?,
+            segment: Segment::new(segment)?,
+            role,
+            material: name("M"),
+            lot: lot_of(lot),
+            sublot: name("S"),
+        },
         amount: Amount::new(10)?,
         day: Day::new(2)?,
     })
@@ -45,10 +40,6 @@ fn movement(recorded: Recorded) -> Result<MoveRow, Refusal> {
 fn put_movement(slice: &mut Slice, recorded: Recorded) -> Result<(), Fail> {
     let movement = movement(recorded)?;
     put(slice, Row::Move(movement))
-}
-
-fn put_void(slice: &mut Slice, key: &str) -> Result<(), Fail> {
-    put(slice, Row::Void(VoidRow { key: name(key) }))
 }
 
 fn record_all(slice: &mut Slice, actuals: &[Recorded]) -> Result<(), Fail> {
@@ -60,49 +51,30 @@ fn record_all(slice: &mut Slice, actuals: &[Recorded]) -> Result<(), Fail> {
 
 fn void_all(slice: &mut Slice, keys: &[&str]) -> Result<(), Fail> {
     for key in keys {
-        put_void(slice, key)?;
+        put(slice, Row::Void(VoidRow { key: name(key) }))?;
     }
     Ok(())
 }
 
-fn is_lot(lot: &LotId, named: Named) -> bool {
-    let (owner, name) = named;
-    lot.owner.as_bytes() == owner.as_bytes() && lot.lot.as_bytes() == name.as_bytes()
-}
+/// Actuals of ACME, the keys of those that are voided, and the lots from which edges then lead to P1.
+type Line = (
+    &'static [Recorded],
+    &'static [&'static str],
+    &'static [Named],
+);
 
-fn leads_to_p1(edge: &Edge, from: Named) -> bool {
-    is_lot(&edge.from, from) && is_lot(&edge.to, ("ACME", "P1"))
+fn edges(alloc: Global, slice: &mut Slice, line: &Line) -> Result<Vec<Edge>, Fail> {
+    record_all(slice, line.0)?;
+    void_all(slice, line.1)?;
+    Ok(edges_of(alloc, slice)?)
 }
 
 /// Whether these are edges from these lots to P1, one of each.
 fn lead_to_p1(edges: &[Edge], from: &[Named]) -> bool {
+    let to = lot_of(("ACME", "P1"));
     let mut pairs = edges.iter().zip(from);
-    edges.len() == from.len() && pairs.all(|(edge, named)| leads_to_p1(edge, *named))
-}
-
-/// Whether the actuals, with these keys voided, draw the edges from these lots to P1.
-fn draws(
-    alloc: Global,
-    slice: &mut Slice,
-    actuals: &[Recorded],
-    voided: &[&str],
-    from: &[Named],
-) -> Result<bool, Fail> {
-    record_all(slice, actuals)?;
-    void_all(slice, voided)?;
-    let edges = edges_of(alloc, slice)?;
-    Ok(lead_to_p1(&edges, from))
-}
-
-/// The same of an empty slice of ACME.
-fn acme_draws(
-    alloc: Global,
-    actuals: &[Recorded],
-    voided: &[&str],
-    from: &[Named],
-) -> Result<bool, Fail> {
-    let mut slice = Slice::new(alloc, name("ACME"));
-    draws(alloc, &mut slice, actuals, voided, from)
+    edges.len() == from.len()
+        && pairs.all(|(edge, named)| edge.from == lot_of(*named) && edge.to == to)
 }
 
 /// A batch of two segments: lots A and H-1 are consumed and P1 is produced in the first, B is
@@ -114,23 +86,6 @@ const BATCH: &[Recorded] = &[
     ("K6", 1, 2, Role::Consumed, ("ACME", "B")),
 ];
 
-/// Which of its keys are voided, and from which lots edges lead to P1 then.
-const DRAWN: &[(&[&str], &[Named])] = &[
-    (&[], &[("ACME", "A"), ("HOUSE", "H-1")]),
-    (&["K4"], &[("ACME", "A")]),
-    (&["K5"], &[]),
-];
-
-#[test]
-fn draws_edges_within_a_batch(rt: HostRuntime) -> Result<(), Fail> {
-    for line in DRAWN {
-        let (voided, from) = *line;
-        let drawn = acme_draws(rt.alloc(), BATCH, voided, from)?;
-        assert!(rt; drawn, "where {voided:?} are voided");
-    }
-    Ok(())
-}
-
 /// Two batches: the first produces P1 twice, in its second segment, after it consumed A and B; the
 /// second consumes C.
 const TWO_BATCHES: &[Recorded] = &[
@@ -141,10 +96,19 @@ const TWO_BATCHES: &[Recorded] = &[
     ("K5", 2, 1, Role::Consumed, ("ACME", "C")),
 ];
 
+const DRAWN: &[Line] = &[
+    (BATCH, &[], &[("ACME", "A"), ("HOUSE", "H-1")]),
+    (BATCH, &["K4"], &[("ACME", "A")]),
+    (BATCH, &["K5"], &[]),
+    (TWO_BATCHES, &[], &[("ACME", "A"), ("ACME", "B")]),
+];
+
 #[test]
-fn draws_each_edge_once_and_none_across_batches(rt: HostRuntime) -> Result<(), Fail> {
-    let from = [("ACME", "A"), ("ACME", "B")];
-    let drawn = acme_draws(rt.alloc(), TWO_BATCHES, &[], &from)?;
-    assert!(rt; drawn);
+fn draws_edges_within_a_batch(rt: HostRuntime) -> Result<(), Fail> {
+    for line in DRAWN {
+        let mut slice = Slice::new(rt.alloc(), name("ACME"));
+        let edges = edges(rt.alloc(), &mut slice, line)?;
+        assert!(rt; lead_to_p1(&edges, line.2), "where {:?} are voided", line.1);
+    }
     Ok(())
 }

@@ -36,7 +36,7 @@ fn is_step(step: &Step, (steps, letter): &(u64, u8)) -> bool {
 /// Whether the trace has these steps, each with the letter of its lot.
 fn is_trace(trace: &[Step], wanted: &[(u64, u8)]) -> bool {
     let mut pairs = trace.iter().zip(wanted);
-    trace.len() == wanted.len() && pairs.all(|(step, told)| is_step(step, told))
+    trace.len() == wanted.len() && pairs.all(|(step, reported)| is_step(step, reported))
 }
 
 /// Edges, a way, and the steps of the trace that goes this way along them from the lot A.

@@ -1,6 +1,6 @@
 use Rattle.std.proofs.Common.{subst, take}
 use Rattle.toll_trace.proofs.Common.{take_all}
-use Rattle.toll_trace.proofs.EdgeJoints.{HasEnds, ends_in_order, ends_more, ends_none}
+use Rattle.toll_trace.proofs.EdgeIndexLemmas.{HasEnds, ends_in_order, ends_more, ends_none}
 use Rattle.toll_trace.proofs.Walks.{with_item}
 use Rattle.toll_trace.proofs.graph.lots_joined.Goals as goal
 

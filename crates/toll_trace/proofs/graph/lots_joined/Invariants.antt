@@ -1,5 +1,5 @@
 use Rattle.std.proofs.Common.{take}
-use Rattle.toll_trace.proofs.EdgeJoints.{HasEnds}
+use Rattle.toll_trace.proofs.EdgeIndexLemmas.{HasEnds}
 use Rattle.toll_trace.proofs.graph.lots_joined.Given as goal
 
 abbrev pub invariant-loop-edge : goal.invariant-loop-edge

@@ -1,5 +1,5 @@
 use Rattle.std.proofs.Common.{take}
-use Rattle.toll_trace.proofs.Numbering.{found_at, not_listed, numbers_more, numbers_but}
+use Rattle.toll_trace.proofs.Numbering.{lot_found_at, not_listed, numbers_more, numbers_but}
 use Rattle.toll_trace.proofs.Walks.{with_item}
 use Rattle.toll_trace.proofs.numbers.add_numbers.Goals as goal
 use Rattle.toll_trace.proofs.numbers.add_numbers.Goals.{in-Ok+in_ok-push-in-Ok, in-Err}
@@ -17,7 +17,7 @@ loop-lot-preserved c =
     let grown = with_item c.args.those.now c.loop-lot.lot-index lot c.loop-lot-test.true c.lot-item.is in
     elim c.match-binary_search.branch [
       | in-Ok+in_ok-push-in-Ok w ↦
-          let at = found_at c.args.lots.now w.in-Ok.number lot w.in-Ok.ensures.bound w.in-Ok.ensures.ok in
+          let at = lot_found_at c.args.lots.now w.in-Ok.number lot w.in-Ok.ensures.bound w.in-Ok.ensures.ok in
           rw (grown, w.numbers-is, w.in_ok-push-in-Ok.ensures.items)
           (numbers_more c.args.lots.now those lot c.loop-lot.numbers.items c.loop-lot.invariant c.requires.sorted w.in-Ok.number at)
       | in-Err w ↦

@@ -1,9 +1,9 @@
 use Rattle.std.proofs.Common.{◌≡◌, ◌+◌, ◌<◌, ◌++◌, [], length, map, ap, ◌∙◌, sym, subst, arith}
 use Rattle.toll_trace.proofs.Common.{nil_from_length, length-append, length-map, eqb-true}
-use Rattle.toll_trace.specs.Chain.{IsJoined, ends}
+use Rattle.toll_trace.specs.Chain.{IsJoined, step_ends}
 use Rattle.toll_trace.specs.Trace.{IsTrace}
 use Rattle.toll_trace.specs.Search.{IsLevel, step_at}
-use Rattle.toll_trace.proofs.Levels.{IsReached, unfound, reached_start, reached_more, trace_done, fewer_unfound, some_lots}
+use Rattle.toll_trace.proofs.Levels.{IsReached, count_unfound, reached_start, reached_more, trace_done, fewer_unfound, some_lots}
 use Rattle.toll_trace.proofs.Rounds.{targets_all}
 use Rattle.toll_trace.proofs.plain.plain_trace.Goals as goal
 
@@ -29,7 +29,7 @@ found_are c = c.in_ok-add.ensures.added ∙ ap (λ lots. c.rounds.found ++ map (
 
 pub rounds-smaller : goal.rounds-smaller
 rounds-smaller c =
-    subst (λ found. unfound found (map (λ e. (ends c.args.way e).1) c.args.edges.now) < unfound c.rounds.found (map (λ e. (ends c.args.way e).1) c.args.edges.now)) (sym (found_are c))
+    subst (λ found. count_unfound found (map (λ e. (step_ends c.args.way e).1) c.args.edges.now) < count_unfound c.rounds.found (map (λ e. (step_ends c.args.way e).1) c.args.edges.now)) (sym (found_are c))
     (fewer_unfound (IsJoined c.args.edges.now c.args.way) c.rounds.found (c.rounds.steps + 1) c.rounds.lots.items _ c.rounds.invariant.level (targets_all c.args.edges.now c.args.way) (some_lots _ _ c.rounds.lots.ok.0 (sym c.is_empty.ensures ∙ c.rounds-test.true)))
 
 pub rounds-preserved : goal.rounds-preserved

@@ -1,7 +1,7 @@
 use Rattle.std.proofs.Common.{◌<◌, ◌^◌, length, map}
-use Rattle.toll_trace.specs.Chain.{IsJoined, ends}
+use Rattle.toll_trace.specs.Chain.{IsJoined, step_ends}
 use Rattle.toll_trace.specs.Search.{IsLevel}
-use Rattle.toll_trace.proofs.Levels.{IsReached, unfound}
+use Rattle.toll_trace.proofs.Levels.{IsReached, count_unfound}
 use Rattle.toll_trace.proofs.plain.plain_trace.Given as goal
 
 abbrev pub invariant-rounds : goal.invariant-rounds
@@ -13,4 +13,4 @@ invariant-rounds l = record {
 }
 
 abbrev pub decreases-rounds : goal.decreases-rounds
-decreases-rounds l = unfound l.found (map (λ e. (ends l.way e).1) l.edges)
+decreases-rounds l = count_unfound l.found (map (λ e. (step_ends l.way e).1) l.edges)

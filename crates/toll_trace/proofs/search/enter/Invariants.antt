@@ -3,4 +3,4 @@ use Rattle.toll_trace.specs.Walk.{AreEntered, is_marked}
 use Rattle.toll_trace.proofs.search.enter.Given as goal
 
 abbrev pub invariant-loop-span : goal.invariant-loop-span
-invariant-loop-span l = AreEntered l.exits (is_marked l.marks) (take l.span-index l.entries) l.lows l.fn.numbers.items l.numbers.items
+invariant-loop-span l = AreEntered l.targets (is_marked l.marks) (take l.span-index l.sources) l.lows l.fn.numbers.items l.numbers.items

@@ -1,9 +1,9 @@
 use Rattle.std.proofs.Common.{◌≡◌, ◌+◌, ◌<◌, ◌++◌, [], ◌∷◌, List, length, map, ap, ◌∙◌, sym, subst, arith}
 use Rattle.toll_trace.proofs.Common.{flat_map, nil_from_length, length-append, length-map, eqb-true, LotId}
-use Rattle.toll_trace.specs.declared.joints.Joints.{Joints}
+use Rattle.toll_trace.specs.declared.edge_index.EdgeIndex.{EdgeIndex}
 use Rattle.toll_trace.specs.Search.{IsLevel, is_found, step_at}
 use Rattle.toll_trace.specs.Walk.{AreLedTo, LeadThrough, all_steps}
-use Rattle.toll_trace.proofs.Levels.{IsReached, unfound, reached_start, reached_more, trace_done, fewer_unfound, some_lots}
+use Rattle.toll_trace.proofs.Levels.{IsReached, count_unfound, reached_start, reached_more, trace_done, fewer_unfound, some_lots}
 use Rattle.toll_trace.proofs.Parts.{out_of_all}
 use Rattle.toll_trace.proofs.Walks.{level_first, level_next}
 use Rattle.toll_trace.proofs.search.search.Goals as goal
@@ -42,8 +42,8 @@ found_are c = c.in_ok-front-2.ensures.added ∙ ap (λ lots. c.levels.found.item
 pub levels-smaller : goal.levels-smaller
 levels-smaller c =
     let old = all_steps c.args.parts.now.items in
-    let targets = flat_map (λ (one : List LotId × Joints). one.0) old in
-    let less = subst (λ found. unfound found targets < unfound c.levels.found.items targets) (sym (found_are c))
+    let targets = flat_map (λ (one : List LotId × EdgeIndex). one.0) old in
+    let less = subst (λ found. count_unfound found targets < count_unfound c.levels.found.items targets) (sym (found_are c))
     (fewer_unfound (LeadThrough old) c.levels.found.items (c.levels.steps + 1) c.levels.front.items targets c.levels.invariant.level (out_of_all old) (some_lots _ _ c.levels.front.ok.0 (sym c.is_empty.ensures ∙ c.levels-test.true))) in
     rw (c.in_ok-front-2.ensures.steps, c.levels.invariant.all) less
 

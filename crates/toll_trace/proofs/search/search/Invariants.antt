@@ -2,11 +2,11 @@ use Rattle.std.proofs.Common.{◌≡◌, ◌<◌, List, length}
 use Rattle.std.specs.Prelude.{Contains}
 use Rattle.toll_trace.proofs.Common.{flat_map}
 use Rattle.toll_trace.specs.Common.{LotId}
-use Rattle.toll_trace.specs.declared.joints.Joints.{Joints}
+use Rattle.toll_trace.specs.declared.edge_index.EdgeIndex.{EdgeIndex}
 use Rattle.toll_trace.specs.declared.search.Part.{Part}
 use Rattle.toll_trace.specs.Search.{is_found, IsLevel}
 use Rattle.toll_trace.specs.Walk.{IsWalked, LeadThrough, all_steps}
-use Rattle.toll_trace.proofs.Levels.{IsReached, unfound}
+use Rattle.toll_trace.proofs.Levels.{IsReached, count_unfound}
 use Rattle.toll_trace.proofs.search.search.Given as goal
 
 abbrev pub invariant-levels : goal.invariant-levels
@@ -19,4 +19,4 @@ invariant-levels l = record {
 }
 
 abbrev pub decreases-levels : goal.decreases-levels
-decreases-levels l = unfound l.found.items (flat_map (λ (one : List LotId × Joints). one.0) (all_steps l.parts.items))
+decreases-levels l = count_unfound l.found.items (flat_map (λ (one : List LotId × EdgeIndex). one.0) (all_steps l.parts.items))

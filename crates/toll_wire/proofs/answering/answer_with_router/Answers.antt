@@ -1,27 +1,35 @@
-use Rattle.std.proofs.Common.{inl, refl}
+use Rattle.std.proofs.Common.{inl, refl, subst, sym}
 use Rattle.toll_protocol.specs.declared.http_messages.failure.Failure.TheVariants.{Forbidden}
 use Rattle.toll_wire.specs.ReplyTexts.{text_of_failure}
-use Rattle.toll_wire.proofs.Served.{untouched, keyless}
+use Rattle.toll_wire.specs.Steps.{IsAnswered, IsFaultMet}
+use Rattle.toll_wire.proofs.Served.{met_memory, untouched, keyless}
 use Rattle.toll_wire.proofs.answering.answer_with_router.Goals as goal
 use Rattle.toll_wire.proofs.answering.answer_with_router.Goals.{in_default-via-in-Some+in_default, in_default-via-in_default}
 
-pub returns-in-Ok-Refused : goal.returns-in-Ok-Refused
-returns-in-Ok-Refused g c =
+pub returns-in-Err-clause-answered : goal.returns-in-Err-clause-answered
+returns-in-Err-clause-answered g c =
     let K = g.K.Keep in
     let keep = c.args.keep.now in
-    inl (
+    subst (λ out. IsAnswered K.meaning keep keep c.args.bytes.now out) (sym c.into_text.ensures.text) (inl (
       _,
-      (_, rw c.in-Ok-Refused.field-0-is at c.in-Ok-Refused.ensures.reads, refl),
-      untouched K.meaning keep (λ content. g.met.K.Keep.settled keep content) (text_of_failure c.in-Ok-Refused.failure) c.fail.result c.fail.ensures,
-    )
+      (_, c.in-Err.ensures, refl),
+      untouched K.meaning keep (λ content. g.met.K.Keep.settled keep content) (text_of_failure c.in-Err.failure) c.fail.result c.fail.ensures,
+    ))
 
-pub returns-in_default : goal.returns-in_default
-returns-in_default g c =
+pub returns-in-Err-clause-met : goal.returns-in-Err-clause-met
+returns-in-Err-clause-met g c =
+    met_memory (IsFaultMet g.K.Keep.meaning c.args.keep.now c.args.keep.now) c.into_text.result c.into_text.ensures.memory (inl (refl, refl))
+
+pub returns-in_default-clause-answered : goal.returns-in_default-clause-answered
+returns-in_default-clause-answered g c =
     let K = g.K.Keep in
     let keep = c.args.keep.now in
     let out = c.fail-in_default.result in
-    let reads = rw c.in-Ok-Claimed.field-0-is at c.in-Ok-Claimed.ensures.reads in
-    elim c.in_default.branch [
-      | in_default-via-in-Some+in_default w ↦ inl (_, (_, rw (w.in_default.is-0, w.in_default.is-1) at reads, refl), keyless K.meaning keep (λ content. g.met.K.Keep.settled keep content) _ _ out c.fail-in_default.ensures)
-      | in_default-via-in_default w ↦ inl (_, (_, rw w.in_default.is-0 at reads, refl), untouched K.meaning keep (λ content. g.met.K.Keep.settled keep content) (text_of_failure Forbidden) out c.fail-in_default.ensures)
-    ]
+    subst (λ out. IsAnswered K.meaning keep keep c.args.bytes.now out) (sym c.into_text-in_default.ensures.text) (elim c.in_default.branch [
+      | in_default-via-in-Some+in_default w ↦ inl (_, (_, rw (w.in_default.is-0, w.in_default.is-1) at c.in-Ok.ensures, (_, c.in-Ok-route_request.ensures, refl)), keyless K.meaning keep (λ content. g.met.K.Keep.settled keep content) _ _ out c.fail-in_default.ensures)
+      | in_default-via-in_default w ↦ inl (_, (_, rw w.in_default.is-0 at c.in-Ok.ensures, (_, c.in-Ok-route_request.ensures, refl)), untouched K.meaning keep (λ content. g.met.K.Keep.settled keep content) (text_of_failure Forbidden) out c.fail-in_default.ensures)
+    ])
+
+pub returns-in_default-clause-met : goal.returns-in_default-clause-met
+returns-in_default-clause-met g c =
+    met_memory (IsFaultMet g.K.Keep.meaning c.args.keep.now c.args.keep.now) c.into_text-in_default.result c.into_text-in_default.ensures.memory (inl (refl, refl))

@@ -6,5 +6,5 @@ use Rattle.toll_history.specs.History.{part}
 
 pub returns : goal.returns
 returns g c = λ j k one other run run' o not_house starts own replies replies' is is'.
-    one_alone (part o one.start) own replies replies' (part_alone o one.events one.answers run.happenings run.told own replies one.start run.shown (run.private o not_house) is)
-    (subst (λ F. AreAlone F own replies') (sym starts) (part_alone o other.events other.answers run'.happenings run'.told own replies' other.start run'.shown (run'.private o not_house) is'))
+    one_alone (part o one.start) own replies replies' (part_alone o one.events one.answers run.happenings run.reported own replies one.start run.shown (run.private o not_house) is)
+    (subst (λ F. AreAlone F own replies') (sym starts) (part_alone o other.events other.answers run'.happenings run'.reported own replies' other.start run'.shown (run'.private o not_house) is'))

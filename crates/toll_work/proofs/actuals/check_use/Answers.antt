@@ -1,5 +1,5 @@
 use Rattle.std.proofs.Common.{◌≡◌, Err, rules, ap, ◌∙◌}
-use Rattle.toll_work.proofs.Common.{tables_of, said, recipe_of_order, refused_first}
+use Rattle.toll_work.proofs.Common.{facts_of, verdict_of_result, recipe_of_order, refused_first}
 use Rattle.toll_work.specs.ActualPlans.{running_checks, recipe_checks_of}
 use Rattle.toll_work.proofs.actuals.check_use.Goals as goal
 
@@ -8,4 +8,4 @@ returns-in_err-recipe c =
     let own = c.args.own.now in
     let used = c.args.used.now in
     let is : c.from_residual.result ≡ Err c.in_err-recipe.field-0.0 = search rules in
-    ap said is ∙ refused_first (running_checks own used.order used.number) (recipe_checks_of own (recipe_of_order (tables_of own) used.order) used c.args.role) c.in_err-recipe.field-0.0 c.in_err-recipe.ensures.checks
+    ap verdict_of_result is ∙ refused_first (running_checks own used.order used.number) (recipe_checks_of own (recipe_of_order (facts_of own) used.order) used c.args.role) c.in_err-recipe.field-0.0 c.in_err-recipe.ensures.checks

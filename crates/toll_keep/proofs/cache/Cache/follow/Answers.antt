@@ -1,7 +1,7 @@
 use Rattle.std.proofs.Common.{◌≡◌, false, sym, subst, ◌∙◌}
 use Rattle.std.specs.List.{list_any}
-use Rattle.toll_keep.specs.Content.{after}
-use Rattle.toll_keep.specs.Remembered.{AreOf, AreRows, is_addition}
+use Rattle.toll_keep.specs.Content.{content_after}
+use Rattle.toll_keep.specs.Remembered.{AreOf, AreCachedRows, is_addition}
 use Rattle.toll_keep.proofs.RememberedLemmas.{all_after, owners_stay, units_stay}
 use Rattle.toll_keep.proofs.DrawnStay.{graphs_left}
 use Rattle.toll_keep.proofs.cache.Cache.follow.Goals as goal
@@ -9,7 +9,7 @@ use Rattle.toll_keep.proofs.cache.Cache.follow.Goals as goal
 pub returns-then-has_addition : goal.returns-then-has_addition
 returns-then-has_addition c = λ content of.
     let changes = c.args.changes.now in record {
-      slices = subst (AreOf (after changes content)) (sym c.in_ok-follow_all.ensures) (all_after changes content c.args.self.now.slices.items of.slices);
+      slices = subst (AreOf (content_after changes content)) (sym c.in_ok-follow_all.ensures) (all_after changes content c.args.self.now.slices.items of.slices);
       owners = tt;
       units = tt;
       graphs = rw c.forget_drawn.ensures (graphs_left changes content _ c.args.self.now.graphs.items (rw c.deref.ensures.value of.slices) of.graphs);
@@ -20,8 +20,8 @@ returns-else-has_addition c = λ content of.
     let changes = c.args.changes.now in
     let old = c.args.self.now in
     let none : list_any is_addition changes ≡ false = sym c.has_addition.ensures ∙ c.if-has_addition.false in record {
-      slices = subst (AreOf (after changes content)) (sym c.in_ok-follow_all.ensures) (all_after changes content old.slices.items of.slices);
-      owners = subst (λ rows. AreRows rows old.owners) (sym (owners_stay changes content.owners none)) of.owners;
-      units = subst (λ rows. AreRows rows old.units) (sym (units_stay changes content.units none)) of.units;
+      slices = subst (AreOf (content_after changes content)) (sym c.in_ok-follow_all.ensures) (all_after changes content old.slices.items of.slices);
+      owners = subst (λ rows. AreCachedRows rows old.owners) (sym (owners_stay changes content.owners none)) of.owners;
+      units = subst (λ rows. AreCachedRows rows old.units) (sym (units_stay changes content.units none)) of.units;
       graphs = rw c.forget_drawn.ensures (graphs_left changes content _ old.graphs.items (rw c.deref.ensures.value of.slices) of.graphs);
     }

@@ -1,13 +1,13 @@
 use Rattle.std.proofs.Common.{◌≡◌, Err, rules, sym, subst, ◌∙◌}
-use Rattle.toll_keep.specs.Content.{after}
-use Rattle.toll_keep.specs.Remembered.{IsNothing, IsOf}
-use Rattle.toll_keep.proofs.Around.{nothing_of, nothing_stands, told_stands, goes_around}
+use Rattle.toll_keep.specs.Content.{content_after}
+use Rattle.toll_keep.specs.Remembered.{IsNothing, IsCacheOf}
+use Rattle.toll_keep.proofs.Around.{nothing_of, cached_nothing_stands, told_stands, goes_around}
 use Rattle.toll_keep.proofs.Outcomes.{of_ok, on_err_always}
 use Rattle.toll_keep.proofs.RememberedLemmas.{only_known_after}
 use Rattle.toll_keep.proofs.cached_keep.CachedKeepKeep.apply.Goals as goal
 
 pub invariant_of-self : goal.invariant_of-self
-invariant_of-self g c = nothing_stands g.K.Keep _ _ (subst IsNothing (sym c.replace-recollection.ensures.after) c.nothing.ensures)
+invariant_of-self g c = cached_nothing_stands g.K.Keep _ _ (subst IsNothing (sym c.replace-cache.ensures.after) c.nothing.ensures)
 
 pub returns-in_err-apply-clause-goes : goal.returns-in_err-apply-clause-goes
 returns-in_err-apply-clause-goes g c =
@@ -24,7 +24,7 @@ returns-in_err-apply-clause-all g c = λ honest content held fits.
 
 pub returns-in_err-apply-clause-none : goal.returns-in_err-apply-clause-none
 returns-in_err-apply-clause-none g c = λ honest content held.
-    on_err_always c.from_residual.result (c.in_err-apply.ensures.none honest content held.0, nothing_of content _ (subst IsNothing (sym c.replace-recollection.ensures.after) c.nothing.ensures), held.2)
+    on_err_always c.from_residual.result (c.in_err-apply.ensures.none honest content held.0, nothing_of content _ (subst IsNothing (sym c.replace-cache.ensures.after) c.nothing.ensures), held.2)
 
 pub returns-in_err-apply-clause-whole : goal.returns-in_err-apply-clause-whole
 returns-in_err-apply-clause-whole g c = λ honest content held kept damaged.
@@ -41,7 +41,7 @@ pub invariant_of-self-then-is_ok : goal.invariant_of-self-then-is_ok
 invariant_of-self-then-is_ok g c = told_stands g.K.Keep c.args.self.now.keep _ _ _ tt c.in_ok-apply.ensures.goes
 
 pub invariant_of-self-else-is_ok : goal.invariant_of-self-else-is_ok
-invariant_of-self-else-is_ok g c = nothing_stands g.K.Keep _ _ (subst IsNothing (sym c.replace-recollection.ensures.after) c.nothing.ensures)
+invariant_of-self-else-is_ok g c = cached_nothing_stands g.K.Keep _ _ (subst IsNothing (sym c.replace-cache.ensures.after) c.nothing.ensures)
 
 pub returns-then-is_ok-clause-goes : goal.returns-then-is_ok-clause-goes
 returns-then-is_ok-clause-goes g c = goes_around g.K.Keep c.args.self.now _ c.apply.result _ (sym c.in_ok-apply.was) c.apply.ensures.goes
@@ -49,7 +49,7 @@ returns-then-is_ok-clause-goes g c = goes_around g.K.Keep c.args.self.now _ c.ap
 pub returns-then-is_ok-clause-all : goal.returns-then-is_ok-clause-all
 returns-then-is_ok-clause-all g c = λ honest content held fits.
     let followed = of_ok c.follow.result (sym c.is_ok.ensures.value ∙ c.if-is_ok.true) c.follow.ensures in
-    (c.in_ok-apply.ensures.all honest content held.0 fits, followed content (subst (IsOf content) (sym c.replace-recollection.ensures.value) held.1), only_known_after c.args.changes.now content fits held.2)
+    (c.in_ok-apply.ensures.all honest content held.0 fits, followed content (subst (IsCacheOf content) (sym c.replace-cache.ensures.value) held.1), only_known_after c.args.changes.now content fits held.2)
 
 pub returns-then-is_ok-clause-crash : goal.returns-then-is_ok-clause-crash
 returns-then-is_ok-clause-crash g c = λ honest lives content held. c.apply.ensures.crash honest lives content held.0
@@ -59,7 +59,7 @@ returns-else-is_ok-clause-goes g c = goes_around g.K.Keep c.args.self.now _ c.ap
 
 pub returns-else-is_ok-clause-all : goal.returns-else-is_ok-clause-all
 returns-else-is_ok-clause-all g c = λ honest content held fits.
-    (c.in_ok-apply.ensures.all honest content held.0 fits, nothing_of (after c.args.changes.now content) _ (subst IsNothing (sym c.replace-recollection.ensures.after) c.nothing.ensures), only_known_after c.args.changes.now content fits held.2)
+    (c.in_ok-apply.ensures.all honest content held.0 fits, nothing_of (content_after c.args.changes.now content) _ (subst IsNothing (sym c.replace-cache.ensures.after) c.nothing.ensures), only_known_after c.args.changes.now content fits held.2)
 
 pub returns-else-is_ok-clause-crash : goal.returns-else-is_ok-clause-crash
 returns-else-is_ok-clause-crash g c = λ honest lives content held. c.apply.ensures.crash honest lives content held.0

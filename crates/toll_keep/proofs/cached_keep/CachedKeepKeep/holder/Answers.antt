@@ -7,15 +7,15 @@ use Rattle.toll_keep.proofs.cached_keep.CachedKeepKeep.holder.Goals as goal
 pub invariant_of-self : goal.invariant_of-self
 invariant_of-self g c =
     let met = g.met.K.Keep in
-    telling_stands g.K.Keep met.settled met.lives_once c.args.self.now _ c.holder-told.result _ c.or_forget.ensures.forgotten (λ rested. c.holder-told.ensures.reading)
+    telling_stands g.K.Keep met.settled met.lives_once c.args.self.now _ c.holder-answer.result _ c.or_forget.ensures.forgotten (λ rested. c.holder-answer.ensures.reading)
 
 pub returns-clause-reading : goal.returns-clause-reading
 returns-clause-reading g c =
-    let met = g.met.K.Keep in let told = c.holder-told.ensures in let after = c.or_forget.ensures in
-    tells_around g.K.Keep met.settled met.lives_once c.args.self.now _ _ c.holder-told.result _ after.same after.kept after.forgotten
+    let met = g.met.K.Keep in let answer = c.holder-answer.ensures in let after = c.or_forget.ensures in
+    tells_around g.K.Keep met.settled met.lives_once c.args.self.now _ _ c.holder-answer.result _ after.same after.kept after.forgotten
     (λ honest content held of only. of)
-    (λ rested. c.holder-told.ensures.reading)
+    (λ rested. c.holder-answer.ensures.reading)
 
 pub returns-clause-reads : goal.returns-clause-reads
 returns-clause-reads g c = λ honest content held.
-    subst (λ told. IfOk told (IsHolder content c.args.unit.now)) (sym c.or_forget.ensures.same) (c.holder-told.ensures.reads honest content held.0)
+    subst (λ answer. IfOk answer (IsHolder content c.args.unit.now)) (sym c.or_forget.ensures.same) (c.holder-answer.ensures.reads honest content held.0)

@@ -7,15 +7,15 @@ use Rattle.toll_keep.proofs.cached_keep.CachedKeepKeep.slice.Goals as goal
 pub invariant_of-self : goal.invariant_of-self
 invariant_of-self g c =
     let met = g.met.K.Keep in
-    telling_stands g.K.Keep met.settled met.lives_once c.args.self.now _ c.tell_slice-told.result _ c.or_forget.ensures.forgotten (λ rested. c.tell_slice-told.ensures.reading (λ some. rested (λ none. some none.slices)))
+    telling_stands g.K.Keep met.settled met.lives_once c.args.self.now _ c.read_slice-answer.result _ c.or_forget.ensures.forgotten (λ rested. c.read_slice-answer.ensures.reading (λ some. rested (λ none. some none.slices)))
 
 pub returns-clause-reading : goal.returns-clause-reading
 returns-clause-reading g c =
-    let met = g.met.K.Keep in let told = c.tell_slice-told.ensures in let after = c.or_forget.ensures in
-    tells_around g.K.Keep met.settled met.lives_once c.args.self.now _ _ c.tell_slice-told.result _ after.same after.kept after.forgotten
-    (λ honest content held of only. record { slices = told.own honest content held refl of.slices; owners = of.owners; units = of.units; graphs = of.graphs })
-    (λ rested. c.tell_slice-told.ensures.reading (λ some. rested (λ none. some none.slices)))
+    let met = g.met.K.Keep in let answer = c.read_slice-answer.ensures in let after = c.or_forget.ensures in
+    tells_around g.K.Keep met.settled met.lives_once c.args.self.now _ _ c.read_slice-answer.result _ after.same after.kept after.forgotten
+    (λ honest content held of only. record { slices = answer.own honest content held refl of.slices; owners = of.owners; units = of.units; graphs = of.graphs })
+    (λ rested. c.read_slice-answer.ensures.reading (λ some. rested (λ none. some none.slices)))
 
 pub returns-clause-reads : goal.returns-clause-reads
 returns-clause-reads g c = λ honest content held.
-    subst (λ told. IfOk told (λ slice. slice ≡ slice_of content c.args.owner.now)) (sym c.or_forget.ensures.same) (c.tell_slice-told.ensures.reads honest content held.0 refl held.1.slices)
+    subst (λ answer. IfOk answer (λ slice. slice ≡ slice_of content c.args.owner.now)) (sym c.or_forget.ensures.same) (c.read_slice-answer.ensures.reads honest content held.0 refl held.1.slices)

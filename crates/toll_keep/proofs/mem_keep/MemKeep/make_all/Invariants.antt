@@ -1,8 +1,8 @@
 use Rattle.std.proofs.Common.{◌≡◌, drop}
-use Rattle.toll_keep.specs.Content.{after}
+use Rattle.toll_keep.specs.Content.{content_after}
 use Rattle.toll_keep.specs.Slices.{content_of}
 use Rattle.toll_keep.proofs.mem_keep.MemKeep.make_all.Given as goal
 
--- with the changes to come, the content is what all changes make
+-- With the changes to come, the content is the one after all changes.
 abbrev pub invariant-loop-change : goal.invariant-loop-change
-invariant-loop-change l = after (drop l.change-index l.changes) (content_of l.self) ≡ after l.changes (content_of l.fn.self)
+invariant-loop-change l = content_after (drop l.change-index l.changes) (content_of l.self) ≡ content_after l.changes (content_of l.fn.self)

@@ -1,4 +1,4 @@
--- All are words where those that are left are.
+-- All are words if those that are left are.
 use Rattle.std.proofs.Common.{drop, map}
 use Rattle.std.specs.Prelude.{◌↔◌}
 use Rattle.toll_protocol.specs.Words.{AreWords}

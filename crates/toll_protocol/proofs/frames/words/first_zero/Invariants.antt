@@ -1,4 +1,4 @@
--- None stands before.
+-- There is no zero before this place.
 use Rattle.std.proofs.Common.{take}
 use Rattle.toll_protocol.specs.Words.{HasNoZero}
 use Rattle.toll_protocol.proofs.frames.words.first_zero.Given as goal

@@ -1,4 +1,4 @@
--- The words so far and the rest are the text, and whatever words the text is, the rest is some of them.
+-- The words so far and the rest are the text. If the text is a list of words, the rest is some of them.
 use Rattle.std.proofs.Common.{◌≡◌, List, ℕ, ◌++◌, length, map}
 use Rattle.toll_protocol.specs.Words.{AreWords, words_text}
 use Rattle.toll_protocol.proofs.frames.words.words_of.Given as goal

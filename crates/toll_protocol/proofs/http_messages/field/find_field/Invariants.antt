@@ -1,10 +1,10 @@
 use Rattle.std.proofs.Common.{◌≡◌, map, drop}
 use Rattle.httparse.specs.Spans.{header_bytes}
-use Rattle.toll_protocol.specs.Fields.{values_of, named}
-use Rattle.toll_protocol.specs.Found.{seen}
-use Rattle.toll_protocol.proofs.FieldLemmas.{joined}
+use Rattle.toll_protocol.specs.Fields.{values_of, fields_named}
+use Rattle.toll_protocol.specs.Found.{seen_match}
+use Rattle.toll_protocol.proofs.FieldLemmas.{seen_with}
 use Rattle.toll_protocol.proofs.http_messages.field.find_field.Given as goal
 
 abbrev pub invariant-loop-field : goal.invariant-loop-field
-invariant-loop-field l = joined (seen l.found) (values_of l.name (map (header_bytes l.text) (drop l.field-index l.fields)))
-    ≡ named l.name (map (header_bytes l.text) l.fields)
+invariant-loop-field l = seen_with (seen_match l.found) (values_of l.name (map (header_bytes l.text) (drop l.field-index l.fields)))
+    ≡ fields_named l.name (map (header_bytes l.text) l.fields)

@@ -1,4 +1,4 @@
--- No shorter front ends the head.
+-- No shorter prefix ends the head.
 use Rattle.toll_protocol.specs.Head.{IsSearched}
 use Rattle.toll_protocol.proofs.http_messages.head.head_len.Given as goal
 

@@ -7,7 +7,7 @@ use Rattle.toll_protocol.proofs.StreamLemmas.{none_more_blocked, none_more_faile
 use Rattle.toll_protocol.proofs.Onward.{front_onward, gave_onward, read_onward, whole_onward}
 use Rattle.toll_protocol.proofs.http_messages.request_reader.fill_on.Goals as goal
 
--- what was not settled yet, as the first bytes and what came behind them
+-- The bytes weren't settled yet, as the first bytes and those after them.
 unsettled_onward : (start old : List ℕ) (begun m : ℕ) → begun ≤ m → take begun old ≡ take begun start → ¬ (IsSettled (take m old))
     → ¬ (IsSettled (take begun start ++ drop begun (take m old)))
 unsettled_onward start old begun m le same unready settled = unready (subst IsSettled (whole_onward start old begun m le same) settled)

@@ -1,5 +1,5 @@
--- What was filled behind the first bytes is what the reader gave, each time before it was settled; no read
--- failed, and no front of it that was searched ends the head.
+-- The buffer was filled after the first bytes with what the reader gave, each time before it was settled. No read failed, and no prefix
+-- that was searched ends the head.
 use Rattle.std.proofs.Common.{◌≡◌, ◌≤◌, ◌-◌, ◌++◌, false, length, take, drop}
 use Rattle.std.specs.Io.KnownBytes.{Consumes}
 use Rattle.toll_protocol.specs.Parsing.{IsSettled}

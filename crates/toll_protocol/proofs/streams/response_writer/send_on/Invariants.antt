@@ -1,4 +1,4 @@
--- What was written behind the first bytes, and no write failed.
+-- This was written after the first bytes, and no write failed.
 use Rattle.std.proofs.Common.{◌-◌, ◌≤◌, false, length}
 use Rattle.std.specs.Io.KnownBytes.{Appends}
 use Rattle.toll_protocol.specs.Streams.{NoneBlocked, RecordsFailure, bytes_between}

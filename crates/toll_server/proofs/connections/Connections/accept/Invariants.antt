@@ -1,5 +1,5 @@
--- As many came as are no longer to come, and all are there; it listens still; who waits for its turn or has its reply stays, nobody has another task or place in the queue, and
--- each stands by its key.
+-- The accepted owners and those still to accept add up, and all accepted connections are stored. The network still listens. Connections
+-- that are queued or have a reply stay, no other has a task or a place in the queue, and each stands under its key.
 use Rattle.std.proofs.Common.{◌≡◌, ◌≤◌}
 use Rattle.toll_server.specs.Accepting.{StandsStill}
 use Rattle.toll_server.specs.Connections.{KeepsQueue, KeepsSubmitted, KeepsTasks}
@@ -22,5 +22,5 @@ invariant-loop g l = record {
   queue : KeepsQueue l.fn.self.slots l.self.slots;
   fewer : l.came ≤ l.counter;
   most_open : l.self.most_open ≡ l.fn.self.most_open;
-  moment : l.self.moment ≡ l.fn.self.moment;
+  event_count : l.self.event_count ≡ l.fn.self.event_count;
 }

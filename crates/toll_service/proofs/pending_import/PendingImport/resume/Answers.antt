@@ -10,6 +10,6 @@ returns-then-is_over g c =
     record {
       now = c.resume.new.self;
       resumed = subst (λ was. IsResumed K.meaning c.args.keep.now c.resume.new.keep was c.resume.new.self) c.self.view_is c.resume.ensures;
-      comes = report_turn c.resume.new.self c.tell.result.poll c.tell.result.keep_usable c.into_report-report.result (printout_of c.output_of_import.result) (c.is_over.ensures.0 c.if-is_over.true)
-          c.into_report-report.ensures.lines c.into_report-report.ensures.numbered c.output_of_import.ensures c.tell.ensures;
+      comes = report_turn c.resume.new.self c.write.result.poll c.write.result.keep_usable c.into_report-report.result (printout_of c.output_of_import.result) (c.is_over.ensures.0 c.if-is_over.true)
+          c.into_report-report.ensures.lines c.into_report-report.ensures.numbered c.output_of_import.ensures c.write.ensures;
     }

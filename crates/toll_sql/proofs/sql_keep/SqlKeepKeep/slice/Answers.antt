@@ -1,6 +1,10 @@
 use Rattle.sqlite.specs.Held.{state}
 use Rattle.toll_sql.proofs.KeepLemmas.{read_out, unbegun}
-use Rattle.toll_sql.proofs.PassLemmas.{passing}
+use Rattle.std.proofs.Common.{◌≡◌, None, IfOk}
+use Rattle.std.specs.Prelude.{IfSome}
+use Rattle.toll_sql.proofs.Common.{AllByRecursion}
+use Rattle.toll_sql.specs.Shown.{AreRowsIn, IsReportedUnknown, tables_of_owners}
+use Rattle.toll_sql.proofs.PassLemmas.{passing, told_out}
 use Rattle.toll_sql.proofs.sql_keep.SqlKeepKeep.slice.Goals as goal
 
 pub returns-in-Err-clause-reading : goal.returns-in-Err-clause-reading
@@ -8,6 +12,13 @@ returns-in-Err-clause-reading g c = unbegun (λ k. state g.S.Store k.conn) (λ k
 
 pub returns-in-Ok : goal.returns-in-Ok
 returns-in-Ok g c =
-    let out = read_out (λ k. state g.S.Store k.conn) (λ k. k.closed) (λ k. k.unsure) (λ k live db may. g.met.S.Store.settled k.conn.store db live.is_open may) c.pass_on.new.self c.in-Ok.ensures.reading (passing (state g.S.Store) c.read_slice-read.new.conn c.pass_on.new.self.conn c.read_slice-read.result c.pass_on.result c.pass_on.new.self.unsure c.pass_on.ensures.same c.pass_on.ensures.asked) c.pass_on.ensures.closed
+    let passes = passing (state g.S.Store) c.read_slice-read.new.conn c.pass_on.new.self.conn c.read_slice-read.result c.pass_on.result c.pass_on.new.self.unsure c.pass_on.ensures.same c.pass_on.ensures.requested in
+    let out = read_out (λ k. state g.S.Store k.conn) (λ k. k.closed) (λ k. k.unsure) (λ k live db may. g.met.S.Store.settled k.conn.store db live.is_open may) c.pass_on.new.self c.in-Ok.ensures.reading passes c.pass_on.ensures.closed
     c.read_slice-read.ensures.looks c.read_slice-read.ensures.whole _ c.read_slice-read.ensures.reads in
-    record { reading = out.0; reads = out.1 }
+    record {
+      reading = out.0;
+      reads = out.1;
+      lack = c.pass_on.ensures.lack c.read_slice-read.ensures.lack;
+      shown = told_out (state g.S.Store c.args.self.now.conn) (state g.S.Store c.begin.new.self.conn) (state g.S.Store c.read_slice-read.new.conn) (state g.S.Store c.pass_on.new.self.conn) (λ db r. IfOk r (λ slice. IfSome slice (λ _. AllByRecursion (AreRowsIn c.args.owner.now db.trees) tables_of_owners))) (λ _ _ _. tt) c.read_slice-read.result c.pass_on.result c.pass_on.new.self.unsure c.in-Ok.ensures.stays passes c.read_slice-read.ensures.looks c.read_slice-read.ensures.shown;
+      known = told_out (state g.S.Store c.args.self.now.conn) (state g.S.Store c.begin.new.self.conn) (state g.S.Store c.read_slice-read.new.conn) (state g.S.Store c.pass_on.new.self.conn) (λ db r. IfOk r (λ slice. slice ≡ None → IsReportedUnknown db c.args.owner.now)) (λ _ _ _. tt) c.read_slice-read.result c.pass_on.result c.pass_on.new.self.unsure c.in-Ok.ensures.stays passes c.read_slice-read.ensures.looks (λ clean has idle. c.read_slice-read.ensures.known clean);
+    }

@@ -1,6 +1,6 @@
 use Rattle.std.proofs.Common.{◌≡◌, rules, Err, sym, subst}
 use Rattle.sqlite.specs.Held.{state}
-use Rattle.toll_keep.specs.Goes.{IsReading}
+use Rattle.toll_keep.specs.CallEffects.{IsReading}
 use Rattle.toll_keep.specs.declared.fault.KeepFault.TheVariants.{Memory}
 use Rattle.toll_keep.proofs.Calls.{read_ok, read_fault, read_memory}
 use Rattle.toll_sql.specs.Meant.{means}
@@ -12,7 +12,7 @@ returns-in_err-begin-clause-reading g c =
     let e = c.in_err-begin.field-0.0 in
     let r = c.in_err-begin.ensures.reading in
     let is : c.from_residual.result ≡ Err e = search rules in
-    subst (λ told. IsReading m c.args.self.now c.begin.new.self told) (sym is) (read_fault m c.args.self.now c.begin.new.self e r.goes r.keeps r.whole)
+    subst (λ reported. IsReading m c.args.self.now c.begin.new.self reported) (sym is) (read_fault m c.args.self.now c.begin.new.self e r.goes r.keeps r.whole)
 
 pub returns-in_err-recorded-clause-reading : goal.returns-in_err-recorded-clause-reading
 returns-in_err-recorded-clause-reading g c =
@@ -20,14 +20,14 @@ returns-in_err-recorded-clause-reading g c =
     let e = c.in_err-recorded.field-0.0 in
     let r = c.in_err-recorded.ensures.reads c.args.self.now c.in_ok-begin.ensures.reading in
     let is : c.from_residual-in_err-recorded.result ≡ Err e = search rules in
-    subst (λ told. IsReading m c.args.self.now c.recorded.new.self told) (sym is) (read_fault m c.args.self.now c.recorded.new.self e r.goes r.keeps r.whole)
+    subst (λ reported. IsReading m c.args.self.now c.recorded.new.self reported) (sym is) (read_fault m c.args.self.now c.recorded.new.self e r.goes r.keeps r.whole)
 
 pub returns-in_err-trace_recorded-clause-reading : goal.returns-in_err-trace_recorded-clause-reading
 returns-in_err-trace_recorded-clause-reading g c =
     let m = (means (λ k. state g.S.Store k.conn) (λ k. k.closed) (λ k. k.unsure)) in
     let r = c.in_ok-recorded.ensures.reads c.args.self.now c.in_ok-begin.ensures.reading in
     let is : c.from_residual-in_err-trace_recorded.result ≡ Err Memory = search rules in
-    subst (λ told. IsReading m c.args.self.now c.recorded.new.self told) (sym is) (read_memory m c.args.self.now c.recorded.new.self c.in_ok-recorded.recorded r.goes r.keeps)
+    subst (λ reported. IsReading m c.args.self.now c.recorded.new.self reported) (sym is) (read_memory m c.args.self.now c.recorded.new.self c.in_ok-recorded.recorded r.goes r.keeps)
 
 pub returns-clause-reading : goal.returns-clause-reading
 returns-clause-reading g c =
@@ -39,4 +39,4 @@ pub returns-clause-reads : goal.returns-clause-reads
 returns-clause-reads g c = λ honest content held.
     let before = c.recorded.ensures.kept honest in
     let began = c.in_ok-begin.ensures.reading in
-    c.in_ok-trace_recorded.ensures content c.args.owners.now (c.in_ok-recorded.ensures.told honest content ((began.keeps before.0).content content held))
+    c.in_ok-trace_recorded.ensures content c.args.owners.now (c.in_ok-recorded.ensures.reported honest content ((began.keeps before.0).content content held))

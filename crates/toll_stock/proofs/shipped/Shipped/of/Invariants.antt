@@ -4,7 +4,7 @@ use Rattle.toll_stock.specs.LotTotals.{amount_of, shipped_by}
 use Rattle.toll_stock.proofs.shipped.Shipped.of.Given as goal
 use Rattle.toll_base.specs.declared.capacity.TheConstants.{MOST_MOVEMENTS}
 
--- with the movements to come, the amount of each lot is what all of them took
+-- With the movements to come, the amount of each lot is what all of them took.
 abbrev pub invariant-loop-row : goal.invariant-loop-row
 invariant-loop-row l = record {
   so_far : (lot : Bytes) → amount_of l.shipped lot + total (shipped_by lot) l.row-iterator ≡ total (shipped_by lot) l.slice.moves;

@@ -2,7 +2,7 @@ use Rattle.std.proofs.Common.{◌≡◌, Some, None, sym, ap, subst, ◌∙◌}
 use Rattle.toll_stock.proofs.Common.{lot_id, Slice, lot_at, on_hand, History, IsRowsOf, IsLawful}
 use Rattle.toll_stock.specs.LotTotals.{totals_given}
 use Rattle.toll_stock.specs.declared.stock.Totals.{Totals}
-use Rattle.toll_stock.proofs.TotalsLaw.{none_given, given}
+use Rattle.toll_stock.proofs.TotalsLaw.{none_given, totals_are_given}
 use Rattle.toll_stock.proofs.totals_of_lots.LotTotals.of_lot.Goals as goal
 
 pub returns-in-None-clause-totals : goal.returns-in-None-clause-totals
@@ -17,4 +17,4 @@ returns-in-Some-clause-totals c = λ H lawful there.
     let is = c.self.view_is in
     let held = c.on_hand_of.ensures.amount H lawful (subst (IsRowsOf H) (sym is) there) ∙ ap (λ s. on_hand H (lot_id s.owner lot)) is in
     (λ i. let t : Totals = record { on_hand = held i; shipped = c.shipped_of.ensures.amount H lawful there i } in Some t)
-    ∙ given H c.args.self.now there lot c.in-Some.field-0 (ap (λ s. lot_at s lot) (sym is) ∙ sym c.lot.ensures ∙ c.in-Some.is)
+    ∙ totals_are_given H c.args.self.now there lot c.in-Some.field-0 (ap (λ s. lot_at s lot) (sym is) ∙ sym c.lot.ensures ∙ c.in-Some.is)

@@ -1,4 +1,4 @@
-use Rattle.toll_trace.proofs.EdgeJoints.{graph_of}
+use Rattle.toll_trace.proofs.EdgeIndexLemmas.{graph_of}
 use Rattle.toll_trace.proofs.graph.Graph.build.Goals as goal
 
 pub of_edges-requires-clause-listed : goal.of_edges-requires-clause-listed

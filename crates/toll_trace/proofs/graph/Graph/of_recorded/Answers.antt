@@ -3,7 +3,7 @@ use Rattle.std.specs.Prelude.{Contains}
 use Rattle.std.proofs.lemmas.List.{with_items_is}
 use Rattle.toll_trace.proofs.Common.{IsPermutation, LotId}
 use Rattle.toll_trace.specs.Numbers.{HaveNumbers}
-use Rattle.toll_trace.specs.Places.{Place}
+use Rattle.toll_trace.specs.Places.{ChainSegment}
 use Rattle.toll_trace.specs.declared.way.Way.TheVariants.{Back, Forward}
 use Rattle.toll_trace.proofs.Recording.{exits_below, graph_drawn, joined_moved, leads_passes}
 use Rattle.toll_trace.proofs.graph.Graph.of_recorded.Goals as goal
@@ -21,8 +21,8 @@ invariant_of-result c =
     let outs : HaveNumbers lots c.args.recorded.productions.items c.in_ok-productions.productions.items = rw (← c.deref-5.ensures.value, ← c.deref-6.ensures.value) c.in_ok-productions.ensures in
     record {
       sorted = c.in_ok-lots.ensures.sorted;
-      forward_within = exits_below lots c.args.recorded.productions.items c.in_ok-productions.productions.items c.in_ok-forward.forward.exits.items outs (rw (← c.deref_mut.ensures.value) c.in_ok-forward.ensures.exits);
-      back_within = exits_below lots c.args.recorded.consumptions.items c.in_ok-consumptions.consumptions.items c.in_ok-back.back.exits.items ins (rw (← c.deref_mut-2.ensures.value) c.in_ok-back.ensures.exits);
+      forward_within = exits_below lots c.args.recorded.productions.items c.in_ok-productions.productions.items c.in_ok-forward.forward.targets.items outs (rw (← c.deref_mut.ensures.value) c.in_ok-forward.ensures.targets);
+      back_within = exits_below lots c.args.recorded.consumptions.items c.in_ok-consumptions.consumptions.items c.in_ok-back.back.targets.items ins (rw (← c.deref_mut-2.ensures.value) c.in_ok-back.ensures.targets);
     }
 
 pub returns : goal.returns
@@ -34,8 +34,8 @@ returns c =
     let produced = c.in_ok-productions.productions.items in
     let ins : HaveNumbers lots consumptions consumed = rw (← c.deref-3.ensures.value, ← c.deref-4.ensures.value) c.in_ok-consumptions.ensures in
     let outs : HaveNumbers lots productions produced = rw (← c.deref-5.ensures.value, ← c.deref-6.ensures.value) c.in_ok-productions.ensures in
-    let ins_listed : (u : Place × LotId) → Contains consumptions u → Contains lots u.1 = rw (← c.deref.ensures.value) c.in_ok-lots.ensures.used.consumed in
-    let outs_listed : (v : Place × LotId) → Contains productions v → Contains lots v.1 = rw (← c.deref-2.ensures.value) c.in_ok-lots.ensures.used.produced in
+    let ins_listed : (u : ChainSegment × LotId) → Contains consumptions u → Contains lots u.1 = rw (← c.deref.ensures.value) c.in_ok-lots.ensures.used.consumed in
+    let outs_listed : (v : ChainSegment × LotId) → Contains productions v → Contains lots v.1 = rw (← c.deref-2.ensures.value) c.in_ok-lots.ensures.used.produced in
     let sorted : c.deref-8.result.now ≡ c.of_uses.new.leaving = c.deref-8.ensures.value ∙ with_items_is c.in_ok-productions.productions c.of_uses.new.leaving (omega arith) in
     let moved : IsPermutation produced c.deref-8.result.now = rw (sorted, ← c.deref_mut.ensures.value) c.in_ok-forward.ensures.moved in
     graph_drawn consumptions productions _

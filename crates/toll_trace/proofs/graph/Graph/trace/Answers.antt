@@ -3,7 +3,7 @@ use Rattle.std.proofs.lemmas.Result.{IfOk-weaker}
 use Rattle.toll_trace.specs.Graph.{Leads, LeadAmong}
 use Rattle.toll_trace.specs.Trace.{IsTrace}
 use Rattle.toll_trace.proofs.Among.{alone_trace}
-use Rattle.toll_trace.proofs.EdgeJoints.{trace_of_graph}
+use Rattle.toll_trace.proofs.EdgeIndexLemmas.{trace_of_graph}
 use Rattle.toll_trace.proofs.graph.Graph.trace.Goals as goal
 
 pub returns : goal.returns

@@ -12,16 +12,16 @@ pub led_on-requires-clause-within : goal.led_on-requires-clause-within
 led_on-requires-clause-within c =
     let marks_are = c.deref-2.ensures.value ∙ with_items_is c.args.self.now.marks c.mark.new.marks (omega arith) in
     let marked : AreMarked c.args.self.now.marks.items c.args.self.now.front.items c.mark.new.marks = rw (← c.deref_mut.ensures.value, ← c.deref.ensures.value) c.mark.ensures in
-    rw (marks_are, marked.sized, c.requires.sound.marks) c.requires.sound.exits
+    rw (marks_are, marked.sized, c.requires.sound.marks) c.requires.sound.targets
 
 pub led_on-requires-clause-walked : goal.led_on-requires-clause-walked
 led_on-requires-clause-walked c =
     let marks_are = c.deref-2.ensures.value ∙ with_items_is c.args.self.now.marks c.mark.new.marks (omega arith) in
     let marked : AreMarked c.args.self.now.marks.items c.args.self.now.front.items c.mark.new.marks = rw (← c.deref_mut.ensures.value, ← c.deref.ensures.value) c.mark.ensures in
-    rw (marks_are, c.deref_mut-2.ensures.value) (walked_marked c.args.self.now.joints.now.exits.items c.args.self.now.lows.items c.args.self.now.front.items c.args.self.now.marks.items c.mark.new.marks c.requires.walked marked)
+    rw (marks_are, c.deref_mut-2.ensures.value) (walked_marked c.args.self.now.joints.now.targets.items c.args.self.now.lows.items c.args.self.now.front.items c.args.self.now.marks.items c.mark.new.marks c.requires.walked marked)
 
 pub add_lots-requires : goal.add_lots-requires
-add_lots-requires c = rw c.deref-4.ensures.value (led_below _ _ _ _ _ _ (length c.args.self.now.lots.now) c.requires.sound.exits c.in_ok-numbers.ensures.led)
+add_lots-requires c = rw c.deref-4.ensures.value (led_below _ _ _ _ _ _ (length c.args.self.now.lots.now) c.requires.sound.targets c.in_ok-numbers.ensures.led)
 
 pub returns : goal.returns
 returns c =
@@ -34,8 +34,8 @@ returns c =
       same_joints = refl;
       sound = record {
         sorted = c.requires.sound.sorted;
-        exits = c.requires.sound.exits;
-        front = led_below _ _ _ _ _ _ (length c.args.self.now.lots.now) c.requires.sound.exits c.in_ok-numbers.ensures.led;
+        targets = c.requires.sound.targets;
+        front = led_below _ _ _ _ _ _ (length c.args.self.now.lots.now) c.requires.sound.targets c.in_ok-numbers.ensures.led;
         marks = rw marks_are (marked.sized ∙ c.requires.sound.marks);
         lows = rw lows_are (c.in_ok-numbers.ensures.sized ∙ ap length c.deref_mut-2.ensures.value ∙ c.requires.sound.lows);
       };

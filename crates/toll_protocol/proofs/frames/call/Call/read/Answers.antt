@@ -1,5 +1,5 @@
 use Rattle.toll_protocol.specs.PlantMessages.{call_text}
-use Rattle.toll_protocol.proofs.MessageLemmas.{asked_parts}
+use Rattle.toll_protocol.proofs.MessageLemmas.{call_parts}
 use Rattle.toll_protocol.proofs.frames.call.Call.read.Goals as goal
 
 pub returns-in_default-clause-none : goal.returns-in_default-clause-none
@@ -7,4 +7,4 @@ returns-in_default-clause-none c = λ words file is. c.in_default.ensures.none (
 
 pub returns-in_default-file_of-clause-none : goal.returns-in_default-file_of-clause-none
 returns-in_default-file_of-clause-none c = λ words file is.
-    c.in_default-file_of.ensures.none file (asked_parts _ _ _ _ words file c.in-Some.ensures.found c.in-Some-front_of.ensures.found is).1
+    c.in_default-file_of.ensures.none file (call_parts _ _ _ _ words file c.in-Some.ensures.found c.in-Some-front_of.ensures.found is).1

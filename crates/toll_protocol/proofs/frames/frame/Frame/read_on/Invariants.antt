@@ -1,4 +1,4 @@
--- What has come behind what had come before is what the reader gave, and no read failed.
+-- The bytes after those from before are what the reader gave, and no read failed.
 use Rattle.std.proofs.Common.{◌≡◌, ◌+◌, ◌-◌, false, length}
 use Rattle.toll_protocol.specs.Streams.{AppendsRead, NoneBlocked, RecordsFailure}
 use Rattle.toll_protocol.specs.declared.frames.encoding.TheConstants.{LENGTH_BYTES}

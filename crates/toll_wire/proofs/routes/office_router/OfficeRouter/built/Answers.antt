@@ -1,4 +1,5 @@
-use Rattle.std.proofs.Common.{IfSome, subst}
+use Rattle.std.proofs.Common.{IfSome, subst, sym, ap, ◌∙◌}
+use Rattle.std.specs.Option.{option_copied}
 use Rattle.toll_wire.specs.Routers.{IsOffice}
 use Rattle.toll_wire.proofs.routes.office_router.OfficeRouter.built.Goals as goal
 use Rattle.toll_wire.proofs.routes.office_router.OfficeRouter.built.Goals.{then-is_none+in_ok-build+in-Some-1, then-is_none+in_ok-build+in-None-1, else-is_none}
@@ -10,4 +11,4 @@ returns c =
       | then-is_none+in_ok-build+in-None-1 w ↦ rw w.self-inside-is w.in_ok-build.ensures
       | else-is_none w ↦ rw w.self-inside-is c.self.invariant
     ] in
-    subst (λ built. IfSome built IsOffice) c.in-Some.is office
+    subst (λ built. IfSome built IsOffice) (sym c.as_ref.ensures.value ∙ ap option_copied c.unwrap.ensures) office

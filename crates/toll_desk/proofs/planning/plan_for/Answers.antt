@@ -1,0 +1,29 @@
+use Rattle.std.proofs.Common.{◌≡◌, true, false, sym, ap, subst, ◌∙◌}
+use Rattle.toll_desk.proofs.Common.{false≢true, IfOk-weaker, order_at, owner_known, house_name, same_bytes, IsRowsOf, is_some}
+use Rattle.toll_desk.specs.Translations.{meaning_of_reply}
+use Rattle.toll_desk.proofs.OwnerPlans.{slice_read, unread_is_unknown, plan_lift}
+use Rattle.toll_desk.proofs.planning.plan_for.Goals as goal
+
+pub returns-in-Ok-clause-idle : goal.returns-in-Ok-clause-idle
+returns-in-Ok-clause-idle g c = record {
+  quiet = c.in-Ok.ensures.idle.quiet;
+  once = λ honest content held order recipe batches asks is_there.
+      let before = (c.plan_over.ensures.kept honest).0 in
+      let is = slice_read content c.args.owner.now c.in-Ok-Some.slice (sym c.in-Ok-Some.field-0-is ∙ c.in-Ok-Some.ensures.reads before content held) in
+      c.in-Ok.ensures.idle.once order recipe batches asks (subst (λ s. is_some (order_at s order) ≡ true) (sym is) is_there);
+}
+
+pub returns-in-Ok-clause-plan : goal.returns-in-Ok-clause-plan
+returns-in-Ok-clause-plan g c honest content H held stands lawful known other =
+    let o = c.args.owner.now in
+    let s = c.in-Ok-Some.slice in
+    let before = (c.plan_over.ensures.kept honest).0 in
+    let is = slice_read content o s (sym c.in-Ok-Some.field-0-is ∙ c.in-Ok-Some.ensures.reads before content held) in
+    let named : s.owner ≡ o = ap (λ t. t.owner) is ∙ stands.own o in
+    IfOk-weaker (meaning_of_reply c.in-Ok.planned.reply) _ _ (λ reported plan. plan_lift content H o c.args.request.now s reported c.in-Ok.planned.changes.items stands lawful known is plan)
+    (c.in-Ok.ensures.over honest content H ((c.in-Ok-Some.ensures.reading.keeps before).content content held) stands lawful
+    (subst (IsRowsOf H) (sym is) (stands.known o known)) (subst (λ p. owner_known H p ≡ true) (sym named) known) (subst (λ p. same_bytes p house_name ≡ false) (sym named) other))
+
+pub returns-in-Ok-None-clause-plan : goal.returns-in-Ok-None-clause-plan
+returns-in-Ok-None-clause-plan g c honest content H held stands lawful known other =
+    absurd (false≢true (sym (unread_is_unknown content H c.args.owner.now stands (sym c.in-Ok-None.field-0-is ∙ c.in-Ok-None.ensures.reads honest content held)) ∙ known))

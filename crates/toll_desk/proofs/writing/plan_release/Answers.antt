@@ -1,0 +1,13 @@
+use Rattle.toll_base.specs.declared.request.Request.TheVariants as request
+use Rattle.toll_desk.proofs.Common.{Release}
+use Rattle.toll_desk.proofs.CommandPlans.{own_decision}
+use Rattle.toll_desk.proofs.WriteOver.{releasing}
+use Rattle.toll_desk.proofs.writing.plan_release.Goals as goal
+
+pub returns-clause-over : goal.returns-clause-over
+returns-clause-over c H lawful known there =
+    let s = c.args.slice.now in
+    let a = Release c.args.lot in
+    let decided = c.in_ok-decision.ensures in
+    c.disposed.ensures.over H lawful known there (request.Release c.args.lot) a (releasing H s.owner c.args.lot)
+    (own_decision H s a c.in_ok-decision.decision lawful tt decided.decides decided.rules decided.own)

@@ -1,4 +1,0 @@
-use Rattle.toll_office.proofs.office.open_as.Goals as goal
-
-pub returns-in-Ok : goal.returns-in-Ok
-returns-in-Ok c = (c.in-Ok.keep, c.new.ensures.keep, (c.args.is_fresh, _, c.in-Ok.ensures.made.0), c.new.ensures.nothing)

@@ -1,6 +1,0 @@
-use Rattle.toll_service.proofs.SessionLemmas.{sitting}
-use Rattle.toll_service.proofs.laws.what_is_served_between_two_openings_is_a_run.Goals as goal
-
-pub returns : goal.returns
-returns g c = λ session tally old new turns first told one.
-    sitting g.K.Keep.meaning g.O.KeepOpener.is_opened g.O.KeepOpener.is_found g.met.K.Keep.settled session tally old new turns first told one.0 one.1
