@@ -1,4 +1,5 @@
 """What the tests share: the built program, offices in folders of their own, and the plant's command over them."""
+import compileall
 import contextlib
 import http.client
 import json
@@ -22,8 +23,9 @@ TOLL = os.environ.get("TOLL", "")
 HILPOVEN = ROOT / "plant" / "bin" / "hilpoven"
 PATIENCE = 60  # seconds
 
-sys.path.insert(0, str(ROOT / "plant"))
-from hilpoven import settings as site  # noqa: E402
+compileall.compile_dir(ROOT / "plant" / "src", quiet=1)  # on a full disk, Python would leave a part of what it compiles
+sys.path.insert(0, str(ROOT / "plant" / "src"))
+from hilpoven.core import rights, settings as site  # noqa: E402
 from hilpoven.cli import hilpoven  # noqa: E402
 
 
@@ -104,7 +106,7 @@ class Plant:
 
     def __init__(self, program: str, folder: pathlib.Path) -> None:
         self.program, self.folder, self.db = program, folder, folder / "office.db"
-        self.journal = folder / "office.journal"
+        self.journal = folder / "office.db.journal"
 
     def toll(self, *words: object, db: pathlib.Path | None = None) -> Told:
         """What `toll` tells of these words."""
@@ -118,6 +120,22 @@ class Plant:
             done = CliRunner(mix_stderr=False, env={"TOLL": self.program}).invoke(hilpoven, ["--db", str(db or self.db), *options, *map(str, words)], input=stdin)
         finally:
             os.umask(umask)
+        if done.exception and not isinstance(done.exception, SystemExit):
+            raise done.exception
+        return Told(done.exit_code, done.stdout, done.stderr)
+
+    def settle(self, **more: object) -> None:
+        """Has the settings name this office, with a folder of backups, and say what more is given."""
+        (self.folder / "backups").mkdir(mode=0o700, exist_ok=True)
+        lines = {"file": str(self.db), "backups": str(self.folder / "backups"), "toll": self.program, **more}
+        site.load.__defaults__[0].write_text("".join(f"{name} = {json.dumps(value)}\n" for name, value in lines.items()))
+
+    def as_member(self, *words: object, stdin: str | None = None) -> Told:
+        """What the plant's command tells a member of the group, who has the rights of the office's user by sudo; the settings name
+        the office."""
+        with pytest.MonkeyPatch.context() as patch:
+            patch.setattr(rights, "STARTED_AS", 1)
+            done = CliRunner(mix_stderr=False, env={"SUDO_UID": "4711", "SUDO_USER": "anna"}).invoke(hilpoven, list(map(str, words)), input=stdin)
         if done.exception and not isinstance(done.exception, SystemExit):
             raise done.exception
         return Told(done.exit_code, done.stdout, done.stderr)
@@ -227,7 +245,7 @@ def make_office(path: pathlib.Path, **rows: list[tuple]) -> pathlib.Path:
 @pytest.fixture(autouse=True)
 def no_site(monkeypatch, tmp_path):
     """The machine's own settings are not looked at."""
-    monkeypatch.setattr(site.load, "__defaults__", (tmp_path / "hilpoven.toml", ""))
+    monkeypatch.setattr(site.load, "__defaults__", (tmp_path / "hilpoven.toml", *site.load.__defaults__[1:]))
     monkeypatch.setattr(site, "OFFICES", tmp_path)
 
 
@@ -255,6 +273,13 @@ def copied(laid: Plant, plant: Plant) -> Plant:
 def at_work(laid, plant) -> Plant:
     """An office at work, for one test."""
     return copied(laid, plant)
+
+
+@pytest.fixture
+def settled(at_work, monkeypatch) -> Plant:
+    """An office at work whose program everything finds."""
+    monkeypatch.setenv("TOLL", at_work.program)
+    return at_work
 
 
 @pytest.fixture

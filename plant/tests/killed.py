@@ -9,7 +9,7 @@ import sys
 from types import FrameType
 from typing import Any
 
-PACKAGE = str(pathlib.Path(__file__).resolve().parent.parent)
+PACKAGE = str(pathlib.Path(__file__).resolve().parent.parent / "src")
 sys.path.insert(0, PACKAGE)
 sys.dont_write_bytecode = True
 

@@ -7,7 +7,7 @@ import string
 import hypothesis
 import openpyxl
 from hypothesis import strategies as any_of
-from hilpoven.failure import Failure
+from hilpoven.core.failure import Failure
 from hilpoven.sheets.reading import read
 from hilpoven.sheets.sheet import Asked, Sheet, likeness, text_of
 from hilpoven.sheets.values import ACTUALS, TRAPS, of_numbers
@@ -24,7 +24,7 @@ ALL = Asked({trap: ACTUALS.trapped(trap) for trap in TRAPS})
 
 def written(path, asked):
     """What is written of a sheet, and whether something of it is refused."""
-    sheet = Sheet(read(str(path), None, functools.partial(likeness, ACTUALS)), ACTUALS, asked)
+    sheet = Sheet(read(path.read_bytes(), None, functools.partial(likeness, ACTUALS)), ACTUALS, asked)
     return text_of(ACTUALS, sheet.records), bool(sheet.wrong or sheet.refused)
 
 

@@ -3,7 +3,7 @@ import shutil
 
 import pytest
 from conftest import Plant
-from hilpoven.grammar import LINES
+from hilpoven.core.grammar import LINES
 from hypothesis import HealthCheck, given, settings, strategies
 from hypothesis.strategies import SearchStrategy
 

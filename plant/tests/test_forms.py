@@ -1,6 +1,6 @@
 """What is told of a word is what `toll` thinks of it."""
 import pytest
-from hilpoven import forms
+from hilpoven.core import forms
 from hypothesis import HealthCheck, given, settings, strategies
 
 WORDS = strategies.one_of(

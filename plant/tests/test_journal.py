@@ -1,12 +1,23 @@
 """The journal: each line follows the one before, and what was changed, is missing or cut is found."""
+import contextlib
+import csv
+import io
 import json
 import multiprocessing
 import os
+import pty
+import resource
+import signal
+import subprocess
+import time
+import tracemalloc
 
 import pytest
-from hilpoven import journal as journals
-from hilpoven.journal import Journal, check
-from hilpoven.office import Answer
+from conftest import HILPOVEN, environment
+from hilpoven.journal import log as journals
+from hilpoven.journal.log import Journal
+from hilpoven.journal.query import check
+from hilpoven.core.office import Answer
 from hypothesis import given, settings, strategies
 
 DONE = Answer(0, "accepted\n", "")
@@ -186,6 +197,14 @@ def test_it_is_told_by_time_with_the_sites_log(at_work):
     assert len(json.loads(at_work.run("journal", "--site-log", log, "--until", "2001-01-01T00:00:01", "--json").out)) == 1
 
 
+def test_entries_of_one_time_stay_in_the_journals_order(at_work, monkeypatch):
+    monkeypatch.setattr(journals, "now", lambda: "2026-11-27T10:00:00.000Z")
+    for unit in ("UNIT-2", "UNIT-1", "UNIT-3"):
+        assert at_work.run("unit-add", unit).out == "accepted\n"
+    entries = json.loads(at_work.run("journal", "--json").out)
+    assert [entry["what"] for entry in entries] == ["unit-add UNIT-2", "unit-add UNIT-1", "unit-add UNIT-3"]
+
+
 def test_turned_over_logs_are_read_too(at_work):
     import gzip
 
@@ -210,3 +229,216 @@ def test_verify_and_head(at_work):
     done = at_work.run("journal", "verify", "--head", head)
     assert done.status == 1 and "line 2 is missing" in done.out
     assert at_work.run("journal", "verify", "--head", "what").status == 2
+
+
+# Its name, whose it is, and what is shown of it
+
+def test_an_earlier_versions_journal_goes_on_under_its_new_name(at_work):
+    at_work.run("unit-add", "PRESS")
+    old, lines = at_work.folder / "office.journal", at_work.lines()
+    at_work.journal.rename(old)
+    assert "PRESS" in at_work.run("journal", "--no-site", "--csv").out and not old.exists()
+    at_work.journal.rename(old)
+    at_work.run("unit-add", "OVEN")
+    assert not old.exists() and at_work.lines()[:2] == lines and at_work.run("journal", "verify").status == 0
+
+
+def test_anothers_journal_is_not_taken_over(at_work):
+    """A file named `office` beside office.db would have had the same journal."""
+    at_work.run("unit-add", "PRESS")
+    at_work.journal.rename(at_work.folder / "office.journal")
+    kept = (at_work.folder / "office.journal").read_bytes()
+    done = at_work.run("new", at_work.folder / "office")
+    assert done.status == 3 and "is the journal of" in done.err and not (at_work.folder / "office").exists()
+    assert (at_work.folder / "office.journal").read_bytes() == kept
+    at_work.run("unit-add", "OVEN")
+    assert at_work.run("new", at_work.folder / "office").status == 0 and at_work.run("journal", "verify").status == 0
+    assert "OVEN" not in at_work.run("journal", "--no-site", db=at_work.folder / "office").out
+
+
+def test_a_journal_moves_with_its_file(at_work):
+    at_work.run("unit-add", "PRESS")
+    moved = at_work.folder / "moved"
+    moved.mkdir()
+    for it in at_work.folder.glob("office.db*"):
+        it.rename(moved / it.name)
+    assert "PRESS" in at_work.run("journal", "--no-site", db=moved / "office.db").out
+    assert at_work.run("unit-add", "OVEN", db=moved / "office.db").out == "accepted\n"
+    done = at_work.run("journal", "--no-site", "--csv", db=moved / "office.db")
+    assert "PRESS" in done.out and "moved from" in done.out and at_work.run("journal", "verify", db=moved / "office.db").status == 0
+
+
+def test_entries_about_another_file_are_told_and_left_out(at_work):
+    at_work.run("unit-add", "PRESS")
+    other = at_work.folder / "other.db"
+    other.write_text("")
+    journal = Journal(str(at_work.journal))
+    journal.told(journal.asked(str(other), ["unit-add", "FORGED"]), DONE)
+    done = at_work.run("journal", "verify")
+    assert done.status == 1 and f"1 lines are about another file, {other}" in done.out
+    assert at_work.run("verify").status == 1 and "FORGED" not in at_work.run("journal", "--no-site").out
+
+
+def test_no_link_is_followed(at_work):
+    elsewhere = at_work.folder / "elsewhere"
+    elsewhere.write_text("")
+    at_work.journal.symlink_to(elsewhere)
+    before = at_work.content()
+    done = at_work.run("unit-add", "PRESS")
+    assert done.status == 3 and "can't be written" in done.err and elsewhere.read_text() == "" and at_work.content() == before
+
+
+@pytest.mark.skipif(os.geteuid() != 0, reason="only root makes files of others")
+def test_a_journal_of_another_user_is_none(at_work):
+    at_work.journal.write_text("")
+    os.chown(at_work.journal, 4711, 4711)
+    done = at_work.run("unit-add", "PRESS")
+    assert done.status == 3 and "is no file of the office's user" in done.err and at_work.journal.read_text() == ""
+
+
+NASTY = ["K\n2026-01-01 00:00:00  bob as toll", "\x1b[31mred", "\udcff", "\u202eabc", "[/x]", "[bold]", "a\tb", "\x9b31m"]
+
+
+def on_terminal(plant, *words):
+    """What the command writes on a terminal, and its status."""
+    reader, writer = pty.openpty()
+    done = subprocess.Popen([HILPOVEN, "--db", plant.db, *words], stdin=subprocess.DEVNULL, stdout=writer, stderr=writer,
+                            env=environment(TOLL=plant.program))
+    os.close(writer)
+    text = b""
+    with contextlib.suppress(OSError):
+        while piece := os.read(reader, 65536):
+            text += piece
+    os.close(reader)
+    return done.wait(60), text.decode().replace("\r\n", "\n")
+
+
+def test_no_word_reaches_a_terminal_as_it_is(at_work):
+    for it in NASTY:
+        subprocess.run([HILPOVEN, "--db", at_work.db, "unit-add", os.fsencode(it)], capture_output=True, env=environment(TOLL=at_work.program))
+    log = at_work.folder / "toll.log"
+    log.write_text('192.0.2.7 "=cmd|x" [2001-01-01T00:00:00+00:00] "POST /lots/[/x] HTTP/1.1" 403 11 0.395\n')
+    for form in ([], ["--csv"], ["--json"]):
+        status, text = on_terminal(at_work, "journal", "--site-log", str(log), *form)
+        assert status == 0 and "Traceback" not in text and all(it == "\n" or it.isprintable() for it in text), text
+        assert len(text.splitlines()) == 10 or form == ["--json"]
+    assert r"K\n2026-01-01" in text and "[/x]" in text
+    status, text = on_terminal(at_work, "unit-add", *NASTY[:2])
+    assert status == 2 and all(it == "\n" or it.isprintable() for it in text)
+    status, text = on_terminal(at_work, "--office", NASTY[1], "stock")
+    assert status == 2 and all(it == "\n" or it.isprintable() for it in text)
+    status, text = on_terminal(at_work, f"--{NASTY[1]}", "stock")
+    assert status == 2 and all(it == "\n" or it.isprintable() for it in text)
+    status, text = on_terminal(at_work, "unit-add", NASTY[0])
+    assert status == 1 and not any(line.strip().startswith("2026-01-01") for line in text.splitlines())
+
+
+def test_a_long_word_is_refused_and_one_that_was_noted_makes_no_row_wider(at_work):
+    word, before = "A" * 4_097, len(at_work.lines())
+    for words in (["unit-add", word], ["years", "recall", "ACME", word], ["owner", "add", word], ["list", word]):
+        done = at_work.run(*words)
+        assert done == (2, "", "hilpoven: a word has more than 4,096 letters\n"), words
+    assert len(at_work.lines()) == before
+    Journal(str(at_work.journal)).exported(str(at_work.db), ["years", word])
+    *others, _ = at_work.run("journal", "--no-site").out.splitlines()
+    assert max(map(len, others)) < 500
+
+
+@pytest.mark.parametrize("member", ["words", "file", "event", "id", "login", "backup"])
+@pytest.mark.parametrize("value", [5, None, {"a": 1}, [[{}]]])
+def test_members_of_any_form_are_told(at_work, member, value):
+    journal = Journal(str(at_work.journal))
+    with journal.locked() as descriptor:
+        journals.append(descriptor, {"event": "exported", "file": str(at_work.db), "words": ["board"], member: value})
+    assert at_work.run("journal", "--no-site").status == at_work.run("journal", "verify").status == 0
+
+
+def test_a_line_of_many_bytes_is_followed_in_time(tmp_path):
+    """Each byte of it is copied a few times, and not once for each piece that is read."""
+    path = str(tmp_path / "office.db.journal")
+    write(path, 1)
+    Journal(path).add({"event": "exported", "words": ["A" * 60_000_000]})
+    begun = time.process_time()
+    Journal(path).add({"event": "exported", "words": ["board"]})
+    assert time.process_time() - begun < 5 and check(path).lines == 4 and not check(path).wrong
+
+
+def test_csv_has_no_formula_of_anybody(at_work):
+    log = at_work.folder / "toll.log"
+    log.write_text('192.0.2.7 "=HYPERLINK(1)" [2001-01-01T00:00:00+00:00] "POST /orders HTTP/1.1" 403 11 0.395\n'
+                   '192.0.2.7 "+1" [2001-01-01T00:00:01+00:00] "@x HTTP/1.1" 403 11 0.395\n')
+    told = list(csv.reader(io.StringIO(at_work.run("journal", "--questions", "--site-log", log, "--csv").out)))
+    assert told[1][1] == '="=HYPERLINK(1) (claimed)"' and told[2][1] == '="+1 (claimed)"' and told[2][3] == '="@x"'
+    at_work.run("unit-add", "1E5")
+    at_work.run("unit-add", "MAR-1")
+    units = at_work.run("list", "units", "--csv").out.splitlines()
+    assert '"=""1E5""",,,,' in units and '"=""MAR-1""",,,,' in units and "KETTLE,ACME," in units[2]
+
+
+@pytest.mark.parametrize("status, who", [*((it, "ACME") for it in (200, 404, 405, 409)),
+                                         *((it, "ACME (claimed)") for it in (400, 403, 413, 429, 503))])
+def test_who_only_claims_to_be_an_owner_is_marked(at_work, status, who):
+    log = at_work.folder / "toll.log"
+    log.write_text(f'192.0.2.7 "ACME" [2001-01-01T00:00:00+00:00] "POST /orders HTTP/1.1" {status} 11 0.395\n'
+                   f'192.0.2.7 "ACME" [2001-01-01T00:00:01+00:00] "POST /owner/ HTTP/1.1" {status} 11 0.395\n')
+    assert [it["who"] for it in json.loads(at_work.run("journal", "--site-log", log, "--json").out)] == [who, "ACME (claimed)"]
+
+
+def test_who_and_word_find_what_they_name(at_work):
+    log = at_work.folder / "toll.log"
+    log.write_text("".join(f'192.0.2.7 "{it}" [2001-01-01T00:00:00+00:00] "POST /orders HTTP/1.1" 200 11 0.395\n' for it in ("ACME", "ACME-2")))
+    for it in ("ACME", "ACME-2"):
+        assert [row["who"] for row in json.loads(at_work.run("journal", "--site-log", log, "--who", it, "--json").out)] == [it]
+    sheet = at_work.folder / "sheet.csv"
+    sheet.write_text("key,owner,order,batch,segment,use,material,lot_owner,lot,sublot,amount,day\n"
+                     "K21,ACME,O-1,1,1,consumed,SALT,ACME,S-1,BAY1,1,102\n")
+    at_work.run("import", sheet)
+    assert [row["what"] for row in json.loads(at_work.run("journal", "--no-site", "--word", "K21", "--json").out)] == ["import sheet.csv"]
+
+
+def test_an_answer_that_cannot_be_noted_is_given_all_the_same(at_work):
+    at_work.run("unit-add", "PRESS")
+
+    def no_room() -> None:
+        kept = at_work.journal.read_text()
+        size = len(kept) + len(kept.splitlines()[0]) + 60  # for the command, and not for its answer
+        resource.setrlimit(resource.RLIMIT_FSIZE, (size, size))
+        signal.signal(signal.SIGXFSZ, signal.SIG_IGN)
+    server = subprocess.Popen([at_work.program, "--db", at_work.db, "serve", "0", "1000"], stdout=subprocess.PIPE)
+    try:
+        server.stdout.readline()
+        done = at_work.begun("unit-add", "OVEN-WITH-NAME-1", preexec_fn=no_room)
+        out, err = done.communicate(timeout=60)
+    finally:
+        server.terminate()
+        server.communicate()
+    assert (done.returncode, out) == (3, "accepted\n") and "can't be written" in err and "its answer isn't noted" in err
+    assert ("OVEN-WITH-NAME-1",) in at_work.rows("SELECT unit FROM units")
+    found = check(str(at_work.journal))
+    assert found.wrong == [] and found.notes == [] and len(found.unanswered) == 1  # nothing of a line is left
+
+
+def test_time_that_goes_back_is_told(path, monkeypatch):
+    monkeypatch.setattr(journals, "now", lambda: "2020-01-01T00:00:00.000Z")
+    write(path, 1)
+    assert check(path).notes == ["line 11 has an earlier time than line 10: the clock was set back"] and check(path).wrong == []
+
+
+def test_a_long_journal_is_not_held_in_memory(tmp_path):
+    path = str(tmp_path / "office.journal")
+    write(path, 1)
+    journal = Journal(path)
+    for _ in range(40):
+        journal.told(journal.asked("/office.db", ["import", "a.csv"], keys=["ACME K-1234567"] * 30_000), DONE)
+    tracemalloc.start()
+    assert check(path).lines == 82
+    assert tracemalloc.get_traced_memory()[1] < os.stat(path).st_size / 2
+    tracemalloc.stop()
+
+
+def test_what_is_handed_out_is_noted(at_work):
+    at_work.run("papers", "lot", "ACME", "B-1", at_work.folder / "made", "--no-pdf")
+    at_work.run("years", "recall", "ACME", "S-1")
+    assert {it["event"] for it in at_work.lines()} == {"exported"}
+    assert [it["words"] for it in at_work.lines()] == [["papers", "lot-ACME-B-1"], ["years", "recall", "ACME", "S-1"]]
+    assert "papers lot-ACME-B-1" in at_work.run("journal", "--no-site").out and at_work.run("journal", "verify").status == 0

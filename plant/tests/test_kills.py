@@ -8,7 +8,7 @@ import time
 
 import pytest
 from conftest import Plant
-from hilpoven.journal import check
+from hilpoven.journal.query import check
 
 KILLED = pathlib.Path(__file__).with_name("killed.py")
 SHEET = """key,owner,order,batch,segment,use,material,lot_owner,lot,sublot,amount,day
@@ -132,9 +132,10 @@ def try_restore(laid: Plant, folder: pathlib.Path, kills: int) -> int:
     """Kills a restore at so many steps: old rows are never lost, and a restore again puts the backup in place."""
     plant = put(laid, folder)
     assert plant.run("backup", folder / "backups").status == 0
-    backup = next((folder / "backups").iterdir())
+    backup = next((folder / "backups").glob("*.db"))
     saved, kept = plant.content(), folder.with_name("kept.db")
-    shutil.copyfile(backup, kept)
+    for end in ("", ".journal"):
+        shutil.copyfile(f"{backup}{end}", f"{kept}{end}")
     whole, done = 0, 0
     for step in [0, *range(kills)]:
         plant = put(laid, folder)

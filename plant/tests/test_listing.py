@@ -4,7 +4,7 @@ import io
 import json
 
 import pytest
-from hilpoven.tables import LISTINGS
+from hilpoven.records.tables import LISTINGS
 
 
 def listed(plant, name, *options):
@@ -93,6 +93,19 @@ def test_what_is_open(office):
     assert [it["order"] for it in listed(office, "orders", "--open")] == ["O-1"]
 
 
+def test_an_order_is_done_when_its_batches_are_closed_and_not_before(at_work):
+    def status_of_order():
+        (order,) = (it for it in listed(at_work, "orders", "--owner", "ACME") if it["order"] == "O-2")
+        assert (order in listed(at_work, "orders", "--open")) is (order["status"] == "open")
+        return order["opened"], order["closed"], order["status"]
+    at_work.lay('> ACME POST /orders {"order":"O-2","recipe":"BRINE-10","batches":1}\n')
+    assert status_of_order() == (0, 0, "open")
+    at_work.lay("open ACME O-2 MIXER\n")
+    assert status_of_order() == (1, 0, "open")
+    at_work.lay("do ACME O-2 1 start\ndo ACME O-2 1 done\nclose ACME O-2 1\n")
+    assert status_of_order() == (1, 1, "done")
+
+
 def test_no_key_of_an_owner_is_listed(office):
     for name in LISTINGS:
         for form in ("--json", "--csv"):
@@ -131,3 +144,29 @@ def test_a_server_need_not_open_its_file_anew(at_work):
             at_work.run(*words)
             assert server.ask("ACME", "GET", "/stock")[0] == 200
         assert "opened anew" not in server.end()
+
+
+@pytest.mark.parametrize("number", ["1x", "1.0", " 1", "\u0661", "", "99999999999999999999"])
+def test_a_batch_of_no_number_is_refused(office, number):
+    done = office.run("show", "batch", "ACME", "O-1", number)
+    assert done.status == 1 and done.err.startswith(f"hilpoven: BATCH: `{number}` ") and done.out == ""
+
+
+def test_a_batch_may_have_a_zero_before_its_number(office):
+    assert office.run("show", "batch", "ACME", "O-1", "01").out == office.run("show", "batch", "ACME", "O-1", "1").out.replace("O-1/1", "O-1/01", 1)
+
+
+@pytest.mark.parametrize("words", [("list", "lots", "--owner"), ("list", "moves", "--key"), ("show", "lot", "ACME"), ("show", "unit")])
+def test_a_word_that_is_no_utf_8_is_refused(office, words):
+    done = office.run(*words, "\udcff")
+    assert done.status == 2 and "`\\xff` is no UTF-8" in done.err
+
+
+# Names that a spreadsheet takes for a number, a date or a truth.
+MISTAKEN = ["1E5", "007", "1-2", "MAR-1", "TRUE"]
+
+
+def test_a_csv_has_no_name_that_a_spreadsheet_changes(at_work):
+    at_work.lay("\n".join(f"receive ACME X{number} SALT {name} BAY1 5 101" for number, name in enumerate(MISTAKEN)))
+    rows = list(csv.DictReader(io.StringIO(at_work.run("list", "lots", "--owner", "ACME", "--csv").out)))
+    assert sorted(it["lot"] for it in rows if it["lot"].startswith("=")) == sorted(f'="{it}"' for it in MISTAKEN)

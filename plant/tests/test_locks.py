@@ -7,6 +7,7 @@ import time
 
 import pytest
 from conftest import command, environment
+from hilpoven.core import snapshot
 
 
 @contextlib.contextmanager
@@ -39,6 +40,38 @@ def test_reading_waits_for_the_lock_too(at_work):
     with locked(at_work):
         done = at_work.run("list", "lots", options=("--wait", "0.2"))
     assert done.status == 3 and "somebody else has the lock" in done.err
+
+
+def test_a_settled_file_is_copied_while_others_may_take_the_lock(at_work, monkeypatch):
+    """Owners are refused while the lock is held: no byte of the office is copied under it."""
+    copied, of = [], snapshot.copy_file
+
+    def copy_file(source, target):
+        with open(f"{at_work.db}.lock", "a") as lock:
+            fcntl.flock(lock, fcntl.LOCK_EX | fcntl.LOCK_NB)
+        copied.append(os.path.basename(source))
+        of(source, target)
+
+    time.sleep(0.05)
+    monkeypatch.setattr(snapshot, "copy_file", copy_file)
+    assert "S-1" in at_work.run("list", "lots").out
+    assert copied[0] == "office.db" and set(copied) <= {"office.db", "office.db-wal"}
+
+
+def test_what_others_write_during_a_copy_is_in_it(at_work, monkeypatch):
+    """A command is recorded between the copying of the file and that of its log; then one is, and the file is written from the log."""
+    of, commands = snapshot.copy_file, iter(["unit-add PRESS", "unit-add OVEN"])
+
+    def copy_file(source, target):
+        of(source, target)
+        if source == str(at_work.db) and (command := next(commands, None)):
+            time.sleep(0.03)
+            assert at_work.toll(*command.split()).out == "accepted\n"
+
+    time.sleep(0.05)
+    monkeypatch.setattr(snapshot, "copy_file", copy_file)
+    assert "PRESS" in at_work.run("list", "units").out
+    assert "OVEN" in at_work.run("list", "units").out
 
 
 def test_a_lock_that_cannot_be_opened_is_told_at_once(at_work):

@@ -1,5 +1,7 @@
 """Each mistake of a clerk: what is typed, and what is told. Nothing is changed by any of them."""
+import resource
 import shlex
+import subprocess
 
 import pytest
 
@@ -103,7 +105,7 @@ MISTAKES = [
     ("void ACME K44", 1, ["refused 40 UnknownKey", "Nearest of the actuals of ACME: K4"]),
     ("show lot ACME B-2", 1, ["there is no lot ACME B-2", "Nearest of the lots: B-1"]),
     ("show unit PRESS", 1, ["there is no unit PRESS", "The units: KETTLE, MIXER"]),
-    ("show batch ACME O-1 9", 1, ["there is no batch ACME O-1 9", "The batchs: 1"]),
+    ("show batch ACME O-1 9", 1, ["there is no batch ACME O-1 9", "The batches: 1"]),
     # what can't be done
     ("receive ACME K1 SALT S-1 BAY1 600 101", 1, ["refused 35 KeyConflict", "hilpoven list moves --owner ACME --key K1"]),
     (f"{ACTUAL} 9999 101", 1, ["refused 33 NotEnough", "the sublot holds less than the amount"]),
@@ -116,6 +118,8 @@ MISTAKES = [
     ("import absent.csv", 2, ["there is no file absent.csv"]),
     ("import --what actual sheet.csv", 2, ["--what", "actuals"]),
     ("import --digits lots sheet.csv", 2, ["there is no file sheet.csv"]),
+    ("import /tmp", 2, ["/tmp is no file"]),
+    ("to-csv /tmp", 2, ["/tmp is no file"]),
     ("new {db}", 2, ["is there already"]),
     ("backup absent", 2, ["absent is no folder"]),
     ("backup", 2, ["no folder is named"]),
@@ -190,8 +194,6 @@ def test_another_database_is_told(at_work):
 
 
 def test_an_answer_that_cannot_be_written_is_a_fault(at_work):
-    import subprocess
-
     from conftest import HILPOVEN, environment
     for words in (["stock", "ACME"], ["list", "lots"], ["receive", "ACME", "K9", "SALT", "S-9", "BAY1", "5", "101"]):
         with open("/dev/full", "w") as full:
@@ -200,9 +202,29 @@ def test_an_answer_that_cannot_be_written_is_a_fault(at_work):
     assert at_work.lines()[-1]["answer"] == "accepted\n"
 
 
-def test_tables_that_cannot_be_read_are_told(at_work):
-    import subprocess
+@pytest.mark.parametrize("stream", ["2> /dev/full", ">&- 2>&-", "<&- >&- 2>&-"])
+@pytest.mark.parametrize("words", ["unit-add bad_", "list nothing", "unit-add PRESS"])
+def test_an_explanation_that_cannot_be_written_is_a_fault(at_work, words, stream):
+    """An answer that is written whole has its own status."""
+    from conftest import HILPOVEN, environment
+    env = environment(TOLL=at_work.program)
+    line = f"{HILPOVEN} --db {at_work.db} {words} {stream}"
+    done = subprocess.run(["sh", "-c", line], capture_output=True, text=True, env=env)
+    is_written = (words, stream) == ("unit-add PRESS", "2> /dev/full")
+    assert (done.returncode, done.stdout) == ((0, "accepted\n") if is_written else (3, done.stdout))
+    assert (at_work.rows("SELECT * FROM units WHERE unit = 'PRESS'") != []) == ("PRESS" in words)
 
+
+def test_an_endless_standard_input_is_no_key(at_work):
+    from conftest import command, environment
+    with open("/dev/zero") as endless:
+        done = command("--db", at_work.db, "owner", "key", "ACME", stdin=endless, env=environment(TOLL=at_work.program),
+                       preexec_fn=lambda: resource.setrlimit(resource.RLIMIT_AS, (500_000_000, 500_000_000)))
+    assert done.returncode == 2 and "the key has something else than letters and digits" in done.stderr
+    assert at_work.rows("SELECT okey FROM owners WHERE owner = 'ACME'") == [("ACMEKEY1",)]
+
+
+def test_tables_that_cannot_be_read_are_told(at_work):
     from conftest import HILPOVEN, environment
     page = at_work.rows("SELECT rootpage FROM sqlite_master WHERE name = 'lots'")[0][0]
     with open(at_work.db, "r+b") as file:
@@ -218,3 +240,16 @@ def test_no_file_is_named(program, tmp_path):
 
     done = CliRunner(mix_stderr=False).invoke(hilpoven, ["stock", "ACME"])
     assert done.exit_code == 2 and "no file is named" in done.stderr and "--db FILE" in done.stderr
+
+
+@pytest.mark.parametrize("settings, offices, db, file", [
+    ("", ["acme"], "", "/var/lib/toll/acme/office.db"), ("", ["acme", "bolt"], "", ""), ("", [], "", ""), ("", ["acme"], "other.db", ""),
+    ('file = "mine.db"', ["acme"], "", "mine.db"), ('office = "bolt"', ["acme", "bolt"], "", "/var/lib/toll/bolt/office.db")])
+def test_the_only_office_needs_no_setting(tmp_path, monkeypatch, settings, offices, db, file):
+    from hilpoven.core import settings as site
+    monkeypatch.setattr(site, "OFFICES", tmp_path)
+    (tmp_path / "hilpoven.toml").write_text(settings)
+    for it in offices:
+        (tmp_path / f"{it}.env").write_text("PORT=801\n")
+    found = site.load(tmp_path / "hilpoven.toml", db=db)
+    assert found.file.removeprefix(f"{tmp_path}/") == file and (found.port, found.keep) == ((801, 48) if file.startswith("/") else (0, 30))

@@ -1,10 +1,14 @@
 """Owners and their keys, which stand on no command line and in no log."""
 
+import contextlib
 import os
+import pty
+import re
+import sys
 
 import pytest
-from conftest import command, environment
-from hilpoven import journal as journals
+from conftest import HILPOVEN, command, environment
+from hilpoven.journal import log as journals
 
 RECEIPTS = "owner,key,material,lot,sublot,amount,day\nACME,K30,SALT,S-30,BAY1,5,102\n"
 
@@ -24,6 +28,51 @@ def test_a_random_key_is_printed_once_and_works(at_work):
     assert first == "accepted" and key.startswith("key ") and len(key) == 36
     assert key_of(at_work, "CARL") == [(key[4:],)]
     assert at_work.run("owner", "add", "DORA", "--random").out.splitlines()[1] != key
+
+
+@pytest.mark.parametrize("words, first", [(("owner", "add", "CARL"), "accepted"), (("owner", "key", "ACME"), "the key of ACME is changed")])
+def test_without_a_key_one_is_made(at_work, words, first):
+    done = at_work.run(*words, stdin="")
+    said, key = done.out.splitlines()
+    assert (done.status, said) == (0, first) and re.fullmatch("key [A-Za-z0-9]{32}", key) and key_of(at_work, words[2]) == [(key[4:],)]
+    assert key[4:] not in at_work.journal.read_text()
+
+
+@pytest.mark.parametrize("typed, key", [(["", None], r"[A-Za-z0-9]{32}"), (["TYPEDKEY1", "TYPEDKEY1"], "TYPEDKEY1"), (["TYPEDKEY1", "TYPEDKEY2"], "ACMEKEY1")])
+def test_at_a_terminal_a_key_is_typed_twice_or_made(at_work, typed, key):
+    """Enter alone makes one, which is shown; a typed one never is."""
+    words = [sys.executable, "-B", HILPOVEN, "--db", at_work.db, "owner", "key", "ACME"]
+    status, shown = at_terminal(words, [it for it in typed if it is not None], environment(TOLL=at_work.program))
+    (found,), = key_of(at_work, "ACME")
+    assert re.fullmatch(key, found) and (found in shown) == (typed[0] == "") and ("TYPEDKEY" in shown) is False
+    assert (status == 0) == (found != "ACMEKEY1")
+
+
+def at_terminal(words, lines, env):
+    """The exit status and all that a terminal shows of a program for which these lines are typed, each when it asks."""
+    process, terminal = pty.fork()
+    if not process:
+        os.execve(words[0], list(map(str, words)), env)
+    shown = b""
+    with contextlib.suppress(OSError):  # the terminal is gone when the program ends
+        while more := os.read(terminal, 4096):
+            shown += more
+            if lines and shown.endswith(b": "):
+                shown += b"\n"
+                os.write(terminal, lines.pop(0).encode() + b"\n")
+    os.close(terminal)
+    return os.waitstatus_to_exitcode(os.waitpid(process, 0)[1]), shown.decode()
+
+
+def test_status_names_the_owners_whose_keys_are_short(at_work):
+    at_work.run("owner", "add", "CARL", stdin="")
+    at_work.run("owner", "add", "DORA", stdin="A" * 19 + "\n")
+    at_work.run("owner", "add", "EVE", stdin="A" * 20 + "\n")
+    line, = [it for it in at_work.run("status").out.splitlines() if it.startswith("keys:")]
+    assert line == "keys: those of ACME, BOLT, DORA have fewer than 20 letters; `hilpoven owner key NAME` makes longer ones"
+    for owner in ("ACME", "BOLT", "DORA"):
+        at_work.run("owner", "key", owner, stdin="")
+    assert "keys:" not in at_work.run("status").out
 
 
 def test_a_server_sees_the_owner_and_its_new_key(at_work):
@@ -52,7 +101,7 @@ def test_the_key_stands_on_no_command_line(at_work):
     (("owner", "add", "CARL"), "short\n", "the key has 5 letters"),
     (("owner", "add", "CARL"), "with space\n", "the key has something else than letters and digits"),
     (("owner", "add", "CARL"), "ONEKEY123\nTWOKEY123\n", "the key is one line"),
-    (("owner", "add", "CARL"), "", "the key is one line"),
+    (("owner", "add", "CARL"), "\n", "the key has something else than letters and digits"),
     (("owner", "key", "CRAL"), "CARLSKEY1\n", "there is no owner CRAL"),
     (("owner", "key", "HOUSE"), "CARLSKEY1\n", "HOUSE is the plant"),
 ])

@@ -4,8 +4,9 @@ import re
 import hilpoven
 import pytest
 from conftest import ROOT
-from hilpoven import forms, gauge, grammar, meanings
-from hilpoven.tables import DISPOSITIONS, KINDS, LISTINGS, STATES, USES
+from hilpoven.core import forms, grammar, meanings
+from hilpoven.records import gauge
+from hilpoven.records.tables import LISTINGS
 
 COMMANDS = (ROOT / "docs" / "commands.md").read_text()
 REFUSALS = (ROOT / "docs" / "refusals.md").read_text()
@@ -36,10 +37,11 @@ def test_each_limit_is_that_of_the_page():
     assert [int(rows[it]) for it in ("owners besides HOUSE", "units", "actuals of a batch")] == [gauge.OWNERS, gauge.UNITS, gauge.ACTUALS]
 
 
-@pytest.mark.parametrize("column, words", [("disposition", DISPOSITIONS), ("state", STATES), ("kind", KINDS), ("role", USES)])
-def test_numbers_stand_for_the_words_of_the_page(column, words):
+@pytest.mark.parametrize("column, listing, shown", [("disposition", "lots", "disposition"), ("state", "batches", "state"), ("kind", "moves", "kind"), ("role", "requirements", "use")])
+def test_numbers_stand_for_the_words_of_the_page(column, listing, shown):
     row = re.search(rf"^\| {column} \| (.*) \|$", TABLES, re.M)[1]
-    assert re.findall(r"\d+ (\w+)", row) == list(words)
+    words = re.findall(r"WHEN (\d+) THEN '(\w+)'", LISTINGS[listing].columns[shown])
+    assert re.findall(r"(\d+) (\w+)", row) == words and words
 
 
 def test_each_advice_names_commands_that_are_there():

@@ -1,7 +1,7 @@
 """For each refusal a user reads what it means and what to look at."""
 import pytest
 from conftest import AT_WORK
-from hilpoven import meanings
+from hilpoven.core import meanings
 
 # How each refusal comes about in the office at work: lines that are accepted before, and the line that is refused.
 WAYS = {

@@ -1,15 +1,19 @@
 """`status`: is it well, how full is it, and what monitoring reads."""
+import contextlib
 import os
 import re
+import sqlite3
 import sys
 import time
 import types
 
 import pytest
-from conftest import ROOT, Plant
-from hilpoven import gauge
+from conftest import ROOT, Plant, copied, script
+from hilpoven import OFFICE_VERSION, VERSION
+from hilpoven.core import health
+from hilpoven.records import gauge
 
-sys.path.insert(0, str(ROOT / "tools"))
+sys.path.append(str(ROOT))
 
 
 def settings(plant: Plant, **more) -> None:
@@ -20,7 +24,7 @@ def settings(plant: Plant, **more) -> None:
 
 def test_a_new_office_is_well(at_work):
     done = at_work.run("status")
-    assert done.status == 0 and f"file: {at_work.db} opens" in done.out and "none takes the plant's commands" in done.out
+    assert done.status == 0 and f"file: {at_work.db} opens" in done.out and "server: none: each command opens the file itself" in done.out
     assert "ATTENTION" not in done.out and "NOT WELL" not in done.out
 
 
@@ -28,7 +32,7 @@ def test_a_server_is_seen_and_asked_nothing(at_work):
     with at_work.serve() as server:
         settings(at_work, port=server.port)
         done = at_work.run("status")
-        assert done.status == 0 and f"answers at port {server.port}; takes the plant's commands (toll 1.0, office format 2)" in done.out
+        assert done.status == 0 and f"answers at port {server.port}; takes the plant's commands (toll {VERSION}, office format {OFFICE_VERSION})" in done.out
     done = at_work.run("status")
     assert done.status == 3 and f"NOT WELL: the server at port {server.port} doesn't answer" in done.out
 
@@ -40,6 +44,37 @@ def test_a_file_that_cannot_be_read_is_not_well(at_work):
     assert done.status == 3 and "hilpoven_file_opens 0\n" in done.out
 
 
+TABLES = ["meta", "owners", "units", "materials", "tests", "recipes", "requirements", "orders", "batches", "lots", "sublots", "moves", "results", "voids"]
+
+
+@pytest.mark.parametrize("table", TABLES)
+def test_a_damaged_table_is_not_well(at_work, table):
+    pages = at_work.rows(f"SELECT rootpage FROM sqlite_master WHERE tbl_name = '{table}'")
+    for page, in pages:
+        folder = at_work.folder / f"page-{page}"
+        folder.mkdir()
+        damaged = copied(at_work, Plant(at_work.program, folder))
+        with contextlib.closing(sqlite3.connect(damaged.db)) as base:
+            base.execute("PRAGMA wal_checkpoint(TRUNCATE)")
+        with open(damaged.db, "r+b") as file:
+            file.seek((page - 1) * 4096)
+            file.write(b"\xff" * 4096)
+        done = damaged.run("status")
+        assert done.status == 3 and "NOT WELL: " in done.out and " opens; " not in done.out, done
+        done = damaged.run("status", "--prometheus")
+        assert done.status == 3 and "hilpoven_file_opens 0\n" in done.out
+
+
+def test_a_file_that_toll_does_not_open_is_not_well(at_work):
+    failing = script(at_work.folder / "toll", "echo fault Disk >&2; exit 3")
+    done = Plant(str(failing), at_work.folder).run("status")
+    assert done.status == 3 and f"NOT WELL: toll doesn't open {at_work.db}: fault Disk" in done.out
+
+
+def test_labels_are_quoted():
+    assert health.labels(gauge.Gauge('A"\n\\', "lots", 1, 2)) == '{owner="A\\"\\\\n\\\\",of="lots"}'
+
+
 def test_the_newest_backup_is_told_and_its_age(at_work):
     folder = at_work.folder / "backups"
     folder.mkdir()
@@ -48,7 +83,7 @@ def test_the_newest_backup_is_told_and_its_age(at_work):
     assert done.status == 1 and f"ATTENTION: there is no backup in {folder}" in done.out
     at_work.run("backup")
     assert at_work.run("status").status == 0
-    made = next(folder.iterdir())
+    made = next(folder.glob("*.db"))
     old = time.time() - 50 * 3600
     os.utime(made, (old, old))
     done = at_work.run("status")
@@ -82,7 +117,7 @@ def test_an_offices_own_settings_are_those_of_its_units(at_work):
 
 
 def test_settings_that_are_none_are_told(at_work):
-    for text, told in (("nonsense = 1\n", "nonsense is no setting"), ("port = \"x\"\n", "port is to be a int"), ("file = \n", "hilpoven.toml")):
+    for text, told in (("nonsense = 1\n", "nonsense is no setting"), ("port = \"x\"\n", "port is to be a whole number"), ("file = \n", "hilpoven.toml")):
         (at_work.folder / "hilpoven.toml").write_text(text)
         done = at_work.run("status")
         assert done.status == 2 and told in done.err
@@ -90,7 +125,7 @@ def test_settings_that_are_none_are_told(at_work):
 
 @pytest.mark.long
 def test_a_full_office_is_told_in_five_seconds_and_its_server_goes_on(program, tmp_path):
-    from measuring import offices
+    from bench import offices
 
     plant = Plant(program, tmp_path)
     offices.at_the_limits(types.SimpleNamespace(plant=plant.toll, db=plant.db), gauge.OWNERS)

@@ -1,11 +1,19 @@
 """New offices, backups, what is put in place, and what is looked at."""
+import contextlib
+import hashlib
+import json
 import os
+import shutil
 import signal
+import socket
 import sqlite3
+import subprocess
 import time
 
 import pytest
-from conftest import Plant
+from conftest import Plant, command, environment
+from hilpoven.core import backups
+from hilpoven.journal.query import check
 
 
 def test_new_makes_an_office_and_nothing_else_does(plant):
@@ -27,7 +35,7 @@ def test_a_backup_is_the_office(at_work):
     done = at_work.run("backup", folder)
     assert done.status == 0
     made = done.out.splitlines()[0]
-    assert sorted(os.listdir(folder)) == [os.path.basename(made)] and os.stat(made).st_mode & 0o777 == 0o600
+    assert sorted(os.listdir(folder)) == [os.path.basename(made), f"{os.path.basename(made)}.journal"] and os.stat(made).st_mode & 0o777 == 0o600
     assert at_work.content(made) == at_work.content() and at_work.rows("SELECT * FROM owners", made) == at_work.rows("SELECT * FROM owners")
     assert at_work.toll("stock", "ACME", db=made).out == at_work.toll("stock", "ACME").out
 
@@ -39,7 +47,7 @@ def test_the_newest_are_kept_and_others_are_let_be(at_work):
     for it in [*others, "office-20200101-000000.db", "office-20200102-000000.db", "office-20200103-000000.db"]:
         (folder / it).write_text("")
     made = at_work.run("backup", folder, "--keep", "2").out.splitlines()[0]
-    assert set(os.listdir(folder)) == {*others, "office-20200103-000000.db", os.path.basename(made)}
+    assert set(os.listdir(folder)) == {*others, "office-20200103-000000.db", os.path.basename(made), f"{os.path.basename(made)}.journal"}
 
 
 def test_the_last_of_each_day_is_kept(at_work):
@@ -48,7 +56,7 @@ def test_the_last_of_each_day_is_kept(at_work):
     for it in ("20200101-000000", "20200101-120000", "20200102-000000", "20200103-000000", "20200103-000001"):
         (folder / f"office-{it}.db").write_text("")
     at_work.run("backup", folder, "--keep", "1", "--days", "3")
-    assert sorted(os.listdir(folder))[:2] == ["office-20200102-000000.db", "office-20200103-000001.db"] and len(os.listdir(folder)) == 3
+    assert sorted(os.listdir(folder))[:2] == ["office-20200102-000000.db", "office-20200103-000001.db"] and len(os.listdir(folder)) == 4
 
 
 @pytest.mark.parametrize("name", ["an\noffice.db", "off%69ce.db", "office.db?x=1.db", "-n.db", ".db", "office"])
@@ -60,7 +68,8 @@ def test_names_of_all_kinds_are_backed_up(at_work, name):
     folder = at_work.folder / "backups"
     folder.mkdir()
     assert at_work.run("backup", folder, db=db).status == 0
-    assert len(os.listdir(folder)) == 1 and at_work.run("restore", folder / os.listdir(folder)[0], db=db).status == 0
+    made, _ = sorted(os.listdir(folder))
+    assert at_work.run("restore", folder / made, db=db).status == 0
 
 
 @pytest.mark.parametrize("number", [signal.SIGTERM, signal.SIGINT, signal.SIGHUP])
@@ -121,7 +130,9 @@ def test_restore_stops_on_a_server(at_work):
         assert server.ask("ACME", "GET", "/stock")[0] == 200
         done = at_work.run("restore", made)
         assert done.status == 3 and "a server serves" in done.err
-        os.unlink(f"{at_work.db}.sock")
+        while os.path.exists(f"{at_work.db}.sock"):
+            os.unlink(f"{at_work.db}.sock")
+            time.sleep(0.5)  # the server makes it anew when it notices who has gone
         done = at_work.run("restore", made)
         assert done.status == 3 and "is open in process" in done.err
     assert at_work.content() == before
@@ -148,7 +159,8 @@ def test_restore_takes_the_log_of_a_backup_with_it(at_work):
     base.execute("PRAGMA wal_autocheckpoint = 0")
     base.execute("INSERT INTO units VALUES ('PRESS')")
     base.commit()
-    assert at_work.run("restore", made).status == 0
+    assert at_work.run("restore", made).status == 1
+    assert at_work.run("restore", "--foreign", made).status == 0
     base.close()
     assert ("PRESS",) in at_work.rows("SELECT unit FROM units")
 
@@ -189,3 +201,175 @@ def test_what_a_kill_left_goes_with_the_next(at_work):
     os.utime(left, (0, 0))
     at_work.run("list", "lots")
     assert not left.exists()
+
+
+# What those who keep the backups can't lose or forge
+
+def names_in(folder) -> list[str]:
+    """The names of the backups in a folder."""
+    return sorted(it.name for it in folder.glob("*.db"))
+
+
+def test_a_new_backup_is_never_removed(at_work):
+    at_work.settle()
+    folder = at_work.folder / "backups"
+    for it in ("office-20300101-000000.db", "office-20310101-000000.db", "office-20200101-000000.db.journal"):
+        (folder / it).write_text("")
+    first = at_work.run("backup", "--keep", "1", folder).out.splitlines()[0]
+    assert set(os.listdir(folder)) == {os.path.basename(first), f"{os.path.basename(first)}.journal"}
+    second = at_work.run("backup", "--keep", "1", folder).out.splitlines()[0]
+    assert names_in(folder) == [os.path.basename(second)] and second != first
+
+
+def test_backups_are_removed_in_the_order_in_which_they_were_made(at_work, monkeypatch):
+    folder = at_work.folder / "backups"
+    at_work.settle(keep=2)
+    made = []
+    for year in (2026, 2031, 2025, 2024):
+        monkeypatch.setattr(time, "time", lambda: (year - 1970) * 365.25 * 86400)
+        made.append(os.path.basename(at_work.run("backup").out.splitlines()[0]))
+    assert names_in(folder) == sorted(made[2:])
+    assert {it.name for it in folder.iterdir()} == {*made[2:], *(f"{it}.journal" for it in made[2:])}
+    monkeypatch.undo()
+    assert [it["words"] for it in at_work.lines() if it.get("words", [""])[0] == "prune"] == [["prune", made[0]], ["prune", made[1]]]
+
+
+def test_a_backup_of_the_future_wants_attention(at_work, monkeypatch):
+    at_work.settle()
+    assert at_work.run("backup").status == 0
+    assert at_work.run("status").status == 0
+    (at_work.folder / "backups" / "office-20990101-000000.db").write_text("")
+    done = at_work.run("status")
+    assert done.status == 1 and "office-20990101-000000.db is dated in the future" in done.out
+
+
+def test_two_backups_of_one_second_are_two(at_work, monkeypatch):
+    at_work.settle()
+    monkeypatch.setattr(time, "time", lambda: 1_800_000_000.0)
+    assert len({at_work.run("backup").out.splitlines()[0] for _ in range(3)}) == 3 and len(names_in(at_work.folder / "backups")) == 3
+
+
+def test_the_journal_notes_each_backup_with_its_hash_and_lies_beside_it(at_work):
+    at_work.settle()
+    at_work.run("unit-add", "PRESS")
+    made = at_work.run("backup").out.splitlines()[0]
+    entry = next(it for it in at_work.lines() if it.get("words", [""])[0] == "backup")
+    assert entry["backup"] == os.path.basename(made) and entry["sha256"] == hashlib.sha256(open(made, "rb").read()).hexdigest()
+    kept = [json.loads(it) for it in open(f"{made}.journal")]
+    assert kept == at_work.lines()[:len(kept)] and kept[-1] == entry
+
+
+def test_a_journal_that_is_gone_comes_back_with_a_backup(at_work):
+    at_work.settle()
+    at_work.run("unit-add", "PRESS")
+    made = at_work.run("backup").out.splitlines()[0]
+    lines = at_work.lines()[:3]
+    for it in at_work.folder.glob("office.db*"):
+        it.unlink()
+    assert at_work.run("restore", os.path.basename(made)).status == 0
+    assert at_work.lines()[:3] == lines and at_work.run("journal", "verify").status == 0
+    assert at_work.run("unit-add", "OVEN").out == "accepted\n"
+
+
+def changed(made: str, path, sql: str) -> str:
+    """A copy of a backup that was changed."""
+    shutil.copyfile(made, path)
+    with contextlib.closing(sqlite3.connect(path)) as base, base:
+        base.execute(sql)
+    return str(path)
+
+
+def test_restore_takes_what_this_journal_made(at_work):
+    at_work.settle()
+    made = at_work.run("backup").out.splitlines()[0]
+    before = at_work.content()
+    other = changed(made, at_work.folder / "changed.db", "UPDATE units SET unit = 'PRESS' WHERE unit = 'MIXER'")
+    done = at_work.run("restore", other)
+    assert done.status == 1 and "is no backup that" in done.err and "--foreign" in done.err and at_work.content() == before
+    shutil.copyfile(other, made)  # in the place of a backup
+    assert at_work.run("restore", made).status == 1 and at_work.as_member("restore", os.path.basename(made)).status == 1
+    assert at_work.content() == before
+    assert at_work.run("restore", "--foreign", other).status == 0 and ("PRESS",) in at_work.rows("SELECT unit FROM units")
+    entry = at_work.lines()[-2]
+    assert entry["words"][:2] == ["restore", "--foreign"]
+    assert entry["sha256"] == hashlib.sha256(open(other, "rb").read()).hexdigest()
+
+
+def test_verify_compares_backups_with_what_the_journal_notes(at_work):
+    at_work.settle()
+    made = at_work.run("backup").out.splitlines()[0]
+    assert at_work.run("verify").status == 0 and "backups: 1 as the journal notes them" in at_work.run("verify").out
+    with contextlib.closing(sqlite3.connect(made)) as base, base:
+        base.execute("UPDATE units SET unit = 'PRESS' WHERE unit = 'MIXER'")
+    done = at_work.run("verify")
+    assert done.status == 1 and f"backups: {made} isn't the file that was made" in done.out
+
+
+def test_restore_takes_nothing_whose_sums_are_wrong(at_work):
+    at_work.settle()
+    made = at_work.run("backup").out.splitlines()[0]
+    before = at_work.content()
+    forged = changed(made, at_work.folder / "forged.db", "UPDATE sublots SET amount = amount + 1000")
+    done = at_work.run("restore", "--foreign", forged)
+    assert done.status == 3 and "its movements come to" in done.err and at_work.content() == before
+
+
+def test_restore_asks_the_port_too(at_work):
+    at_work.settle()
+    made = at_work.run("backup").out.splitlines()[0]
+    with socket.create_server(("127.0.0.1", 0)) as silent:
+        at_work.settle(port=silent.getsockname()[1])
+        done = at_work.run("restore", made)
+        assert done.status == 3 and "a server listens at the office's port" in done.err
+    assert at_work.run("restore", made).status == 0
+
+
+def test_a_failed_restore_is_answered_in_the_journal(at_work, monkeypatch):
+    at_work.settle()
+    made = at_work.run("backup").out.splitlines()[0]
+
+    def fail(file: str) -> str:
+        raise OSError(28, "No space left on device", file)
+    monkeypatch.setattr(backups, "move_aside", fail)
+    with pytest.raises(OSError):
+        at_work.run("restore", made)
+    assert check(str(at_work.journal)).unanswered == [] and "No space left" in at_work.lines()[-1]["error"]
+
+
+def test_a_full_disk_is_blamed_on_the_right_file(at_work):
+    room = at_work.folder / "room"
+    room.mkdir(mode=0o700)
+    if subprocess.run(["mount", "-t", "tmpfs", "-o", "size=150k,mode=700", "none", room], capture_output=True).returncode:
+        pytest.skip("nothing can be mounted here")
+    try:
+        done = command("--db", at_work.db, "backup", room, env=environment(TOLL=at_work.program))
+        assert done.returncode == 3 and done.stderr.startswith(f"hilpoven: {room}/") and "No space left" in done.stderr, done.stderr
+        backup, kept = backed_up(at_work), room / "office.db"
+        shutil.copyfile(backup, at_work.folder / "kept.db")
+        kept.write_text("")
+        done = command("--db", kept, "restore", "--foreign", at_work.folder / "kept.db", env=environment(TOLL=at_work.program))
+        assert done.returncode == 3 and done.stderr.startswith(f"hilpoven: {room}/") and "No space left" in done.stderr, done.stderr
+        assert kept.read_text() == "" and check(f"{kept}.journal").unanswered == []
+    finally:
+        subprocess.run(["umount", room], check=True)
+
+
+@pytest.mark.parametrize("line, why", [
+    ("keep = 0", "keep is to be from 1"), ("days = -1", "days is to be from 0"), ("wait = true", "wait is to be a number"),
+    ("site_logs = [1]", "site_logs is to be a list of texts"), ("port = 70000", "port is to be from 0 to 65,535"),
+    ("backup_hours = 0", "backup_hours is to be from 1"), ("wait = -1", "wait is to be from 0"),
+    ("keep = true", "keep is to be a whole number")])
+def test_settings_have_bounds(at_work, line, why):
+    at_work.settle()
+    with open(at_work.folder / "hilpoven.toml", "a") as file:
+        file.write(f"{line}\n")
+    done = at_work.run("backup")
+    assert done.status == 2 and why in done.err and names_in(at_work.folder / "backups") == []
+
+
+@pytest.mark.parametrize("line, why", [
+    ("HOURS=0", "HOURS is to be from 1"), ("DAYS=x", "DAYS is to be a whole number"), ("PORT=70000", "PORT is to be from 0 to 65,535")])
+def test_settings_of_an_office_have_bounds(at_work, line, why):
+    (at_work.folder / "acme.env").write_text(f"FILE={at_work.db}\n{line}\n")
+    done = at_work.run("stock", "ACME", options=("--office", "acme"))
+    assert done.status == 2 and why in done.err

@@ -161,6 +161,15 @@ class Cells(html.parser.HTMLParser):
         self.words |= set(data.replace(",", "").split())
 
 
+def text_of_page(file: pathlib.Path) -> str:
+    """The text of a page."""
+    parts: list[str] = []
+    reader = html.parser.HTMLParser()
+    reader.handle_data = parts.append
+    reader.feed(file.read_text())
+    return "".join(parts)
+
+
 def words_of_page(file: pathlib.Path) -> set[str]:
     """The words of a page, numbers without their commas."""
     return Cells(file.read_text()).words

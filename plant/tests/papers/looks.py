@@ -16,6 +16,7 @@ class Papers:
 
     def __init__(self, office: Filled, prints: bool) -> None:
         self.office, self.plant, self.prints, self.count = office, office.plant, prints, 0
+        self.recipients = 0  # that recalls named
         self.base = office.plant.folder / "looked-at.db"
         office.plant.rows("SELECT 1")  # the file is opened once before, so that it is as `toll` leaves it
 
@@ -62,6 +63,7 @@ class Papers:
         touched = {it for it, in self.rows("SELECT lot FROM moves WHERE owner = :owner AND lot_owner = 'HOUSE'", owner=owner)}
         found = {*others, *(it for whose in others for it in [*self.office.materials[whose], *self.office.lots[whose], *self.office.batches[whose]])}
         found |= {it for it in self.office.lots[HOUSE] if it not in touched} | set(self.office.batches[HOUSE])
+        found |= {word for whose, words in self.office.noted.items() if whose != owner for word in words}
         found |= {test for (whose, _), test in self.office.tests.items() if whose != owner}
         found |= {it for it, in self.rows("SELECT unit FROM batches WHERE owner <> :owner EXCEPT SELECT unit FROM batches WHERE owner = :owner", owner=owner)}
         return found | {f"{it}KEY1" for it in self.office.owners}
@@ -99,7 +101,7 @@ class Papers:
     def part_of_recall(self, folder: pathlib.Path, wanted: dict[str, list[tuple]], owner: str = "") -> None:
         """The paper of one reader has the rows of that reader."""
         place = {"lots": 1, "sublots": 1, "shipments": 1, "flows": 1, "released": 0, "running": 0, "sums": 0}
-        columns = {"released": 5, "running": 4}
+        columns = {"released": 5, "running": 4, **({"shipments": 8} if self.office.noted else {})}
         for name, rows in wanted.items():
             if owner:
                 rows = [it if name == "flows" else (*it[:place[name]], *it[place[name] + 1:]) for it in rows if it[place[name]] == owner]
@@ -107,7 +109,31 @@ class Papers:
         batches = {(it[0], *([] if owner else [it[1]]), it[2], it[3]) for it in wanted["flows"] if not owner or it[1] == owner}
         found = [tuple(it[:3 if owner else 4]) for it in figures.read_csv(folder / "batches.csv")]
         assert sorted(found) == sorted(tuple(map(str, it)) for it in batches)
-        self.look_at_page(folder, "recall", ("flows",))
+        self.look_at_recipients(folder, wanted["shipments"], owner)
+        self.look_at_page(folder, "recall", ("flows", "contacts"))
+
+    def look_at_recipients(self, folder: pathlib.Path, shipments: list[tuple], owner: str) -> None:
+        """Who has it is what was noted of each shipment, and without notes nobody is named."""
+        if not self.office.noted:
+            assert not (folder / "recipients.csv").exists() and "Who has it" not in (folder / "recall.html").read_text()
+            return
+        unknown, received = [], {}
+        for day, whose, key, lot, _, material, amount, measure in shipments:
+            facts = self.office.facts.get((whose, key), {})
+            if owner in ("", whose) and not facts:
+                unknown.append((day, whose, key, lot, material, amount, measure))
+            elif owner in ("", whose):
+                sums = received.setdefault((whose, facts["party"], material, measure), [0, 0, set()])
+                sums[0], sums[1] = sums[0] + 1, sums[1] + amount
+                sums[2] |= {facts["document"]} if "document" in facts else set()
+        first = 1 if owner else 0  # an owner's tables don't name it
+        found = figures.read_csv(folder / "without_recipient.csv")
+        assert sorted(it[:7 - first] for it in found) == figures.as_texts([(it[0], *it[1 + first:]) for it in unknown])
+        found = [(*([owner] if owner else []), *it) for it in figures.read_csv(folder / "recipients.csv")]
+        self.recipients += len(found)
+        assert {(it[0], it[1], it[6], it[9]): [int(it[7]), int(it[8]), set(filter(None, it[10].split("; ")))] for it in found} == received
+        contacts = figures.read_csv(folder / "contacts.csv")
+        assert sorted((*([owner] if owner else []), *it)[:2] for it in contacts) == sorted({it[:2] for it in received})
 
     def batch(self, owner: str, order: str) -> None:
         """The record of a batch."""

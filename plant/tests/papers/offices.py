@@ -24,6 +24,7 @@ class Filled:
         self.lots: dict[str, dict[str, str]] = {}
         self.batches: dict[str, list[str]] = {}
         self.count = 0
+        self.noted: dict[str, set[str]] = {}  # the words of what is noted of each owner
         self.fill()
 
     def name(self) -> str:
@@ -147,3 +148,57 @@ class Filled:
                 self.tell("close", owner, order, 1)
         self.tell("reject", self.chance.choice(list(self.lots[HOUSE])))
         self.ask([(it, f"/lots/{self.chance.choice(list(self.lots[it]))}/reject", "") for it in self.owners])
+
+
+class WithParties(Filled):
+    """The same with parties of each owner and of HOUSE, and with what is noted of some receipts and shipments."""
+
+    def fill(self) -> None:
+        """All of it."""
+        self.parties: dict[str, dict[str, list[str]]] = {}
+        self.facts: dict[tuple[str, str], dict[str, str]] = {}  # by owner and key of the movement
+        super().fill()
+        for (owner, key), facts in self.facts.items():
+            if self.plant.rows(f"SELECT 1 FROM moves WHERE owner = '{owner}' AND mkey = '{key}'") and self.chance.random() < 0.2:
+                facts["document"] = self.word(owner)
+                self.run("note", "movement", owner, key, "--document", facts["document"])
+
+    def word(self, owner: str) -> str:
+        """A word that is noted of an owner alone."""
+        word = self.name()
+        self.noted.setdefault(owner, set()).add(word)
+        return word
+
+    def run(self, *words: object) -> str:
+        """What the plant's command tells; a refusal is part of the day."""
+        told = self.plant.run(*words)
+        assert told.status in (0, 1), (words, told)
+        return told.out
+
+    def set_up(self, owner: str) -> None:
+        """The parties of an owner, before its materials."""
+        self.parties[owner] = {role: [self.word(owner) for _ in range(2)] for role in ("customer", "supplier")}
+        for role, names in self.parties[owner].items():
+            for name in names:
+                texts = [(option, f"{self.word(owner)} & <i>{self.word(owner)}") for option in ("--name", "--address", "--contact", "--phone") if option == "--name" or self.chance.random() < 0.7]
+                self.run("party", "add", owner, name, "--role", role, *(word for pair in texts for word in pair))
+        super().set_up(owner)
+
+    def tell(self, *words: object) -> str:
+        """What a command is told, in which some receipts and shipments have notes."""
+        way = {"ship": ("--to", "customer"), "receive": ("--from", "supplier")}.get(str(words[0]))
+        if way is None or self.chance.random() < 0.3:
+            return super().tell(*words)
+        owner, key = str(words[1]), str(words[2])
+        facts = {"party": self.chance.choice(self.parties[owner][way[1]])}
+        more = [way[0], facts["party"]]
+        if self.chance.random() < 0.7:
+            facts["document"] = self.word(owner)
+            more += ["--document", f"{facts['document']}"]
+        if words[0] == "receive":
+            facts["supplier_lot"] = self.word(owner)
+            more += ["--supplier-lot", facts["supplier_lot"]]
+        told = self.run(*words, *more)
+        if told == "accepted\n":
+            self.facts[owner, key] = facts
+        return told

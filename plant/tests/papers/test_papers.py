@@ -1,14 +1,15 @@
 """Papers over generated offices: each figure is that of a query and of `toll`, and an owner's papers have nothing of others."""
 import pytest
 from looks import Papers
-from offices import HOUSE, Filled
+from offices import HOUSE, Filled, WithParties
 
 QUICK, MANY = range(2, 6), range(200)
+PAPERS_WITH_PARTIES = 300
 
 
-def try_office(program, folder, seed: int, prints: bool) -> Papers:
+def try_office(program, folder, seed: int, prints: bool, kind: type[Filled] = Filled) -> Papers:
     """Makes papers of all kinds over an office."""
-    office = Filled(program, folder, seed)
+    office = kind(program, folder, seed)
     papers, chance = Papers(office, prints), office.chance
     for owner in [HOUSE, *office.owners]:
         for lot in chance.sample(list(office.lots[owner]), 1 if owner in office.owners[1:] else 2):
@@ -29,3 +30,17 @@ def test_papers_tell_what_is_there_and_nothing_of_others(program, tmp_path, seed
 @pytest.mark.parametrize("seed", MANY)
 def test_papers_of_many_offices_tell_what_is_there_and_nothing_of_others(program, tmp_path, seed):
     try_office(program, tmp_path / "office", seed, prints=seed % 4 == 0)
+
+
+@pytest.mark.parametrize("seed", (1, 7))
+def test_papers_with_parties_name_no_others(program, tmp_path, seed):
+    papers = try_office(program, tmp_path / "office", seed, prints=seed == 1, kind=WithParties)
+    assert papers.office.facts and papers.recipients
+
+
+@pytest.mark.long
+def test_many_papers_with_parties_name_no_others(program, tmp_path):
+    count, seed = 0, 1000
+    while count < PAPERS_WITH_PARTIES:
+        count += try_office(program, tmp_path / f"office{seed}", seed, prints=seed % 4 == 0, kind=WithParties).count
+        seed += 1

@@ -158,7 +158,7 @@ def try_kills(plant: Plant, kills: int, *more: str) -> int:
         if (plant.folder / "made").exists():
             assert sorted(it.name for it in (plant.folder / "made").rglob("*")) == made, step
             shutil.rmtree(plant.folder / "made")
-        rest = {it.name for it in plant.folder.iterdir()} - {"count", "office.db.lock", *(it.name for it in plant.folder.glob(".hilpoven.*"))}
+        rest = {it.name for it in plant.folder.iterdir()} - {"count", "office.db.lock", "office.db.journal", *(it.name for it in plant.folder.glob(".hilpoven.*"))}
         assert rest <= set(before), (step, rest)
     return done
 

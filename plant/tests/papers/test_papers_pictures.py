@@ -39,4 +39,4 @@ def test_two_sheets_show_all_of_a_picture_and_share_a_box(wide, high):
 
 
 def test_what_graphviz_does_not_draw_is_left_out():
-    assert pictures.sheets("no picture") == [] and pictures.drawn([], []) == []
+    assert pictures.sheets("no picture") == [] and pictures.draw([], []) == []

@@ -76,23 +76,6 @@ def test_without_sudo_papers_are_one_users(at_work):
         assert os.stat(it).st_mode & 0o077 == 0, it
 
 
-@pytest.mark.skipif(os.geteuid() != 0, reason="only root becomes another user")
-def test_who_called_sudo_may_open_papers_and_nobody_else(reachable):
-    folder = reachable.folder
-    # behind sudo the program isn't taken from the environment
-    (folder / "hilpoven.toml").write_text(f'toll = "{reachable.program}"\n')
-    started = f"import pathlib; from hilpoven import cli, settings; settings.load.__defaults__ = (pathlib.Path({str(folder / 'hilpoven.toml')!r}), ''); cli.main()"
-    done = subprocess.run(["/usr/bin/python3", "-Bc", started, "--db", reachable.db, *RECALL, folder / "made", "--no-pdf"], capture_output=True, text=True,
-                          env=environment(SUDO_UID=4711, PYTHONPATH=HILPOVEN.parent.parent))
-    assert done.returncode == 0, done.stderr
-    page = folder / "made" / "owners" / "ACME" / "recall.html"
-    for user, may_read in ((4711, True), (4712, False)):
-        seen = subprocess.run(["cat", page], user=user, group=user, extra_groups=[], capture_output=True)
-        assert (seen.returncode == 0) == may_read
-    written = subprocess.run(["sh", "-c", f"echo >> {page}"], user=4711, group=4711, extra_groups=[], capture_output=True)
-    assert written.returncode
-
-
 def test_a_tar_belongs_to_whoever_unpacks_it(at_work):
     with open(at_work.folder / "x.tar", "wb") as out:
         done = subprocess.run([HILPOVEN, "--db", at_work.db, *RECALL, "--no-pdf", "--tar"], stdout=out, stderr=subprocess.PIPE, env=environment(TOLL=at_work.program))

@@ -78,7 +78,7 @@ def test_the_board_keeps_the_rights_of_the_one_before(at_work):
     assert at_work.run("board", "--out", target).status == 0 and target.stat().st_mode & 0o777 == 0o600
     target.chmod(0o644)
     first = target.read_text()
-    assert at_work.run("board", "--out", target).status == 0 and target.stat().st_mode & 0o777 == 0o644
+    assert at_work.run("board", "--force", "--out", target).status == 0 and target.stat().st_mode & 0o777 == 0o644
     target.write_text(first)
     told = at_work.run("board", "--out", at_work.folder / "absent" / "board.html")
     assert told.status == 2 and len(told.err.splitlines()) == 1
@@ -92,6 +92,6 @@ def test_a_board_that_cannot_be_made_leaves_the_old_one(at_work):
     liar.write_text(f"#!/bin/sh\n'{at_work.program}' \"$@\" | sed 's/running/held/'\n")
     liar.chmod(0o700)
     program, at_work.program = at_work.program, str(liar)
-    told = at_work.run("board", "--out", target)
+    told = at_work.run("board", "--force", "--out", target)
     at_work.program = program
     assert told.status == 1 and "batch ACME O-1/1: toll tells" in told.err and target.read_text() == "old"

@@ -1,14 +1,14 @@
 """Generated histories: what two owners and the plant record, with moments at which the office is carried over.
 
 A history grows over one file: what that accepts is the history. It names no lot that was empty at a moment gone by, and no order
-that was begun before it, as nothing can be recorded of these behind a seam.
+that was begun before it, as nothing can be recorded of these in the next file.
 """
 import pathlib
 from dataclasses import dataclass, field
 from random import Random
 
-from hilpoven.years import content
-from hilpoven.years.door import Door
+from hilpoven.years.private_server import PrivateServer
+from hilpoven.years.steps import Step
 
 OWNERS = ("ACME", "BOLT")
 KEYS = {it: f"{it}KEY1" for it in OWNERS}
@@ -50,21 +50,21 @@ VALUES = {"LIME": ("M5", "0", "6"), "DENSITY": ("1100", "1180", "1300"), "PH": (
 RECIPES = {"HOUSE": "SOFTEN", "ACME": "MAKE", "BOLT": "MAKE"}
 
 
-def said(door: Door, step: content.Step) -> bool:
+def accepts(server: PrivateServer, step: Step) -> bool:
     """Whether a step is accepted."""
     if step.owner:
-        return door.request(step.owner, KEYS[step.owner], step.path, step.body)[0] == 200
-    return door.ask(*step.words).output == "accepted\n"
+        return server.request(step.owner, KEYS[step.owner], step.path, step.body)[0] == 200
+    return server.ask(*step.words).output == "accepted\n"
 
 
 @dataclass
 class Growing:
     """A history that grows over one file."""
 
-    door: Door
+    server: PrivateServer
     random: Random
     path: pathlib.Path
-    steps: list[content.Step | str] = field(default_factory=list)
+    steps: list[Step | str] = field(default_factory=list)
     lots: dict[tuple[str, str], str] = field(default_factory=dict)  # with their materials
     orders: list[tuple[str, str]] = field(default_factory=list)
     sublots: dict[tuple[str, str], list[str]] = field(default_factory=dict)
@@ -76,11 +76,11 @@ class Growing:
 
     def say(self, *words: object) -> bool:
         """Gives the plant's words, which are of the history where they are accepted."""
-        return self.take(content.Step(tuple(map(str, words))))
+        return self.take(Step(tuple(map(str, words))))
 
-    def take(self, step: content.Step) -> bool:
+    def take(self, step: Step) -> bool:
         """Takes a step, which is of the history where it is accepted."""
-        accepted = said(self.door, step)
+        accepted = accepts(self.server, step)
         if accepted:
             self.steps.append(step)
         return accepted
@@ -125,7 +125,7 @@ class Growing:
 
     def judge(self, owner: str, lot: str, word: str) -> None:
         """A lot is released or rejected by whose it is."""
-        self.take(content.Step((word, lot)) if owner == "HOUSE" else content.Step(owner=owner, path=f"/lots/{lot}/{word}"))
+        self.take(Step((word, lot)) if owner == "HOUSE" else Step(owner=owner, path=f"/lots/{lot}/{word}"))
 
     def dispose(self) -> None:
         """A lot is released, now and then rejected."""
@@ -157,7 +157,7 @@ class Growing:
         """All of a lot goes."""
         if self.lots:
             owner, lot = self.some([*[it for it in self.lots if self.lots[it] not in ("WATER", "RAW")] * 3, *self.lots])
-            for line in self.door.ask("stock", owner).output.splitlines():
+            for line in self.server.ask("stock", owner).output.splitlines():
                 there, sublot, *_, amount, _ = line.split()
                 if there == lot and amount != "0":
                     self.say(self.some(["scrap", "ship"]), owner, self.name("K"), lot, sublot, amount, self.day)
@@ -166,12 +166,12 @@ class Growing:
         """An order is placed, now and then cancelled, and a batch of one is opened."""
         owner = self.some(["HOUSE", *OWNERS])
         name, batches = self.name("O"), self.random.randint(1, 3)
-        placed = content.Step(("order", name, RECIPES[owner], str(batches))) if owner == "HOUSE" else content.Step(
+        placed = Step(("order", name, RECIPES[owner], str(batches))) if owner == "HOUSE" else Step(
             owner=owner, path="/orders", body={"order": name, "recipe": RECIPES[owner], "batches": batches})
         if self.take(placed):
             self.orders.append((owner, name))
         if self.random.random() < 0.15:
-            self.take(content.Step(("cancel", name)) if owner == "HOUSE" else content.Step(owner=owner, path=f"/orders/{name}/cancel"))
+            self.take(Step(("cancel", name)) if owner == "HOUSE" else Step(owner=owner, path=f"/orders/{name}/cancel"))
 
     def open(self) -> None:
         """A batch is opened and started."""
@@ -235,7 +235,7 @@ class Growing:
         """All batches are closed, and the office is carried over: what is empty or begun is named no more."""
         for batch in self.batches:
             self.close(*batch)
-        lying = {(owner, line.split()[0]) for owner in ("HOUSE", *OWNERS) for line in self.door.ask("stock", owner).output.splitlines() if line.split()[4] != "0"}
+        lying = {(owner, line.split()[0]) for owner in ("HOUSE", *OWNERS) for line in self.server.ask("stock", owner).output.splitlines() if line.split()[4] != "0"}
         self.stayed.append([it for it in self.lots if it not in lying])
         self.lots = {it: material for it, material in self.lots.items() if it in lying}
         begun = {it[:2] for it in self.batches}
@@ -245,7 +245,7 @@ class Growing:
         self.begin()
 
     def begin(self) -> None:
-        """What there is at the beginning, and behind a seam: some material, and a batch of each."""
+        """What there is at the beginning, and in the next file: some material, and a batch of each."""
         for _ in range(4):
             self.receive()
         for _ in range(3):
@@ -266,8 +266,8 @@ class Growing:
                 self.cut()
 
 
-def named_again(growing: Growing, parts: list[list[content.Step]], chance: float) -> dict[str, tuple[str, int]]:
-    """For some lots that come behind a seam the name of a lot of the same owner that stayed behind, and after how many moments."""
+def named_again(growing: Growing, parts: list[list[Step]], chance: float) -> dict[str, tuple[str, int]]:
+    """For some lots that come in the next file the name of a lot of the same owner that stayed behind, and after how many moments."""
     found: dict[str, tuple[str, int]] = {}
     free: dict[str, list[tuple[str, int]]] = {}
     for number, part in enumerate(parts):
@@ -293,6 +293,6 @@ def called_again(again: dict[str, tuple[str, int]]) -> dict[str, str]:
     return found
 
 
-def renamed(step: content.Step, names: dict[str, str]) -> content.Step:
+def renamed(step: Step, names: dict[str, str]) -> Step:
     """The same step with other names of lots."""
-    return content.Step(tuple(names.get(it, it) for it in step.words), step.owner, "/".join(names.get(it, it) for it in step.path.split("/")), step.body)
+    return Step(tuple(names.get(it, it) for it in step.words), step.owner, "/".join(names.get(it, it) for it in step.path.split("/")), step.body)

@@ -11,7 +11,8 @@ import time
 
 import pytest
 from conftest import Plant
-from hilpoven.years import content, door, seam
+from hilpoven.core.snapshot import hash_of
+from hilpoven.years import private_server, steps
 
 READY = ("do ACME O-1 1 done", "close ACME O-1 1")
 
@@ -158,15 +159,15 @@ cancel C-1
 def test_a_new_file_that_differs_is_removed(ready, monkeypatch, left_out, told):
     ready.lay('> ACME POST /orders {"order":"O-2","recipe":"BRINE-10","batches":1}')
     before, there = ready.content(), names(ready)
-    monkeypatch.setattr(content, left_out, lambda base: iter(()))
+    monkeypatch.setattr(steps, left_out, lambda base: iter(()))
     done = carry(ready)
     assert done.status == 3 and told in done.err and "nothing was changed" in done.err
-    assert ready.content() == before and names(ready) == [*there, "office.journal"] and ready.lines()[-1]["error"].startswith(told)
+    assert ready.content() == before and names(ready) == [*there, "office.db.journal"] and ready.lines()[-1]["error"].startswith(told)
     assert not any(it.startswith(".hilpoven") for it in os.listdir(ready.folder))
 
 
 def test_a_step_that_toll_refuses_is_told_without_a_key(ready, monkeypatch):
-    monkeypatch.setattr(content, "definitions", lambda base: [content.said(base, "owner-add", "SELECT owner, okey FROM owners UNION ALL SELECT 'HOUSE', 'ACMEKEY1'")])
+    monkeypatch.setattr(steps, "definitions", lambda base: [steps.lines(base, "owner-add", "SELECT owner, okey FROM owners UNION ALL SELECT 'HOUSE', 'ACMEKEY1'")])
     done = carry(ready)
     assert done.status == 3 and "toll answered refused 4 OwnerExists to owner-add HOUSE ********" in done.err and "KEY1" not in done.err
 
@@ -174,9 +175,9 @@ def test_a_step_that_toll_refuses_is_told_without_a_key(ready, monkeypatch):
 def test_the_earlier_file_is_read_only_and_both_tell_of_one_another(ready):
     carry(ready)
     earlier = ready.folder / "office-1.db"
-    assert stat.S_IMODE(earlier.stat().st_mode) == 0o400 and names(ready) == ["office-1.db", "office.db", "office.journal"]
+    assert stat.S_IMODE(earlier.stat().st_mode) == 0o400 and names(ready) == ["office-1.db", "office.db", "office.db.journal"]
     (way, file, hashed, at), = ready.rows("SELECT * FROM carried")
-    assert (way, file, hashed) == ("from", "office-1.db", seam.hash_of(str(earlier)))
+    assert (way, file, hashed) == ("from", "office-1.db", hash_of(str(earlier)))
     (way, file, _, when), = ready.rows("SELECT * FROM carried", earlier)
     assert (way, file, when) == ("into", "office.db", at)
     assert ready.run("verify").status == 0
@@ -216,8 +217,8 @@ def test_no_key_stands_on_a_command_line(ready, monkeypatch):
 
 
 def test_a_server_goes_with_whoever_began_it(ready):
-    script = f"import os, sys; sys.path.insert(0, {str(pathlib.Path(door.__file__).parents[2])!r}); from hilpoven.years.door import Door; " \
-             f"print(Door({ready.program!r}, {str(ready.db)!r}).server.pid, flush=True); os.kill(os.getpid(), 9)"
+    script = f"import os, sys; sys.path.insert(0, {str(pathlib.Path(private_server.__file__).parents[2])!r}); from hilpoven.years.private_server import PrivateServer; " \
+             f"print(PrivateServer({ready.program!r}, {str(ready.db)!r}).server.pid, flush=True); os.kill(os.getpid(), 9)"
     pid = int(subprocess.run(["/usr/bin/python3", "-c", script], capture_output=True, text=True).stdout)
     for _ in range(100):
         try:
@@ -234,7 +235,7 @@ def test_a_restored_backup_isn_t_carried_over_a_later_file(ready):
     assert ready.run("backup", ready.folder / "backups").status == 0
     assert ready.toll("receive", "ACME", "K9", "SALT", "S-9", "BAY1", "5", "103").out == "accepted\n"
     assert carry(ready).status == 0
-    assert ready.run("restore", next((ready.folder / "backups").iterdir())).status == 0
+    assert ready.run("restore", next((ready.folder / "backups").glob("*.db"))).status == 0
     done = carry(ready)
     assert done.status == 3 and "office-1.db was carried over into office.db, and has moves that this doesn't have" in done.err
     assert (ready.folder / "office-1.db").exists()
@@ -328,7 +329,7 @@ def test_a_recall_says_that_it_is_of_the_newest_file_alone(behind):
     assert "This is of office.db alone, which came from office-1.db. Over all files: hilpoven years recall ACME S-1" in done.err
     done = behind.run("years", "recall", "ACME", "S-1", "--csv")
     assert done.out.splitlines() == ["steps,owner,lot,disposition,on_hand,shipped,came_in", "0,ACME,S-1,released,4700,0,office-1.db", "1,ACME,B-1,quarantined,980,0,office-1.db"]
-    assert f"read office-1.db, sha256 {seam.hash_of(str(behind.folder / 'office-1.db'))}, carried over " in done.err and "read office.db, sha256 " in done.err
+    assert f"read office-1.db, sha256 {hash_of(str(behind.folder / 'office-1.db'))}, carried over " in done.err and "read office.db, sha256 " in done.err
 
 
 def test_a_lot_whose_name_comes_again_is_told_apart(behind):

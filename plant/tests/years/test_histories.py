@@ -1,5 +1,6 @@
 """A history that was cut by carry-overs is told as it is over one file."""
 import contextlib
+import dataclasses
 import pathlib
 import shutil
 import sqlite3
@@ -9,11 +10,16 @@ from random import Random
 
 import pytest
 from conftest import Plant
-from hilpoven import showing
-from hilpoven.office import Office
-from hilpoven.years import accounts, chain, content, door, tracing
+from hilpoven.core.office import Office
+from hilpoven.records import statement, things
+from hilpoven.records.genealogy import Genealogy
+from hilpoven.records.recall import recall_lines
+from hilpoven.records.rows import LotId
+from hilpoven.years import history, private_server
+from hilpoven.years.private_server import PrivateServer
+from hilpoven.years.steps import Step
 from hypothesis import HealthCheck, Phase, given, settings, strategies
-from histories import CUT, KEYS, OWNERS, Growing, called_again, named_again, renamed, said
+from histories import CUT, KEYS, OWNERS, Growing, accepts, called_again, named_again, renamed
 
 EVERYBODY = ("HOUSE", *OWNERS)
 # Tables of all files together, and of the one file, in the order in which they were recorded where that is told.
@@ -56,10 +62,10 @@ def try_histories(program, examples, chance=0.0):
 
 def try_history(plant: Plant, random: Random, size: int, cuts: int, chance: float = 0.0) -> None:
     """Grows a history over one file, gives it to another that is carried over on the way, and compares. By so much chance a lot that
-    comes behind a seam has there the name of one that stayed behind."""
+    comes in the next file has there the name of one that stayed behind."""
     one = plant.folder / "one" / "one.db"
     one.parent.mkdir()
-    with door.opened(plant.program, str(one)) as served:
+    with private_server.opened(plant.program, str(one)) as served:
         growing = Growing(served, random, one)
         growing.grow(size, cuts)
         parts = [list(part) for part in parts_of(growing.steps)]
@@ -70,9 +76,9 @@ def try_history(plant: Plant, random: Random, size: int, cuts: int, chance: floa
             if number:
                 carry_over(plant)
                 nothing_acts_again(plant, [it for before in given[:number] for it in before])
-            with door.opened(plant.program, str(plant.db)) as cut:
+            with private_server.opened(plant.program, str(plant.db)) as cut:
                 for step in part:
-                    assert said(cut, step), step
+                    assert accepts(cut, step), step
         compare(plant, one, served, cuts, called_again(again))
 
 
@@ -105,7 +111,7 @@ def told_of_lots(plant: Plant, db: pathlib.Path) -> dict:
         with contextlib.suppress(FileNotFoundError):
             shutil.copyfile(f"{db}{end}", f"{copy}{end}")
     found = {}
-    with door.opened(plant.program, str(copy)) as asked:
+    with private_server.opened(plant.program, str(copy)) as asked:
         for owner in EVERYBODY:
             found[owner] = [it for it in asked.ask("stock", owner).output.splitlines() if it.split()[4] != "0"]
             for lot in sorted({it.split()[0] for it in found[owner]}):
@@ -113,7 +119,7 @@ def told_of_lots(plant: Plant, db: pathlib.Path) -> dict:
     return found
 
 
-def told_of_lot(asked: door.Door, owner: str, lot: str) -> object:
+def told_of_lot(asked: PrivateServer, owner: str, lot: str) -> object:
     """What a lot's owner is told of it, the latest results alone, and of its release."""
     if owner == "HOUSE":
         return asked.ask("release", lot)
@@ -124,8 +130,8 @@ def told_of_lot(asked: door.Door, owner: str, lot: str) -> object:
     return body["disposition"], body["material"], latest, sublots, status, told.get("error")
 
 
-def nothing_acts_again(plant: Plant, steps: list[content.Step]) -> None:
-    """A file of all actuals from before does nothing behind the seam."""
+def nothing_acts_again(plant: Plant, steps: list[Step]) -> None:
+    """A file of all actuals from before does nothing in the next file."""
     actuals = [it for it in steps if it.words[:1] == ("actual",)]
     if not actuals:
         return
@@ -138,42 +144,59 @@ def nothing_acts_again(plant: Plant, steps: list[content.Step]) -> None:
     assert plant.content() == before
 
 
-def compare(plant: Plant, one: pathlib.Path, served: door.Door, cuts: int, called: dict[str, str]) -> None:
+def compare(plant: Plant, one: pathlib.Path, served: PrivateServer, cuts: int, called: dict[str, str]) -> None:
     """All files together are told as the one file, where lots are called otherwise."""
     back = {lot: name for name, lot in called.items()}
 
     def same(rows):
         return [tuple(called.get(cell, cell) for cell in row) for row in rows]
 
-    with chain.opened(Office(str(plant.db), plant.program, 10.0)) as history, chain.opened(Office(str(one), plant.program, 10.0)) as whole:
-        assert len(history.parts) == cuts + 1 and whole.is_one
-        compare_tables(history.base, whole.base, whole.copy, same)
+    with history.opened(Office(str(plant.db), plant.program, 10.0)) as cut, history.opened(Office(str(one), plant.program, 10.0)) as whole:
+        assert len(cut.parts) == cuts + 1 and whole.is_one
+        compare_tables(cut.base, whole.base, whole.copy, same)
         for owner, lot in whole.base.execute("SELECT owner, lot FROM lots").fetchall():
             name = back.get(lot, lot)
-            recalled = [(it.steps, it.owner, it.lot, it.disposition, it.on_hand, it.shipped) for it in tracing.recall(history.base, owner, name)]
-            assert sorted(same(recalled), key=lambda it: it[:3]) == [typed(it.split()) for it in served.ask("recall", owner, lot).output.splitlines()[1:]]
+            assert sorted(same(recalled(cut.base, owner, name))) == [typed(line.split()) for line in served.ask("recall", owner, lot).output.splitlines()[1:]]
             for way in ("back", "forward"):
-                traced = [(it.steps, it.owner, it.lot) for it in tracing.trace(history.base, owner, name, way)]
-                assert sorted(same(traced)) == [(int(steps), *words) for steps, *words in map(str.split, served.ask("trace", owner, lot, way).output.splitlines())]
-            found, expected = showing.lot(history.base, owner, name), showing.lot(whole.base, owner, lot)
+                lines = map(str.split, served.ask("trace", owner, lot, way).output.splitlines())
+                assert sorted(same(traced(cut.base, owner, name, way))) == [(int(steps), *words) for steps, *words in lines]
+            found, expected = things.lot(cut.base, owner, name), things.lot(whole.base, owner, lot)
             assert (found.facts, found.tables) == (expected.facts, expected.tables)
-        compare_alone(plant, history)
+        compare_alone(plant, cut)
         for owner in EVERYBODY:
-            for first, last in ((0, accounts.MOST_DAY), (260103, 260108)):
-                found, expected = accounts.statement(history.base, owner, first, last), accounts.statement(whole.base, owner, first, last)
-                assert sorted(same(found.lots)) == stated(whole.copy, owner, first, last) == expected.lots
-                assert sorted(same(found.of_house)) == sorted(expected.of_house) and found.unexplained == 0
+            for first, last in ((statement.FIRST_DAY, statement.LAST_DAY), (260103, 260108)):
+                (lots, of_house), (expected, expected_of_house) = (stated_by_command(it.base, owner, first, last) for it in (cut, whole))
+                assert sorted(same(lots)) == stated(whole.copy, owner, first, last) == expected
+                assert sorted(same(of_house)) == sorted(expected_of_house)
 
 
-def compare_alone(plant: Plant, history: chain.History) -> None:
+def recalled(base: sqlite3.Connection, owner: str, lot: str) -> list[tuple]:
+    """The lines of a recall by the tables."""
+    return [dataclasses.astuple(line) for line in recall_lines(base, Genealogy(base).trace(LotId(owner, lot), "forward").steps)]
+
+
+def traced(base: sqlite3.Connection, owner: str, lot: str, way: str) -> list[tuple]:
+    """The lines of a trace by the tables."""
+    return [(steps, *name) for name, steps in Genealogy(base).trace(LotId(owner, lot), way).steps.items()]
+
+
+def stated_by_command(base: sqlite3.Connection, owner: str, first: int, last: int) -> tuple[list[tuple], list[tuple]]:
+    """The lots of a statement and what is of HOUSE, where nothing is unexplained."""
+    read = statement.read_statement(base, owner, first, last)
+    assert not any(account.amounts[-1] for account in read.accounts)
+    return ([(account.lot.material, account.lot.id.name, account.lot.measure, *account.amounts[:-1]) for account in read.moved],
+            [(lot.material, lot.id.name, *batch, amount) for lot, batch, amount in read.of_house])
+
+
+def compare_alone(plant: Plant, cut: history.History) -> None:
     """What is asked of an owner is told of its rows and HOUSE's as it is told of all."""
     for owner in EVERYBODY:
-        with chain.opened(Office(str(plant.db), plant.program, 10.0), owner) as alone:
-            assert accounts.statement(alone.base, owner) == accounts.statement(history.base, owner)
-            for lot, in history.base.execute("SELECT lot FROM lots WHERE owner = ?", (owner,)).fetchall():
-                assert tracing.recall(alone.base, owner, lot) == tracing.recall(history.base, owner, lot)
-                assert tracing.trace(alone.base, owner, lot, "back") == tracing.trace(history.base, owner, lot, "back")
-                assert showing.lot(alone.base, owner, lot) == showing.lot(history.base, owner, lot)
+        with history.opened(Office(str(plant.db), plant.program, 10.0), owner) as alone:
+            assert statement.read_statement(alone.base, owner, 0, statement.LAST_DAY) == statement.read_statement(cut.base, owner, 0, statement.LAST_DAY)
+            for lot, in cut.base.execute("SELECT lot FROM lots WHERE owner = ?", (owner,)).fetchall():
+                assert recalled(alone.base, owner, lot) == recalled(cut.base, owner, lot)
+                assert traced(alone.base, owner, lot, "back") == traced(cut.base, owner, lot, "back")
+                assert things.lot(alone.base, owner, lot) == things.lot(cut.base, owner, lot)
 
 
 def typed(words: list[str]) -> tuple:

@@ -8,8 +8,8 @@ import pytest
 import test_histories
 from conftest import Plant
 from histories import OWNERS
-from hilpoven.office import Office
-from hilpoven.years import chain
+from hilpoven.core.office import Office
+from hilpoven.years import history
 
 EVERYBODY = ("HOUSE", *OWNERS)
 MADE = re.compile(r"Made on [^<]*")
@@ -28,7 +28,7 @@ def try_papers(program: str, seed: int, each: int) -> None:
     """Papers of lots, batches and owners of a history that was cut, and of the same in one file."""
     def compare(plant, one, served, cuts, called):
         random = Random(seed)
-        with chain.opened(Office(str(one), program, 10.0)) as whole:
+        with history.opened(Office(str(one), program, 10.0)) as whole:
             lots = whole.base.execute("SELECT owner, lot FROM lots ORDER BY rowid").fetchall()
             batches = whole.base.execute("SELECT owner, ord, number FROM batches ORDER BY rowid").fetchall()
         asked = [(word, *it) for word in ("recall", "lot", "certificate") for it in random.sample(lots, min(each, len(lots)))]
@@ -39,8 +39,8 @@ def try_papers(program: str, seed: int, each: int) -> None:
             assert found and found == papers_of(plant, one, *words), words
         told = plant.run("papers", "recall", *lots[0], plant.folder / "told", "--no-pdf")
         page = (plant.folder / "told" / "plant" / "recall.html").read_text()
-        with chain.opened(Office(str(plant.db), program, 10.0)) as history:
-            assert told.status == 0 and all(f"office-{it.number}.db, sha256 {it.hash}" in page for it in history.parts[:-1])
+        with history.opened(Office(str(plant.db), program, 10.0)) as every:
+            assert told.status == 0 and all(f"office-{it.number}.db, sha256 {it.hash}" in page for it in every.parts[:-1])
 
     memory = "/dev/shm" if pathlib.Path("/dev/shm").is_dir() else None
     with pytest.MonkeyPatch.context() as patched, tempfile.TemporaryDirectory(dir=memory) as folder:

@@ -1,0 +1,4 @@
+"""`python -m hilpoven`."""
+from .cli import main
+
+main()

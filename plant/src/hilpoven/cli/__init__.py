@@ -1,0 +1,159 @@
+"""The command `hilpoven` and its subcommands, of which each is imported when it is called."""
+import os
+import sys
+from functools import partial
+from typing import Any, NoReturn, TextIO
+
+import click
+
+from .. import VERSION
+from ..core import scratch, settings as site
+from ..core.context import Context
+from ..core.failure import FAULT, REFUSED, WRONG_USE, Failure, printable
+from ..core.grammar import LINES
+from .groups import Group, Makers, imported, lazily
+from .words import PATH
+
+ABOUT = """The plant's command of the order and lot genealogy office.
+
+It passes each command to `toll`, prints the answer unchanged and explains it below. The journal records each
+command that changes something, with the user.
+
+Example: hilpoven stock ACME
+"""
+
+NOTED_LINES = {"receive", "ship"}
+NOTING = ["link", "use", "note", "party"]
+MOST_LETTERS = 4_096  # of a word of a command
+STREAMS = (("stdin", "r", os.O_WRONLY), ("stdout", "w", os.O_RDONLY), ("stderr", "w", os.O_RDONLY))
+
+
+def line_command(name: str) -> click.Command:
+    """The subcommand of a line of `toll`."""
+    from .lines import LineCommand
+
+    return LineCommand(LINES[name])
+
+
+def noted_line_command(name: str) -> click.Command:
+    """The subcommand of a line beside which something may be noted."""
+    from .line_notes import LINE_NOTES
+    from .lines import LineCommand
+
+    return LineCommand(LINES[name], LINE_NOTES[name])
+
+
+SUBCOMMANDS: Makers = {
+    **{name: partial(noted_line_command if name in NOTED_LINES else line_command, name) for name in LINES},
+    **{name: imported("noting", name) for name in ("link", "use")},
+    "note": imported("noting", "note_group"),
+    "party": imported("parties", "party_group"),
+    "drill": imported("drills", "drill_group"),
+    "import": imported("importing", "import_command"),
+    "to-csv": imported("converting", "to_csv"),
+    "list": imported("listing", "list_group"),
+    "show": imported("showing", "show_group"),
+    "owner": imported("owners", "owner_group"),
+    "status": imported("status", "status"),
+    "journal": imported("journal", "journal_group"),
+    "papers": imported("papers", "papers_group"),
+    "board": imported("board", "board"),
+    **{name: imported("upkeep", name) for name in ("new", "backup", "restore", "verify")},
+    "register": imported("noting", "register_group"),
+    "carry-over": imported("carrying", "carry_over"),
+    "years": imported("years", "years_group"),
+}
+
+
+class Commands(Group):
+    """All subcommands."""
+
+    others = "Look after the office"
+
+    def sections(self) -> dict[str, list[str]]:
+        """What records and what asks."""
+        return {
+            "Record": [name for name, it in LINES.items() if not it.is_question] + NOTING + ["import", "to-csv"],
+            "Ask": [name for name, it in LINES.items() if it.is_question] + ["list", "show"],
+        }
+
+    def parse_args(self, ctx: click.Context, args: list[str]) -> list[str]:
+        """Fails where a word is longer than any value and any path: the journal would keep all of it."""
+        if any(len(it) > MOST_LETTERS for it in args):
+            raise Failure(f"a word has more than {MOST_LETTERS:,} letters", WRONG_USE)
+        return super().parse_args(ctx, args)
+
+    def main(self, *words: Any, **more: Any) -> Any:
+        """Runs a command. Words that are told back are shown escaped, those of a wrong use too."""
+        try:
+            status = super().main(*words, **{**more, "standalone_mode": False})  # type: ignore[call-overload]
+        except click.Abort:
+            click.echo("Aborted!", err=True)
+            sys.exit(REFUSED)
+        except (click.ClickException, Failure) as error:
+            error.message = printable(error.message)
+            error.show()
+            sys.exit(error.exit_code)
+        sys.exit(status if isinstance(status, int) else 0)
+
+
+@click.group(
+    cls=Commands,
+    commands=lazily(SUBCOMMANDS),
+    help=ABOUT,
+    context_settings={"help_option_names": ["-h", "--help"], "max_content_width": 100},
+)
+@click.version_option(VERSION, prog_name="hilpoven")
+@click.option("--db", metavar="FILE", type=PATH, help=f"The office's file, instead of that in {site.PATH}.")
+@click.option(
+    "--office",
+    metavar="NAME",
+    default="",
+    help=f"The office with the settings {site.OFFICES}/NAME.env; the only one by default.",
+)
+@click.option("--wait", metavar="SECONDS", type=click.FloatRange(0), help="How long to wait for the lock.")
+@click.pass_context
+def hilpoven(context: click.Context, db: str | None, office: str, wait: float | None) -> None:
+    """Reads the settings."""
+    context.obj = Context(site.load(office=office, db=db or ""), db or "").waiting(wait)
+    context.call_on_close(context.obj.end)
+
+
+def main() -> None:
+    """Runs the command. What it makes is for its user alone."""
+    os.umask(0o077)
+    hold_streams()
+    scratch.end_by_signals()
+    try:
+        hilpoven(prog_name="hilpoven")
+    except OSError as error:
+        silence(sys.stdout)
+        end(f"{error.filename or 'standard output'}: {error.strerror}")
+    except Exception as error:
+        if type(error).__module__ != "sqlite3":  # which only a command that reads tables imports
+            raise
+        end(f"the tables can't be read: {error}", "`hilpoven verify` looks at all of the file")
+
+
+def hold_streams() -> None:
+    """Gives a closed standard stream its descriptor, at which nothing can be read or written, before a file of the
+    office gets it."""
+    for number, (name, mode, unusable) in enumerate(STREAMS):
+        if getattr(sys, name) is None:
+            os.dup2(os.open(os.devnull, unusable), number)
+            setattr(sys, name, open(number, mode, closefd=False))
+
+
+def silence(stream: TextIO) -> None:
+    """Drops what is still to be written to a stream, also when the interpreter ends."""
+    os.dup2(os.open(os.devnull, os.O_WRONLY), stream.fileno())
+
+
+def end(why: str, advice: str = "") -> NoReturn:
+    """Ends with a fault that no command has foreseen."""
+    failure = Failure(why, FAULT, advice)
+    try:
+        failure.show()
+    except OSError:
+        silence(sys.stderr)
+    sys.exit(failure.exit_code)

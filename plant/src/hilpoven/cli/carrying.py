@@ -1,0 +1,125 @@
+"""`hilpoven carry-over`: the office goes on in a new file, which begins with what lies in the plant."""
+import os
+import sys
+from datetime import date
+
+import click
+
+from ..core import forms, names
+from ..core.context import Context
+from ..core.failure import REFUSED, WRONG_USE, Failure
+from ..output.table import print_table
+from ..records.days import day_of
+from ..years import chain, steps
+from ..years.carrying import COMMAND, Work, hindrances, prepared
+from ..years.carrying import carry_over as carry
+from .words import PATH, pass_context
+
+NEW = "next.db"
+MOST_ORDERS, MOST_GAUGES = 40, 12  # that are shown
+GAUGES = ["owner", "of", "there are", "it begins with", "most", "full"]
+
+
+def print_plan(work: Work) -> None:
+    """Prints how full the new file begins, and which orders stay behind."""
+    with chain.reading(work.copy) as base:
+        gauges = [
+            (owner, what, before, after, most, f"{after * 100 // most} %")
+            for owner, what, before, after, most in steps.fullness(base)
+        ]
+        count = steps.count(base)
+    click.echo(
+        f"{count:,} words and requests make the new file; stock comes over as receipts of day {work.receipts.day}, "
+        f"keys {work.receipts.series}-1 and so on"
+    )
+    print_table(GAUGES, gauges[:MOST_GAUGES])
+    print_staying(work)
+
+
+def print_staying(work: Work) -> None:
+    """Prints the orders that stay behind: what is left of them is placed under a new name."""
+    with chain.reading(work.copy) as base:
+        orders = base.execute(steps.STAYING).fetchall()
+    if left := [order for order in orders if order[5]]:
+        click.echo("\nOrders that were begun stay behind. What is left of them is placed under a new name:")
+        print_table(["owner", "order", "recipe", "batches", "opened", "left"], left)
+    if done := [order for order in orders if not order[5]]:
+        first = ", ".join(f"{owner} {name}" for owner, name, *_ in done[:MOST_ORDERS])
+        click.echo(f"\n{len(done):,} finished orders stay behind: {first}{', ..' if len(done) > MOST_ORDERS else ''}")
+
+
+def note(text: str) -> None:
+    """Tells those who wait at a terminal what is done now."""
+    if sys.stderr.isatty():
+        click.echo(text, err=True)
+
+
+def do(work: Work) -> None:
+    """Carries the office over, and prints what was done."""
+    done = carry(work, note)
+    if done:
+        click.echo(
+            f"{work.office.file} is the new file; {done.earlier} is the earlier one, read-only, sha256 {done.hash}"
+        )
+        print_staying(work)
+    else:
+        last = work.earlier[-1]
+        since = f"{work.office.file} came from {last.name} at {last.at}, and nothing was recorded since"
+        click.echo(f"{since}: nothing is left to do")
+
+
+def target_of(file: str, new: str | None) -> str:
+    """The path of the new file, until it is put in place."""
+    folder = os.path.dirname(file)
+    target = os.path.abspath(new) if new else os.path.join(folder, NEW)
+    target = os.path.join(os.path.realpath(os.path.dirname(target)), os.path.basename(target))
+    if os.path.dirname(target) != folder or target == file or names.number_of(file, os.path.basename(target)):
+        raise Failure(
+            f"NEW is to be a name in the folder of {file}, and none that an earlier file has",
+            WRONG_USE,
+            f"such as {os.path.join(folder, NEW)}",
+        )
+    return target
+
+
+@click.command(COMMAND)
+@click.argument("new", metavar="[NEW]", required=False, type=PATH)
+@click.option(
+    "--day",
+    metavar="DAY",
+    default="",
+    help="The day of the receipts that carry the stock over; today, as YYMMDD, by default.",
+)
+@click.option(
+    "--plan",
+    "is_plan",
+    is_flag=True,
+    help="Only shows what would be done, how full the new file would be, and what prevents it.",
+)
+@pass_context
+def carry_over(context: Context, new: str | None, day: str, is_plan: bool) -> None:
+    """Continues in a new file that starts with the stock in the plant. Nothing that was recorded is lost.
+
+    NEW, or next.db in the folder of the office's file, is the new file's name until it takes the name of the office's
+    file, which becomes NAME-1.db next to it, read-only. Close all batches and stop the server first. toll's own
+    commands build the new file, which is compared with the old one before it takes its place. If the command is
+    interrupted, a working office remains; run the same command again.
+
+    Example: hilpoven carry-over /var/lib/toll/next.db
+    """
+    day = day or str(day_of(date.today()))
+    if fault := forms.DAY.fault(day):
+        raise Failure(f"DAY: `{day}` {fault}", WRONG_USE)
+    target = target_of(context.file, new)
+    office = context.office_to_read() if is_plan else context.office()
+    with prepared(office, context.place, context.journal(), target, day, is_plan) as work:
+        note("the file is looked at")
+        reasons = hindrances(work)
+        for reason in reasons:
+            click.echo(reason, err=True)
+        if is_plan:
+            print_plan(work)
+            sys.exit(REFUSED if reasons else 0)
+        if reasons:
+            raise Failure("the office isn't carried over; nothing was changed", REFUSED)
+        do(work)

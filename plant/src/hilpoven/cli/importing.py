@@ -1,0 +1,56 @@
+"""`hilpoven import`: a sheet of actuals, receipts, shipments or results goes to `toll`, and what came of each row is
+told by the sheet."""
+import os
+import sys
+from typing import Any
+
+import click
+
+from ..core.context import Context
+from ..core.failure import REFUSED, WRONG_USE, Failure, printable
+from ..output.progress import bar
+from ..output.table import counted
+from ..sheets.importing import Import
+from ..sheets.options import read_source
+from ..sheets.noting import notes_beside
+from .sheet_options import with_options
+from .words import SHEET, pass_context
+
+
+@click.command("import")
+@click.argument("path", metavar="SHEET", type=SHEET)
+@with_options
+@click.option("--check", is_flag=True, help="Checks the sheet and records nothing.")
+@pass_context
+def import_command(context: Context, path: str, check: bool, **given: Any) -> None:
+    """Records a sheet of actuals, receipts, shipments or results. SHEET is text with commas, semicolons or tabs, an
+    .xlsx or an .ods; `-` is standard input.
+
+    The first row holds the column names, in any order. The command changes no value. It refuses a row with a value
+    that is invalid or that the spreadsheet may have changed, reports its row and column, and records the other rows.
+    What is already recorded counts once, so correct the sheet and import it again. toll takes a large sheet in parts.
+
+    Example: hilpoven import monday.xlsx
+    """
+    office = context.office()
+    if sys.stderr.isatty():
+        click.echo(printable(f"reading {path}"), err=True)
+    required = ["to"] if context.settings.require.recipient else []
+    sheet, sha256 = read_source(path, {**given, "required": required})
+    beside = notes_beside(context, sheet) if sheet.kind.noted and not sheet.wrong else {}
+    for finding in sorted([*sheet.wrong, *sheet.refused, *sheet.let]):
+        click.echo(str(finding), err=True)
+    if sheet.wrong:
+        status = REFUSED if sheet.records else WRONG_USE
+        raise Failure(f"{path}: nothing of it was given", status, "the sheet as a whole is told above")
+    if check:
+        click.echo(
+            f"{counted(len(sheet.records), 'rows')} can be given, "
+            f"{len({it.row for it in sheet.refused}):,} can't be read"
+        )
+        sys.exit(REFUSED if sheet.refused else 0)
+    source = {"sheet": os.path.basename(path), "sheet_sha256": sha256}
+    with bar(given["what"], len(sheet.records)) as advance:
+        given_sheet = Import(context, office, sheet, source, advance, beside)
+        given_sheet.run()
+    sys.exit(given_sheet.report(given["what"]))

@@ -1,0 +1,102 @@
+"""What the plant may note beside a line of `toll`: the options of the line's command, and what makes notes of them.
+
+Most lines have none, so what makes them is imported where it is needed.
+"""
+from collections.abc import Callable
+from dataclasses import dataclass
+from typing import Any
+
+import click
+
+from ..core.asking import Beside
+from ..core.context import Context
+from ..core.failure import WRONG_USE, Failure
+from ..register import likeness
+from ..register.kinds import Why
+from .words import FILLED_TEXT, NAME, TEXT, WORD, OneOf
+
+WHYS = [it.value for it in Why]
+Values = dict[str, str]  # of a line, by their names
+Given = dict[str, Any]  # the options of the notes, by their names
+
+
+@dataclass(frozen=True)
+class LineNotes:
+    """What may be noted beside a line: its options, an example, and how notes are made of its values and of what was
+    given."""
+
+    options: Callable[[], list[click.Option]]
+    example: str
+    beside: Callable[[Context, Values, Given], Beside]
+
+
+def link_options() -> list[click.Option]:
+    """The options of a receipt of what was here before."""
+    return [
+        click.Option(["--of", "of_lot"], metavar="LOT", type=WORD, help="The lot that it contains some of."),
+        click.Option(["--why"], type=OneOf(WHYS), help="Why it does; with --of."),
+        click.Option(["--of-owner"], metavar="OWNER", type=WORD, help="Whose that lot is: OWNER, or HOUSE."),
+        click.Option(["--reason"], metavar="TEXT", type=TEXT, help="What else there is to say; with --of."),
+    ]
+
+
+def beside_receipt(context: Context, values: Values, given: Given) -> Beside:
+    """The link of a receipt of what was here before, and where it came from. One that looks so without saying it is
+    asked about at a terminal, and told otherwise."""
+    if given["of_lot"] and not given["why"]:
+        raise Failure("--of needs --why", WRONG_USE, f"one of {', '.join(WHYS)}")
+    if strange := [name for name in ("why", "of_owner", "reason") if given[name] and not given["of_lot"]]:
+        raise Failure(f"--{strange[0].replace('_', '-')} needs --of", WRONG_USE)
+    if not any(given.values()) and not likeness.may_look_alike(values["LOT"], values["KEY"]):
+        return Beside()
+    from . import receipt_notes
+
+    return receipt_notes.beside(context, values, given)
+
+
+def receipt_options() -> list[click.Option]:
+    """The options of a receipt: of what was here before, and where it came from."""
+    supplier_lot = ["--supplier-lot", "supplier_lot"]
+    return [
+        *link_options(),
+        click.Option(["--from", "party"], metavar="PARTY", type=NAME, help="The supplier; of a return the customer."),
+        click.Option(supplier_lot, metavar="TEXT", type=FILLED_TEXT, help="The supplier's name of the lot."),
+        document_option(),
+    ]
+
+
+def shipment_options() -> list[click.Option]:
+    """The options of a shipment: who gets it."""
+    recipient = click.Option(["--to", "party"], metavar="PARTY", type=NAME, help="The customer that gets it.")
+    return [recipient, document_option()]
+
+
+def document_option() -> click.Option:
+    """The option that names the document that goes with a movement."""
+    about = "The document that goes with it, such as a delivery note."
+    return click.Option(["--document"], metavar="TEXT", type=FILLED_TEXT, help=about)
+
+
+def beside_shipment(context: Context, values: Values, given: Given) -> Beside:
+    """Who gets a shipment. Fails where the settings require a recipient that isn't given."""
+    if context.settings.require.recipient and not given["party"]:
+        raise Failure(
+            "ship: --to PARTY is missing, and the settings require each shipment's recipient",
+            WRONG_USE,
+            f"`hilpoven party list {values['OWNER']}` has the parties",
+        )
+    if not any(given.values()):
+        return Beside()
+    from . import movement_notes
+
+    return movement_notes.beside_shipment(context, values, given)
+
+
+LINE_NOTES: dict[str, LineNotes] = {
+    "receive": LineNotes(
+        receipt_options, "receive ACME K9 BRINE B-1R BAY1 400 261127 --of B-1 --why return", beside_receipt
+    ),
+    "ship": LineNotes(
+        shipment_options, "ship ACME K7 B-1 TOTE2 480 261127 --to NORD --document 'LS 4711'", beside_shipment
+    ),
+}

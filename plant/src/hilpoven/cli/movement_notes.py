@@ -1,0 +1,24 @@
+"""The notes beside a receipt or a shipment: the party that sent or gets it, and the document that goes with it."""
+from typing import Any
+
+from ..core.asking import Beside
+from ..core.context import Context
+from ..register import making
+from ..register.movements import GETS, Task, facts_of, require_party
+from ..register.notes import MovementFacts
+
+Values = dict[str, str]  # of the movement, by their names
+
+
+def facts_beside(desk: making.Desk, values: Values, given: dict[str, Any], task: Task) -> list[MovementFacts]:
+    """What is noted of a movement; fails if its party can't do this there."""
+    if given["party"]:
+        require_party(desk.parties, values["OWNER"], given["party"], task)
+    facts = facts_of(values["OWNER"], values["KEY"], given)
+    return [facts] if facts else []
+
+
+def beside_shipment(context: Context, values: Values, given: dict[str, Any]) -> Beside:
+    """What is noted of a shipment."""
+    with making.desk(context) as desk:
+        return Beside(desk.members(facts_beside(desk, values, given, GETS)))

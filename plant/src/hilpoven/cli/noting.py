@@ -1,0 +1,264 @@
+"""`hilpoven link`, `use`, `note` and `register`: what the plant notes beside what `toll` records."""
+import hashlib
+import sys
+
+import click
+
+from ..core import asking
+from ..core.asking import Beside
+from ..core.context import Context
+from ..core.failure import REFUSED, WRONG_USE, Failure
+from ..core.forms import BATCH, MOST_VALUE
+from ..core.grammar import LINES
+from ..core.nearest import nearest
+from ..output.exports import as_csv, as_json
+from ..output.table import Row, counted, print_table
+from ..records.rows import require_owner
+from ..register import file, making
+from ..register.movements import facts_of
+from ..register.notes import Link, Note, NotLinked, Why, Withdrawal
+from .groups import Group
+from .words import FILLED_TEXT, TEXT, WORD, OneOf, pass_context
+
+COLUMNS = ["note", "time", "who", "owner", "what", "stands"]
+why_option = click.option(
+    "--why", type=OneOf([it.value for it in Why]), required=True, help="Why the one contains some of the other."
+)
+reason_option = click.option("--reason", metavar="TEXT", type=TEXT, default="", help="What else there is to say.")
+
+
+def record(desk: making.Desk, words: list[str], note: Note) -> None:
+    """Adds a note to the journal unless it stands already, and prints its name."""
+    known = desk.standing(note)
+    click.echo(f"noted already as {known}" if known else f"noted {desk.record(words, note)}")
+
+
+def batch_number(word: str) -> int:
+    """The number of a batch; fails if a word is none."""
+    if fault := BATCH.fault(word):
+        raise Failure(f"BATCH: `{word}` {fault}", WRONG_USE)
+    return int(word)
+
+
+@click.command()
+@click.argument("owner", metavar="OWNER", type=WORD)
+@click.argument("lots", metavar="[LOT] OF-LOT", type=WORD, nargs=-1, required=True)
+@click.option("--batch", metavar="ORDER N", type=(WORD, WORD), help="All lots of this batch, in place of LOT.")
+@click.option("--of-owner", metavar="OWNER", type=WORD, help="Whose OF-LOT is: OWNER, as by default, or HOUSE.")
+@why_option
+@click.option("--amount", type=click.IntRange(1, MOST_VALUE), metavar="N", help="How much of OF-LOT, if it is known.")
+@reason_option
+@pass_context
+def link(
+    context: Context,
+    owner: str,
+    lots: tuple[str, ...],
+    batch: tuple[str, str] | None,
+    of_owner: str | None,
+    why: str,
+    amount: int | None,
+    reason: str,
+) -> None:
+    """Notes that LOT contains some of OF-LOT, where no actual says so: after rework, a return, an addition that the
+    recipe doesn't have, or a correction. Recalls and traces go by it.
+
+    LOT is OWNER's, and OF-LOT is OWNER's or HOUSE's. --batch ORDER N stands for all that the batch made and will make.
+    `note withdraw` takes it back.
+
+    Example: hilpoven link ACME B-2 B-1 --why rework
+    """
+    if len(lots) != (1 if batch else 2):
+        wanted = "OF-LOT alone stands behind OWNER with --batch" if batch else "LOT and OF-LOT stand behind OWNER"
+        raise Failure(f"link: {wanted}", WRONG_USE, "such as: hilpoven link ACME B-2 B-1 --why rework")
+    order, number = (batch[0], batch_number(batch[1])) if batch else ("", 0)
+    note = Link(owner, "" if batch else lots[0], order, number, of_owner or owner, lots[-1], Why(why), amount, reason)
+    with making.desk(context) as desk:
+        desk.require_link(note)
+        record(desk, ["link", *words_of(note)], note)
+
+
+def words_of(note: Link) -> list[str]:
+    """The words of the command that notes a link."""
+    batch = [] if note.lot else ["--batch", note.order, str(note.batch)]
+    words = [note.owner, *([note.lot] if note.lot else []), note.of_lot, *batch, "--why", note.why.value]
+    words += ["--of-owner", note.of_owner] if note.of_owner != note.owner else []
+    words += [] if note.amount is None else ["--amount", str(note.amount)]
+    return words + (["--reason", note.reason] if note.reason else [])
+
+
+@click.command()
+@click.argument("owner", metavar="OWNER", type=WORD)
+@click.argument("order", metavar="ORDER", type=WORD)
+@click.argument("batch", metavar="BATCH", type=WORD)
+@click.argument("of_owner", metavar="OF-OWNER", type=WORD)
+@click.argument("of_lot", metavar="OF-LOT", type=WORD)
+@click.argument("sublot", metavar="SUBLOT", type=WORD)
+@click.argument("amount", metavar="AMOUNT", type=WORD)
+@click.argument("day", metavar="DAY", type=WORD)
+@click.option(
+    "--key", metavar="KEY", type=WORD, help="The key of the scrap, instead of one that is made of the values."
+)
+@reason_option
+@pass_context
+def use(
+    context: Context,
+    owner: str,
+    order: str,
+    batch: str,
+    of_owner: str,
+    of_lot: str,
+    sublot: str,
+    amount: str,
+    day: str,
+    key: str | None,
+    reason: str,
+) -> None:
+    """Records what a batch used besides its recipe: scraps it from SUBLOT, and notes that the batch's lots contain some
+    of OF-LOT.
+
+    OF-LOT is OWNER's or HOUSE's. If an actual can record it, use `actual` instead. The same words again are `repeated`;
+    a second use of the same amount on the same day takes a --key of its own.
+
+    Example: hilpoven use ACME O-1 1 HOUSE AF-1 CAN1 1 261127
+    """
+    number = batch_number(batch)
+    values = [owner, order, str(number), of_owner, of_lot, sublot, amount, day]
+    key = key or f"USE-{hashlib.sha256(' '.join(values).encode()).hexdigest()[:10].upper()}"
+
+    def beside(context: Context, _: dict[str, str]) -> Beside:
+        note = Link(owner, "", order, number, of_owner, of_lot, Why.USE, int(amount), reason)
+        with making.desk(context) as desk:
+            desk.require_link(note)
+            return Beside(desk.members([note]))
+
+    sys.exit(asking.run(context, LINES["scrap"], [of_owner, key, of_lot, sublot, amount, day], beside))
+
+
+note_group = Group(
+    "note",
+    help="Shows and withdraws what the plant noted.\n\nExample: hilpoven note list ACME",
+    short_help="shows and withdraws what the plant noted",
+)
+
+
+@note_group.command()
+@click.argument("name", metavar="NOTE", type=WORD)
+@click.option("--reason", metavar="TEXT", type=TEXT, required=True, help="Why it doesn't hold.")
+@pass_context
+def withdraw(context: Context, name: str, reason: str) -> None:
+    """Withdraws a note, and others that say the same. All of them stay in the journal; `note list` has the names.
+
+    Example: hilpoven note withdraw 0123456789abcdef --reason 'it was B-3'
+    """
+    if not reason.strip():
+        raise Failure("--reason is empty", WRONG_USE)
+    with making.desk(context) as desk:
+        status = next((it for it in desk.statuses if it.noted.name == name), None)
+        if status is None or status.note is None:
+            names = [it.noted.name for it in desk.statuses]
+            raise Failure(f"there is no note {name}", REFUSED, nearest(name, names, "notes"))
+        if status.fault:
+            raise Failure(f"note {name} doesn't stand: {status.fault}", REFUSED)
+        same = [it.noted.name for it in desk.statuses if it.note == status.note and not it.fault and it is not status]
+        notes = [Withdrawal(status.note.owner, of, reason) for of in (name, *same)]
+        click.echo(f"noted {desk.record(['note', 'withdraw', name, '--reason', reason], *notes)}")
+
+
+@note_group.command("not-linked")
+@click.argument("owner", metavar="OWNER", type=WORD)
+@click.argument("key", metavar="KEY", type=WORD)
+@pass_context
+def not_linked(context: Context, owner: str, key: str) -> None:
+    """Notes that a receipt contains no lot that was here before, so that `status` no longer lists it.
+
+    Example: hilpoven note not-linked ACME K2
+    """
+    note = NotLinked(owner, key)
+    with making.desk(context) as desk:
+        desk.require_receipt(owner, key)
+        record(desk, ["note", "not-linked", owner, key], note)
+
+
+@note_group.command("movement")
+@click.argument("owner", metavar="OWNER", type=WORD)
+@click.argument("key", metavar="KEY", type=WORD)
+@click.option("--to", "recipient", metavar="PARTY", type=WORD, help="The customer that got a shipment.")
+@click.option(
+    "--from", "sender", metavar="PARTY", type=WORD, help="The supplier of a receipt; of a return the customer."
+)
+@click.option("--supplier-lot", metavar="TEXT", type=FILLED_TEXT, help="The supplier's name of the lot of a receipt.")
+@click.option("--document", metavar="TEXT", type=FILLED_TEXT, help="The document that went with it.")
+@pass_context
+def movement(context: Context, owner: str, key: str, **given: str | None) -> None:
+    """Notes what is known later of a receipt or a shipment: who sent or got it, and the document that went with it.
+    What isn't given stays as it was noted.
+
+    Example: hilpoven note movement ACME K7 --to NORD
+    """
+    facts = facts_of(owner, key, {**given, "party": given["recipient"] or given["sender"]})
+    if facts is None:
+        raise Failure(
+            "note movement: nothing is given to note", WRONG_USE, "one of --to, --from, --supplier-lot, --document"
+        )
+    with making.desk(context) as desk:
+        desk.require_facts(facts, given["recipient"] is not None, given["sender"] is not None)
+        options = [
+            ("--to", "recipient"),
+            ("--from", "sender"),
+            ("--supplier-lot", "supplier_lot"),
+            ("--document", "document"),
+        ]
+        said = [word for option, name in options if given[name] for word in (option, str(given[name]))]
+        record(desk, ["note", "movement", owner, key, *said], facts)
+
+
+@note_group.command("list")
+@click.argument("owner", metavar="[OWNER]", type=WORD, required=False)
+@click.option("--csv", "form", flag_value="csv", help="As CSV, for a spreadsheet.")
+@click.option("--json", "form", flag_value="json", help="As JSON, for a program.")
+@pass_context
+def list_command(context: Context, owner: str | None, form: str | None) -> None:
+    """Lists what the plant noted, of one owner or of all, in the order in which it was noted.
+
+    Example: hilpoven note list ACME
+    """
+    rows: list[Row] = []
+    with making.desk(context) as desk:
+        if owner:
+            require_owner(desk.base, owner)
+        for it in desk.statuses:
+            whose, what = (it.note.owner, it.note.sentence) if it.note else ("", f"a note that {it.fault}")
+            if owner in (None, whose):
+                rows.append(
+                    (it.noted.name, it.noted.time, it.noted.who, whose, what, f"no: {it.fault}" if it.fault else "yes")
+                )
+    if form:
+        click.echo({"csv": as_csv, "json": as_json}[form](COLUMNS, rows), nl=False)
+    elif rows:
+        print_table(COLUMNS, [(name, str(time)[:19].replace("T", " "), *others) for name, time, *others in rows])
+    else:
+        click.echo("no notes", err=True)
+
+
+register_group = Group(
+    "register",
+    help="Looks after the register of what the plant noted.\n\nExample: hilpoven register rebuild",
+    short_help="makes the register of notes anew",
+)
+
+
+@register_group.command()
+@pass_context
+def rebuild(context: Context) -> None:
+    """Makes the register anew from the journal, which has each note. Nothing is lost.
+
+    Example: hilpoven register rebuild
+    """
+    office, journal = context.office(), context.journal()
+    with journal.noted(office.file, ["register", "rebuild"]):
+        count = len(file.rebuild(journal).notes)
+    click.echo(
+        f"{file.path_of(office.file)} has {counted(count, 'notes')}"
+        if count
+        else "the journal has no note, and there is no register"
+    )

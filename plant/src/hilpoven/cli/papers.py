@@ -1,0 +1,173 @@
+"""`hilpoven papers`: what is handed out about material, as pages, PDF and tables."""
+import re
+from collections.abc import Callable
+from typing import Any
+
+import click
+
+from ..core import forms
+from ..core.context import Context
+from ..core.failure import WRONG_USE, Failure
+from ..papers import batch_record, certificate as certificate_of_analysis, delivery
+from ..papers import lot_card, recall_paper, shipments, statement as owners_statement
+from ..papers.copies import Source
+from ..papers.printing import Document
+from ..records.rows import BatchId, LotId
+from .groups import Group
+from .words import PATH, pass_context
+
+papers_group = Group(
+    "papers",
+    short_help="makes papers: recall, batch record, certificate, delivery note, lot card, statement",
+    help="Makes the documents that the plant hands out, as pages, PDF and tables.\n\n"
+    "Example: hilpoven papers recall HOUSE W-101 recall",
+)
+
+
+def paper(make: Callable[..., Any]) -> Callable[..., Any]:
+    """The values that each paper takes: where it goes, and whether it is printed."""
+    make = click.option("--no-pdf", is_flag=True, help="Makes no PDF, which saves a second a page.")(make)
+    make = click.option("--tar", is_flag=True, help="Writes the documents to standard output, as a tar of a folder.")(
+        make
+    )
+    return click.argument("folder", metavar="[FOLDER]", required=False, type=PATH)(make)
+
+
+def check(**words: str) -> None:
+    """Fails if a word can't be a name."""
+    for name, word in words.items():
+        plain = re.sub(r" \([^()/]+\)$", "", word)  # a name that came again has its file behind it
+        if fault := forms.name_fault(plain):
+            raise Failure(f"{name.upper()}: `{word}` {fault}", WRONG_USE)
+
+
+def give(
+    context: Context, name: str, make: Callable[[Source], list[Document]], folder: str | None, tar: bool, no_pdf: bool
+) -> None:
+    """Makes papers, and gives them, which the journal notes."""
+    delivery.require_place(folder, tar)
+    office = context.office_to_export("papers", name)
+    delivery.deliver(office, context.journal(), make, folder, name, not no_pdf)
+
+
+@papers_group.command()
+@click.argument("owner", metavar="OWNER")
+@click.argument("lot", metavar="LOT")
+@paper
+@pass_context
+def recall(context: Context, owner: str, lot: str, **where: Any) -> None:
+    """Makes a recall: for the plant, and for each affected owner.
+
+    FOLDER is created completely or not at all. Its folder plant has everything, and its folder owners one folder for
+    each owner, with only that owner's lots. Each starts with what to do first; then where it lies, what left, where it
+    went, and each lot's balance.
+
+    Example: hilpoven papers recall HOUSE W-101 recall
+    """
+    check(owner=owner, lot=lot)
+    give(context, f"recall-{owner}-{lot}", lambda source: recall_paper.documents(source, LotId(owner, lot)), **where)
+
+
+@papers_group.command()
+@click.argument("owner", metavar="OWNER")
+@click.argument("order", metavar="ORDER")
+@click.argument("number", metavar="BATCH")
+@paper
+@pass_context
+def batch(context: Context, owner: str, order: str, number: str, **where: Any) -> None:
+    """Makes a batch record for the owner: requirements, actual amounts, and the lots consumed and produced with their
+    tests.
+
+    Example: hilpoven papers batch ACME O-1 1 record
+    """
+    check(owner=owner, order=order)
+    asked = BatchId(owner, order, number_of("BATCH", number, forms.BATCH))
+    give(
+        context, f"batch-{owner}-{order}-{asked.number}", lambda source: batch_record.documents(source, asked), **where
+    )
+
+
+@papers_group.command()
+@click.argument("owner", metavar="OWNER")
+@click.argument("lot", metavar="LOT")
+@click.option("--shipment", "key", metavar="KEY", default="", help="Names the amount, recipient and document of it.")
+@paper
+@pass_context
+def certificate(context: Context, owner: str, lot: str, key: str, **where: Any) -> None:
+    """Makes a certificate of analysis: each test with its limits, its latest result and whether it passes.
+
+    If the lot isn't released, the page says so across its whole width. With --shipment it is for the one who gets that
+    shipment.
+
+    Example: hilpoven papers certificate ACME B-1 certificate
+    """
+    check(owner=owner, lot=lot, **({"key": key} if key else {}))
+    give(
+        context,
+        f"certificate-{owner}-{lot}{f'-{key}' if key else ''}",
+        lambda source: certificate_of_analysis.documents(source, LotId(owner, lot), key),
+        **where,
+    )
+
+
+@papers_group.command("delivery-note")
+@click.argument("owner", metavar="OWNER")
+@click.argument("key", metavar="KEY")
+@click.option("--with", "others", metavar="KEY", multiple=True, help="Another shipment that goes with it.")
+@paper
+@pass_context
+def delivery_note(context: Context, owner: str, key: str, others: tuple[str, ...], **where: Any) -> None:
+    """Makes the delivery note of a shipment, with the recipient and the document that the plant noted.
+
+    Shipments that go --with it have the same recipient and the same document.
+
+    Example: hilpoven papers delivery-note ACME K7 note --with K8
+    """
+    for word in (key, *others):
+        check(owner=owner, key=word)
+    name = f"delivery-{owner}-{key}"
+    give(context, name, lambda source: shipments.documents(source, owner, [key, *others]), **where)
+
+
+@papers_group.command("lot")
+@click.argument("owner", metavar="OWNER")
+@click.argument("lot", metavar="LOT")
+@paper
+@pass_context
+def lot_command(context: Context, owner: str, lot: str, **where: Any) -> None:
+    """Makes a lot card: tests, sublots, balance and movements, with a picture of one step back and forward.
+
+    Example: hilpoven papers lot ACME B-1 card
+    """
+    check(owner=owner, lot=lot)
+    give(context, f"lot-{owner}-{lot}", lambda source: lot_card.documents(source, LotId(owner, lot)), **where)
+
+
+@papers_group.command()
+@click.argument("owner", metavar="OWNER")
+@click.option("--from", "first", metavar="DAY", required=True, help="The first day.")
+@click.option("--to", "last", metavar="DAY", required=True, help="The last day.")
+@paper
+@pass_context
+def statement(context: Context, owner: str, first: str, last: str, **where: Any) -> None:
+    """Makes an owner's statement: receipts, uses, shipments and stock of each lot, between two days.
+
+    Example: hilpoven papers statement ACME --from 261101 --to 261130 statement
+    """
+    check(owner=owner)
+    days = number_of("--from", first, forms.DAY), number_of("--to", last, forms.DAY)
+    if days[0] > days[1]:
+        raise Failure(f"--from: {days[0]} is behind --to, {days[1]}", WRONG_USE)
+    give(
+        context,
+        f"statement-{owner}-{days[0]}-{days[1]}",
+        lambda source: owners_statement.documents(source, owner, *days),
+        **where,
+    )
+
+
+def number_of(name: str, word: str, form: forms.Form) -> int:
+    """A number; fails if a word is none."""
+    if fault := form.fault(word):
+        raise Failure(f"{name}: `{word}` {fault}", WRONG_USE)
+    return int(word)

@@ -1,0 +1,48 @@
+"""The options that say how a sheet is read."""
+from collections.abc import Callable
+from typing import Any
+
+import click
+
+from ..sheets.values import KINDS
+
+OPTIONS = [
+    click.option(
+        "--what", type=click.Choice(list(KINDS)), default="actuals", show_default=True, help="What the sheet holds."
+    ),
+    click.option(
+        "--digits",
+        metavar="COLUMN,..",
+        multiple=True,
+        help="Accepts names of only digits: 100000 may have been 1E5, 7 may have been 007.",
+    ),
+    click.option(
+        "--dates", metavar="COLUMN,..", multiple=True, help="Accepts names that look like a date, such as 2026-01-02."
+    ),
+    click.option(
+        "--decimals", metavar="COLUMN,..", multiple=True, help="Accepts whole numbers with decimals, such as 300.00."
+    ),
+    click.option("--capitals", is_flag=True, help="Accepts lower-case names as capitals."),
+    click.option("--hidden", is_flag=True, help="Imports hidden rows and columns, such as those that a filter hides."),
+    click.option("--ignore", "ignored", metavar="COLUMN,..", multiple=True, help="Ignores these columns."),
+    click.option(
+        "--header-row",
+        type=click.IntRange(1),
+        metavar="N",
+        default=None,
+        help="The row with the column names; the first row that isn't empty by default.",
+    ),
+    click.option(
+        "--sheet",
+        "name",
+        metavar="NAME",
+        help="Which sheet of the workbook, if several hold data or the sheet is hidden.",
+    ),
+]
+
+
+def with_options(command: Callable[..., Any]) -> Callable[..., Any]:
+    """A command with all of these options."""
+    for option in reversed(OPTIONS):
+        command = option(command)
+    return command

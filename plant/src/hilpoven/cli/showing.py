@@ -1,0 +1,48 @@
+"""`hilpoven show`: one thing with all about it, read from a copy of the file."""
+from collections.abc import Callable
+
+import click
+
+from ..core import snapshot
+from ..core.context import Context
+from ..records import things
+from .groups import Group
+from .words import WORD, pass_context
+
+
+WITH_NOTES = ("lot", "batch")
+
+
+def show_command(name: str, words: str, make: Callable[..., things.Thing], example: str) -> click.Command:
+    """The subcommand of a kind of thing."""
+    arguments = [click.Argument([it.lower()], metavar=it, type=WORD) for it in words.split()]
+    about = (make.__doc__ or "").strip().rstrip(".")
+
+    @pass_context
+    def show(context: Context, as_json: bool, **given: str) -> None:
+        with snapshot.opened(context.office_to_read()) as base:
+            register = {"register": context.register(base)} if name in WITH_NOTES else {}
+            thing = make(base, *given.values(), **register)
+        click.echo(thing.as_json()) if as_json else thing.print()
+
+    option = click.Option(["--json", "as_json"], is_flag=True, help="As JSON, for a program.")
+    return click.Command(
+        name,
+        params=[*arguments, option],
+        callback=show,
+        short_help=about[0].lower() + about[1:],
+        help=f"Shows {about[0].lower()}{about[1:]}.\n\nExample: hilpoven show {name} {example}",
+    )
+
+
+show_group = Group(
+    "show",
+    short_help="shows everything about one lot, batch, order or unit",
+    help="Shows everything about one lot, batch, order or unit.\n\nExample: hilpoven show lot ACME B-1",
+    commands={
+        "lot": show_command("lot", "OWNER LOT", things.lot, "ACME B-1"),
+        "batch": show_command("batch", "OWNER ORDER BATCH", things.batch, "ACME O-1 1"),
+        "order": show_command("order", "OWNER ORDER", things.order, "ACME O-1"),
+        "unit": show_command("unit", "UNIT", things.unit, "KETTLE"),
+    },
+)

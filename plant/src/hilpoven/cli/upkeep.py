@@ -1,0 +1,184 @@
+"""`hilpoven new`, `backup`, `restore` and `verify`."""
+import contextlib
+import os
+import re
+import sqlite3
+import sys
+
+import click
+
+from ..core import backups, paths, rights, settings as site, snapshot
+from ..core.context import Context
+from ..core.failure import FAULT, REFUSED, WRONG_USE, Failure, printable, tell
+from ..core.office import has_bytes
+from ..journal import query
+from ..journal.log import Journal
+from ..register import file as register, reports
+from .words import PATH, Operators, pass_context
+
+
+@click.command()
+@click.argument("file", metavar="[FILE]", required=False, type=PATH)
+@pass_context
+def new(context: Context, file: str | None) -> None:
+    """Creates a new office, that of the settings where no FILE is given. The file must not exist. No other command
+    creates one, so a mistyped name is reported.
+
+    Example: hilpoven new /var/lib/toll/office.db
+    """
+    made = Context(context.settings, file or context.db, context.unnoted)
+    if has_bytes(made.file):
+        raise Failure(f"{made.file} is there already", WRONG_USE)
+    if has_bytes(f"{made.file}-wal"):
+        raise Failure(
+            f"a log of this name is there: {made.file}-wal",
+            WRONG_USE,
+            "a file of this name was moved away; its log belongs to it",
+        )
+    folder = os.path.dirname(made.file)
+    if not os.path.isdir(folder):
+        raise Failure(f"{folder} is no folder", WRONG_USE)
+    rights.become_owner(made.file)
+    office, journal = made.unseen_office(), made.journal()
+    require_no_notes(journal)
+    with journal.noted(office.file, ["new"]) as note:
+        note.answer = office.ask_patiently(["stock", "HOUSE"])
+    if note.answer.status:
+        raise Failure(f"no office was made: {note.answer.error.strip()}")
+    click.echo(printable(f"{made.file} is a new office; its journal is {journal.path}"))
+    if os.stat(folder).st_mode & 0o022:
+        tell(f"Others may put files into {folder}: chmod 700 keeps them out.")
+
+
+def require_no_notes(journal: Journal) -> None:
+    """Fails where there are notes of the office that was here: those of a new one would be mixed with them."""
+    path = register.path_of(journal.file)
+    if register.has_notes(journal):
+        raise Failure(
+            f"there are notes of the office that was here, in {journal.path}",
+            WRONG_USE,
+            f"`hilpoven restore` puts a backup of it in place; for another office, move it and {path} elsewhere",
+        )
+
+
+@click.command()
+@click.argument("folder", metavar="[FOLDER]", required=False, type=PATH)
+@click.option(
+    "--keep",
+    type=Operators(click.IntRange(1)),
+    metavar="N",
+    help="How many of the newest backups to keep; as in the settings, or 30, by default.",
+)
+@click.option(
+    "--days",
+    type=Operators(click.IntRange(0)),
+    metavar="N",
+    help="For how many days to keep the last one; as in the settings, or 0, by default.",
+)
+@pass_context
+def backup(context: Context, folder: str | None, keep: int | None, days: int | None) -> None:
+    """Makes a backup in a folder, while the server runs, and checks it.
+
+    Its name is that of the file with the time in UTC. SQLite checks all of it, and toll opens a copy of it, before it
+    gets its name: so there is a complete backup or none. The journal's lines so far lie beside it, and the journal
+    notes its SHA-256. Only the office's user and root may change the folder. The server doesn't need to reopen its
+    file.
+
+    Example: hilpoven backup /var/lib/toll/backup
+    """
+    settings = context.settings
+    office, journal = context.office(), context.journal()
+    days = settings.days if days is None else days
+    made = backups.make(office, folder or backups_of(context), keep or settings.keep, days, journal)
+    click.echo(made)
+    checked = query.check(journal.path)
+    click.echo(f"journal {checked.lines} {checked.head}")
+
+
+def backups_of(context: Context) -> str:
+    """The folder of the backups."""
+    if not context.settings.backups:
+        raise Failure("no folder is named", WRONG_USE, f'give one, or backups = ".." in {site.PATH}')
+    return context.settings.backups
+
+
+def chosen(context: Context, backup: str) -> str:
+    """The path of a backup: one of the settings' folder by its name, or for root and the office's user any file."""
+    if not rights.is_member() and (os.sep in backup or os.path.exists(backup) or not context.settings.backups):
+        return os.path.realpath(backup)
+    folder = paths.private(backups_of(context))
+    if not re.fullmatch(backups.form_of(context.file), backup):
+        example = f"{backups.name_of(context.file)}-20261127-010203.db"
+        raise Failure(f"{backup} is no name of a backup", WRONG_USE, f"such as {example}, which is in {folder}")
+    return os.path.join(folder, backup)
+
+
+@click.command()
+@click.argument("backup", metavar="BACKUP")
+@click.option(
+    "--foreign",
+    "is_foreign",
+    is_flag=True,
+    help="Takes a file that the journal doesn't note as a backup. Only for root and the office's user.",
+)
+@pass_context
+def restore(context: Context, backup: str, is_foreign: bool) -> None:
+    """Restores a backup. BACKUP is its name in the folder of the settings, or a path.
+
+    It stops if a server has the file, checks the whole backup with SQLite, toll and the sums of the movements, and
+    whether the journal notes its SHA-256. Then it moves the file and its log into a folder next to it, copies the
+    backup into place, and checks it with toll. If the journal is gone, the one beside the backup comes back. The
+    register is made anew from the journal. Import the sheets since the backup again.
+
+    Example: hilpoven restore office-20261127-010203.db
+    """
+    if is_foreign:
+        rights.require_operator("--foreign")
+    rights.become_owner(context.file)
+    path = chosen(context, backup)
+    aside = backups.restore(context.unseen_office(), path, context.place, context.journal(), is_foreign)
+    register.notes_of(context.journal())  # made anew: what was there is aside
+    click.echo(printable(f"{backup} is in place" + (f"; what was there is in {aside}" if aside else "")))
+
+
+@click.command()
+@pass_context
+def verify(context: Context) -> None:
+    """Checks all of the office: its file, its journal, its register and its backups.
+
+    SQLite checks the whole file, toll opens it, and each sublot has to hold what its movements come to. The journal
+    has to be whole, and the register has to be what the journal gives. Each backup in the folder of the settings has
+    to have the SHA-256 that the journal notes.
+
+    Example: hilpoven verify
+    """
+    office, wrong = context.office_to_read(), []
+    with snapshot.copied(office) as copy:
+        with contextlib.closing(sqlite3.connect(copy)) as base:
+            wrong += backups.checked_tables(base)
+        answer = office.ask(["stock", "HOUSE"], copy)
+    if answer.status:
+        wrong.append(f"toll doesn't open it: {answer.error.strip()}")
+    click.echo(f"file: {'; '.join(wrong) or 'sound; sublots hold what movements come to; toll opens it'}")
+    checked = query.check(context.journal().path, file=context.file)
+    for finding in [*checked.wrong, *checked.notes]:
+        click.echo(f"journal: {finding}")
+    click.echo(
+        f"journal: {checked.lines} lines, {len(checked.unanswered)} without an answer"
+        f"{'' if checked.wrong else '; it is whole'}"
+    )
+    unlike = verify_register(context)
+    changed: list[str] = []
+    if os.path.isdir(folder := context.settings.backups):
+        count, changed = backups.changed(context.file, folder, context.journal())
+        reports = [f"{it} isn't the file that was made" for it in changed]
+        click.echo(f"backups: {'; '.join([*reports, f'{count - len(changed)} as the journal notes them'])}")
+    sys.exit(FAULT if wrong else REFUSED if checked.wrong or changed or unlike else 0)
+
+
+def verify_register(context: Context) -> bool:
+    """Prints whether the register is what the journal gives, where either has notes; whether it isn't."""
+    report = reports.verified(context.journal())
+    for line in report.lines:
+        click.echo(f"register: {printable(line)}")
+    return report.is_wrong

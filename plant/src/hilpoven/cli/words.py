@@ -1,0 +1,114 @@
+"""Words of commands: which office, what is looked for in its tables, and paths.
+
+A member of the group, who has the rights of the office's user by sudo, names no path: offices and backups are known by
+their names, and output goes to standard output.
+"""
+from typing import TYPE_CHECKING, Any
+
+import click
+
+from ..core.context import Context
+from ..core.failure import printable
+from ..core.forms import TEXT as TEXT_FORM
+from ..core.forms import name_fault
+from ..core.rights import require_operator
+
+if TYPE_CHECKING:
+    from click.shell_completion import CompletionItem
+
+MOST_TOLD = 40  # letters of a text that is none
+INSTEAD = {
+    "db": "--office NAME names the office",
+    "path": "`-` is the sheet on standard input: hilpoven import - < SHEET",
+    "source": "`-` is the sheet on standard input: hilpoven to-csv - < SHEET",
+    "folder": "papers go to standard output by --tar, and backups to the folder of the settings",
+    "site_logs": "the logs are those of the settings",
+    "keep": "the settings say how many backups stay",
+    "days": "the settings say how many backups stay",
+    "target": "it is written to standard output",
+    "file": "the office is that of --office NAME",
+    "new": "the new file is named by itself",
+}
+
+
+class Operators(click.ParamType):
+    """A value that is root's and the office's user's to give: a member of the group gives none."""
+
+    name = "operators"
+
+    def __init__(self, of: click.ParamType, is_sheet: bool = False) -> None:
+        self.of, self.is_sheet = of, is_sheet
+
+    def convert(self, value: Any, param: click.Parameter | None, ctx: click.Context | None) -> Any:
+        """Fails for a member who gives it; the name of a sheet may be `-`, which is standard input."""
+        if param and not (self.is_sheet and value == "-"):
+            word = param.opts[0] if isinstance(param, click.Option) else param.make_metavar().strip("[]")
+            require_operator(word, INSTEAD.get(param.name or "", ""))
+        return self.of.convert(value, param, ctx)
+
+    def get_metavar(self, param: click.Parameter) -> str | None:
+        """What stands for it in the help."""
+        return self.of.get_metavar(param)
+
+    def shell_complete(self, ctx: click.Context, param: click.Parameter, incomplete: str) -> "list[CompletionItem]":
+        """How a shell completes it."""
+        return self.of.shell_complete(ctx, param, incomplete)
+
+
+class Word(click.ParamType):
+    """A word that is looked for in the tables, whose texts are UTF-8."""
+
+    name = "word"
+
+    def convert(self, value: Any, param: click.Parameter | None, ctx: click.Context | None) -> str:
+        """The word; fails if a byte of it is no UTF-8."""
+        try:
+            str(value).encode()
+        except UnicodeEncodeError:
+            self.fail(f"`{printable(str(value))}` is no UTF-8", param, ctx)
+        return str(value)
+
+
+class Name(click.ParamType):
+    """A name that the plant gives, of the form of `toll`'s names."""
+
+    name = "name"
+
+    def convert(self, value: Any, param: click.Parameter | None, ctx: click.Context | None) -> str:
+        """The name; fails if it can't be one."""
+        if fault := name_fault(str(value)):
+            self.fail(f"`{printable(str(value)[:MOST_TOLD])}` {fault}", param, ctx)
+        return str(value)
+
+
+class Text(click.ParamType):
+    """A text of a note: one line that can be printed, and that may say nothing only where that is allowed."""
+
+    name = "text"
+
+    def __init__(self, may_be_empty: bool) -> None:
+        self.may_be_empty = may_be_empty
+
+    def convert(self, value: Any, param: click.Parameter | None, ctx: click.Context | None) -> str:
+        """The text; fails if it can't be one."""
+        is_missing = not self.may_be_empty and not str(value).strip()
+        if fault := "is empty" if is_missing else TEXT_FORM.fault(str(value)):
+            self.fail(f"`{printable(str(value)[:MOST_TOLD])}` {fault}", param, ctx)
+        return str(value)
+
+
+class OneOf(click.Choice):
+    """A word of a list, which is told in one line where it is missing."""
+
+    def get_missing_message(self, param: click.Parameter) -> str:
+        """The words that there are."""
+        return f"one of {', '.join(self.choices)}"
+
+
+PATH = Operators(click.Path(readable=False))
+SHEET = Operators(click.Path(readable=False), is_sheet=True)
+WORD = Word()
+TEXT, FILLED_TEXT = Text(may_be_empty=True), Text(may_be_empty=False)
+NAME = Name()
+
+pass_context = click.make_pass_decorator(Context)

@@ -1,0 +1,227 @@
+"""`hilpoven years`: what is asked over all files of an office, from the first to the newest."""
+import sys
+from collections import Counter
+from collections.abc import Sequence
+
+import click
+
+from ..core import forms
+from ..core.context import Context
+from ..core.failure import REFUSED, WRONG_USE, Failure, tell
+from ..core.office import Office
+from ..output.exports import as_csv
+from ..output.table import Row, Value, print_table
+from ..records import statement as statements
+from ..records import things
+from ..records.answers import recall_of
+from ..records.genealogy import FORWARD, Genealogy, Trace
+from ..records.recall import RecallLine, recall_lines
+from ..records.rows import Lot, LotId, require_owner
+from ..register.below import MARK
+from ..register.notes import Link
+from ..register.standing import standing_over_all
+from ..years import history
+from ..years.history import History
+from .groups import Group
+from .words import pass_context
+
+years_group = Group(
+    "years",
+    short_help="searches all files of the office, from the first to the newest",
+    help="Searches all files of the office, from the first to the newest, as if they were one.\n\n"
+    "Example: hilpoven years recall ACME S-1",
+)
+csv_option = click.option("--csv", "is_csv", is_flag=True, help="As CSV, for a spreadsheet.")
+in_option = click.option(
+    "--in",
+    "file",
+    metavar="FILE",
+    default="",
+    help="Choose the lot in this file, if several lots have the name; the newest by default.",
+)
+FILES = """
+SELECT name, at, (SELECT count(*) FROM moves WHERE moves.file = files.number), hash FROM files ORDER BY number
+"""
+
+
+def print_rows(columns: Sequence[str], rows: Sequence[Row], is_csv: bool, title: str = "") -> None:
+    """Prints a table, or CSV."""
+    click.echo(as_csv(columns, rows), nl=False) if is_csv else print_table(columns, rows, title)
+
+
+def tell_sources(whole: History, lot: LotId | None = None) -> None:
+    """Tells which files were read, and other lots of the same name."""
+    for name in whole.namesakes(lot) if lot else []:
+        tell(f"another lot of this name: {name}")
+    for line in whole.sources():
+        tell(line)
+
+
+@years_group.command("files")
+@csv_option
+@pass_context
+def files(context: Context, is_csv: bool) -> None:
+    """Lists the files of the office, and checks that each earlier one is unchanged.
+
+    Example: hilpoven years files
+    """
+    with history.opened(context.office_to_export("years", "files")) as whole:
+        rows = whole.base.execute(FILES).fetchall()
+    print_rows(["file", "carried over", "movements", "sha256"], rows, is_csv)
+
+
+@years_group.command("recall")
+@click.argument("owner", metavar="OWNER")
+@click.argument("lot", metavar="LOT")
+@in_option
+@csv_option
+@pass_context
+def recall(context: Context, owner: str, lot: str, file: str, is_csv: bool) -> None:
+    """Lists the lots that a lot went into, with the amounts on hand and shipped, over all files.
+
+    Example: hilpoven years recall ACME S-1
+    """
+    office = context.office_to_export("years", "recall", owner, lot)
+    with history.opened(office, owner) as whole:
+        start = whole.lot(owner, lot, file)
+        traced = Genealogy(whole.base, links_of(context, whole)).trace(start, FORWARD)
+        lines = recall_lines(whole.base, traced.steps)
+        check_newest(office, whole, lines, start)
+        rows: list[tuple[Value, ...]] = [
+            (
+                line.steps,
+                line.owner,
+                line.lot,
+                line.disposition,
+                line.on_hand,
+                line.shipped,
+                whole.file_of(LotId(line.owner, line.lot)),
+            )
+            for line in lines
+        ]
+        columns = ["steps", "owner", "lot", "disposition", "on hand", "shipped", "came in"]
+        print_rows(*marked(columns, rows, traced), is_csv)
+        tell_sources(whole, start)
+
+
+def links_of(context: Context, whole: History) -> list[Link]:
+    """The plant's links, with the names of lots and orders over all files."""
+    return standing_over_all(context.journal(), whole).links
+
+
+def marked(columns: list[str], rows: list[tuple[Value, ...]], traced: Trace) -> tuple[list[str], list[Row]]:
+    """Columns and rows of a trace's lots, where links add some with one more, which marks these."""
+    if not traced.noted:
+        return columns, [*rows]
+    tell(f"{MARK} noted by the plant: links add these lots, or shorten the way to them")
+    marks = [MARK if traced.is_noted(lot) else "" for lot in traced.steps]
+    return [*columns, "noted"], [(*row, mark) for row, mark in zip(rows, marks)]
+
+
+def check_newest(office: Office, whole: History, lines: list[RecallLine], start: LotId) -> None:
+    """Fails if `toll` tells of the newest file what isn't in a recall over all files."""
+    answer = office.ask(["recall", *start], whole.copy)
+    if answer.status:
+        return  # it isn't in the newest file
+    by_lot = {(line.owner, line.lot): line for line in lines}
+    for newest, text in zip(recall_of(answer.output), answer.output.splitlines()[1:]):
+        line = by_lot.get((newest.owner, newest.lot))
+        if (
+            line is None
+            or line.steps > newest.steps
+            or line.shipped < newest.shipped
+            or (line.disposition, line.on_hand) != (newest.disposition, newest.on_hand)
+        ):
+            raise Failure(
+                f"toll tells of {newest.owner} {newest.lot} what isn't found over all files, so nothing is shown",
+                advice=text.strip(),
+            )
+
+
+@years_group.command("trace")
+@click.argument("owner", metavar="OWNER")
+@click.argument("lot", metavar="LOT")
+@click.argument("way", metavar="WAY", type=click.Choice(["back", "forward"]))
+@in_option
+@csv_option
+@pass_context
+def trace(context: Context, owner: str, lot: str, way: str, file: str, is_csv: bool) -> None:
+    """Lists the lots that a lot was made of, or went into, over all files.
+
+    Example: hilpoven years trace ACME B-1 back
+    """
+    office = context.office_to_export("years", "trace", owner, lot, way)
+    with history.opened(office, owner) as whole:
+        start = whole.lot(owner, lot, file)
+        traced = Genealogy(whole.base, links_of(context, whole)).trace(start, way)
+        rows: list[tuple[Value, ...]] = [(steps, *name) for name, steps in traced.steps.items()]
+        print_rows(*marked(["steps", "owner", "lot"], rows, traced), is_csv)
+        tell_sources(whole, start)
+
+
+@years_group.command("lot")
+@click.argument("owner", metavar="OWNER")
+@click.argument("lot", metavar="LOT")
+@in_option
+@click.option("--json", "is_json", is_flag=True, help="As JSON, for a program.")
+@pass_context
+def lot_card(context: Context, owner: str, lot: str, file: str, is_json: bool) -> None:
+    """Shows a lot with its tests, sublots and movements, over all files.
+
+    Example: hilpoven years lot ACME S-1
+    """
+    with history.opened(context.office_to_export("years", "lot", owner, lot), owner) as whole:
+        start = whole.lot(owner, lot, file)
+        thing = things.lot(whole.base, *start, standing_over_all(context.journal(), whole))
+        click.echo(thing.as_json()) if is_json else thing.print()
+        tell_sources(whole, start)
+
+
+@years_group.command("statement")
+@click.argument("owner", metavar="OWNER")
+@click.option("--from", "first", metavar="DAY", default=str(statements.FIRST_DAY), help="From this day on.")
+@click.option("--to", "last", metavar="DAY", default=str(statements.LAST_DAY), help="Up to this day.")
+@csv_option
+@pass_context
+def statement(context: Context, owner: str, first: str, last: str, is_csv: bool) -> None:
+    """Shows receipts, uses, shipments and stock of each of an owner's lots between two days, over all files.
+
+    Example: hilpoven years statement ACME --from 261101 --to 261130
+    """
+    for name, day in (("--from", first), ("--to", last)):
+        if fault := forms.DAY.fault(day):
+            raise Failure(f"{name}: `{day}` {fault}", WRONG_USE)
+    with history.opened(context.office_to_export("years", "statement", owner, first, last), owner) as whole:
+        require_owner(whole.base, owner)
+        read = statements.read_statement(whole.base, owner, int(first), int(last))
+        print_statement(read, is_csv)
+        links = statements.links_in(whole.base, read, links_of(context, whole))
+        if links and not is_csv:
+            click.echo()
+            print_table(things.LINK_COLUMNS, [things.link_row(link) for link in links], things.NOTED)
+        tell_sources(whole)
+    if unexplained := -sum(account.amounts[-1] for account in read.accounts):
+        raise Failure(f"{unexplained:,} of {owner} is on hand that no movement explains", REFUSED)
+    sys.exit(0)
+
+
+def print_statement(read: statements.Statement, is_csv: bool) -> None:
+    """Prints a statement; as CSV its lots alone."""
+    rows: list[Row] = [
+        (account.lot.material, account.lot.id.name, account.lot.measure, *account.amounts[:-1])
+        for account in read.moved
+    ]
+    sums: list[Row] = [
+        (material, "(all)", measure, *amounts[:-1]) for (material, measure), amounts in read.sums().items()
+    ]
+    print_rows(["material", "lot", "measure", *statements.AMOUNTS[:-1]], rows if is_csv else [*rows, *sums], is_csv)
+    used: Counter[Lot] = Counter()
+    for lot, _, amount in read.of_house:
+        used[lot] += amount
+    if used and not is_csv:
+        click.echo()
+        print_table(
+            ["material", "lot", "measure", "used"],
+            [(lot.material, lot.id.name, lot.measure, amount) for lot, amount in used.items()],
+            "HOUSE's material that its batches used",
+        )

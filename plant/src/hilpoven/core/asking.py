@@ -1,0 +1,117 @@
+"""How a line is given to `toll`: what is typed is looked at, noted in the journal, and the answer is explained."""
+from collections.abc import Callable
+from typing import TYPE_CHECKING, Any, NamedTuple
+
+from . import meanings
+from .context import Context
+from .failure import WRONG_USE, Failure, printable, tell
+from .grammar import OWNER_ADD, Line, faults, unsayable, written
+from .names import earlier_files
+from .office import Answer, Office, pass_on
+
+if TYPE_CHECKING:
+    from ..journal.log import Journal
+
+BLOTTED = "********"  # in place of a key
+TRACES = ("recall", "trace")  # the questions to which links add lots
+
+
+class Beside(NamedTuple):
+    """What stands in the journal beside a line that is asked, and what is told once it is accepted."""
+
+    members: dict[str, Any] = {}
+    hint: str = ""
+
+
+def run(
+    context: Context, line: Line, typed: list[str], beside: Callable[[Context, dict[str, str]], Beside] | None = None
+) -> int:
+    """Gives a line to `toll`; its exit status. What is noted beside it is made of its values, where all can be read."""
+    words, notes = written(line, typed)
+    wrong = faults(line, words)
+    tell("\n".join(notes))
+    if unsayable(words):
+        advice = "\n".join(wrong) or f"{unsayable(words)[0]!r} is a word of no line"
+        raise Failure(f"{line.name} can't be asked so", WRONG_USE, advice)
+    office = context.office()
+    noted = Beside() if wrong or beside is None else beside(context, dict(zip(line.values, words)))
+    answer = asked(context, office, line, words, **noted.members)
+    pass_on(answer)
+    if line.name in TRACES and not answer.status:
+        print_below(context, office, [line.name, *words], answer)
+    tell("\n".join(wrong))
+    explain(office, line, words, answer)
+    tell(noted.hint if answer.output == "accepted\n" else "")
+    return answer.status
+
+
+def print_below(context: Context, office: Office, words: list[str], answer: Answer) -> None:
+    """Prints what the plant's links add to a recall or a trace, below it."""
+    from ..register import file
+
+    journal = context.journal()
+    if file.has_notes(journal):
+        from ..register import below
+
+        for text in below.lines_below(office, journal, words, answer):
+            print(text, flush=True)
+
+
+def asked(
+    context: Context,
+    office: Office,
+    line: Line,
+    words: list[str],
+    journal: "Journal | None" = None,
+    ask: Callable[[list[str]], Answer] | None = None,
+    **more: Any,
+) -> Answer:
+    """What `toll` answers; of a command it stands in the journal before it is asked, with what more there is to note,
+    and behind. What an earlier file of the office has already isn't asked."""
+    if known := known_earlier(office, line, words):
+        if "notes" in more and not known.status:
+            (journal or context.journal()).note(office.file, [line.name, *words], **more)
+        return known
+    if line.is_question:
+        return office.ask_patiently([line.name, *words])
+    journal = journal or context.journal()
+    blotted = [BLOTTED if line.name == OWNER_ADD and name == "KEY" else word for name, word in zip(line.values, words)]
+    entry = journal.asked(office.file, [line.name, *blotted], **more)
+    answer = office.ask_patiently([line.name, *words], ask)
+    journal.told(entry, answer)
+    return answer
+
+
+def known_earlier(office: Office, line: Line, words: list[str]) -> Answer | None:
+    """What an earlier file of the office answers, where it has one that does."""
+    if not earlier_files(office.file):
+        return None
+    from ..years import earlier
+
+    return earlier.answer(office, line, words)
+
+
+def explain(office: Office, line: Line, words: list[str], answer: Answer) -> None:
+    """Tells what a refusal or a fault means, what to look at, and what earlier files have."""
+    refusal, fault = meanings.refusal_in(answer.output), meanings.fault_in(answer.error)
+    values = dict(zip(line.values, map(printable, words)))
+    if refusal:
+        from . import nearest
+
+        tell(meanings.explained("refusals", refusal, values))
+        tell(nearest.names_near(office, refusal, values))
+    elif fault:
+        tell(meanings.explained("faults", fault, values))
+        if fault == "Locked":
+            from .lock import holders
+
+            tell(holders(office.file))
+    if line.name == OWNER_ADD and answer.output == "accepted\n":
+        tell(
+            "Its key stood on a command line, where others may have seen it: "
+            f"`hilpoven owner key {words[0]}` gives it another one."
+        )
+    if earlier_files(office.file):
+        from ..years import earlier
+
+        tell(earlier.hint(office, line, words, refusal))

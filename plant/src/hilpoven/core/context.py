@@ -1,0 +1,102 @@
+"""What a command stands on: the settings, and the office that it is for."""
+import functools
+import os
+from dataclasses import dataclass, field, replace
+from typing import TYPE_CHECKING
+
+from . import rights, settings as site
+from .failure import WRONG_USE, Failure
+from .office import Office, require_file
+from .settings import Settings
+
+if TYPE_CHECKING:
+    from sqlite3 import Connection
+
+    from ..journal.log import Journal
+    from ..register.store import Register
+    from .server import Place
+
+
+@dataclass
+class Context:
+    """The settings, and what the words before the command say of the office."""
+
+    settings: Settings
+    db: str = ""
+    unnoted: list[Failure] = field(default_factory=list)  # why answers couldn't be noted
+
+    @functools.cached_property
+    def file(self) -> str:
+        """The office's file, without links on its way, which are looked at once."""
+        named = self.db or self.settings.file
+        if not named:
+            raise Failure(
+                "no file is named",
+                WRONG_USE,
+                f'give it by --db FILE before the command, or by file = ".." in {site.PATH}',
+            )
+        return os.path.realpath(named)
+
+    def office(self) -> Office:
+        """The office, whose file is there, to be worked on with its owner's rights."""
+        rights.become_owner(self.file)
+        return self.office_to_read()
+
+    def office_to_read(self) -> Office:
+        """The office, whose file is there, of which copies are read."""
+        require_file(self.file)
+        return self.unseen_office()
+
+    def unseen_office(self) -> Office:
+        """The office, whose file may not be there. A member works on none in a folder that others may change."""
+        if rights.is_member():
+            from . import paths
+
+            paths.private(os.path.dirname(self.file))
+        return Office(self.file, site.program(self.settings), self.settings.wait)
+
+    def journal(self) -> "Journal":
+        """The office's journal."""
+        from ..journal import log as journals
+
+        return journals.Journal(
+            journals.adopted(site.journal_of(self.settings, self.file), self.file), self.file, self.unnoted
+        )
+
+    def register(self, base: "Connection") -> "Register":
+        """What the plant noted that stands, of an office of whose file these are the tables."""
+        from ..register import file
+        from ..register.store import Register
+
+        journal = self.journal()
+        if not file.has_notes(journal):
+            return Register()
+        from ..register.standing import standing
+
+        return standing(journal, base)
+
+    def office_to_export(self, *words: str, is_seldom: bool = True) -> Office:
+        """The office, of which data is about to be handed out, which is noted. What a timer does every minute isn't."""
+        from ..journal import log as journals
+
+        office = self.office_to_read()
+        if is_seldom or journals.has_login():
+            self.journal().exported(self.file, list(words))
+        return office
+
+    @property
+    def place(self) -> "Place":
+        """Where a server of the office is expected."""
+        from .server import Place
+
+        name, is_of_settings = self.settings.office, self.file == site.office_of(self.settings)
+        return Place(f"toll@{name}" if name else "toll", self.settings.port if is_of_settings else 0)
+
+    def end(self) -> None:
+        """Fails where an answer couldn't be noted: it was given all the same."""
+        if self.unnoted:
+            raise self.unnoted.pop(0)
+
+    def waiting(self, seconds: float | None) -> "Context":
+        """The same, with another patience for a lock."""
+        return self if seconds is None else replace(self, settings=self.settings._replace(wait=seconds))

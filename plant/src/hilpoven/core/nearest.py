@@ -1,0 +1,71 @@
+"""The names that are there, where a name is told to be unknown."""
+import sqlite3
+
+from .. import HOUSE
+from ..records.schema import IS_ACTUAL
+from . import snapshot
+from .failure import Failure
+from .office import Office
+
+# For each refusal: which value it is about, what that is called, and the names that are there, by the other values.
+NAMES: dict[str, tuple[str, str, str]] = {
+    "UnknownOwner": ("OWNER", "owners", "SELECT owner FROM owners UNION SELECT 'HOUSE'"),
+    "UnknownUnit": ("UNIT", "units", "SELECT unit FROM units"),
+    "UnknownMaterial": ("MATERIAL", "materials of {whose}", "SELECT material FROM materials WHERE owner = :whose"),
+    "UnknownRecipe": ("RECIPE", "recipes of {whose}", "SELECT recipe FROM recipes WHERE owner = :whose"),
+    "UnknownOrder": ("ORDER", "orders of {whose}", "SELECT ord FROM orders WHERE owner = :whose"),
+    "UnknownBatch": (
+        "BATCH",
+        "batches of {order}",
+        "SELECT CAST(number AS TEXT) FROM batches WHERE owner = :whose AND ord = :order",
+    ),
+    "UnknownLot": ("LOT", "lots of {whose}", "SELECT lot FROM lots WHERE owner = :whose"),
+    "UnknownSublot": ("SUBLOT", "sublots of {lot}", "SELECT sublot FROM sublots WHERE owner = :whose AND lot = :lot"),
+    "UnknownTest": (
+        "TEST",
+        "tests of {lot}",
+        "SELECT test FROM tests JOIN lots USING (owner, material) WHERE owner = :whose AND lot = :lot",
+    ),
+    "UnknownKey": ("KEY", "actuals of {whose}", f"SELECT mkey FROM moves AS m WHERE owner = :whose AND {IS_ACTUAL}"),
+}
+ELSEWHERE = "SELECT owner FROM lots WHERE lot = ? AND owner <> ? ORDER BY owner"
+MOST = 8  # names that are told of a short list
+
+
+def whose_of(word: str, values: dict[str, str]) -> str:
+    """Whose names are meant: of a requirement the source's materials, of an actual the lot's owner's lots."""
+    if word == "UnknownMaterial" and "SOURCE" in values:
+        return values["SOURCE"]
+    if word in ("UnknownLot", "UnknownSublot") and "LOT-OWNER" in values:
+        return values["LOT-OWNER"]
+    return values.get("OWNER", HOUSE)
+
+
+def names_near(office: Office, word: str, values: dict[str, str]) -> str:
+    """A line with the names that are nearest to the unknown one; empty where they can't be read."""
+    if word not in NAMES or NAMES[word][0] not in values:
+        return ""
+    value, called, sql = NAMES[word]
+    given = {"whose": whose_of(word, values), "order": values.get("ORDER", ""), "lot": values.get("LOT", "")}
+    try:
+        with snapshot.opened(office) as base:
+            names = sorted(it for it, in base.execute(sql, given))
+            beside = (
+                [it for it, in base.execute(ELSEWHERE, (values[value], given["whose"]))] if word == "UnknownLot" else []
+            )
+    except (Failure, sqlite3.Error):
+        return ""
+    lines = [f"{it} has a lot {values[value]}." for it in beside]
+    return "\n".join([*lines, nearest(values[value], names, called.format(**given))])
+
+
+def nearest(word: str, names: list[str], called: str) -> str:
+    """The names that are most like a word, or all of a short list."""
+    import difflib
+
+    near = difflib.get_close_matches(word, names, 3)
+    if near:
+        return f"Nearest of the {called}: {', '.join(near)}."
+    if not names:
+        return f"There are no {called}."
+    return f"The {called}: {', '.join(names[:MOST])}{', ..' if len(names) > MOST else ''}."

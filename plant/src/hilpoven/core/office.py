@@ -1,0 +1,110 @@
+"""An office in a file: whether it is there, and what `toll` answers over it."""
+import os
+import stat
+import sys
+import time
+from collections.abc import Callable
+from typing import NamedTuple
+
+from . import lock
+from .failure import FAULT, WRONG_USE, Failure
+from .rights import advice
+
+LOCKED = "fault Locked\n"
+
+
+class Answer(NamedTuple):
+    """What `toll` answered: its exit status, and what it wrote."""
+
+    status: int
+    output: str
+    error: str
+
+
+class Office(NamedTuple):
+    """An office's file, the program that answers for it, and how many seconds a taken lock is waited for."""
+
+    file: str
+    program: str
+    wait: float
+
+    def ask(self, words: list[str], file: str | None = None) -> Answer:
+        """What `toll` answers to these words over the file, or over a copy of it."""
+        import subprocess
+
+        try:
+            done = subprocess.run(
+                [self.program, "--db", file or self.file, *words], stdin=subprocess.DEVNULL, capture_output=True
+            )
+        except OSError as error:
+            raise Failure(f"{self.program} can't be run: {error.strerror}") from error
+        status = done.returncode if done.returncode >= 0 else FAULT
+        return Answer(status, done.stdout.decode(errors="replace"), done.stderr.decode(errors="replace"))
+
+    def ask_patiently(self, words: list[str], ask: "Callable[[list[str]], Answer] | None" = None) -> Answer:
+        """The same, or what another way of asking gives, asked again while another has the lock. A lock that can't be
+        opened is told apart from one that is taken."""
+        ends, ask = time.monotonic() + self.wait, ask or self.ask
+        while True:
+            answer = ask(words)
+            if answer.error != LOCKED:
+                return answer
+            os.close(lock.opened(self.file))
+            if time.monotonic() >= ends:
+                return answer
+            time.sleep(lock.PAUSE)
+
+
+def pass_on(answer: Answer) -> None:
+    """Prints what `toll` answered, unchanged."""
+    sys.stdout.write(answer.output)
+    sys.stdout.flush()
+    sys.stderr.write(answer.error)
+    sys.stderr.flush()
+
+
+def require_file(file: str) -> None:
+    """Fails where a file isn't there or can't be an office's: `toll` would make a new office of its name."""
+    try:
+        state = os.stat(file)
+    except FileNotFoundError:
+        raise Failure(f"there is no file {file}", WRONG_USE, advice_of_absent(file)) from None
+    except OSError as error:
+        raise no_rights(file, error) from error
+    if not stat.S_ISREG(state.st_mode):
+        raise Failure(f"{file} is no file", WRONG_USE)
+    if not state.st_size and not has_bytes(f"{file}-wal"):
+        raise Failure(f"{file} is empty", WRONG_USE, f"`hilpoven new {file}` makes a new office of it")
+    try:
+        os.close(os.open(file, os.O_RDWR | os.O_CLOEXEC))
+    except OSError as error:
+        raise no_rights(file, error) from error
+
+
+def has_bytes(file: str) -> bool:
+    """Whether a file is there, and isn't empty."""
+    try:
+        return os.stat(file).st_size > 0
+    except OSError:
+        return False
+
+
+def advice_of_absent(file: str) -> str:
+    """What may have been meant by a file that isn't there."""
+    folder = os.path.dirname(file) or "."
+    if has_bytes(f"{file}-wal"):
+        return f"but its log {file}-wal is there, so it was moved away: put it back, or `hilpoven restore` a backup"
+    try:
+        names = [it for it in os.listdir(folder) if it.endswith(".db")]
+    except OSError as error:
+        return f"{folder} can't be looked at: {error.strerror}; {advice(file)}"
+    import difflib
+
+    near = difflib.get_close_matches(os.path.basename(file), names, 1) or (names if len(names) == 1 else [])
+    meant = [f"did you mean {os.path.join(os.path.dirname(file), near[0])}?"] if near else []
+    return "\n".join([*meant, f"`hilpoven new {file}` makes a new office"])
+
+
+def no_rights(file: str, error: OSError) -> Failure:
+    """What is told where a file can't be read and written."""
+    return Failure(f"{file} can't be opened: {error.strerror}", FAULT, advice(file))

@@ -1,0 +1,81 @@
+"""With whose rights a command works: what root would make beside a file, the file's owner couldn't open."""
+import os
+import pwd
+import sys
+
+from .failure import WRONG_USE, Failure, printable
+
+STARTED_AS = os.getuid()  # before the rights of a file's owner are taken
+
+
+def is_member() -> bool:
+    """Whether another user than the office's, and than root, has these rights by sudo: a member of the group hilpoven.
+
+    Sudo sets SUDO_UID, which its caller can't change. Whoever began as root, or came from root, may do what root may.
+    """
+    caller = os.environ.get("SUDO_UID")
+    return caller is not None and STARTED_AS != 0 and caller not in ("0", str(STARTED_AS))
+
+
+def require_operator(word: str, advice: str = "") -> None:
+    """Fails for a member, who may not give a word."""
+    if is_member():
+        raise Failure(f"{word} is for root and the office's user alone, and by sudo for nobody else", WRONG_USE, advice)
+
+
+def name_of(user: int) -> str:
+    """The name of a user of the machine."""
+    try:
+        return pwd.getpwuid(user).pw_name
+    except KeyError:
+        return str(user)
+
+
+def owner_number(file: str) -> int:
+    """The number of the user whose a file is; this one where it isn't there."""
+    try:
+        return os.stat(file).st_uid
+    except OSError:
+        return os.geteuid()
+
+
+def become_owner(file: str) -> None:
+    """Goes on with the rights of the owner of a file, or of its folder where it isn't there, where this is root."""
+    if os.geteuid() != 0:
+        return
+    try:
+        state = os.stat(file if os.path.exists(file) else os.path.dirname(file))
+    except OSError:
+        return  # what isn't there is told where it is looked for
+    if state.st_uid == 0:
+        return
+    try:
+        os.setgroups([state.st_gid])
+        os.setgid(state.st_gid)
+        os.setuid(state.st_uid)
+    except OSError as error:
+        raise Failure(f"this is root, and {file} belongs to another, whose rights can't be taken: {error}") from error
+
+
+def owner_of(file: str) -> str:
+    """The user who may work on a file, as far as it can be seen: whose it is, or whose the nearest folder above it
+    is."""
+    while True:
+        try:
+            state = os.stat(file)
+            return name_of(state.st_uid) if state.st_uid else "toll"
+        except OSError:
+            above = os.path.dirname(file)
+            if above == file:
+                return "toll"
+            file = above
+
+
+def advice(file: str) -> str:
+    """How the same command is given with the rights that it needs."""
+    import shlex
+
+    words = printable(shlex.join(["hilpoven", *sys.argv[1:]]))
+    return (
+        f"this is tried as {name_of(os.geteuid())}, and needs another user's rights: sudo -u {owner_of(file)} {words}"
+    )

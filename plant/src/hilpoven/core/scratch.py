@@ -1,0 +1,106 @@
+"""Folders for what is made, which go at the end, also where a signal ends this process; what a kill left goes with
+the next."""
+import contextlib
+import fcntl
+import os
+import signal
+import sys
+import time
+from collections.abc import Iterator
+from types import FrameType
+
+from .failure import Failure
+
+PREFIX = ".hilpoven."
+LEFT_SINCE = 60  # seconds since a folder was made that nobody works in
+ENDING = (signal.SIGHUP, signal.SIGINT, signal.SIGTERM)
+
+
+def end_by_signals() -> None:
+    """Has the signals that end a program raise SystemExit, so that what it made is removed."""
+
+    def leave(number: int, _: FrameType | None) -> None:
+        for ending in ENDING:
+            signal.signal(ending, signal.SIG_IGN)  # a second one would break off the removing
+        sys.exit(128 + number)
+
+    for ending in ENDING:
+        signal.signal(ending, leave)
+
+
+@contextlib.contextmanager
+def held_back() -> Iterator[None]:
+    """Holds the signals that end a program back, over a fork: what is raised in Python's own steps around one is
+    lost."""
+    before = signal.pthread_sigmask(signal.SIG_BLOCK, ENDING)
+    try:
+        yield
+    finally:
+        signal.pthread_sigmask(signal.SIG_SETMASK, before)
+
+
+@contextlib.contextmanager
+def folder(parent: str) -> Iterator[str]:
+    """A folder in `parent`, for this user alone, that is removed at the end."""
+    path = os.path.join(parent, PREFIX + os.urandom(8).hex())
+    try:
+        make(parent, path)
+        with held(path):
+            yield path
+    finally:
+        remove(path)
+
+
+def make(parent: str, path: str) -> None:
+    """Makes a folder in `parent`, once those that were left there are removed."""
+    try:
+        remove_left(parent)
+        os.mkdir(path, 0o700)
+    except OSError as error:
+        raise Failure(f"nothing can be made in {parent}: {error.strerror}") from error
+
+
+def remove(folder: str) -> None:
+    """Removes a folder with all that is in it, as far as that can be."""
+    try:
+        for name in os.listdir(folder):
+            os.unlink(f"{folder}/{name}")
+        os.rmdir(folder)
+    except OSError:  # it has folders
+        import shutil
+
+        shutil.rmtree(folder, ignore_errors=True)
+
+
+@contextlib.contextmanager
+def held(folder: str) -> Iterator[None]:
+    """Holds a folder, which shows that somebody works in it; fails with BlockingIOError where another holds it."""
+    descriptor = os.open(folder, os.O_RDONLY | os.O_DIRECTORY | os.O_CLOEXEC | os.O_NOFOLLOW)
+    try:
+        fcntl.flock(descriptor, fcntl.LOCK_EX | fcntl.LOCK_NB)
+        yield
+    finally:
+        os.close(descriptor)
+
+
+def remove_left(parent: str) -> None:
+    """Removes the folders of this user that a kill left, which nobody holds."""
+    left = []
+    with contextlib.suppress(PermissionError):
+        left = [os.path.join(parent, it) for it in os.listdir(parent) if it.startswith(PREFIX)]
+    for folder in left:
+        with contextlib.suppress(OSError), held(folder):
+            made = os.stat(folder, follow_symlinks=False)
+            if made.st_uid == os.geteuid() and made.st_mtime < time.time() - LEFT_SINCE:
+                remove(folder)
+
+
+def sync(path: str) -> None:
+    """Has a file, or the names in a folder, on the disk."""
+    descriptor = os.open(path, os.O_RDONLY | os.O_CLOEXEC)
+    try:
+        os.fsync(descriptor)
+    except OSError as error:
+        raise OSError(error.errno, error.strerror, path) from error
+    finally:
+        os.close(descriptor)

@@ -1,0 +1,187 @@
+"""Which office, which program, where the journal and the backups are: /etc/hilpoven.toml, the office's
+/etc/toll/NAME.env, or the words of the command."""
+import os
+import re
+from typing import Any, NamedTuple
+
+from .failure import WRONG_USE, Failure
+from .rights import advice
+
+PATH = "/etc/hilpoven.toml"
+OFFICES = "/etc/toll"
+DATA = "/var/lib/toll"
+CHECKOUT = os.path.abspath(f"{__file__}/../../../../..")
+
+CALLED = {str: "a text", int: "a whole number", float: "a number", list: "a list of texts", bool: "true or false"}
+MUCH = 1_000_000
+# The least and the most of each number.
+BOUNDS = {"keep": (1, MUCH), "days": (0, MUCH), "backup_hours": (1, MUCH), "port": (0, 65_535), "wait": (0, MUCH)}
+
+
+class Require(NamedTuple):
+    """What a site requires of commands besides what `toll` does. Each field is a line below [require]."""
+
+    recipient: bool = False  # whether each shipment names the party that gets it
+
+
+class Settings(NamedTuple):
+    """What a site says of its office. Each field is a line of /etc/hilpoven.toml, or a table of it."""
+
+    office: str = (
+        ""  # the name of the office, whose units take /etc/toll/NAME.env; its file, port and backups are those
+    )
+    file: str = ""  # the office's file
+    toll: str = ""  # the proved program; what is installed where it isn't said
+    journal: str = ""  # who did what; beside the file where it isn't said
+    backups: str = ""  # the folder of the backups
+    keep: int = 30  # how many of the newest backups stay
+    days: int = 0  # of how many days the last one stays
+    backup_hours: int = 26  # an older newest backup is told by `status`
+    port: int = 0  # at which a server is expected to answer owners; 0 asks none
+    wait: float = 10.0  # seconds for a lock that somebody has
+    site_logs: list[str] = []  # of the proxy, with all owners' requests
+    require: Require = Require()
+
+
+DEFAULTS = Settings()._asdict()
+
+
+def of_environment(name: str) -> str:
+    """A variable of the environment; empty behind sudo, where whoever asks has another's rights."""
+    return "" if "SUDO_UID" in os.environ else os.environ.get(name, "")
+
+
+def load(path: str = PATH, office: str = "", db: str = "") -> Settings:
+    """The settings of a file, or of the one that HILPOVEN_SETTINGS names, with those of an office; those that nobody
+    changed where it isn't there. The office is the named one, that of the settings, or, if no file is named either,
+    the only one.
+    """
+    path = of_environment("HILPOVEN_SETTINGS") or os.fspath(path)
+    settings = Settings(**{name: value_of(path, name, value) for name, value in lines_of(path).items()})
+    file, journal, backups = (
+        it and os.path.join(os.path.dirname(path), it) for it in (settings.file, settings.journal, settings.backups)
+    )
+    settings = settings._replace(file=file, journal=journal, backups=backups)
+    default = settings.office or ("" if db or settings.file else only_office())
+    if not office or office == default:
+        return of_office(settings, default) if default else settings
+    return of_office(settings._replace(journal=""), office)
+
+
+def lines_of(path: str) -> dict[str, Any]:
+    """The lines of a file of settings; none where it isn't there."""
+    try:
+        with open(path, "rb") as file:
+            import tomllib
+
+            return tomllib.load(file)
+    except FileNotFoundError:
+        return {}
+    except OSError as error:
+        raise unread(path, error) from error
+    except ValueError as error:
+        raise Failure(f"{path}: {error}", WRONG_USE) from error
+
+
+def value_of(path: str, name: str, value: Any, called: str = "") -> Any:
+    """The value of a setting, in its type and its bounds; `called` is its name in the file where that is another."""
+    if name not in DEFAULTS:
+        raise Failure(f"{path}: {name} is no setting", WRONG_USE, f"there are: {', '.join(DEFAULTS)}")
+    if name == "require":
+        return requirements_of(path, value)
+    kind = type(DEFAULTS[name])
+    if type(value) is int and kind is float:
+        value = float(value)
+    if type(value) is not kind or kind is list and not all(type(it) is str for it in value):
+        raise Failure(f"{path}: {name} is to be {CALLED[kind]}", WRONG_USE)
+    least, most = BOUNDS.get(name, (value, value))
+    if not least <= value <= most:
+        raise Failure(f"{path}: {called or name} is to be from {least:,} to {most:,}", WRONG_USE)
+    return value
+
+
+def requirements_of(path: str, table: Any) -> Require:
+    """What the table [require] of the settings says."""
+    if type(table) is not dict:
+        raise Failure(f"{path}: require is to be a table: [require]", WRONG_USE)
+    for name, value in table.items():
+        if name not in Require._fields:
+            raise Failure(
+                f"{path}: {name} is nothing to require", WRONG_USE, f"there are: {', '.join(Require._fields)}"
+            )
+        if type(value) is not bool:
+            raise Failure(f"{path}: {name} is to be {CALLED[bool]}", WRONG_USE)
+    return Require(**table)
+
+
+def unread(path: str, error: OSError) -> Failure:
+    """What is told of settings that can't be read."""
+    return Failure(
+        f"{path} can't be read: {error.strerror}", advice=advice(path) if isinstance(error, PermissionError) else ""
+    )
+
+
+def offices() -> list[str]:
+    """The names of the offices of this machine; none where they can't be seen."""
+    try:
+        return sorted(it.removesuffix(".env") for it in os.listdir(OFFICES) if it.endswith(".env"))
+    except OSError:
+        return []
+
+
+def only_office() -> str:
+    """The name of the only office of this machine; empty where there is none, or more than one."""
+    names = offices()
+    return names[0] if len(names) == 1 else ""
+
+
+def of_office(settings: Settings, name: str) -> Settings:
+    """The settings with those of an office's units, which its file of settings has."""
+    if not re.fullmatch(r"[A-Za-z0-9:_.-]+", name):
+        raise Failure(f"{name!r} is no name of an office", WRONG_USE)
+    path = os.path.join(OFFICES, f"{name}.env")
+    try:
+        with open(path) as lines:
+            rows = re.findall(r"^([A-Z]+)=(.*)$", lines.read(), re.M)
+    except FileNotFoundError:
+        advice = f"there are: {', '.join(offices())}" if offices() else ""
+        raise Failure(f"there is no office {name}: {path} isn't there", WRONG_USE, advice) from None
+    except OSError as error:
+        raise unread(path, error) from error
+    units = {it: value.strip().strip("\"'") for it, value in rows}
+    called = {"port": "PORT", "keep": "HOURS", "days": "DAYS"}
+    numbers = {it: value_of(path, it, number_of(path, of, units[of]), of) for it, of in called.items() if units.get(of)}
+    file = os.path.join(OFFICES, units.get("FILE", f"{DATA}/{name}/office.db"))
+    backups = os.path.join(OFFICES, units.get("BACKUPS", f"{DATA}/{name}/backup"))
+    port, keep, days = (
+        numbers.get(it, default) for it, default in (("port", settings.port), ("keep", 48), ("days", 30))
+    )
+    return settings._replace(office=name, file=file, backups=backups, port=port, keep=keep, days=days)
+
+
+def number_of(path: str, name: str, value: str) -> int:
+    """The number that a line of an office's settings says."""
+    if not re.fullmatch(r"[0-9]{1,9}", value):
+        raise Failure(f"{path}: {name} is to be a whole number", WRONG_USE)
+    return int(value)
+
+
+def program(settings: Settings) -> str:
+    """The proved program: the one that the settings name, that of TOLL, of this checkout, or the one that is
+    installed."""
+    checkout = f"{CHECKOUT}/toll" if os.path.isfile(f"{CHECKOUT}/crates.txt") else "toll"
+    named = settings.toll or of_environment("TOLL") or checkout
+    for path in [named] if os.path.dirname(named) else [os.path.join(it, named) for it in os.get_exec_path()]:
+        if os.path.isfile(path) and os.access(path, os.X_OK):
+            return os.path.abspath(path)
+    raise Failure(f"the program {named} isn't here, or can't be run", WRONG_USE)
+
+
+def journal_of(settings: Settings, file: str) -> str:
+    """Where the journal of an office's file is."""
+    return settings.journal if settings.journal and file == office_of(settings) else f"{file}.journal"
+
+
+def office_of(settings: Settings) -> str:
+    """The office's file of the settings, without links on its way; empty where none is set."""
+    return os.path.realpath(settings.file) if settings.file else ""

@@ -1,0 +1,142 @@
+"""A copy of an office's file as it stands at one moment. The file itself is never opened by SQLite, so a server that
+has it open need not open it anew."""
+import contextlib
+import errno
+import os
+import sqlite3
+import time
+from collections.abc import Iterator
+from io import BufferedReader, BufferedWriter
+
+from .. import OFFICE_VERSION
+from . import lock, scratch
+from .failure import Failure
+from .office import Office
+
+TRIES = 5  # of a copy that is made while others work
+SETTLED = 20_000_000  # nanoseconds after which a later change of a file shows in its time
+Stamp = tuple[int, int, int]
+
+
+@contextlib.contextmanager
+def copied(office: Office, parent: str = "") -> Iterator[str]:
+    """The path of a copy, beside the file or in another folder, for its user alone. It goes at the end."""
+    with scratch.folder(parent or os.path.dirname(office.file)) as folder:
+        target = os.path.join(folder, "copy.db")
+        try:
+            copy(office, target)
+        except OSError as error:
+            raise Failure(f"{error.filename or office.file} can't be copied: {error.strerror}") from error
+        yield target
+
+
+def copy(office: Office, target: str) -> None:
+    """Copies the file and its log while others work, and the file again where they changed it meanwhile: what they
+    write goes into the log mostly. Under the lock, at which a server refuses owners, only the stamps are compared,
+    and a log that changed is copied."""
+    for _ in range(TRIES):
+        stamp, log = stamp_of(office.file), stamp_of(f"{office.file}-wal")
+        if not is_settled(stamp):
+            time.sleep(SETTLED / 1e9)
+            continue
+        was_settled = is_settled(log)
+        copy_both(office.file, target)
+        with lock.held(office.file, office.wait):
+            if stamp_of(office.file) == stamp:
+                if not was_settled or stamp_of(f"{office.file}-wal") != log:
+                    copy_log(office.file, target)
+                return
+    with lock.held(office.file, office.wait):
+        copy_both(office.file, target)
+
+
+def is_settled(stamp: Stamp) -> bool:
+    """Whether a change of the file since would show in its stamp."""
+    return time.time_ns() - stamp[2] >= SETTLED
+
+
+def stamp_of(file: str) -> Stamp:
+    """What tells one state of a file from another: which one it is, its size, and when it was changed; zeros where it
+    isn't there."""
+    try:
+        state = os.stat(file)
+    except FileNotFoundError:
+        return 0, 0, 0
+    return state.st_ino, state.st_size, state.st_mtime_ns
+
+
+def copy_both(file: str, target: str) -> None:
+    """Copies a file and its log."""
+    copy_file(file, target)
+    copy_log(file, target)
+
+
+def copy_log(file: str, target: str) -> None:
+    """Copies the log of a file, where it has one; otherwise the copy has none either."""
+    try:
+        copy_file(f"{file}-wal", f"{target}-wal")
+    except FileNotFoundError:
+        with contextlib.suppress(FileNotFoundError):
+            os.unlink(f"{target}-wal")
+
+
+def copy_file(source: str, target: str) -> None:
+    """Copies a file's bytes, within the disk where it can: none of them then goes through this process. No link is
+    followed."""
+    with open(os.open(source, os.O_RDONLY | os.O_NOFOLLOW | os.O_CLOEXEC), "rb") as reader:
+        try:
+            flags = os.O_WRONLY | os.O_CREAT | os.O_TRUNC | os.O_NOFOLLOW | os.O_CLOEXEC
+            with open(os.open(target, flags, 0o600), "wb") as writer:
+                copy_bytes(reader, writer)
+        except OSError as error:
+            if error.errno == errno.EIO:
+                raise
+            raise Failure(f"{target} can't be written: {error.strerror}") from error
+
+
+def copy_bytes(reader: BufferedReader, writer: BufferedWriter) -> None:
+    """Copies all bytes of a file to another."""
+    left = os.fstat(reader.fileno()).st_size
+    with contextlib.suppress(OSError):
+        while left and (count := os.copy_file_range(reader.fileno(), writer.fileno(), left)):
+            left -= count
+    if left:
+        reader.seek(0)
+        writer.truncate(0)
+        writer.seek(0)
+        import shutil
+
+        shutil.copyfileobj(reader, writer, 1 << 20)
+
+
+def hash_of(path: str) -> str:
+    """The SHA-256 of a file."""
+    import hashlib
+
+    with open(path, "rb") as file:
+        return hashlib.file_digest(file, "sha256").hexdigest()
+
+
+@contextlib.contextmanager
+def opened(office: Office) -> Iterator[sqlite3.Connection]:
+    """The tables of a copy. Nothing of it is left, however this process ends: its names go once it is open."""
+    with copied(office) as path, contextlib.closing(sqlite3.connect(path)) as base:
+        require_office(base, office.file)
+        for end in ("", "-wal", "-shm"):
+            with contextlib.suppress(FileNotFoundError):
+                os.unlink(path + end)
+        yield base
+
+
+def require_office(base: sqlite3.Connection, file: str) -> None:
+    """Fails where these are no tables of an office."""
+    try:
+        version = base.execute("SELECT value FROM meta WHERE name = 'toll'").fetchone()
+    except sqlite3.Error as error:
+        raise Failure(f"{file} is no office: {error}", advice="look at the file's name") from error
+    if version != (OFFICE_VERSION,):
+        number = version[0] if version else "none"
+        raise Failure(
+            f"{file} has version {number}, and {OFFICE_VERSION} is read",
+            advice="a command or a question of `toll` brings an older one to it",
+        )

@@ -1,0 +1,1 @@
+"""The journal, and the site's log: who did what when."""

@@ -1,0 +1,121 @@
+"""Who did what when, of the plant and of the owners, as `hilpoven journal` shows it."""
+import re
+from dataclasses import dataclass
+from typing import Any
+
+from ..core.failure import Failure
+from . import query
+
+COLUMNS = ["time", "who", "where", "what", "answer"]
+UNKNOWN = "asked, answer unknown"
+
+
+@dataclass(frozen=True)
+class JournalEntry:
+    """What somebody did, as it is shown: when, who, from which machine or address, what, and what was answered."""
+
+    time: str
+    who: str
+    where: str
+    what: str
+    answer: str
+    names: tuple[str, ...] = ()  # by which `--who` finds it
+    words: tuple[str, ...] = ()  # by which `--word` finds it
+
+
+def of_plant(path: str, file: str) -> list[JournalEntry]:
+    """What was done through this command over a file."""
+    return shown(query.entries(path, file))
+
+
+def between(path: str, file: str, first: str, last: str) -> list[JournalEntry]:
+    """The same from a line to another one, both with it, which are given by their names; fails if one is missing."""
+    entries = query.entries(path, file)
+    places = {it["id"]: place for place, it in enumerate(entries) if it.get("id") in (first, last)}
+    if len(places) < len({first, last}):
+        raise Failure(f"the journal {path} has no longer the lines {first} and {last}")
+    return shown(entries[places[first] : places[last] + 1])
+
+
+def shown(entries: list[dict[str, Any]]) -> list[JournalEntry]:
+    """What entries of the plant's command say, each with its answer."""
+    answers = {str(it.get("of")): it for it in entries if it.get("event") == "told"}
+    return [
+        JournalEntry(
+            str(it.get("time")),
+            who(it),
+            str(it.get("machine")),
+            what(it),
+            answer_of(it, answers),
+            (str(it.get("login")), str(it.get("user"))),
+            words_of(it),
+        )
+        for it in entries
+        if it.get("event") in ("asked", "exported", "moved", "note")
+    ]
+
+
+def who(entry: dict[str, Any]) -> str:
+    """The login, and whose rights it had where these are another's."""
+    login, user = str(entry.get("login")), str(entry.get("user"))
+    return login if login == user else f"{login} as {user}"
+
+
+def what(entry: dict[str, Any]) -> str:
+    """What was asked, in words."""
+    words = ["moved", "from", entry.get("from")] if entry.get("event") == "moved" else listed(entry, "words")
+    return "; noted: ".join([" ".join(map(str, words)), *sentences(entry)])
+
+
+def sentences(entry: dict[str, Any]) -> list[str]:
+    """What the notes of an entry say, one after another."""
+    if "notes" not in entry:
+        return []
+    from ..register.notes import from_json
+
+    notes = [from_json(value) for value in listed(entry, "notes")]
+    return [note.sentence if note else "what can't be read" for note in notes]
+
+
+def listed(entry: dict[str, Any], member: str) -> list[Any]:
+    """A list of an entry; an empty one where the entry has something else."""
+    value = entry.get(member)
+    return value if isinstance(value, list) else []
+
+
+def words_of(entry: dict[str, Any]) -> tuple[str, ...]:
+    """The words of an entry, and those of the keys of a sheet that was imported."""
+    return tuple(f"{what(entry)} {' '.join(map(str, listed(entry, 'keys')))}".split())
+
+
+def answer_of(entry: dict[str, Any], answers: dict[str, dict[str, Any]]) -> str:
+    """What was answered to an entry."""
+    return answered(answers.get(str(entry.get("id")))) if entry.get("event") == "asked" else "noted"
+
+
+def answered(entry: dict[str, Any] | None) -> str:
+    """What was answered, in a line."""
+    if entry is None:
+        return UNKNOWN
+    lines = f"{entry.get('answer', '')}{entry.get('error', '')}".strip().splitlines()
+    return lines[-1] if lines else f"status {entry.get('status')}"
+
+
+def of_owners(paths: list[str], with_questions: bool) -> list[JournalEntry]:
+    """What owners asked over HTTP, as the site's log has it."""
+    from . import sitelog
+
+    return [
+        JournalEntry(
+            it.time.isoformat(timespec="milliseconds").replace("+00:00", "Z"),
+            it.who,
+            it.address,
+            it.request,
+            str(it.status),
+            (it.owner,),
+            tuple(re.split(r"[\s/]+", it.request)),
+        )
+        for path in paths
+        for it in sitelog.requests(path)
+        if with_questions or it.is_change
+    ]

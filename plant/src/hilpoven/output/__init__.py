@@ -1,0 +1,1 @@
+"""How tables and progress are printed."""

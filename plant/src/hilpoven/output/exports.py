@@ -1,0 +1,44 @@
+"""Tables for spreadsheets and programs: as CSV and as JSON."""
+import csv
+import io
+import json
+import re
+from collections.abc import Iterable, Sequence
+
+from ..core.failure import printable
+from .table import Row, Value
+
+# What a spreadsheet leaves as it is: a text that begins with a letter, a whole number, a time;
+# but for months and truths.
+PLAIN = re.compile(r"[^\W\d_].*|0|[1-9][0-9]{0,8}|[0-9-]{10}T[0-9:.]+Z", re.DOTALL)
+TAKEN = re.compile(r"(jan|feb|mar|apr|may|jun|jul|aug|sep|oct|nov|dec)[a-z]*[ ./-]*[0-9]|(true|false)$", re.IGNORECASE)
+
+
+def as_formula(text: str) -> str:
+    """A text as a formula, which no spreadsheet takes for a number, a date or a formula of somebody else's."""
+    return '="{}"'.format(printable(text).replace('"', '""'))
+
+
+def as_cell(value: Value) -> Value:
+    """A value in CSV: a text is a formula where a spreadsheet would take it for something else."""
+    if not isinstance(value, str):
+        return value
+    return printable(value) if not value or PLAIN.fullmatch(value) and not TAKEN.match(value) else as_formula(value)
+
+
+def csv_of(cells: Iterable[Row], end: str = "\n") -> str:
+    """Rows of cells as CSV (RFC 4180)."""
+    text = io.StringIO()
+    csv.writer(text, lineterminator=end).writerows(cells)
+    return text.getvalue()
+
+
+def as_csv(columns: Sequence[str], rows: Sequence[Row]) -> str:
+    """A table as CSV."""
+    return csv_of([[it.replace(" ", "_") for it in columns], *(list(map(as_cell, row)) for row in rows)])
+
+
+def as_json(columns: Sequence[str], rows: Sequence[Row]) -> str:
+    """A table as JSON: a list of objects."""
+    names = [it.replace(" ", "_") for it in columns]
+    return json.dumps([dict(zip(names, row)) for row in rows], indent=2) + "\n"

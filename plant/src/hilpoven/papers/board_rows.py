@@ -1,0 +1,161 @@
+"""What is on the board, by the tables of a copy, which are compared with `toll`."""
+from collections import Counter
+from dataclasses import astuple, dataclass
+
+from .. import HOUSE
+from ..records import gauge
+from ..records.genealogy import Genealogy
+from ..records.answers import OrderLine, StockLine, batch_of, rows_of
+from ..records.rows import Batch, Lot, LotId, owners_of, read_batches, read_lots, requirements_of, tests_of
+from ..records.schema import Disposition
+from ..records.tables import LISTINGS
+from ..register.below import MARK
+from ..register.notes import Link
+from .agreement import agree, agree_on_all
+from .copies import Source
+
+WAITING = f"""
+SELECT owner, [order], recipe, batches, opened FROM ({LISTINGS['orders'].sql()})
+WHERE status = 'open' AND opened < batches ORDER BY 1, 2
+"""
+LINE, EDGE = 48, 20  # pixels of a screen of 1,920 by 1,080: of a line, and around those of a row
+ROOM_OF_UNITS, ROOM, LAST_ROOM = 925, 350, 120  # pixels for the rows of one page of a panel
+
+
+@dataclass
+class Row:
+    """A row: what it is about, what is said of it, and how much of what is required was consumed and produced."""
+
+    about: str
+    beside: str
+    below: str
+    taken: int | None = None
+    made: int | None = None
+
+    @property
+    def is_noted(self) -> bool:
+        """Whether some of it was noted by the plant."""
+        return MARK in self.beside + self.below
+
+    @property
+    def height(self) -> int:
+        """How high it is."""
+        return EDGE + LINE * (1 + bool(self.below) + (self.taken is not None or self.made is not None))
+
+
+@dataclass
+class Panel:
+    """A panel of the board: its head, what is said beside it, its rows, and how much room a page of it has."""
+
+    title: str
+    beside: str
+    rows: list[Row]
+    room: int
+    empty: str
+
+    def pages(self) -> list[list[Row]]:
+        """The rows in pages."""
+        pages: list[list[Row]] = []
+        left = 0
+        for row in self.rows:
+            if row.height > left:
+                pages.append([])
+                left = self.room
+            pages[-1].append(row)
+            left -= row.height
+        return pages
+
+
+def panels(source: Source) -> list[Panel]:
+    """All panels: the units', and those beside it."""
+    owners = [HOUSE, *owners_of(source.base)]
+    return [units(source), orders(source, owners), lots(source, owners), limits(source)]
+
+
+def units(source: Source) -> Panel:
+    """What the units run."""
+    names = [name for name, in source.base.execute("SELECT unit FROM units ORDER BY unit")]
+    running = sorted(read_batches(source.base, "b.closed = 0"), key=lambda batch: batch.unit)
+    links = Genealogy(source.base, source.register.links).links
+    free = [Row(name, "free", "") for name in names if name not in {batch.unit for batch in running}]
+    rows = [*(unit(source, batch, links) for batch in running), *free]
+    return Panel("Units", f"{len(running)} of {len(names)} run", rows, ROOM_OF_UNITS, "There are no units.")
+
+
+def unit(source: Source, batch: Batch, links: list[Link]) -> Row:
+    """A unit with the batch that it runs, and with what that contains by links."""
+    recorded = requirements_of(source.base, batch)
+    answered, requirements = batch_of(source.newest.answer("batch", *map(str, batch.id)))
+    agree(f"batch {batch.id}", answered, batch.status)
+    agree(f"the requirements of {batch.id}", [astuple(line) for line in requirements], recorded)
+    shares = [share([row[4:] for row in recorded if row[1] == use]) for use in ("consumed", "produced")]
+    contained = [link.of_lot for link in links if link.container == batch.id]
+    also = f", also {some_of(contained)} {MARK}" if contained else ""
+    return Row(batch.unit, batch.state.word, f"{batch.id}{also}", *shares)
+
+
+def some_of(names: list[str]) -> str:
+    """The first of some names, and how many more there are."""
+    return names[0] + (f" and {len(names) - 1} more" if len(names) > 1 else "")
+
+
+def share(requirements: list[tuple[int, int]]) -> int | None:
+    """How far requirements have come, in percent; each counts alike, and none for more than all of it."""
+    if not requirements:
+        return None
+    return sum(min(actual, required) * 100 // required for required, actual in requirements) // len(requirements)
+
+
+def orders(source: Source, owners: list[str]) -> Panel:
+    """The orders that wait for a batch."""
+    waiting = source.base.execute(WAITING).fetchall()
+    names = {row[:2] for row in waiting}
+    lines = [(owner, line) for owner in owners for line in rows_of(OrderLine, source.newest.answer("orders", owner))]
+    answered = {
+        (owner, line.order): (line.recipe, line.batches, line.status)
+        for owner, line in lines
+        if (owner, line.order) in names
+    }
+    agree_on_all(answered, {(owner, name): (recipe, batches, "open") for owner, name, recipe, batches, _ in waiting})
+    rows = [
+        Row(f"{owner} {name}", "", f"{opened} of {batches} opened, {recipe}")
+        for owner, name, recipe, batches, opened in waiting
+    ]
+    return Panel("Orders waiting", str(len(rows)), rows, ROOM, "No order waits for a batch.")
+
+
+def lots(source: Source, owners: list[str]) -> Panel:
+    """The lots on hand that wait for tests or for their release."""
+    code, word = Disposition.QUARANTINED, Disposition.QUARANTINED.word
+    waiting = [lot for lot in read_lots(source.base, f"l.disposition = {code:d} ORDER BY 1, 2") if lot.on_hand]
+    answered: Counter[LotId] = Counter()
+    for owner in owners:
+        for line in rows_of(StockLine, source.newest.answer("stock", owner)):
+            if line.amount and line.disposition == word:
+                answered[LotId(owner, line.lot)] += line.amount
+    agree_on_all(
+        {lot: (word, amount) for lot, amount in answered.items()}, {lot.id: (word, lot.on_hand) for lot in waiting}
+    )
+    genealogy = Genealogy(source.base, source.register.links)
+    rows = [Row(str(lot.id), why_linked(genealogy.links_in(lot.id)), waits_for(source, lot)) for lot in waiting]
+    return Panel("Lots waiting", str(len(rows)), rows, ROOM, "No lot waits.")
+
+
+def why_linked(links: list[Link]) -> str:
+    """Why a lot contains others by links; empty if it contains none."""
+    return f"{some_of(sorted({link.why.value for link in links}))} {MARK}" if links else ""
+
+
+def waits_for(source: Source, lot: Lot) -> str:
+    """What a lot waits for."""
+    missing = [test.name for test in tests_of(source.base, lot) if test.limits != "within"]
+    if not missing:
+        return "for its release"
+    return f"for {some_of(missing)}"
+
+
+def limits(source: Source) -> Panel:
+    """Who is near a limit."""
+    near = [each for each in gauge.gauges(source.newest.base) if each.percent >= gauge.FULL]
+    rows = [Row(each.owner or "the plant", f"{each.percent} %", each.what) for each in near]
+    return Panel("Near a limit", str(len(rows)), rows, LAST_ROOM, f"Nobody is at {gauge.FULL} %.")

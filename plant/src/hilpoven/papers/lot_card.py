@@ -1,0 +1,115 @@
+"""The card of a lot: all that is known of it, with a picture of one step back and forward."""
+from .. import HOUSE
+from ..records import things
+from ..records.answers import recall_of, trace_of
+from ..records.balance import COUNTED, balances, require_closed
+from ..records.genealogy import BACK, FORWARD, Genealogy
+from ..records.rows import Lot, LotId, lots_of, moves_of, require_lot, results_of, sublots_of
+from ..records.schema import Kind
+from ..register.below import MARK
+from . import pictures
+from .agreement import agree, agree_on_all, check_lots
+from .copies import Source
+from .links import links_sheet
+from .pictures import Arrow, Box
+from .printing import Document
+from .recipients import noted_movements
+from .sheets import TESTS, Column, Row, Sheet, columns, test_rows
+
+MOST_BOXES = 60
+LEDGER = columns(
+    "owner=of key kind:text sublot target=to batch day:day in:number out:number moved:number void:text balance:number"
+)
+RESULTS, BESIDE = columns("test value=result:number day:day"), columns("way:text owner lot noted:text@beside")
+WAYS = {BACK: "made of", FORWARD: "went into"}
+Beside = dict[LotId, bool]  # lots one step away, and whether they are so by links alone
+
+
+def documents(source: Source, asked: LotId) -> list[Document]:
+    """The card of a lot. That of a lot of HOUSE is the plant's own: the batches of all owners may have consumed it."""
+    lot = require_lot(source.base, asked)
+    moves = moves_of(source.base, [asked])
+    balance = balances({asked: lot}, moves)[asked]
+    require_closed({asked: balance}, sublots_of(source.base, [asked]))
+    check_lots(source, [lot])
+    if source.is_one:
+        first, shipped = recall_of(source.newest.answer("recall", *asked))[0], balance.amounts[Kind.SHIP]
+        agree(f"what of {asked} is on hand and was shipped", (first.on_hand, first.shipped), (lot.on_hand, shipped))
+    genealogy = Genealogy(source.base, source.register.links)
+    beside = neighbours(source, genealogy, asked)
+    thing = things.lot(source.base, *asked)
+    sublots, ledger = (
+        [tuple(None if cell == "" else cell for cell in row) for row in thing.tables[name][1]]
+        for name in ("sublots", "ledger")
+    )
+    held = [*columns("sublot"), Column("amount", f"on hand, {lot.measure}", "number")]
+    lots_beside: list[Row] = [
+        (WAYS[way], *neighbour, MARK if is_noted else None)
+        for way, lots in beside.items()
+        for neighbour, is_noted in lots.items()
+    ]
+    links = genealogy.links_about(asked)
+    sheets = [
+        Sheet("tests", TESTS, test_rows(source.base, lot)),
+        Sheet("results", RESULTS, results_of(source.base, lot)),
+        Sheet("sublots", held, sublots),
+        Sheet("ledger", LEDGER, ledger),
+        Sheet("beside", BESIDE, lots_beside),
+    ]
+    if not any(is_noted for lots in beside.values() for is_noted in lots.values()):
+        sheets[-1] = sheets[-1].without("noted")
+    if links:
+        sheets.append(links_sheet(lots_of(source.base, {link.contained for link in links}), links))
+    about = {"owner": asked.owner, "material": lot.material, "unit": lot.measure, "comes from": lot.origin}
+    disposition = f"{pictures.SIGNS[lot.disposition.word]} {lot.disposition.word}"
+    sums = {**{kind.total: balance.amounts[kind] for kind in COUNTED}, "on hand": lot.on_hand}
+    if noted := noted_movements(source.register.of(asked.owner), lot, moves):
+        sheets.append(noted)
+    values = {
+        "facts": {**about, "disposition": disposition, "on hand": lot.on_hand},
+        "remarks": thing.remarks,
+        "balance": {**sums, "difference": balance.difference},
+        "measure": lot.measure,
+        "picture": picture(source, lot, beside),
+    }
+    return [Document("lot", asked.owner == HOUSE, f"Lot {asked.name}", sheets, values)]
+
+
+def neighbours(source: Source, genealogy: Genealogy, asked: LotId) -> dict[str, Beside]:
+    """The lots one step back and one step forward: those that are recorded, which `toll` tells too, and those by links
+    alone."""
+    recorded = {
+        way: {lot for lot in lots if lot != asked}
+        for way, lots in ((BACK, genealogy.recorded_backward(asked)), (FORWARD, genealogy.recorded_onward(asked)))
+    }
+    for way, lots in recorded.items() if source.newest_has(asked) else ():
+        lines = trace_of(source.newest.answer("trace", *asked, way))
+        answered = {LotId(line.owner, line.lot): 1 for line in lines if line.steps == 1}
+        agree_on_all(answered, {lot: 1 for lot in lots if source.is_one or lot in answered})
+    return {
+        way: {lot: lot not in recorded[way] for lot in lots if lot != asked}
+        for way, lots in ((BACK, genealogy.backward(asked)), (FORWARD, genealogy.onward(asked)))
+    }
+
+
+def picture(source: Source, lot: Lot, beside: dict[str, Beside]) -> list[str]:
+    """The lot between those that it was made of and those that it went into; nothing if there are too many."""
+    around = lots_of(source.base, {neighbour for lots in beside.values() for neighbour in lots})
+    if len(around) > MOST_BOXES:
+        return []
+    boxes, arrows = [box(lot, lot, 1, "asked")], []
+    for name, is_noted in beside[BACK].items():
+        boxes.append(box(around[name], lot, 0, f"back {name}"))
+        arrows.append(Arrow(boxes[-1].key, "asked", is_noted))
+    for name, is_noted in beside[FORWARD].items():
+        boxes.append(box(around[name], lot, 2, f"forth {name}"))
+        arrows.append(Arrow("asked", boxes[-1].key, is_noted))
+    return pictures.draw(boxes, arrows)
+
+
+def box(lot: Lot, asked: Lot, column: int, key: str) -> Box:
+    """The box of a lot. Of the plant's own lot an owner's card has its name and its material alone."""
+    if lot.id.owner != asked.id.owner and asked.id.owner != HOUSE:
+        return Box(key, column, lot.id.name, [lot.id.owner, lot.material], "plant")
+    lines = [lot.id.owner, lot.material, lot.disposition.word, f"{lot.on_hand:,} {lot.measure} on hand"]
+    return Box(key, column, lot.id.name, lines, lot.disposition.word, key == "asked")

@@ -1,0 +1,152 @@
+"""Papers as HTML, as PDF and as CSV: each is one template, which a browser shows and WeasyPrint prints."""
+import importlib.util
+import os
+import pathlib
+import signal
+from collections.abc import Sequence
+from dataclasses import dataclass, field
+from typing import Any
+
+from ..core.failure import Failure
+from ..core.scratch import ENDING, held_back
+from .longtables import LongTable, finisher
+from .pictures import SIGNS
+from .sheets import Sheet
+
+TEMPLATES = pathlib.Path(__file__).resolve().parent / "templates"
+LONG = 60  # rows; a table with more is set in lines on paper
+MOST_PRINTERS = 4
+
+
+@dataclass
+class Document:
+    """A paper: its template, whether the plant reads it, its title, its tables, which are beside it as CSV, what else
+    the template needs, the folder that it goes to, and other texts by their names."""
+
+    name: str
+    for_plant: bool
+    title: str
+    sheets: list[Sheet]
+    values: dict[str, Any]
+    folder: str = ""
+    texts: dict[str, str] = field(default_factory=dict)
+    is_across: bool = True  # whether its pages are wider than high, so that there is room for long tables
+
+    def page(self, footer: str, tables: dict[str, LongTable] | None = None) -> str:
+        """Its page. On paper its long tables have places, but for those that don't fit, which are set as others are."""
+        sheets = {sheet.name: sheet for sheet in self.sheets}
+        values = {"title": self.title, "is_plants": self.for_plant, "made": footer, "sheets": sheets, **self.values}
+        set_in_lines = {name: table for name, table in (tables or {}).items() if table.fits}
+        return render(self.name, values, set_in_lines, [name for name in tables or {} if name not in set_in_lines])
+
+    def long_tables(self) -> dict[str, LongTable]:
+        """Its tables that are long."""
+        if not self.is_across:
+            return {}
+        return {sheet.name: LongTable(sheet) for sheet in self.sheets if len(sheet.rows) > LONG}
+
+
+@dataclass
+class Job:
+    """A page to be printed, with its long tables, and the file of the PDF."""
+
+    text: str
+    tables: dict[str, LongTable]
+    target: pathlib.Path
+
+
+def require_printer() -> None:
+    """Fails if WeasyPrint isn't installed."""
+    if importlib.util.find_spec("weasyprint") is None:
+        raise Failure(
+            "WeasyPrint isn't here, which makes the PDF",
+            advice="the package hilpoven-papers brings it; --no-pdf makes pages and tables alone",
+        )
+
+
+def render(
+    name: str, values: dict[str, Any], tables: dict[str, LongTable] | None = None, wrapped: Sequence[str] = ()
+) -> str:
+    """A page of a template, with long tables that are set in lines, and those that are set in cells on paper too."""
+    import jinja2
+
+    loader = jinja2.FileSystemLoader(TEMPLATES)
+    environment = jinja2.Environment(
+        loader=loader, autoescape=True, undefined=jinja2.StrictUndefined, trim_blocks=True, lstrip_blocks=True
+    )
+    template = environment.get_template(f"{name}.html")
+    return template.render(long=LONG, signs=SIGNS, tables=tables or {}, wrapped=wrapped, **values)
+
+
+def write(documents: list[tuple[Document, str]], room: pathlib.Path, prints: bool) -> None:
+    """Writes papers with their footers below a folder."""
+    jobs = []
+    for document, footer in documents:
+        folder = room / document.folder
+        folder.mkdir(parents=True, exist_ok=True)
+        tables = {f"{sheet.name}.csv": sheet.csv() for sheet in document.sheets}
+        for name, text in {f"{document.name}.html": document.page(footer), **tables, **document.texts}.items():
+            (folder / name).write_text(text, encoding="utf-8", newline="")
+        if prints:
+            long = document.long_tables()
+            jobs.append(Job(document.page(footer, long), long, folder / f"{document.name}.pdf"))
+    if jobs:
+        print_all(jobs)
+
+
+def print_all(jobs: list[Job]) -> None:
+    """Prints pages, several in processes side by side."""
+    import multiprocessing
+
+    importlib.import_module("weasyprint")  # it takes a second, which no other command waits for
+    count = min(len(jobs), len(os.sched_getaffinity(0)), MOST_PRINTERS)
+    if count == 1:
+        print_share(jobs)
+        return
+    context, workers = multiprocessing.get_context("fork"), []
+    for at in range(count):
+        receiver, sender = context.Pipe(False)
+        workers.append((context.Process(target=work, args=(jobs[at::count], sender), daemon=True), receiver))
+    try:
+        for worker, _ in workers:
+            with held_back():
+                worker.start()
+        for worker, receiver in workers:
+            worker.join()
+            if worker.exitcode:
+                raise Failure(receiver.recv() if receiver.poll() else "a paper can't be printed")
+    finally:
+        for worker, _ in workers:
+            if worker.is_alive():
+                worker.kill()
+
+
+def work(jobs: list[Job], sender: Any) -> None:
+    """Prints a share of the pages in a process of its own, and sends why it can't."""
+    signal.pthread_sigmask(signal.SIG_UNBLOCK, ENDING)
+    try:
+        print_share(jobs)
+    except BaseException as error:
+        sender.send(error.message if isinstance(error, Failure) else f"a paper can't be printed: {error}")
+        os._exit(1)
+    os._exit(0)
+
+
+def print_share(jobs: list[Job]) -> None:
+    """Prints pages one after the other."""
+    import logging
+
+    import weasyprint
+
+    logging.getLogger("weasyprint").setLevel(logging.CRITICAL)
+    for job in jobs:
+        try:
+            page = weasyprint.HTML(string=job.text, url_fetcher=refuse_address)
+            page.write_pdf(job.target, finisher=finisher(job.tables))
+        except OSError as error:
+            raise Failure(f"{job.target.name} can't be written: {error.strerror or error}") from error
+
+
+def refuse_address(address: str) -> dict[str, Any]:
+    """A paper is complete in itself: nothing is fetched for it."""
+    raise ValueError(f"{address} isn't fetched")

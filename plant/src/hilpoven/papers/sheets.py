@@ -1,0 +1,163 @@
+"""Tables of papers: what is in their columns, and how they are written as CSV."""
+import re
+from collections.abc import Sequence
+from dataclasses import dataclass, replace
+from typing import NamedTuple
+
+from ..output import exports
+from ..records.days import format_day
+from ..records.rows import Base, Lot, tests_of
+
+Cell = str | int | None
+Row = tuple[Cell, ...]
+
+ACROSS = 757.0  # points: how wide a sheet of A4 is within its margins, across
+SIZE, SMALLER, PADDING = 9.0, 0.85, 0.85  # points of letters; of those beside or beneath; ems between columns
+FORM = re.compile(r"(\w+)(?:=([\w%]+))?(?::(\w+))?(?:@(\w+))?")
+LONGEST = 18  # letters of a word that isn't broken
+NOTED = "noted_"  # what the names of columns begin with that have what the plant noted
+WRAPPED = 14.0  # ems: how narrow a text becomes, which may take several lines
+
+
+def width_of(text: str, wraps: bool) -> float:
+    """How wide a text is, in ems, in letters as wide as those of DejaVu Sans."""
+    ems = sum(
+        0.34 if letter in " ,.:/" else 0.645 if letter.isdigit() else 0.76 if letter.isupper() else 0.63
+        for letter in text
+    )
+    return min(ems, WRAPPED) if wraps else ems
+
+
+@dataclass(frozen=True)
+class Column:
+    """A column: its name in CSV, its head on paper, and what is in it: a `name`, a `number`, a `day`, a `word` of a
+    disposition, or `text`. On paper it may be `beside` the column before it, or `beneath` it."""
+
+    name: str
+    title: str
+    kind: str = "name"
+    place: str = ""
+
+    def as_text(self, value: Cell) -> str:
+        """A value as it is on paper."""
+        if value is None or isinstance(value, str):
+            return value or ""
+        return format_day(value) if self.kind == "day" else f"{value:,}"
+
+
+def columns(text: str) -> list[Column]:
+    """Columns by their names, each with another head, `lot=of_lot`, a kind, `day:day`, or a place, `measure@beside`."""
+    made = []
+    for word in text.split():
+        match = FORM.fullmatch(word)
+        assert match, word
+        name, head, kind, place = match.groups()
+        made.append(Column(name, (head or name).replace("_", " "), kind or "name", place or ""))
+    return made
+
+
+def percent(part: int, whole: int) -> str:
+    """An amount in percent of another one, rounded to a tenth."""
+    tenths = (2000 * part + whole) // (2 * whole)
+    return f"{tenths // 10:,}.{tenths % 10}"
+
+
+TESTS = columns("test low=from:number high=to:number value=result:number day:day verdict:text")
+VERDICTS = {"within": "pass", "out": "does not pass", "missing": "no result"}
+
+
+def test_rows(base: Base, lot: Lot) -> list[Row]:
+    """The rows of `TESTS` of a lot."""
+    return [
+        (test.name, test.low, test.high, test.value, test.day, VERDICTS[test.limits]) for test in tests_of(base, lot)
+    ]
+
+
+class Printed(NamedTuple):
+    """A cell on paper: its kind, its text, and what is beside or beneath that."""
+
+    kind: str
+    text: str
+    more: list[tuple[str, str]]
+
+
+@dataclass
+class Sheet:
+    """A table of a paper."""
+
+    name: str
+    columns: list[Column]
+    rows: Sequence[Row]
+
+    @property
+    def has_notes(self) -> bool:
+        """Whether it has texts that the plant noted, which may be long, and of any letters."""
+        return any(column.name.startswith(NOTED) for column in self.columns)
+
+    def without(self, name: str) -> "Sheet":
+        """The same table without a column."""
+        kept = [at for at, column in enumerate(self.columns) if column.name != name]
+        rows = [tuple(row[at] for at in kept) for row in self.rows]
+        return replace(self, columns=[self.columns[at] for at in kept], rows=rows)
+
+    def csv(self) -> str:
+        """The table as CSV (RFC 4180), for a spreadsheet: its names are formulas of texts, which none changes."""
+        rows = [
+            [
+                exports.as_formula(cell)
+                if cell and isinstance(cell, str) and column.kind == "name"
+                else exports.as_cell(cell)
+                for column, cell in zip(self.columns, row)
+            ]
+            for row in self.rows
+        ]
+        return exports.csv_of([[column.name for column in self.columns], *rows], "\r\n")
+
+    def printed(self, signs: dict[str, str]) -> tuple[list[Printed], list[list[Printed]]]:
+        """The heads and the rows as they are on paper; a disposition with its sign."""
+        heads = [column.title if column.place != "beside" else "" for column in self.columns]
+        firsts = [at for at, column in enumerate(self.columns) if not column.place]
+        spans = [
+            (self.columns[first].kind, first, range(first + 1, behind))
+            for first, behind in zip(firsts, [*firsts[1:], len(self.columns)])
+        ]
+        lines = [heads, *(self.texts(row, signs) for row in self.rows)]
+        cells = [
+            [
+                Printed(
+                    self.kind_on_paper(kind, [line[first], *(line[at] for at in more)]),
+                    line[first],
+                    [(self.columns[at].place, line[at]) for at in more if line[at]],
+                )
+                for kind, first, more in spans
+            ]
+            for line in lines
+        ]
+        return cells[0], cells[1:]
+
+    def kind_on_paper(self, kind: str, texts: list[str]) -> str:
+        """The kind of a cell, which is `broken` besides if a word that the plant noted is too long for a line of it."""
+        longest = max((len(word) for text in texts for word in text.split()), default=0)
+        return f"{kind} broken" if self.has_notes and longest > LONGEST else kind
+
+    def size(self) -> float:
+        """The size of letters in points by which the table fits on a sheet across."""
+        lines = [[column.title for column in self.columns], *(self.texts(row, {}) for row in self.rows)]
+        widths = [
+            max(width_of(line[at], column.kind == "text") for line in lines) * (SMALLER if column.place else 1)
+            for at, column in enumerate(self.columns)
+        ]
+        ems = 0.0
+        for at, column in enumerate(self.columns):
+            before = widths[at - 1] if column.place else 0
+            ems += max(0, widths[at] - before) if column.place == "beneath" else widths[at] + PADDING
+        return min(SIZE, ACROSS / ems) if ems else SIZE
+
+    def texts(self, row: Row, signs: dict[str, str] | None = None) -> list[str]:
+        """What is in the columns of a row, a disposition with its sign if there are signs."""
+        return [
+            column.as_text(cell)
+            if signs is None or not cell or column.kind != "word"
+            else f"{signs.get(str(cell), '+')} {cell}"
+            for column, cell in zip(self.columns, row)
+        ]

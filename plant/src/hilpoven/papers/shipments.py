@@ -1,0 +1,78 @@
+"""Shipments as papers for those who get them name them, and the delivery note."""
+from collections.abc import Sequence
+
+from ..core.failure import REFUSED, Failure
+from ..core.nearest import nearest
+from ..records.days import format_day
+from ..records.rows import LotId, Move, lots_of, read_moves, require_owner
+from ..records.schema import Kind
+from ..register.store import Register
+from .agreement import check_lots
+from .copies import Source
+from .printing import Document
+from .recipients import facts_of, party_of
+from .sheets import Row, Sheet, columns
+
+SHIPMENTS = f"m.owner = ? AND m.kind = {Kind.SHIP:d}"
+HEADS = columns("day:day key lot sublot material amount=shipped:number measure=unit:text@beside")
+
+
+def require_shipment(source: Source, owner: str, key: str, lot: LotId | None = None) -> Move:
+    """A shipment of an owner, or of one of its lots; fails if there is none."""
+    moves = [move for move in read_moves(source.base, SHIPMENTS, (owner,)) if lot in (None, move.lot)]
+    for move in moves:
+        if move.key == key:
+            return move
+    whose = str(lot) if lot else owner
+    names = [move.key for move in moves]
+    raise Failure(f"there is no shipment {key} of {whose}", REFUSED, nearest(key, names, f"shipments of {whose}"))
+
+
+def noted_of(register: Register, move: Move) -> dict[str, str]:
+    """The recipient and the document of a shipment, as far as they are noted."""
+    facts, party = facts_of(register, move), party_of(register, move)
+    noted = {
+        "recipient": party.name or party.party,
+        "address": party.address,
+        "contact": party.contact,
+        "phone": party.phone,
+        "document": facts.document,
+    }
+    return {name: text for name, text in noted.items() if text}
+
+
+def of_certificate(source: Source, lot: LotId, measure: str, key: str) -> tuple[dict[str, str], bool]:
+    """A shipment of a lot as a certificate names it, and whether any of it is noted by the plant."""
+    move = require_shipment(source, lot.owner, key, lot)
+    noted = noted_of(source.register.of(lot.owner), move)
+    shown = {name: text for name, text in noted.items() if name in ("recipient", "address", "document")}
+    return {"shipped": f"{move.amount:,} {measure}", "on": format_day(move.day), **shown}, bool(shown)
+
+
+def documents(source: Source, owner: str, keys: Sequence[str]) -> list[Document]:
+    """The delivery note of shipments of an owner, which all go to one recipient and have one document."""
+    require_owner(source.base, owner)
+    moves = [require_shipment(source, owner, key) for key in dict.fromkeys(keys)]
+    register = source.register.of(owner)
+    for move in moves[1:]:
+        require_same(register, moves[0], move)
+    lots = lots_of(source.base, {move.lot for move in moves})
+    check_lots(source, lots.values())
+    rows: list[Row] = []
+    for move in moves:
+        lot = lots[move.lot]
+        rows.append((move.day, move.key, lot.id.name, move.sublot, lot.material, move.amount, lot.measure))
+    noted = noted_of(register, moves[0])
+    values = {"facts": {"owner": owner, **noted}, "is_noted": bool(noted)}
+    title = f"Delivery note {noted.get('document', '')}".strip()
+    return [Document("delivery", False, title, [Sheet("shipments", HEADS, rows)], values, is_across=False)]
+
+
+def require_same(register: Register, first: Move, other: Move) -> None:
+    """Fails if two shipments don't go to the same recipient with the same document."""
+    one, another = facts_of(register, first), facts_of(register, other)
+    for what, is_same in (("recipient", one.party == another.party), ("document", one.document == another.document)):
+        if not is_same:
+            raise Failure(
+                f"{other.key} hasn't the {what} of {first.key}, so they have no delivery note together", REFUSED
+            )

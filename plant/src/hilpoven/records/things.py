@@ -1,0 +1,202 @@
+"""One thing with all about it, as `hilpoven show` prints it."""
+import json
+import sqlite3
+from collections.abc import Iterable
+from dataclasses import dataclass, field
+
+from .. import HOUSE
+from ..core.failure import REFUSED, Failure, printable
+from ..core.forms import BATCH
+from ..core.nearest import nearest
+from ..output.table import Row, Value, formatted, print_table
+from ..register.movements import with_facts
+from ..register.notes import Link
+from ..register.store import Register
+from .genealogy import Genealogy
+from .rows import BatchId, LotId
+from .schema import BATCH_NAME, CLOSED, IS_ACTUAL, IS_INCOMING, IS_OUTGOING, STANDING, VOID, Kind, Role, State
+from .schema import REQUIREMENTS, TESTS
+from .tables import LISTINGS
+
+Base = sqlite3.Connection
+PLURALS = {"batch": "batches"}
+NOTED = "noted by the plant"
+NOTHING_NOTED = Register()
+LINK_COLUMNS = ["owner", "lot", "batch", "contains", "of owner", "of lot", "why", "reason"]
+
+
+@dataclass
+class Thing:
+    """What is shown of a thing: a title, facts, tables, and remarks at the end."""
+
+    title: str
+    facts: dict[str, Value] = field(default_factory=dict)
+    tables: dict[str, tuple[list[str], list[Row]]] = field(default_factory=dict)
+    remarks: list[str] = field(default_factory=list)
+
+    def add(self, name: str, cursor: sqlite3.Cursor) -> list[Row]:
+        """Adds a table, with the columns of a query."""
+        rows: list[Row] = [tuple(row) for row in cursor.fetchall()]
+        self.tables[name] = ([column[0].replace("_", " ") for column in cursor.description], rows)
+        return rows
+
+    def add_links(self, links: Iterable[Link]) -> None:
+        """Adds a table of links, if there are some."""
+        if rows := [link_row(link) for link in links]:
+            self.tables[NOTED] = (LINK_COLUMNS, rows)
+
+    def print(self) -> None:
+        """Prints it for people."""
+        print(printable(self.title))
+        for name, value in self.facts.items():
+            print(printable(f"  {name}: {formatted(value)}"))
+        for name, (columns, rows) in self.tables.items():
+            print()
+            if rows:
+                print_table(columns, rows, name)
+            else:
+                print(f"{name}: none")
+        if self.remarks:
+            print("\n" + "\n".join(map(printable, self.remarks)))
+
+    def as_json(self) -> str:
+        """The same for a program."""
+        tables = {name: [dict(zip(columns, row)) for row in rows] for name, (columns, rows) in self.tables.items()}
+        return json.dumps({"title": self.title, **self.facts, **tables, "remarks": self.remarks}, indent=2)
+
+
+def link_row(link: Link) -> Row:
+    """The row of a link, with `LINK_COLUMNS`."""
+    lot, batch = (link.lot, None) if link.lot else (None, f"{link.order}/{link.batch}")
+    return link.owner, lot, batch, link.amount, link.of_owner, link.of_lot, link.why.value, link.reason
+
+
+def row_of(base: Base, sql: str, words: tuple[str, ...], what: str, names: str) -> Row:
+    """The row of a thing; fails with the nearest names if there is none."""
+    row = base.execute(sql, words).fetchone()
+    if row is None:
+        known = [str(name) for name, in base.execute(names, words[:-1])]
+        advice = nearest(words[-1], known, PLURALS.get(what, f"{what}s"))
+        raise Failure(f"there is no {what} {' '.join(words)}", REFUSED, advice)
+    return tuple(row)
+
+
+def require_owner(base: Base, owner: str) -> None:
+    """Fails where an owner isn't there."""
+    if owner != HOUSE:
+        row_of(base, "SELECT 1 FROM owners WHERE owner = ?", (owner,), "owner", "SELECT owner FROM owners")
+
+
+SUBLOTS = "SELECT sublot, amount FROM sublots WHERE owner = :owner AND lot = :lot ORDER BY sublot"
+LEDGER = f"""
+SELECT m.owner, m.mkey AS key, {Kind.sql('m.kind')} AS kind, m.sublot, m.target, {BATCH_NAME} AS batch, m.day,
+  CASE WHEN {IS_INCOMING} THEN m.amount END AS [in], CASE WHEN {IS_OUTGOING} THEN m.amount END AS out,
+  CASE m.kind WHEN {Kind.SPLIT:d} THEN m.amount END AS moved, {VOID} AS void,
+  sum(CASE WHEN NOT ({STANDING}) THEN 0 WHEN {IS_INCOMING} THEN m.amount WHEN {IS_OUTGOING} THEN -m.amount ELSE 0 END)
+    OVER (ORDER BY m.rowid) AS balance
+FROM moves AS m WHERE m.lot_owner = :owner AND m.lot = :lot ORDER BY m.rowid
+"""
+
+
+def lot(base: Base, owner: str, name: str, register: Register = NOTHING_NOTED) -> Thing:
+    """A lot: its tests with limits and latest results, what is missing for its release, its sublots and its ledger."""
+    require_owner(base, owner)
+    columns = ["owner", "lot", *list(LISTINGS["lots"].columns)[2:]]
+    sql = f"SELECT * FROM ({LISTINGS['lots'].sql()}) WHERE owner = ? AND lot = ?"
+    facts = dict(zip(columns, row_of(base, sql, (owner, name), "lot", "SELECT lot FROM lots WHERE owner = ?")))
+    thing = Thing(f"lot {name} of {owner}", {column.replace("_", " "): facts[column] for column in columns[2:]})
+    words = {"owner": owner, "lot": name, "material": facts["material"]}
+    tests = thing.add("tests", base.execute(TESTS, words))
+    thing.add("sublots", base.execute(SUBLOTS, words))
+    thing.add("ledger", base.execute(LEDGER, words))
+    heads, rows = with_facts(*thing.tables["ledger"], register.facts)
+    thing.tables["ledger"] = [head.replace("_", " ") for head in heads], rows
+    thing.add_links(Genealogy(base, register.links).links_about(LotId(owner, name)))
+    thing.remarks = release_of(owner, name, str(facts["disposition"]), tests)
+    return thing
+
+
+def release_of(owner: str, name: str, disposition: str, tests: list[Row]) -> list[str]:
+    """What is missing for the release of a lot, or how it is released."""
+    if disposition != "quarantined":
+        return [f"It is {disposition}{' for good' if disposition == 'rejected' else ''}."]
+    missing = [
+        f"  {test}: no result yet; the limits are {formatted(low)} to {formatted(high)}"
+        if limits == "missing"
+        else f"  {test}: the latest result, {formatted(latest)}, is out of {formatted(low)} to {formatted(high)}"
+        for test, low, high, latest, _, _, limits in tests
+        if limits != "within"
+    ]
+    if missing:
+        return ["Missing for its release:", *missing]
+    how = f": `hilpoven release {name}`" if owner == HOUSE else f", which {owner} gives over HTTP"
+    return [f"Nothing is missing for its release{how}."]
+
+
+ACTUALS = f"""
+SELECT m.mkey AS key, m.segment, {Kind.sql('m.kind')} AS use, m.material, m.lot_owner AS lot_owner, m.lot, m.sublot,
+  m.amount, m.day, {VOID} AS void
+FROM moves AS m WHERE m.owner = :owner AND m.ord = :order AND m.number = :batch AND {IS_ACTUAL} ORDER BY m.rowid
+"""
+BATCHES = f"SELECT number AS batch, unit, {State.sql('state')} AS state, {CLOSED} AS closed FROM batches AS b"
+RECIPE = f"""
+SELECT segment, {Role.sql('role')} AS use, source AS owner, material, amount FROM requirements
+WHERE owner = ? AND recipe = ? ORDER BY segment, role, source, material
+"""
+RUN_BY_UNIT = f"""
+SELECT owner, ord AS [order], number AS batch, {State.sql('state')} AS state, {CLOSED} AS closed FROM batches AS b
+WHERE unit = ? ORDER BY closed, rowid DESC
+"""
+
+
+def batch(base: Base, owner: str, order: str, number: str, register: Register = NOTHING_NOTED) -> Thing:
+    """A batch: its unit and state, what its recipe requires against what was recorded, and each actual."""
+    if fault := BATCH.fault(number):
+        raise Failure(f"BATCH: `{number}` {fault}", REFUSED)
+    recipe, *_ = row_of(
+        base,
+        "SELECT recipe FROM orders WHERE owner = ? AND ord = ?",
+        (owner, order),
+        "order",
+        "SELECT ord FROM orders WHERE owner = ?",
+    )
+    sql = f"{BATCHES} WHERE owner = ? AND ord = ? AND number = CAST(? AS INTEGER)"
+    _, unit, state, closed = row_of(
+        base, sql, (owner, order, number), "batch", "SELECT number FROM batches WHERE owner = ? AND ord = ?"
+    )
+    facts = {"recipe": recipe, "unit": unit, "state": state, "closed": closed}
+    thing = Thing(f"batch {order}/{number} of {owner}", facts)
+    words = {"owner": owner, "order": order, "batch": int(number), "recipe": recipe}
+    rows = thing.add("requirements", base.execute(REQUIREMENTS, words))
+    thing.add("actuals", base.execute(ACTUALS, words))
+    thing.add_links(Genealogy(base, register.links).links_in_batch(BatchId(owner, order, int(number))))
+    thing.remarks = [
+        f"{use} of {owner} {material} in segment {segment}: {formatted(actual)} of {formatted(required)} is recorded."
+        for segment, use, owner, material, required, actual in rows
+        if actual != required
+    ]
+    return thing
+
+
+def order(base: Base, owner: str, name: str) -> Thing:
+    """An order: its recipe with what that requires, and its batches."""
+    columns = list(LISTINGS["orders"].columns)
+    sql = f"SELECT * FROM ({LISTINGS['orders'].sql()}) AS o WHERE o.owner = ? AND o.[order] = ?"
+    facts = dict(zip(columns, row_of(base, sql, (owner, name), "order", "SELECT ord FROM orders WHERE owner = ?")))
+    thing = Thing(
+        f"order {name} of {owner}",
+        {"ordered" if column == "batches" else column: facts[column] for column in columns[2:]},
+    )
+    thing.add("batches", base.execute(f"{BATCHES} WHERE owner = ? AND ord = ? ORDER BY number", (owner, name)))
+    thing.add("recipe for each batch", base.execute(RECIPE, (owner, facts["recipe"])))
+    return thing
+
+
+def unit(base: Base, name: str) -> Thing:
+    """A unit: the batch that it runs, and those that it ran."""
+    row_of(base, "SELECT unit FROM units WHERE unit = ?", (name,), "unit", "SELECT unit FROM units")
+    thing = Thing(f"unit {name}")
+    rows = thing.add("batches", base.execute(RUN_BY_UNIT, (name,)))
+    running = [row for row in rows if row[4] == "open"]
+    thing.facts["runs"] = f"{running[0][0]} {running[0][1]}/{running[0][2]}, {running[0][3]}" if running else "nothing"
+    return thing

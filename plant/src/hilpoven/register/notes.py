@@ -1,0 +1,231 @@
+"""The notes of the register: what each says, and how it stands in a line of the journal."""
+import re
+from collections.abc import Callable
+from dataclasses import MISSING, asdict, dataclass, fields
+from typing import Any, ClassVar
+
+from .. import HOUSE
+from ..core.forms import AMOUNT, BATCH, NAME, TEXT
+from ..records.rows import BatchId, LotId
+from .kinds import Role as Role
+from .kinds import Why as Why
+
+NAME_OF_NOTE = re.compile(r"[0-9a-f]{16}(\.([2-9]|[1-9][0-9]{1,3}))?")
+
+
+@dataclass(frozen=True)
+class Note:
+    """What the plant notes for one owner."""
+
+    KIND: ClassVar[str]
+    owner: str
+
+    @property
+    def sentence(self) -> str:
+        """What it says, in words."""
+        raise NotImplementedError
+
+
+@dataclass(frozen=True)
+class Link(Note):
+    """A lot of the owner, or each lot that a batch of it makes, contains some of another lot, which is the owner's or
+    the plant's."""
+
+    KIND = "link"
+    lot: str  # empty where a batch stands for its lots
+    order: str
+    batch: int
+    of_owner: str
+    of_lot: str
+    why: Why
+    amount: int | None = None  # in the measure of the lot that is contained; `None` if it isn't known
+    reason: str = ""
+
+    @property
+    def container(self) -> LotId | BatchId:
+        """What contains it: a lot, or a batch that stands for its lots."""
+        return LotId(self.owner, self.lot) if self.lot else BatchId(self.owner, self.order, self.batch)
+
+    @property
+    def contained(self) -> LotId:
+        """The lot that is contained."""
+        return LotId(self.of_owner, self.of_lot)
+
+    @property
+    def sentence(self) -> str:
+        """What contains some of what, and why."""
+        kind = "lot" if self.lot else "batch"
+        amount = "some" if self.amount is None else f"{self.amount:,}"
+        why = f"{self.why}: {self.reason}" if self.reason else self.why
+        return f"{kind} {self.container} contains {amount} of lot {self.contained} ({why})"
+
+
+@dataclass(frozen=True)
+class Party(Note):
+    """A customer, a supplier or a carrier of an owner. The last note of a name counts."""
+
+    KIND = "party"
+    party: str
+    name: str
+    address: str = ""
+    contact: str = ""
+    phone: str = ""
+    roles: tuple[Role, ...] = ()
+
+    @property
+    def sentence(self) -> str:
+        """Who it is, and how it is reached."""
+        told = [self.name, *self.roles, self.address, self.contact, self.phone]
+        return f"party {self.party} of {self.owner}: {', '.join(filter(None, told))}"
+
+
+@dataclass(frozen=True)
+class MovementFacts(Note):
+    """What is known of a receipt or a shipment: the party that sent or gets it, the supplier's name of the lot, and the
+    document that came or went with it. Of several notes the last one that says something counts, member by member."""
+
+    KIND = "movement"
+    key: str
+    party: str = ""
+    supplier_lot: str = ""
+    document: str = ""
+
+    @property
+    def sentence(self) -> str:
+        """Which movement, and what is known of it."""
+        told = {"party": self.party, "the supplier's lot": self.supplier_lot, "document": self.document}
+        facts = ", ".join(f"{name} {value}" for name, value in told.items() if value)
+        return f"movement {self.key} of {self.owner}: {facts}"
+
+
+@dataclass(frozen=True)
+class NotLinked(Note):
+    """A receipt looks as if a trace ended there, and doesn't."""
+
+    KIND = "not-linked"
+    key: str
+
+    @property
+    def sentence(self) -> str:
+        """Which receipt."""
+        return f"receipt {self.key} of {self.owner} contains no lot that was here before"
+
+
+@dataclass(frozen=True)
+class Withdrawal(Note):
+    """A note doesn't hold, for a reason."""
+
+    KIND = "withdrawal"
+    of: str  # the name of the note
+    reason: str
+
+    @property
+    def sentence(self) -> str:
+        """Which note, and why."""
+        return f"note {self.of} of {self.owner} doesn't hold: {self.reason}"
+
+
+@dataclass(frozen=True)
+class DrillStart(Note):
+    """A drill begins: what became of a lot is to be found, as in a recall."""
+
+    KIND = "drill-start"
+    lot: str
+
+    @property
+    def sentence(self) -> str:
+        """Over which lot."""
+        return f"a drill over lot {LotId(self.owner, self.lot)} begins"
+
+
+@dataclass(frozen=True)
+class DrillEnd(Note):
+    """A drill ends."""
+
+    KIND = "drill-end"
+    of: str  # the name of the note with which it began
+
+    @property
+    def sentence(self) -> str:
+        """Which drill."""
+        return f"the drill {self.of} ends"
+
+
+ALL: tuple[type[Note], ...] = (Link, Party, MovementFacts, NotLinked, Withdrawal, DrillStart, DrillEnd)
+KINDS = {it.KIND: it for it in ALL}
+
+
+def to_json(note: Note) -> dict[str, Any]:
+    """A note as a member of a line of the journal; what is empty is left out."""
+    return {"kind": note.KIND, **{name: value for name, value in asdict(note).items() if value}}
+
+
+def is_name(value: Any) -> bool:
+    """Whether a value is a name of `toll`'s form."""
+    return isinstance(value, str) and not NAME.fault(value)
+
+
+def is_text(value: Any) -> bool:
+    """Whether a value may be a text of a note."""
+    return isinstance(value, str) and not TEXT.fault(value)
+
+
+def is_number(form: Callable[[str], str]) -> Callable[[Any], bool]:
+    """Whether a value is a whole number for which a form has no fault."""
+    return lambda value: type(value) is int and not form(str(value))
+
+
+# What each member may be, by its name; any other is a text.
+MEMBERS: dict[str, Callable[[Any], bool]] = {
+    **{name: is_name for name in ("owner", "lot", "order", "of_owner", "of_lot", "party", "key")},
+    "batch": is_number(BATCH.fault),
+    "amount": is_number(AMOUNT.fault),
+    "of": lambda value: isinstance(value, str) and NAME_OF_NOTE.fullmatch(value) is not None,
+}
+# What a member is where the note says nothing of it, and its kind demands one.
+EMPTY: dict[str, Any] = {"lot": "", "order": "", "batch": 0}
+
+
+def from_json(value: Any) -> Note | None:
+    """The note that a member of a line of the journal is; `None` if it is none, or of a kind that isn't known."""
+    kind = KINDS.get(str(value.get("kind"))) if isinstance(value, dict) else None
+    if kind is None:
+        return None
+    members = {name: it for name, it in value.items() if name != "kind"}
+    known = {it.name: it for it in fields(kind)}
+    if members.keys() - known.keys():
+        return None
+    try:
+        for name, member in members.items():
+            members[name] = read_member(name, member)
+    except ValueError:
+        return None
+    missing = {name for name, it in known.items() if it.default is MISSING and name not in members}
+    if missing - EMPTY.keys():
+        return None
+    note = kind(**{**{name: EMPTY[name] for name in missing}, **members})
+    return note if is_whole(note) else None
+
+
+def read_member(name: str, value: Any) -> Any:
+    """A member of a note in its type; fails with ValueError if it can't be one."""
+    if name == "why":
+        return Why(value)
+    if name == "roles":
+        if not isinstance(value, list):
+            raise ValueError("roles are a list")
+        return tuple(map(Role, value))
+    if not MEMBERS.get(name, is_text)(value):
+        raise ValueError(f"{name} is none")
+    return value
+
+
+def is_whole(note: Note) -> bool:
+    """Whether a note says all that its kind has to: a link is of a lot or of a batch, and of no third owner's lot."""
+    if isinstance(note, DrillStart):
+        return note.lot != ""
+    if not isinstance(note, Link):
+        return True
+    is_of_lot, is_of_batch = note.lot != "", note.order != "" and note.batch > 0
+    is_one = is_of_lot != is_of_batch and not (is_of_lot and (note.order or note.batch))
+    return is_one and note.of_owner in (note.owner, HOUSE) and note.container != note.contained

@@ -1,0 +1,228 @@
+"""Which notes stand, and what the things that they are about are called in a file of the office, or over all files.
+
+A name in a note means what the office's file had by it when the note was made, or else its newest earlier file that has
+it. What went on into later files keeps its notes; another thing that has the name there has none of them.
+"""
+import contextlib
+import sqlite3
+from collections.abc import Callable, Iterator, Sequence
+from dataclasses import dataclass, replace
+
+from ..core.grammar import LINES
+from ..journal.log import Journal
+from ..years import chain
+from ..years.earlier import CAME_OVER, MOVE, move_of
+from ..years.history import History
+from . import file
+from .folding import Folded, Noted
+from .notes import Link, MovementFacts, NotLinked, Note, Party, Withdrawal, from_json
+from .store import Register
+
+Base = sqlite3.Connection
+HAS_LOT = "SELECT 1 FROM lots WHERE owner = ? AND lot = ?"
+HAS_BATCH = "SELECT 1 FROM batches WHERE owner = ? AND ord = ? AND number = ?"
+HAS_KEY = "SELECT 1 FROM moves WHERE owner = ? AND mkey = ?"
+MADE = "SELECT lot FROM lots WHERE owner = ? AND ord = ? AND number = ?"
+OF_ALL_FILES = (Party, Withdrawal)  # which name nothing that a file has
+AGAIN = "SELECT called FROM again WHERE kind = ? AND file = ? AND owner = ? AND name = ?"
+
+
+@dataclass(frozen=True)
+class OfficeFile:
+    """A file of an office: which earlier one it came from, empty for the first, and its tables."""
+
+    after: str
+    base: Base
+
+
+@dataclass(frozen=True)
+class Status:
+    """A note of the journal, what it is (`None` if it can't be read), and why it doesn't stand (empty if it does)."""
+
+    noted: Noted
+    note: Note | None
+    fault: str = ""
+
+
+@contextlib.contextmanager
+def files_of(journal: Journal, newest: Base) -> Iterator[list[OfficeFile]]:
+    """The files of an office, the oldest first; the newest is given."""
+    came = chain.came_from(newest)
+    after = ""
+    with contextlib.ExitStack() as stack:
+        files = []
+        for part in chain.earlier_files(journal.file, came):
+            files.append(OfficeFile(after, stack.enter_context(chain.reading(part.path))))
+            after = part.name
+        yield [*files, OfficeFile(after, newest)]
+
+
+def statuses(folded: Folded, journal: Journal, files: Sequence[OfficeFile]) -> list[Status]:
+    """Each note about an office's file, and whether it stands, in the order in which they were noted."""
+    by_after = {it.after: it for it in files}
+    found: list[Status] = []
+    withdrawn: dict[str, tuple[str, str]] = {}
+    for noted in reversed(folded.belonging(journal)):
+        note = from_json(noted.value)
+        fault = "can't be read" if note is None else fault_of(noted, note, folded, by_after.get(noted.after))
+        if note and withdrawn.get(noted.name, ("",))[0] == note.owner:
+            fault = f"withdrawn: {withdrawn[noted.name][1]}"
+        if isinstance(note, Withdrawal) and not fault:
+            withdrawn[note.of] = (note.owner, note.reason)
+        found.append(Status(noted, note, fault))
+    return found[::-1]
+
+
+def fault_of(noted: Noted, note: Note, folded: Folded, office_file: OfficeFile | None) -> str:
+    """Why a note doesn't stand that nobody withdrew; empty if it does."""
+    if noted.is_own and (office_file or isinstance(note, OF_ALL_FILES)):
+        return ""
+    if office_file is None:
+        return "about a file that isn't in use"
+    is_done = folded.answers.get(noted.line)
+    if is_done is False:
+        return "its command was refused"
+    movement = movement_of(noted.words)
+    if movement is None:
+        return "" if is_done else "its command has no answer"
+    owner, key, row = movement
+    is_there = office_file.base.execute(MOVE, (owner, key)).fetchone() == row
+    return "" if is_there else "its movement isn't there"
+
+
+def movement_of(words: Sequence[str]) -> tuple[str, str, tuple[str | int, ...]] | None:
+    """The owner, the key and the row of the movement that a command records; `None` if it records none."""
+    line = LINES.get(words[0]) if words else None
+    if line is None or len(words) != len(line.values) + 1:
+        return None
+    values = dict(zip(line.values, words[1:]))
+    row = move_of(line, values)
+    return None if row is None else (values["OWNER"], values["KEY"], row)
+
+
+# What a thing of one of the files is called where the notes are read; empty if it isn't there.
+Naming = Callable[[str, int, str, str], str]
+
+
+def went_on(files: Sequence[OfficeFile]) -> Naming:
+    """The names of an office's newest file, in which lots are that came over, and orders and keys of its own."""
+
+    def name_there(kind: str, at: int, owner: str, name: str) -> str:
+        later = files[at + 1 :]
+        if kind == "lot":
+            return name if all(it.base.execute(CAME_OVER, (owner, name)).fetchone() for it in later) else ""
+        return "" if later else name
+
+    return name_there
+
+
+def called(whole: Base) -> Naming:
+    """The names of things over all files of an office."""
+
+    def name_there(kind: str, at: int, owner: str, name: str) -> str:
+        row = whole.execute(AGAIN, (kind, at + 1, owner, name)).fetchone()
+        return str(row[0]) if row else name
+
+    return name_there
+
+
+@dataclass(frozen=True)
+class Reader:
+    """How notes are read: over which files, and by which names."""
+
+    files: Sequence[OfficeFile]
+    naming: Naming
+
+    def place(self, after: str, sql: str, *words: str | int) -> int | None:
+        """The file that a name means: the newest one up to the note's own in which a query finds it."""
+        own = next(at for at, it in enumerate(self.files) if it.after == after)
+        return next((at for at in range(own, -1, -1) if self.files[at].base.execute(sql, words).fetchone()), None)
+
+    def lot(self, after: str, owner: str, lot: str) -> str:
+        """What a lot is called."""
+        at = self.place(after, HAS_LOT, owner, lot)
+        return "" if at is None else self.naming("lot", at, owner, lot)
+
+    def key(self, after: str, owner: str, key: str) -> str:
+        """What the key of a movement is called."""
+        at = self.place(after, HAS_KEY, owner, key)
+        return "" if at is None else self.naming("key", at, owner, key)
+
+    def links(self, after: str, link: Link) -> Iterator[Link]:
+        """A link as it is read: that of a batch of another file is one of each lot that it made there."""
+        of_lot = self.lot(after, link.of_owner, link.of_lot)
+        if not of_lot:
+            return
+        link = replace(link, of_lot=of_lot)
+        if link.lot:
+            lot = self.lot(after, link.owner, link.lot)
+            yield from [replace(link, lot=lot)] if lot else []
+            return
+        at = self.place(after, HAS_BATCH, link.owner, link.order, link.batch)
+        if at is None:
+            return
+        order = self.naming("order", at, link.owner, link.order)
+        if order:
+            yield replace(link, order=order)
+            return
+        for (lot,) in self.files[at].base.execute(MADE, (link.owner, link.order, link.batch)).fetchall():
+            if name := self.naming("lot", at, link.owner, lot):
+                yield replace(link, lot=name, order="", batch=0)
+
+    def add(self, register: Register, after: str, note: Note) -> None:
+        """Adds a note that stands, other than a link."""
+        match note:
+            case Party():
+                register.parties[note.owner, note.party] = note
+            case MovementFacts():
+                if key := self.key(after, note.owner, note.key):
+                    before = register.facts.get((note.owner, key))
+                    register.facts[note.owner, key] = joined(before, replace(note, key=key))
+            case NotLinked():
+                if key := self.key(after, note.owner, note.key):
+                    register.not_linked.add((note.owner, key))
+
+
+def joined(before: MovementFacts | None, facts: MovementFacts) -> MovementFacts:
+    """The facts of a movement with those of an earlier note, for what the later one doesn't say."""
+    if before is None:
+        return facts
+    return replace(
+        facts,
+        party=facts.party or before.party,
+        supplier_lot=facts.supplier_lot or before.supplier_lot,
+        document=facts.document or before.document,
+    )
+
+
+@contextlib.contextmanager
+def reader_of(journal: Journal, newest: Base, whole: Base | None) -> Iterator[Reader]:
+    """How notes are read by the names of the newest file, or by those over all files."""
+    with files_of(journal, newest) as files:
+        yield Reader(files, went_on(files) if whole is None else called(whole))
+
+
+def read(journal: Journal, newest: Base, whole: Base | None = None) -> Register:
+    """The notes that stand, by the names of the newest file, or by those over all files."""
+    folded, register, links = file.notes_of(journal), Register(), dict[Link, None]()
+    if not folded.notes:
+        return register
+    with reader_of(journal, newest, whole) as reader:
+        for status in statuses(folded, journal, reader.files):
+            if isinstance(status.note, Link) and not status.fault:
+                links.update(dict.fromkeys(reader.links(status.noted.after, status.note)))
+            elif status.note and not status.fault:
+                reader.add(register, status.noted.after, status.note)
+    register.links.extend(links)
+    return register
+
+
+def standing(journal: Journal, base: Base) -> Register:
+    """The notes that stand, of an office of whose file this is a copy."""
+    return read(journal, base)
+
+
+def standing_over_all(journal: Journal, history: History) -> Register:
+    """The notes that stand, by the names that things have over all files of an office."""
+    with chain.reading(history.copy) as newest:
+        return read(journal, newest, history.base)

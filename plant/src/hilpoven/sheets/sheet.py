@@ -1,0 +1,185 @@
+"""A sheet: its header, its records, and what is refused of it."""
+import re
+from collections.abc import Iterable, Iterator, Sequence
+from dataclasses import dataclass, field
+from typing import NamedTuple
+
+from ..core.failure import printable
+from ..output.exports import csv_of
+from .cells import MOST_LETTERS, Cell, Table, shortened
+from .values import CAPITALS, Kind, Refused, letters
+
+NOTHING = Cell("")
+
+
+class Finding(NamedTuple):
+    """What is to be said of a row, of a place in it (from 1; 0 is none), or of the value of a column there."""
+
+    row: int
+    place: int
+    words: str
+    column: str = ""
+
+    def __str__(self) -> str:
+        place = f", column {letters(self.place)}" if self.place else ""
+        return printable(f"row {self.row}{place}{f' ({self.column})' if self.column else ''}: {self.words}")
+
+
+class Record(NamedTuple):
+    """A row of the sheet, by its number, with its values as `toll` reads them, and those that are noted with it."""
+
+    row: int
+    values: dict[str, str]
+    noted: dict[str, str] = {}
+
+
+@dataclass
+class Asked:
+    """What is asked for of a sheet: traps by their columns, hidden rows, capitals, columns that are left out, the
+    header's row, and columns that it may not lack though `toll` takes none of them."""
+
+    traps: dict[str, list[str]] = field(default_factory=dict)
+    hidden: bool = False
+    capitals: bool = False
+    ignored: list[str] = field(default_factory=list)
+    header_row: int = 0  # 0 is the first that isn't empty
+    required: list[str] = field(default_factory=list)
+
+    def takes(self, trap: str, column: str) -> bool:
+        """Whether a value in a trap is taken."""
+        return self.capitals if trap == CAPITALS else column in self.traps.get(trap, [])
+
+
+def column_of(text: str) -> str:
+    """The column that a header names: capitals, blanks and dashes don't matter."""
+    return re.sub(r"[\s_-]+", "_", text.replace("\ufeff", "").strip().lower())
+
+
+def likeness(kind: Kind, cells: Iterable[Cell]) -> int:
+    """How many of a kind's columns a row names."""
+    return len(set(kind.columns) & {column_of(it.text) for it in cells})
+
+
+def runs(numbers: Iterable[int]) -> list[list[int]]:
+    """The numbers as runs of those that follow each other, each by its first and its last."""
+    spans: list[list[int]] = []
+    for number in sorted(numbers):
+        if spans and spans[-1][1] == number - 1:
+            spans[-1][1] = number
+        else:
+            spans.append([number, number])
+    return spans
+
+
+def hidden_of(table: Table) -> Iterator[Finding]:
+    """What of the table holds something and is hidden, as by a filter: another owner's records may stand there."""
+    filled = {row for row, _ in table.rows}
+    for first, last in runs(table.hidden_rows & filled):
+        yield Finding(first, 0, "it is hidden" if first == last else f"it and those down to row {last} are hidden")
+    columns = (
+        {place for _, cells in table.rows for place, it in enumerate(cells, 1) if not it.is_empty()}
+        if table.hidden_columns
+        else set()
+    )
+    yield from (
+        Finding(table.rows[0][0], place, "its column is hidden") for place in sorted(columns & table.hidden_columns)
+    )
+
+
+class Sheet:
+    """The records of a table's rows below its header; what is wrong with the sheet as a whole, what is refused of its
+    rows, and what was asked for."""
+
+    def __init__(self, table: Table, kind: Kind, asked: Asked) -> None:
+        self.kind, self.asked = kind, asked
+        self.records: list[Record] = []
+        self.wrong: list[Finding] = []
+        self.refused: list[Finding] = []
+        self.let: list[Finding] = []
+        for finding in hidden_of(table):
+            words = f"{finding.words}; " + ("taken all the same" if asked.hidden else "--hidden takes it")
+            (self.let if asked.hidden else self.wrong).append(finding._replace(words=words))
+        rows = [it for it in table.rows if it[0] >= asked.header_row]
+        if not rows or not likeness(kind, rows[0][1]) or asked.header_row not in (0, rows[0][0]):
+            row = asked.header_row or (rows[0][0] if rows else 1)
+            self.wrong.append(Finding(row, 0, f"there is no header, which is {','.join(kind.columns)}"))
+            return
+        self.header(*rows[0])
+        for row, cells in rows[1:]:
+            self.record(row, cells)
+        if len(rows) == 1:
+            self.wrong.append(Finding(rows[0][0], 0, "there is no row under the header"))
+
+    def header(self, row: int, cells: list[Cell]) -> None:
+        """Where each column stands, which columns have a header, and what is wrong with it."""
+        self.places: dict[str, int] = {}
+        self.headed: set[int] = set()
+        for place, cell in enumerate(cells, 1):
+            column = column_of(cell.text)
+            if not cell.is_empty():
+                self.headed.add(place)
+            if column in self.asked.ignored:
+                continue
+            if column in self.places:
+                self.wrong.append(Finding(row, place, f"{column} stands there twice"))
+            elif column in self.kind.readings:
+                self.places[column] = place
+            elif not cell.is_empty():
+                count = {12: "twelve", 7: "seven", 6: "six", 5: "five"}[len(self.kind.columns)]
+                text = shortened(cell.text.strip())
+                self.wrong.append(Finding(row, place, f"{text!r} is none of the {count} columns"))
+        missing = [it for it in [*self.kind.columns, *self.asked.required] if it not in self.places]
+        if missing:
+            self.wrong.append(Finding(row, 0, f"the header lacks {', '.join(missing)}"))
+
+    def record(self, row: int, cells: list[Cell]) -> None:
+        """Notes a row's values, or what is refused of them."""
+        placed, count = dict(enumerate(cells, 1)), len(self.refused)
+        values, noted = (
+            {
+                column: self.value(row, column, placed.get(self.places[column], NOTHING))
+                for column in columns
+                if column in self.places
+            }
+            for columns in (self.kind.columns, self.kind.noted)
+        )
+        self.refused += [
+            Finding(row, place, "it has no header above it")
+            for place, cell in placed.items()
+            if not cell.is_empty() and place not in self.headed
+        ]
+        if len(self.refused) == count:
+            self.records.append(Record(row, values, {column: text for column, text in noted.items() if text}))
+
+    def value(self, row: int, column: str, cell: Cell) -> str:
+        """The value as it is written, where it can be."""
+        place = self.places[column]
+        try:
+            if cell.is_empty() and column in self.kind.noted and column not in self.asked.required:
+                return ""
+            if cell.is_empty():
+                raise Refused("it is empty")
+            if cell.strange:
+                raise Refused(f"it is {shortened(cell.strange, MOST_LETTERS)}")
+            if len(cell.text) > MOST_LETTERS or len(cell.shown or "") > MOST_LETTERS:
+                raise Refused(f"it has more than {MOST_LETTERS:,} letters")
+            value = self.kind.readings[column](cell)
+        except Refused as why:
+            self.refused.append(Finding(row, place, str(why), column))
+            return ""
+        if value.trap:
+            is_asked = self.asked.takes(value.trap, column)
+            option = "--capitals" if value.trap == CAPITALS else f"--{value.trap} {column}"
+            words = f"{value.words}; " + ("taken" if is_asked else f"{option} takes it") + value.how()
+            (self.let if is_asked else self.refused).append(Finding(row, place, words, column))
+        return value.text
+
+
+def text_of(kind: Kind, records: Sequence[Record]) -> str:
+    """Records as the file that is imported, with the columns of what is noted with some; no spreadsheet takes its texts
+    for something else."""
+    noted = [column for column in kind.noted if any(column in record.noted for record in records)]
+    rows = [
+        [*record.values.values(), *(kind.written(it, record.noted.get(it, "")) for it in noted)] for record in records
+    ]
+    return csv_of([[*kind.columns, *noted], *rows])

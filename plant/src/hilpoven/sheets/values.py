@@ -1,0 +1,204 @@
+"""The values of a sheet, and what a sheet may have made of those that were typed into it."""
+import re
+import string
+from collections.abc import Callable
+from dataclasses import dataclass, field
+from typing import NamedTuple
+
+from ..core import forms
+from ..output.exports import as_cell
+from ..output.table import Value
+from .cells import Cell
+
+NAME = re.compile(r"[A-Z0-9][A-Z0-9-]{0,15}")
+NUMBER = re.compile(r"[0-9]{1,10}")
+FORMULA = re.compile(r'="((?:[^"]|"")*)"')  # a text, as `hilpoven` writes it into CSV files
+DIGITS = re.compile(r"0|[1-9][0-9]*")
+DATE = re.compile(r"[0-9]{1,4}-[0-9]{1,2}-[0-9]{1,4}")
+EXPONENT = re.compile(r"[+-]?[0-9]+([.,][0-9]+)?E[+-]?[0-9]+", re.I)
+SIGNS = re.compile(r"[.,' \u00a0\u202f]")  # what stands between thousands
+THOUSANDS = re.compile(rf"[0-9]{{1,3}}({SIGNS.pattern}[0-9]{{3}})+")
+DECIMALS = re.compile(r"([0-9]+)[.,]0+")
+MINUS = re.compile(r"[-\u2212](?=[0-9])")  # as a keyboard and as a spreadsheet write it
+
+
+class Taken(NamedTuple):
+    """A value as it is written, and the trap that it may be in, with the words on it."""
+
+    text: str
+    trap: str | None = None
+    words: str = ""
+
+    def how(self) -> str:
+        """How it is taken."""
+        return f" as {self.text}" if self.trap in ("decimals", "capitals") else " as it stands"
+
+
+class Refused(Exception):
+    """Why a value can't be taken, whatever is asked for."""
+
+
+def letters(column: int) -> str:
+    """The letters that sheets have above the column of this number, from 1."""
+    before, last = divmod(column - 1, 26)
+    return (letters(before) if before else "") + string.ascii_uppercase[last]
+
+
+def of_uses(cell: Cell) -> Taken:
+    """What is done with a material."""
+    if cell.text not in ("consumed", "produced"):
+        raise Refused(f"{cell.text!r} is neither consumed nor produced")
+    return Taken(cell.text)
+
+
+def of_names(cell: Cell) -> Taken:
+    """A name. A number was perhaps typed otherwise, and so were digits alone in a text file, which has no text
+    cells."""
+    text = cell.text
+    if cell.shown not in (None, text):
+        raise Refused(f"it is the number {text}, shown as {cell.shown}")
+    if not NAME.fullmatch(text):
+        if NAME.fullmatch(text.upper()) and text.isascii() and not EXPONENT.fullmatch(text):
+            return Taken(text.upper(), "capitals", f"{text!r} has lower-case letters")
+        raise Refused(f"{text!r} is {no_name(text)}")
+    return as_typed(cell, text)
+
+
+def as_typed(cell: Cell, text: str) -> Taken:
+    """A text, which was perhaps typed otherwise."""
+    if cell.shown is not None:
+        return Taken(text, "digits", f"{text} is held as a number, as a sheet makes it of 1E5 or 007")
+    if not cell.is_text and DIGITS.fullmatch(text):
+        return Taken(text, "digits", f"{text} is digits alone, as a sheet makes them of 1E5 or 007")
+    if not cell.is_text and DATE.fullmatch(text):
+        return Taken(text, "dates", f"{text} has the form of a date, as a sheet makes it of 1-2")
+    return Taken(text)
+
+
+def of_texts(cell: Cell) -> Taken:
+    """A text that is noted with a movement; one that was written as a formula of a text is that text."""
+    if cell.shown not in (None, cell.text):
+        raise Refused(f"it is the number {cell.text}, shown as {cell.shown}")
+    formula = FORMULA.fullmatch(cell.text)
+    text = formula[1].replace('""', '"') if formula else cell.text
+    if fault := forms.text_fault(text):
+        raise Refused(f"it {fault}")
+    return Taken(text) if formula else as_typed(cell, text)
+
+
+def no_name(text: str) -> str:
+    """Why a text is no name."""
+    if EXPONENT.fullmatch(text):
+        return "a number with an exponent, as a sheet shows it of 1E5, and no name"
+    if re.fullmatch(r"[+-]?[0-9]+[.,][0-9]+", text):
+        return "a number with decimals, and no name"
+    return "no name: 1 to 16 of A-Z, 0-9 and -, the first not -"
+
+
+def of_numbers(cell: Cell) -> Taken:
+    """A whole number."""
+    text = cell.text
+    if cell.shown is not None:
+        return of_held_number(text, cell.shown)
+    if NUMBER.fullmatch(text):
+        return Taken(text)
+    if THOUSANDS.fullmatch(text):
+        raise Refused(f"{text!r} has thousands or decimals, which can't be told apart")
+    if match := DECIMALS.fullmatch(text):
+        return with_decimals(match[1], text)
+    raise Refused(f"{text!r} is no whole number of at most 10 digits")
+
+
+def of_held_number(text: str, shown: str) -> Taken:
+    """A number that the sheet holds as one: what it is is known, and how it is shown may be another thing."""
+    if not NUMBER.fullmatch(text):
+        raise Refused(f"{text} is no whole number of at most 10 digits")
+    if SIGNS.sub("", shown).zfill(10) == text.zfill(10):
+        return Taken(text)
+    if (match := re.fullmatch(r"(.+)[.,]0+", shown)) and SIGNS.sub("", match[1]) == text:
+        return with_decimals(text, shown)
+    raise Refused(f"it is the number {text}, shown as {shown}")
+
+
+def with_decimals(whole: str, shown: str) -> Taken:
+    """A whole number that is shown with decimals."""
+    return Taken(whole, "decimals", f"{shown} has decimals, and the column has whole numbers")
+
+
+def of_values(cell: Cell) -> Taken:
+    """A value of a test: a whole number, and one below zero with `M` for its sign, as `toll` reads it."""
+    text, shown = MINUS.sub("", cell.text, 1), cell.shown and MINUS.sub("", cell.shown, 1)
+    is_negative = text != cell.text
+    if re.fullmatch(r"M[0-9]{1,10}", cell.text):
+        return Taken(cell.text)
+    taken = of_numbers(cell._replace(text=text, shown=shown) if is_negative else cell)
+    return taken._replace(text=f"M{taken.text}") if is_negative else taken
+
+
+@dataclass(frozen=True)
+class Kind:
+    """What a sheet holds: its columns in the order in which `toll` has them, each with how its values are read, and
+    those that it may have besides, whose values are noted with the movement."""
+
+    name: str
+    columns: dict[str, Callable[[Cell], Taken]]
+    noted: dict[str, Callable[[Cell], Taken]] = field(default_factory=dict)
+
+    @property
+    def readings(self) -> dict[str, Callable[[Cell], Taken]]:
+        """How the values of each column are read."""
+        return {**self.columns, **self.noted}
+
+    def of(self, *reads: Callable[[Cell], Taken]) -> list[str]:
+        """The columns whose values are read so."""
+        return [it for it, reading in self.readings.items() if reading in reads]
+
+    def written(self, column: str, text: str) -> Value:
+        """How a noted value is written into a CSV file."""
+        return as_cell(text) if self.noted[column] is of_texts else text
+
+    def trapped(self, trap: str) -> list[str]:
+        """The columns in which a trap is laid."""
+        return self.of(of_numbers, of_values) if trap == "decimals" else self.of(of_names, of_texts)
+
+
+TRAPS = ("digits", "dates", "decimals")  # each asked for by column
+CAPITALS = "capitals"  # asked for as a whole
+
+ACTUALS = Kind(
+    "actuals",
+    {
+        "key": of_names,
+        "owner": of_names,
+        "order": of_names,
+        "batch": of_numbers,
+        "segment": of_numbers,
+        "use": of_uses,
+        "material": of_names,
+        "lot_owner": of_names,
+        "lot": of_names,
+        "sublot": of_names,
+        "amount": of_numbers,
+        "day": of_numbers,
+    },
+)
+RECEIPTS = Kind(
+    "receipts",
+    {
+        "owner": of_names,
+        "key": of_names,
+        "material": of_names,
+        "lot": of_names,
+        "sublot": of_names,
+        "amount": of_numbers,
+        "day": of_numbers,
+    },
+    {"from": of_names, "supplier_lot": of_texts, "document": of_texts},
+)
+SHIPMENTS = Kind(
+    "shipments",
+    {"owner": of_names, "key": of_names, "lot": of_names, "sublot": of_names, "amount": of_numbers, "day": of_numbers},
+    {"to": of_names, "document": of_texts},
+)
+RESULTS = Kind("results", {"owner": of_names, "lot": of_names, "test": of_names, "value": of_values, "day": of_numbers})
+KINDS = {it.name: it for it in (ACTUALS, RECEIPTS, SHIPMENTS, RESULTS)}

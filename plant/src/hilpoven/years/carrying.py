@@ -1,0 +1,130 @@
+"""The office goes on in a new file, which begins with what lies in the plant."""
+import contextlib
+import os
+from collections.abc import Callable, Iterator
+from dataclasses import dataclass
+
+from ..core import backups, lock, names, scratch, snapshot
+from ..core.failure import tell
+from ..core.office import Answer, Office
+from ..core.server import Place
+from ..journal import log, query
+from ..output.progress import bar
+from ..register import file as register
+from . import chain, comparing, exchanging, private_server, steps
+from .filling import Filling
+
+MEMORY = "/dev/shm"
+TIMES = 4  # the file's size that must be free where the new file is filled
+COMMAND = "carry-over"
+
+
+@dataclass
+class Work:
+    """What a carry-over works with: the office, where a server may be, its journal, a copy of its file that has no log,
+    the new file's path until it is put in place, the receipts by which stock comes over, and the earlier files."""
+
+    office: Office
+    place: Place
+    journal: log.Journal
+    copy: str
+    target: str
+    receipts: steps.Receipts
+    earlier: list[chain.Part]
+
+
+def workroom(file: str) -> str:
+    """The folder in which the new file is filled: in memory if there is room, since `toll` waits for the disk behind
+    each word; otherwise the file's own."""
+    size = sum(os.path.getsize(path) for path in (file, f"{file}-wal") if os.path.exists(path))
+    with contextlib.suppress(OSError):
+        memory = os.statvfs(MEMORY)
+        if os.access(MEMORY, os.W_OK) and memory.f_bavail * memory.f_frsize > TIMES * size:
+            return MEMORY
+    return os.path.dirname(file)
+
+
+@contextlib.contextmanager
+def prepared(
+    office: Office, place: Place, journal: log.Journal, target: str, day: str, is_plan: bool
+) -> Iterator[Work]:
+    """What a carry-over works with. It holds the lock until the end of the block, but for a plan, which only reads."""
+    held = contextlib.nullcontext() if is_plan else lock.held(office.file, office.wait)
+    with scratch.folder(workroom(office.file)) as room, held:
+        copy = os.path.join(room, "old.db")
+        if is_plan:
+            snapshot.copy(office, copy)
+        else:
+            backups.stop_on_server(office.file, place)
+            snapshot.copy_both(office.file, copy)
+        backups.settle(copy)
+        with chain.reading(copy) as base:
+            row = chain.came_from(base)
+        receipts = steps.Receipts(f"C{names.next_number(office.file)}", day)
+        yield Work(office, place, journal, copy, target, receipts, chain.earlier_files(office.file, row))
+
+
+def hindrances(work: Work) -> list[str]:
+    """Why the office can't be carried over now."""
+    with chain.reading(work.copy) as base:
+        reasons = [
+            f"batch {order}/{number} of {owner} is open, on {unit}: close it first"
+            for owner, order, number, unit in base.execute(steps.OPEN_BATCHES)
+        ]
+        reasons += [f"verify: {fault}" for fault in backups.checked_tables(base)]
+    tried = f"{work.copy}.tried"
+    snapshot.copy_file(work.copy, tried)
+    answer = work.office.ask(["stock", "HOUSE"], tried)
+    if answer.status:
+        reasons.append(f"verify: toll doesn't open it: {answer.error.strip()}")
+    path = work.journal.path
+    noted = "; `hilpoven note list` has what to note anew there" if register.has_notes(work.journal) else ""
+    return reasons + [
+        f"verify: journal: {fault}: move {path} elsewhere and keep it, and a new one begins{noted}"
+        for fault in query.check(path, file=work.office.file).wrong
+    ]
+
+
+def carry_over(work: Work, note: Callable[[str], None]) -> exchanging.Exchange | None:
+    """Carries the office over, which the journal notes; `None` if that had been done, as nothing was recorded since."""
+    is_done = bool(work.earlier) and comparing.is_fresh(work.earlier[-1].path, work.copy)
+    settle_journal(work.journal, is_done)
+    if is_done:
+        return None
+    words = [COMMAND, os.path.basename(work.target), "--day", work.receipts.day]
+    with work.journal.noted(work.office.file, words) as entry:
+        for path in exchanging.clear(work.office, work.copy, work.target, {file.path for file in work.earlier}):
+            tell(f"a carry-over was stopped: {os.path.basename(path)}, which it left, is removed, and it begins anew")
+        number = names.next_number(work.office.file)
+        work.receipts = steps.Receipts(f"C{number}", work.receipts.day)
+        done = fill_and_exchange(work, f"{names.front_of(work.office.file)}-{number}.db", note)
+        name = os.path.basename(done.earlier)
+        entry.answer = Answer(0, f"carried over; {name} is the earlier file, sha256 {done.hash}\n", "")
+    return done
+
+
+def settle_journal(journal: log.Journal, is_done: bool) -> None:
+    """Answers what the journal has of a carry-over that was stopped."""
+    stopped = Answer(0, "", "stopped before the new file was put in place\n")
+    answer = Answer(0, "carried over\n", "") if is_done else stopped
+    for entry in query.check(journal.path).unanswered:
+        if list(entry.get("words", []))[:1] == [COMMAND]:
+            journal.told(str(entry.get("id")), answer)
+
+
+def fill_and_exchange(work: Work, earlier: str, note: Callable[[str], None]) -> exchanging.Exchange:
+    """Fills the new file, compares it, and puts it in the office's place."""
+    office, new, tried = work.office, os.path.join(os.path.dirname(work.copy), "new.db"), f"{work.copy}.tried"
+    with chain.reading(work.copy) as base:
+        keys = dict(base.execute("SELECT owner, okey FROM owners").fetchall())
+        with private_server.opened(office.program, new) as after:
+            with bar("the new file is filled", steps.count(base)) as advance:
+                Filling(after, keys, advance).fill(steps.stages(base, work.receipts))
+            note("both files are compared")
+            snapshot.copy_file(work.copy, tried)
+            with private_server.opened(office.program, tried) as before:
+                comparing.require_same_stock(before, after, keys)
+        backups.settle(new)
+        comparing.require_same(work.copy, new)
+        note("the new file is put in place")
+        return exchanging.exchange(office, work.place, new, work.target, earlier, work.receipts.keys(base))

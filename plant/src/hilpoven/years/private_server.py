@@ -1,0 +1,117 @@
+"""A server of `toll` over a file that nobody else has, which answers the plant and owners many times a second.
+
+The plant's words go to its FILE.sock, so that an owner's key is on no command line. The server ends with this process,
+however that ends.
+"""
+import contextlib
+import json
+import socket
+from collections.abc import Iterator
+from typing import Any
+
+from ..core import client
+from ..core.failure import Failure
+from ..core.office import Answer
+
+SPARE = 10_000  # of the connections that one server answers to owners, which are left when a new one is begun
+MOST_ANSWER = 2**32 - 1  # bytes
+
+
+class PrivateServer:
+    """A server of a file. An answer may be taken later: `say` and `send` give the socket for `answer` and `reply`."""
+
+    def __init__(self, program: str, file: str) -> None:
+        self.program, self.file, self.requests = program, file, 0
+        self.plant = client.PlantSocket(file)
+        self.begin()
+
+    def begin(self) -> None:
+        """Begins the server, and waits until it listens: that of a full office reads for minutes."""
+        self.server, self.port = client.begin_server(self.program, self.plant, keeps_errors=True)
+
+    def end(self) -> None:
+        """Ends the server."""
+        client.end_server(self.server)
+
+    def ask(self, *words: str) -> Answer:
+        """What is answered to the plant's words."""
+        return self.answer(self.say(*words))
+
+    def request(self, owner: str, key: str, path: str, body: Any = None) -> tuple[int, dict[str, Any]]:
+        """The status and the body of the reply to an owner's request: a `GET`, or with a body or `()` a `POST`."""
+        return self.reply(self.send(owner, key, path, body))
+
+    def say(self, *words: str) -> socket.socket:
+        """Says the plant's words."""
+        content = b"".join(word.encode() + b"\0" for word in words)
+        return self.connected(socket.socket(socket.AF_UNIX), self.plant.path, client.framed(client.framed(content)))
+
+    def send(self, owner: str, key: str, path: str, body: Any = None) -> socket.socket:
+        """Sends an owner's request."""
+        text = b"" if not body else json.dumps(body).encode()
+        head = (
+            f"{'GET' if body is None else 'POST'} {path} HTTP/1.1",
+            "host: toll",
+            f"toll-owner: {owner}",
+            f"toll-key: {key}",
+            f"content-length: {len(text)}",
+            "",
+            "",
+        )
+        peer = self.connected(socket.socket(), ("127.0.0.1", self.port), "\r\n".join(head).encode() + text)
+        self.requests += 1
+        return peer
+
+    def connected(self, peer: socket.socket, address: Any, content: bytes) -> socket.socket:
+        """A socket that is connected, and to which a content was sent."""
+        try:
+            peer.connect(address)
+            peer.sendall(content)
+        except OSError as error:
+            peer.close()
+            raise self.failure(str(error)) from error
+        return peer
+
+    def answer(self, peer: socket.socket) -> Answer:
+        """The answer to words that were said: the status, what is printed, and what is told of a fault."""
+        with peer:
+            try:
+                frames = [client.read_frame(peer, MOST_ANSWER) for _ in ("greeting", "answer")]
+            except OSError as error:
+                raise self.failure(str(error)) from error
+        if not frames[1]:
+            raise self.failure("it ended before it had answered")
+        return client.answer_of(frames[1])
+
+    def reply(self, peer: socket.socket) -> tuple[int, dict[str, Any]]:
+        """The status and the body of the reply to a request that was sent."""
+        with peer, peer.makefile("rb") as reader:
+            try:
+                front, _, rest = reader.read().partition(b"\r\n\r\n")
+                return int(front[9:12]), json.loads(rest)
+            except (OSError, ValueError) as error:
+                raise self.failure(str(error)) from error
+
+    def renew(self) -> None:
+        """Begins a new server, if this one is near its last connection; nothing is under way."""
+        if self.requests > int(client.MOST_CONNECTIONS) - SPARE:
+            self.end()
+            self.requests = 0
+            self.begin()
+
+    def failure(self, reason: str) -> Failure:
+        """Why the server doesn't answer."""
+        if self.server.poll() is not None:
+            reason = client.end_server(self.server)
+        return Failure(f"the server of {self.file} doesn't answer: {reason}")
+
+
+@contextlib.contextmanager
+def opened(program: str, file: str) -> Iterator[PrivateServer]:
+    """A server of a file, until the end of the block."""
+    server = PrivateServer(program, file)
+    try:
+        yield server
+    finally:
+        server.end()
+        server.plant.close()

@@ -1,0 +1,37 @@
+"""How the tests of the register make notes, and look at those that stand."""
+import re
+
+from conftest import Plant
+from hilpoven.core import snapshot
+from hilpoven.core.context import Context
+from hilpoven.core.settings import load
+from hilpoven.register import standing
+from hilpoven.register.store import Register
+
+NOTED = re.compile(r"noted ([0-9a-f]{16})\n")
+
+
+def register_of(plant: Plant) -> Register:
+    """The notes that stand."""
+    context = Context(load(), str(plant.db))
+    with snapshot.opened(context.office()) as base:
+        return standing.standing(context.journal(), base)
+
+
+def links(plant: Plant) -> list[tuple[str, str]]:
+    """The containers and the lots of the links that stand."""
+    return [(str(link.container), str(link.contained)) for link in register_of(plant).links]
+
+
+def noted(plant: Plant, *words: object) -> str:
+    """Makes a note, and gives its name."""
+    told = plant.run(*words)
+    assert told.status == 0 and NOTED.fullmatch(told.out), told
+    return NOTED.fullmatch(told.out)[1]
+
+
+def cut_off(plant: Plant) -> None:
+    """Removes the last answer from the journal, as a kill behind what `toll` did leaves it."""
+    lines = plant.journal.read_bytes().splitlines(keepends=True)
+    assert b'"told"' in lines[-1]
+    plant.journal.write_bytes(b"".join(lines[:-1]))

@@ -1,0 +1,201 @@
+"""What has the register's name and is none, and notes that nobody made by the command: notes are read from the journal, nothing is
+written over, and verify tells."""
+import fcntl
+import json
+import os
+import sqlite3
+
+import pytest
+from hilpoven.core import rights
+from hilpoven.core.office import Answer
+from hilpoven.journal.log import Journal
+from hilpoven.register import file
+from notes import links, noted, register_of
+
+ONE = [("ACME B-1", "ACME S-1")]
+
+
+@pytest.fixture
+def linked(settled):
+    """An office with a link and its register."""
+    noted(settled, "link", "ACME", "B-1", "S-1", "--why", "rework")
+    assert links(settled) == ONE
+    return settled
+
+
+def as_link(path, folder):
+    (folder / "other").write_text("kept")
+    os.unlink(path)
+    os.symlink(folder / "other", path)
+
+
+def as_dangling_link(path, folder):
+    os.unlink(path)
+    os.symlink(folder / "nowhere", path)
+
+
+def as_pipe(path, folder):
+    os.unlink(path)
+    os.mkfifo(path)
+
+
+def as_device(path, folder):
+    os.unlink(path)
+    os.symlink("/dev/zero", path)
+
+
+def as_folder(path, folder):
+    os.unlink(path)
+    os.mkdir(path)
+
+
+def as_database(path, folder):
+    os.unlink(path)
+    base = sqlite3.connect(path)
+    base.execute("CREATE TABLE notes (a)")
+    base.commit()
+
+
+def as_office(path, folder):
+    os.unlink(path)
+    os.link(folder / "office.db", path)
+
+
+def as_tables_with_a_trigger(path, folder):
+    base = sqlite3.connect(path)
+    base.execute("CREATE TRIGGER t AFTER INSERT ON notes BEGIN DELETE FROM notes; END")
+    base.commit()
+
+
+@pytest.mark.parametrize("words", [("recall", "ACME", "S-1"), ("trace", "ACME", "B-1", "back"), ("list", "moves")])
+def test_a_lost_journal_is_told_wherever_its_notes_would_stand(linked, words):
+    (linked.folder / "office.db.journal").unlink()
+    told = linked.run(*words)
+    assert "isn't used, and notes are read from the journal" in told.err and "1 of its notes aren't there" in told.err
+
+
+@pytest.mark.parametrize("become", [as_link, as_dangling_link, as_pipe, as_device, as_folder, as_database, as_office, as_tables_with_a_trigger])
+def test_what_is_no_register_is_told_and_left_alone(linked, become):
+    path = file.path_of(str(linked.db))
+    become(path, linked.folder)
+    before = os.lstat(path).st_ino, linked.db.read_bytes(), {it.name for it in linked.folder.iterdir()}
+    assert links(linked) == ONE
+    told = linked.run("note", "list")
+    assert told.status == 0 and "rework" in told.out and "isn't used, and notes are read from the journal" in told.err
+    told = linked.run("verify")
+    assert told.status == 1 and "register: it isn't used" in told.out
+    told = linked.run("register", "rebuild")
+    assert told.status == 1 and "can't be made anew" in told.err
+    assert (os.lstat(path).st_ino, linked.db.read_bytes(), {it.name for it in linked.folder.iterdir()} - {"looked-at.db"}) == before
+    assert not (linked.folder / "other").exists() or (linked.folder / "other").read_text() == "kept"
+
+
+@pytest.mark.parametrize("damage", [b"", b"garbage", b"SQLite format 3\0" + bytes(4_000)])
+def test_a_damaged_register_is_made_anew(linked, damage):
+    path = file.path_of(str(linked.db))
+    with open(path, "wb") as register:
+        register.write(damage)
+    assert links(linked) == ONE
+    if damage:
+        assert linked.run("verify").status == 1
+    assert linked.run("register", "rebuild").status == 0
+    assert linked.run("verify").status == 0 and links(linked) == ONE
+
+
+def test_rows_that_the_journal_doesn_t_have_are_told(linked):
+    path = file.path_of(str(linked.db))
+    base = sqlite3.connect(path)
+    ((text,),) = base.execute("SELECT noted FROM notes").fetchall()
+    base.execute("INSERT INTO notes (name, noted) VALUES (?, ?)", ("0" * 16, text.replace("S-1", "S-2")))
+    base.commit()
+    base.close()
+    told = linked.run("verify")
+    assert told.status == 1 and "register: its notes aren't those of the journal" in told.out
+    base = sqlite3.connect(path)
+    base.execute("UPDATE notes SET noted = '[1]'")
+    base.commit()
+    base.close()
+    assert links(linked) == ONE and "a row of it can't be read" in linked.run("verify").out
+    assert linked.run("register", "rebuild").status == 0 and linked.run("verify").status == 0
+
+
+def test_a_register_with_notes_that_the_journal_lost_is_kept(linked):
+    kept = linked.journal.read_bytes()
+    linked.journal.unlink()
+    linked.run("unit-add", "PRESS")
+    told = linked.run("note", "list")
+    assert "and 1 of its notes aren't there" in told.err and linked.run("register", "rebuild").status == 1
+    linked.journal.write_bytes(kept)
+    assert links(linked) == ONE and linked.run("verify").status == 0
+
+
+def test_a_register_of_another_user_is_told(linked, monkeypatch):
+    monkeypatch.setattr(file.os, "geteuid", lambda: 4711)
+    monkeypatch.setattr(rights, "owner_number", lambda _: 4711)
+    if os.getuid():
+        pytest.skip("only root sees what another's file is")
+    os.chown(file.path_of(str(linked.db)), 4712, -1)
+    assert file.difference(Journal(str(linked.journal), str(linked.db))).startswith("it isn't used: it is no file of the office's user")
+
+
+@pytest.mark.parametrize("value", [
+    {"kind": "link", "owner": "ACME", "lot": "B-1", "of_owner": "BOLT", "of_lot": "P-1", "why": "use"},
+    {"kind": "link", "owner": "ACME", "lot": "B-1", "of_owner": "ACME", "of_lot": "B-1", "why": "use"},
+    {"kind": "link", "owner": "ACME", "lot": "B-1", "order": "O-1", "batch": 1, "of_owner": "ACME", "of_lot": "S-1", "why": "use"},
+    {"kind": "link", "owner": "ACME", "lot": "B-1", "of_owner": "ACME", "of_lot": "S-1", "why": "theft"},
+    {"kind": "link", "owner": "ACME", "lot": "B-1", "of_owner": "ACME", "of_lot": "S-1", "why": "use", "reason": "a\nb"},
+    {"kind": "link", "owner": "ACME", "lot": "B-1", "of_owner": "ACME", "of_lot": "S-1", "why": "use", "reason": "\x1b[2J"},
+    {"kind": "link", "owner": "ACME", "lot": "B-1", "of_owner": "ACME", "of_lot": "S-1", "why": "use", "reason": "\ud800"},
+    {"kind": "link", "owner": "ACME", "lot": "B-1", "of_owner": "ACME", "of_lot": "S-1", "why": "use", "reason": "x" * 10_000_000},
+    {"kind": "link", "owner": "ACME", "lot": "B-1", "of_owner": "ACME", "of_lot": "S-1", "why": "use", "amount": True},
+    {"kind": ["link"]}, {"kind": "\x1b[2J", "owner": "ACME"}, [], "link", 5, None,
+])
+def test_what_no_command_notes_is_told_and_counts_for_nothing(linked, value):
+    journal = Journal(str(linked.journal), str(linked.db))
+    journal.add({"event": "note", "id": "0" * 16, "file": journal.file, "words": ["link", "\x1b[2J\ud800"], "notes": [{"kind": "not-linked", "owner": "ACME", "key": "K1"}, value]})
+    assert links(linked) == ONE and register_of(linked).not_linked == {("ACME", "K1")}
+    for words in (["note", "list"], ["journal", "--no-site"], ["verify"], ["note", "withdraw", "0" * 16 + ".2", "--reason", "no"]):
+        told = linked.run(*words)
+        assert told.status in (0, 1) and "\x1b" not in told.out + told.err and len(told.out) < 5_000
+    assert "register: 1 note " in linked.run("verify").out
+
+
+def test_a_line_of_another_office_s_file_counts_for_nothing(linked, tmp_path):
+    other = tmp_path / "elsewhere"
+    other.write_text("")
+    journal = Journal(str(linked.journal), str(linked.db))
+    note = {"kind": "link", "owner": "ACME", "lot": "B-1", "of_owner": "HOUSE", "of_lot": "W-101", "why": "use"}
+    journal.told("0" * 16, Answer(0, "", ""))
+    with open(journal.path, "a") as lines:
+        lines.write(json.dumps({"before": "0" * 64, "event": "note", "id": "1" * 16, "file": str(other), "words": [], "notes": [note]}) + "\n")
+    assert links(linked) == ONE
+
+
+def test_an_office_that_was_moved_has_its_notes(linked, tmp_path):
+    moved = tmp_path / "moved"
+    moved.mkdir()
+    for it in list(linked.folder.glob("office.db*")):
+        if it.suffix != ".sock":
+            os.rename(it, moved / it.name)
+    linked.db, linked.journal = moved / "office.db", moved / "office.db.journal"
+    assert links(linked) == ONE
+    noted(linked, "link", "ACME", "B-1", "W-101", "--of-owner", "HOUSE", "--why", "use")
+    assert links(linked) == [*ONE, ("ACME B-1", "HOUSE W-101")] and linked.run("verify").status == 0
+
+
+def test_a_backup_that_is_looked_at_has_the_notes_of_the_journal_beside_it(linked):
+    linked.settle()
+    assert linked.run("backup").status == 0
+    linked.db = next((linked.folder / "backups").glob("*.db"))
+    linked.journal = linked.db.with_name(f"{linked.db.name}.journal")
+    assert links(linked) == ONE and "rework" in linked.run("note", "list").out
+    assert "is the journal of" in linked.run("link", "ACME", "B-1", "W-101", "--of-owner", "HOUSE", "--why", "use").err
+
+
+def test_who_is_stopped_while_it_reads_the_register_holds_nobody_up(linked, monkeypatch):
+    monkeypatch.setattr(file, "PATIENCE", 0.2)
+    with open(file.path_of(str(linked.db))) as register:
+        fcntl.flock(register, fcntl.LOCK_EX)
+        assert links(linked) == ONE
+        assert "another process has it" in linked.run("note", "list").err and linked.run("register", "rebuild").status == 1
+    assert linked.run("note", "list").err == "" and linked.run("register", "rebuild").status == 0

@@ -1,0 +1,46 @@
+"""A command imports what it needs, so that it starts quickly."""
+import subprocess
+import sys
+
+import pytest
+from conftest import ROOT
+
+HEAVY = {"bz2", "csv", "difflib", "email", "gzip", "html", "http", "http.client", "jinja2", "lzma", "odf", "openpyxl", "pathlib", "platform", "random",
+         "rich", "secrets", "shutil", "sqlite3", "ssl", "tempfile", "tomllib", "urllib.parse", "weasyprint", "xml", "zipfile", "zlib"}
+LOADED = "import sys, atexit; atexit.register(lambda: print('\\n', *sys.modules, file=sys.stderr)); sys.argv[0] = 'hilpoven'; from hilpoven.cli import main; main()"
+OWN = {"hilpoven", "hilpoven.cli", "hilpoven.cli.groups", "hilpoven.cli.words", "hilpoven.core", "hilpoven.core.context", "hilpoven.core.failure", "hilpoven.core.forms",
+       "hilpoven.core.grammar", "hilpoven.core.lock", "hilpoven.core.office", "hilpoven.core.rights", "hilpoven.core.scratch", "hilpoven.core.settings"}
+QUESTION = OWN | {"hilpoven.cli.lines", "hilpoven.core.asking", "hilpoven.core.meanings", "hilpoven.core.names"}
+NOTED = QUESTION | {"hilpoven.cli.line_notes", "hilpoven.register", "hilpoven.register.kinds", "hilpoven.register.likeness"}
+LISTING = OWN | {"hilpoven.cli.listing", "hilpoven.core.snapshot", "hilpoven.output", "hilpoven.output.table", "hilpoven.records", "hilpoven.records.schema", "hilpoven.records.tables"}
+
+
+def loaded(plant, *words):
+    """The modules that a command has imported when it ends."""
+    started = [sys.executable, "-Bc", LOADED, "--db", str(plant.db), *words]
+    done = subprocess.run(started, capture_output=True, text=True, env={"PYTHONPATH": str(ROOT / "plant" / "src"), "TOLL": plant.program, "PATH": "/usr/bin:/bin"})
+    assert done.returncode == 0, done.stderr
+    return set(done.stderr.splitlines()[-1].split())
+
+
+@pytest.mark.parametrize("words, own, more", [
+    (["--version"], OWN, set()), (["stock", "ACME"], QUESTION, set()),
+    (["unit-add", "NEW"], QUESTION | {"hilpoven.journal", "hilpoven.journal.log"}, set()),
+    (["receive", "ACME", "K99", "SALT", "S-99", "BAY1", "5", "102"], NOTED | {"hilpoven.journal", "hilpoven.journal.log"}, set()),
+    (["list", "lots"], LISTING, {"sqlite3"}),
+    (["show", "lot", "ACME", "S-1"], None, {"sqlite3"})])
+def test_a_command_imports_what_it_needs_alone(at_work, words, own, more):
+    modules = loaded(at_work, *words)
+    assert modules & HEAVY <= more, words
+    assert own is None or {it for it in modules if it.split(".")[0] == "hilpoven"} == own, words
+
+
+def test_python_runs_the_package(at_work):
+    words = [sys.executable, "-Bm", "hilpoven", "--db", at_work.db, "stock", "BOLT"]
+    done = subprocess.run(words, capture_output=True, text=True, env={"PYTHONPATH": str(ROOT / "plant" / "src"), "TOLL": at_work.program, "PATH": "/usr/bin:/bin"})
+    assert (done.returncode, done.stdout, done.stderr) == (0, at_work.toll("stock", "BOLT").out, "")
+
+
+def test_click_is_for_the_command_line_alone():
+    package = ROOT / "plant" / "src" / "hilpoven"
+    assert {it.parent.name for it in package.rglob("*.py") if "import click" in it.read_text()} == {"cli"}
