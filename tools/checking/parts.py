@@ -8,14 +8,20 @@ PYTHON = "/usr/bin/python3"  # Debian's, which has Debian's packages
 PYTEST = [PYTHON, "-m", "pytest", "-q", "-p", "no:cacheprovider", "--tb=short"]
 PROGRAM = "PROGRAM"  # in a part's words: the program that is tried
 SHELL, PYTHON_SOURCE = "sh", "python"
+GB = 1_000_000_000
 
 
 class Part(NamedTuple):
-    """What is run, by its name: its words, or a function that gives them; and the packages of Debian that it needs."""
+    """What is run, by its name: its words, or a function that gives them; the packages of Debian that it needs; and what of
+    the machine it takes, by which it is known what may run beside it."""
     name: str
     words: list | Callable
     packages: tuple = ()
     minutes: int = 30  # after which it is ended, and has failed
+    processors: int = 1
+    memory: float = 0.5 * GB  # bytes
+    fault: str = ""  # a pattern of the lines by which it has failed though its status is 0
+    is_alone: bool = False  # whether nothing may run beside it, since it measures times or waits for them
 
     def needs_program(self):
         """Whether it runs the program, and so behind the proofs."""
@@ -57,8 +63,18 @@ def shell_words():
     return ["shellcheck", *sources(SHELL)]
 
 
+# Of the plant's command also the types, the layout, and no line of more than 120 letters.
+PYTHON_CHECKS = """python=$1; shift
+"$python" -m pyflakes "$@"; flakes=$?
+"$python" -m mypy --config-file plant/pyproject.toml --cache-dir /dev/null plant/src; types=$?
+"$python" -m black --config plant/pyproject.toml --check plant/src; layout=$?
+! grep -rnE --include='*.py' '^.{121}' plant/src; long=$?
+exit $((flakes | types | layout | long))"""
+
+
 def python_words():
-    return [PYTHON, "-m", "pyflakes", *sources(PYTHON_SOURCE)]
+    """pyflakes of all sources, mypy and black of the plant's command."""
+    return ["sh", "-c", PYTHON_CHECKS, "sh", PYTHON, *sources(PYTHON_SOURCE)]
 
 
 def plant_tests():
@@ -68,49 +84,64 @@ def plant_tests():
 
 # The page's pictures are looked at by whoever asks for them.
 PICTURED = 'folder=$(mktemp -d) || exit 3; "$0" tools/try-page "$folder/pictures"; status=$?; rm -rf "$folder"; exit "$status"'
-PLANT_NEEDS = ("python3-pytest", "python3-hypothesis", "python3-click", "python3-rich", "python3-jinja2", "weasyprint", "graphviz", "python3-openpyxl",
+PLANT_NEEDS = ("python3-pytest", "python3-hypothesis", "python3-click", "python3-jinja2", "weasyprint", "graphviz", "python3-openpyxl",
                "python3-odf", "poppler-utils", "man-db", "sqlite3")
-TESTS_NEED = (*PLANT_NEEDS, "git", "shellcheck", "python3-pyflakes", "python3-yaml", "nginx-light", "openssl", "curl", "dpkg-dev", "binutils", "systemd", "mandoc",
+# The Build-Depends of debian/control.
+BUILD_NEEDS = ("debhelper", "dh-python", "dpkg-dev", "git", "pybuild-plugin-pyproject", "python3-all", "python3-click", "python3-jinja2",
+               "python3-odf", "python3-openpyxl", "python3-setuptools")
+TESTS_NEED = (*PLANT_NEEDS, *BUILD_NEEDS, "shellcheck", "python3-pyflakes", "python3-yaml", "nginx-light", "openssl", "curl", "systemd", "mandoc",
               "python3-jsonschema", "libjson-validator-perl")
+
+PRELOADS = ("python3-pytest", "gcc", "libc6-dev")
+
+
+def tests_of(subject, minutes, packages, processors=1, memory=0.5 * GB):
+    """A part that tries the program by one file of tests/."""
+    words = ["env", f"TOLL={PROGRAM}", f"JOBS={processors}", *PYTEST, f"tests/test_{subject}.py"]
+    return Part(f"tests-{subject}", words, packages, minutes, processors, memory)
+
 
 BESIDE = [
     Part("sql-texts", [PYTHON, "tools/sql-texts", "--check"], minutes=5),
-    Part("check-pages", [PYTHON, "tools/check-pages"], minutes=5),
+    Part("check-names", [PYTHON, "tools/check-docs", "names"], minutes=5),
     Part("shell", shell_words, ("git", "shellcheck"), 5),
-    Part("python", python_words, ("git", "python3-pyflakes"), 5),
+    Part("python", python_words, ("git", "python3-pyflakes", "mypy", "black", "python3-click"), 5),
+    Part("check-worked", [PYTHON, "tools/check-worked"], memory=3.2 * GB),
     Part("page-tests", ["node", "--test", "page/tests"], ("nodejs",), 10),
     Part("tools-tests", [*PYTEST, "tools/tests"], TESTS_NEED),
+    Part("tests-lists", [*PYTEST, "tests/test_lists.py"], ("python3-pytest",), memory=6 * GB),
 ]
 
-PROOFS = Part("proofs", ["rt", "ci"], minutes=170)
+# A wrong body that can't be applied or compiled guards nothing; `rt ci` passes it with a note.
+PROOFS = Part("proofs", ["rt", "ci"], minutes=170, fault=r"^rt: ok;.*must-fail edits:.* [1-9]\d* bad\b.*")
+UNPROVED = Part("unproved-build", [PYTHON, "tools/build-program", "--unproved"], minutes=20, memory=4 * GB)
 
+# Those that take longest come first, so that none runs alone at the end.
 BEHIND = [
-    Part("check-docs", ["env", f"TOLL={PROGRAM}", PYTHON, "tools/check-docs"], (*PLANT_NEEDS, "curl", "sqlite3", "procps"), 15),
-    Part("try-http", ["env", f"TOLL={PROGRAM}", PYTHON, "tools/try-http"], ("curl", "sqlite3", "python3-yaml"), 15),
-    Part("try-door", [PYTHON, "tools/try-door", "--program", PROGRAM], ("sqlite3", "gcc", "libc6-dev"), 25),
-    Part("try-disk", [PYTHON, "tools/try-disk", "--program", PROGRAM], ("gcc", "libc6-dev"), 25),
-    Part("try-memory", [PYTHON, "tools/try-memory", "--program", PROGRAM, "--most", "60"], ("gcc", "libc6-dev"), 20),
-    Part("try-memory-list", [PYTHON, "tools/try-memory", "--lists", "--program", PROGRAM], minutes=20),
-    Part("try-to-csv", [PYTHON, "tools/try-to-csv", "--program", PROGRAM, "--jobs", "2"], (*PLANT_NEEDS, "libreoffice-calc"), 20),
-    Part("try-recall-report", ["env", f"TOLL={PROGRAM}", PYTHON, "tools/try-recall-report", "12"], PLANT_NEEDS, 20),
-    Part("plant-tests", ["env", f"TOLL={PROGRAM}", *PYTEST, "plant/tests"], PLANT_NEEDS),
-    Part("try-page", ["env", f"TOLL={PROGRAM}", "sh", "-c", PICTURED, PYTHON], ("chromium", "chromium-driver", "curl", "nginx-light", "nodejs", "openssl"), 25),
+    Part("plant-tests", ["env", f"TOLL={PROGRAM}", *PYTEST, "plant/tests"], PLANT_NEEDS, memory=GB),
     Part("check-package", [PYTHON, "tools/check-package", "--program", PROGRAM],
-         ("debootstrap", "dpkg-dev", "binutils", "iproute2", "lintian", "mandoc", "systemd-container"), 30),
+         (*BUILD_NEEDS, "debootstrap", "iproute2", "lintian", "mandoc", "systemd-container"), 30, memory=GB),
+    Part("try-page", ["env", f"TOLL={PROGRAM}", "sh", "-c", PICTURED, PYTHON], ("chromium", "chromium-driver", "curl", "nginx-light", "nodejs", "openssl"), 25,
+         memory=2 * GB, is_alone=True),
+    tests_of("disk", 25, PRELOADS, 2),
+    tests_of("memory", 20, PRELOADS, 2),
+    tests_of("sheets", 20, (*PLANT_NEEDS, "libreoffice-calc"), memory=GB),
+    tests_of("recalls", 20, PLANT_NEEDS, 2, GB),
+    tests_of("socket", 25, ("python3-pytest", "sqlite3", *PRELOADS)),
+    Part("check-docs", ["env", f"TOLL={PROGRAM}", PYTHON, "tools/check-docs"], (*PLANT_NEEDS, "curl", "sqlite3"), 15),
+    tests_of("limits", 10, ("python3-pytest",)),
+    tests_of("http", 15, ("python3-pytest", "python3-yaml", "python3-jsonschema")),
 ]
 
 SKIPPED = [
     Skipped("pytest-3 plant/tests/years -m long", "300 histories that are carried over, and 200 kills on the way; here it is a sample: 35 minutes"),
-    Skipped("tools/try-memory --all", "each request for memory refused; here it is a sample: some hours"),
+    Skipped("pytest-3 tests/test_memory.py -m long", "each request for memory refused; here it is a sample: some hours"),
     Skipped("pytest-3 plant/tests -m long", "300 days, 420 kills and a full office; here it is a sample: 20 minutes"),
-    Skipped("tools/try-recall-report 200", "200 offices; here it is 12: 15 minutes"),
-    Skipped("tools/bench", "speed and memory, which have no right or wrong: see docs/speed.md"),
-    Skipped("tools/load", "how soon many clients are answered: 7 minutes"),
-    Skipped("tools/attack", "what owners and the plant notice of attacks, which has no right or wrong: 4 minutes, and 4 with --site"),
-    Skipped("tools/load-plants", "200 offices on one machine: 3 minutes"),
+    Skipped("pytest-3 tests/test_recalls.py -m long", "200 offices; here it is 12: 15 minutes"),
+    Skipped("bench/run", "speed and memory, which have no right or wrong: see docs/speed.md"),
 ]
 
 
-def parts():
-    """All parts that there are, in the order in which they run."""
-    return [*BESIDE, PROOFS, *(it for it in BEHIND if it.name != "plant-tests" or plant_tests())]
+def parts(is_quick=False):
+    """All parts that there are, in the order in which they begin; with an unproved build in place of the proofs where it is to be quick."""
+    return [*BESIDE, UNPROVED if is_quick else PROOFS, *(it for it in BEHIND if it.name != "plant-tests" or plant_tests())]

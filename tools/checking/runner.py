@@ -1,8 +1,8 @@
 """Runs the parts, and tells how each ended."""
 import argparse
-import contextlib
 import os
 import pathlib
+import re
 import shutil
 import signal
 import subprocess
@@ -13,11 +13,16 @@ import time
 from typing import NamedTuple
 
 from . import debian
-from .parts import BESIDE, PROGRAM, PROOFS, ROOT, SKIPPED, parts
+from .parts import BESIDE, GB, PROGRAM, PROOFS, ROOT, SKIPPED, UNPROVED, parts
 
 BUILT = ROOT / "crates" / "toll" / "out" / "toll"
-MEMORY_OF_CHECK = 5_000_000_000  # bytes that a check of rt takes at the most
-MOST_LINES = 400  # that are printed of a part that failed
+QUICK = ROOT / "out" / "quick" / "toll"  # of which nothing is proved
+PROVED = ("rt: toll proved", "rt: toll is kept:")  # how the line of `rt ci` begins behind which the program is built
+MEMORY_OF_CHECK = 5 * GB  # bytes that a check of rt takes at the most
+MEMORY_BESIDE = 2.5 * GB  # bytes that the proofs leave to a part, where there is so much
+LOWERED = 5  # the niceness of what runs beside the proofs and needs no program
+MOST_LINES = 400  # that are printed of a part as soon as it failed
+LAST_LINES = 40  # that are printed of it once more at the end, since a log may be cut at its front
 
 
 class Ended(NamedTuple):
@@ -30,9 +35,13 @@ class Ended(NamedTuple):
     def tell(self):
         print(f"{self.name:20} {self.seconds:6.0f} s  {'ok' if self.is_ok else 'FAILED'}", flush=True)
         if not self.is_ok:
-            lines = self.printed.rstrip().splitlines()
-            left = [f"    .. {len(lines) - MOST_LINES} lines before these"] if len(lines) > MOST_LINES else []
-            print(*left, *(f"    {it}" for it in lines[-MOST_LINES:]), sep="\n", flush=True)
+            self.print_output(MOST_LINES)
+
+    def print_output(self, most):
+        """Prints the last lines of what the part printed."""
+        lines = self.printed.rstrip().splitlines()
+        left = [f"    .. {len(lines) - most} lines before these"] if len(lines) > most else []
+        print(*left, *(f"    {line}" for line in lines[-most:]), sep="\n", flush=True)
 
 
 class Runner:
@@ -42,36 +51,67 @@ class Runner:
         self.program, self.ended, self.running, self.is_over = program, [], set(), False
         self.lock = threading.RLock()  # a signal may come while it is held
 
+    def has_program(self):
+        """Whether the program is there. It is newer than its sources then, whichever came first."""
+        if not os.access(self.program, os.X_OK):
+            return False
+        if self.program == BUILT:
+            self.program.touch()
+        return True
+
     def words_of(self, part):
         words = part.words() if callable(part.words) else part.words
         return [str(it).replace(PROGRAM, str(self.program)) for it in words]
 
-    def run(self, part, is_loud=False, lowered=0):
-        """Runs a part, and notes and tells how it ended. A loud one prints as it goes."""
-        began = time.monotonic()
-        with tempfile.TemporaryFile("w+", errors="replace") as printed:
-            status, why = self.status_of(part, None if is_loud else printed, lowered)
-            printed.seek(0)
-            self.note(Ended(part.name, time.monotonic() - began, status == 0, printed.read() + why))
+    def run(self, part, lowered=0, on_line=None):
+        """Runs a part, and notes and tells how it ended. One whose lines are asked for prints them as it goes."""
+        began, faults = time.monotonic(), []
 
-    def status_of(self, part, out, lowered):
+        def watch(line):
+            on_line(line)
+            faults.extend(re.findall(part.fault or "(?!)", line))
+
+        with tempfile.TemporaryFile("w+", errors="replace") as printed:
+            status, why = self.status_of(part, printed, lowered, on_line and watch)
+            printed.seek(0)
+            self.note(Ended(part.name, time.monotonic() - began, status == 0 and not faults, printed.read() + why + "\n".join(faults)))
+
+    def status_of(self, part, printed, lowered, on_line):
         """The exit status of a part, and a word where it has none of its own."""
-        how = {"stdin": subprocess.DEVNULL, "stdout": out, "stderr": subprocess.STDOUT if out else None, "start_new_session": True}
+        out = {"stdout": subprocess.PIPE, "text": True, "errors": "replace"} if on_line else {"stdout": printed, "stderr": subprocess.STDOUT}
         try:
             words = ["nice", "-n", str(lowered), *self.words_of(part)]
-            it = subprocess.Popen(words, cwd=ROOT, env={**os.environ, "PYTHONDONTWRITEBYTECODE": "1"}, **how)
+            process = self.start(words, out)
         except (OSError, subprocess.SubprocessError) as fault:
             return 1, f"{fault}\n"
-        with self.lock:
-            self.running.add(it)
+        reading = threading.Thread(target=self.pass_on, args=(process.stdout, on_line), daemon=True)
+        if on_line:
+            reading.start()
         try:
-            return it.wait(60 * part.minutes), ""
+            return process.wait(60 * part.minutes), ""
         except subprocess.TimeoutExpired:
             return 1, f"it had not ended after {part.minutes} minutes\n"
         finally:
-            end(it)
+            end([process])
+            if on_line:
+                reading.join(10)
             with self.lock:
-                self.running.discard(it)
+                self.running.discard(process)
+
+    def start(self, words, out):
+        with self.lock:
+            if self.is_over:
+                raise OSError("a signal ended the check")
+            environment = {**os.environ, "PYTHONDONTWRITEBYTECODE": "1"}
+            process = subprocess.Popen(words, cwd=ROOT, env=environment, stdin=subprocess.DEVNULL, start_new_session=True, **out)
+            self.running.add(process)
+        return process
+
+    def pass_on(self, stream, on_line):
+        for line in stream:
+            with self.lock:
+                print(line, end="", flush=True)
+            on_line(line)
 
     def note(self, ended):
         with self.lock:
@@ -81,87 +121,187 @@ class Runner:
             ended.tell()
 
     def stop(self):
-        """Ends all that runs."""
+        """Ends all that runs, and lets nothing more begin."""
         with self.lock:
             self.is_over = True
             running = list(self.running)
-        for it in running:
-            end(it)
+        end(running)
 
 
-def end(process):
-    """Ends a process and all of its session."""
-    with contextlib.suppress(ProcessLookupError, PermissionError):
-        os.killpg(process.pid, signal.SIGTERM)
-    with contextlib.suppress(subprocess.TimeoutExpired):
-        process.wait(10)
-    with contextlib.suppress(ProcessLookupError, PermissionError):
-        os.killpg(process.pid, signal.SIGKILL)
-    process.wait()
+def end(processes):
+    """Ends processes and all of their sessions, which have ten seconds to clear away."""
+    for it in processes:
+        signal_to(it, signal.SIGTERM)
+    latest = time.monotonic() + 10
+    for it in processes:
+        while it.poll() is None or signal_to(it, 0):
+            if time.monotonic() > latest:
+                signal_to(it, signal.SIGKILL)
+                break
+            time.sleep(0.02)
+        it.wait()
 
 
-def jobs():
-    """So many checks side by side as there are processors, each with its memory, and one where there is less."""
+def signal_to(process, number):
+    """Sends a signal to a process and all that it started in its group, and gives whether any of them is there."""
+    try:
+        os.killpg(process.pid, number)
+    except (ProcessLookupError, PermissionError):
+        return False
+    return True
+
+
+class Schedule:
+    """Runs parts side by side, each as soon as the processors and the memory that it takes are free and, where it needs the
+    program, that is there. The part that makes the program leaves one processor at least to the others, and all that it
+    doesn't take."""
+
+    def __init__(self, runner, processors, memory):
+        self.runner, self.processors, self.memory = runner, processors, memory
+        self.changed, self.running, self.maker = threading.Condition(), [], None
+        self.is_program_there = True
+
+    def run(self, wanted, maker=None, is_program_there=True):
+        """Runs these parts, in this order where several may begin, and comes back when all have ended."""
+        self.maker, self.is_program_there = maker, is_program_there
+        waiting, threads = list(wanted), [self.begin(maker)] if maker else []
+        with self.changed:
+            while waiting:
+                part = next((it for it in waiting if self.may_begin(it)), None)
+                if part:
+                    waiting.remove(part)
+                    threads.append(self.begin(part))
+                else:
+                    self.changed.wait()
+        for it in threads:
+            it.join()
+
+    def may_begin(self, part):
+        if part.needs_program() and not self.is_program_there:
+            return False
+        is_making = self.maker in self.running
+        others = sum(it.processors for it in self.running if it != self.maker)
+        most = max(1, self.processors - self.maker.processors) if is_making else self.processors
+        memory = sum(it.memory for it in self.running)
+        if part.is_alone or any(it.is_alone for it in self.running):
+            return not self.running
+        return not self.running or others + min(part.processors, most) <= most and memory + part.memory <= self.memory
+
+    def begin(self, part):
+        self.running.append(part)
+        thread = threading.Thread(target=self.run_one, args=[part])
+        thread.start()
+        return thread
+
+    def run_one(self, part):
+        try:
+            if part == self.maker:
+                self.runner.run(part, on_line=self.look_for_program)
+            elif part.needs_program() and not self.runner.has_program():
+                self.runner.note(Ended(part.name, 0, False, f"there is no program {self.runner.program}"))
+            else:
+                self.runner.run(part, lowered=LOWERED if part in BESIDE and self.maker in self.running else 0)
+        finally:
+            with self.changed:
+                self.running.remove(part)
+                self.is_program_there |= part == self.maker
+                self.changed.notify()
+
+    def look_for_program(self, line):
+        """Notes that the program is there as soon as the part that makes it says so."""
+        if line.startswith(PROVED):
+            with self.changed:
+                self.is_program_there = True
+                self.changed.notify()
+
+
+def free_memory():
+    """Bytes that are free."""
     with open("/proc/meminfo") as file:
-        told = dict(line.split(":", 1) for line in file)
-    free = int(told["MemAvailable"].split()[0]) * 1024
-    return max(1, min(os.cpu_count(), free // MEMORY_OF_CHECK))
+        found = dict(line.split(":", 1) for line in file)
+    return int(found["MemAvailable"].split()[0]) * 1024
+
+
+def maker_of(wanted, processors, memory):
+    """The part that makes the program, if there is one, with what it takes of the machine."""
+    if PROOFS not in wanted:
+        return UNPROVED if UNPROVED in wanted else None
+    # one job for each check, since a second one loads the check's libraries once more
+    jobs = max(1, min(processors, memory // MEMORY_OF_CHECK))
+    os.environ.setdefault("RT_JOBS", str(jobs))
+    left = max(MEMORY_OF_CHECK, memory - MEMORY_BESIDE)
+    return PROOFS._replace(processors=processors, memory=min(jobs * MEMORY_OF_CHECK, left))
 
 
 def run_all(runner, wanted):
-    """Runs the parts: the proofs with those beside them, and then those that try the program."""
-    beside = [it for it in wanted if it in BESIDE]
-    worker = threading.Thread(target=lambda: [runner.run(it, lowered=5) for it in beside])
-    worker.start()
-    if PROOFS in wanted:
-        # one job for each check, since a second one loads the check's libraries once more
-        os.environ.setdefault("RT_JOBS", str(jobs()))
-        runner.run(PROOFS, is_loud=True)
-    worker.join()
-    behind = [it for it in wanted if it.needs_program()]
-    if behind and not (runner.program.is_file() and os.access(runner.program, os.X_OK)):
-        for it in behind:
-            runner.note(Ended(it.name, 0, False, f"there is no program {runner.program}"))
-        return
-    if behind and runner.program == BUILT:
-        runner.program.touch()  # it is newer than its sources, whichever came first
-    for it in behind:
-        runner.run(it)
+    """Runs the parts: the one that makes the program, beside it those that need none, and those that try the program once it is there."""
+    processors, memory = len(os.sched_getaffinity(0)), free_memory()
+    maker = maker_of(wanted, processors, memory)
+    is_program_there = maker is None or runner.program not in (BUILT, QUICK)
+    Schedule(runner, processors, memory).run([it for it in wanted if it not in (PROOFS, UNPROVED)], maker, is_program_there)
 
 
 def words_of(usage):
     words = argparse.ArgumentParser(prog="check", description=usage, formatter_class=argparse.RawDescriptionHelpFormatter, allow_abbrev=False)
-    words.add_argument("--only", action="append", choices=[it.name for it in parts()], metavar="PART")
-    words.add_argument("--program", type=pathlib.Path, default=BUILT, metavar="FILE")
+    words.add_argument("--quick", action="store_true")
+    words.add_argument("--only", action="append", metavar="PART")
+    words.add_argument("--program", type=pathlib.Path, metavar="FILE")
     words.add_argument("--list", action="store_true")
-    return words.parse_args()
+    found = words.parse_args()
+    names = [it.name for it in parts(found.quick)]
+    for it in found.only or ():
+        if it not in names:
+            words.error(f"there is no part {it} here: {', '.join(names)}")
+    return found
+
+
+def wanted_by(words):
+    """The parts that the words ask for. Over another program nothing has to be compiled."""
+    wanted = [it for it in parts(words.quick) if words.only is None or it.name in words.only]
+    return [it for it in wanted if it != UNPROVED or not words.program]
 
 
 def told_of(part):
-    where = "the proofs" if part == PROOFS else "behind the proofs" if part.needs_program() else "beside the proofs"
+    where = "makes the program" if part in (PROOFS, UNPROVED) else "needs the program" if part.needs_program() else "needs no program"
     return f"{part.name:20} {where:18} {' '.join(part.packages)}".rstrip()
+
+
+def tell_left_out(is_quick):
+    """Tells what wasn't run, with the commands that run it."""
+    print("skipped for time:", *(f"    {it.command:30} {it.what}" for it in SKIPPED), sep="\n")
+    if is_quick:
+        print("NOTHING WAS PROVED, and no wrong body was tried: ./check does both")
+
+
+def repeat_failures(ended):
+    """Prints once more how the parts that failed ended."""
+    for part in (part for part in ended if not part.is_ok):
+        print(f"{part.name} FAILED:")
+        part.print_output(LAST_LINES)
 
 
 def main(usage):
     words = words_of(usage)
-    wanted = [it for it in parts() if words.only is None or it.name in words.only]
+    wanted = wanted_by(words)
     if words.list:
         print(*map(told_of, wanted), sep="\n")
         return 0
     missing = debian.install(it for part in wanted for it in part.packages)
-    missing += ["rt, the toolchain"] if PROOFS in wanted and not shutil.which("rt") else []
+    missing += ["rt, the toolchain"] if any(it in (PROOFS, UNPROVED) for it in wanted) and not shutil.which("rt") else []
     if missing:
         print(f"check: these are missing: {', '.join(missing)}", file=sys.stderr)
         return 2
-    runner = Runner(words.program.resolve())
+    runner = Runner((words.program or (QUICK if words.quick else BUILT)).resolve())
     for number in (signal.SIGINT, signal.SIGTERM, signal.SIGHUP):
-        signal.signal(number, lambda number, _: (runner.stop(), os._exit(128 + number)))
+        if signal.getsignal(number) != signal.SIG_IGN:  # as under nohup
+            signal.signal(number, lambda number, _: (runner.stop(), os._exit(128 + number)))
     began = time.monotonic()
     run_all(runner, wanted)
     passed = {it.name for it in runner.ended if it.is_ok}
     failed = [it.name for it in wanted if it.name not in passed]  # one that never ended is none that passed
     if words.only is None:
-        print("skipped for time:", *(f"    {it.command:30} {it.what}" for it in SKIPPED), sep="\n")
+        tell_left_out(words.quick)
+        repeat_failures(runner.ended)
     minutes = (time.monotonic() - began) / 60
     print(f"{len(wanted)} parts in {minutes:.0f} minutes: " + (f"{len(failed)} FAILED: {', '.join(failed)}" if failed else "all ok"))
     return bool(failed)

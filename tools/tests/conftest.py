@@ -6,6 +6,8 @@ import subprocess
 import sys
 import threading
 import time
+from collections.abc import Callable, Iterator
+from typing import Any
 
 TOOLS = pathlib.Path(__file__).resolve().parent.parent
 ROOT = TOOLS.parent
@@ -15,20 +17,20 @@ sys.dont_write_bytecode = True
 sys.path.insert(0, str(TOOLS))
 
 
-def tool(name, *words, **more):
+def tool(name: str, *words: object, **more: Any) -> "subprocess.CompletedProcess[str]":
     """What a tool of tools/ tells of these words."""
     more = {"capture_output": True, "text": True, "timeout": PATIENCE, **more}
     return subprocess.run(["/usr/bin/python3", TOOLS / name, *map(str, words)], **more)
 
 
-def script(path, text):
+def script(path: pathlib.Path, text: str) -> pathlib.Path:
     """A program of these lines of a shell."""
     path.write_text(f"#!/bin/sh\n{text}\n")
     path.chmod(0o755)
     return path
 
 
-def eventually(holds, seconds=20):
+def eventually(holds: Callable[[], object], seconds: float = 20) -> bool:
     """Whether it comes to hold within so many seconds."""
     end = time.monotonic() + seconds
     while not holds():
@@ -43,29 +45,31 @@ class Stub(http.server.ThreadingHTTPServer):
     daemon_threads = True
     request_queue_size = 512
 
-    def __init__(self, status=200, pause=0):
+    def __init__(self, status: int = 200, pause: float = 0) -> None:
         super().__init__(("127.0.0.1", 0), StubAnswer)
-        self.status, self.pause, self.asked, self.connected = status, pause, [], 0
+        self.status, self.pause, self.connected = status, pause, 0
+        self.asked: list[tuple[Any, ...]] = []
 
-    def get_request(self):
+    def get_request(self) -> Any:
         self.connected += 1
         return super().get_request()
 
 
 class StubAnswer(http.server.BaseHTTPRequestHandler):
     protocol_version = "HTTP/1.0"
+    server: Stub
 
-    def do_GET(self):
+    def do_GET(self) -> None:
         self.server.asked.append((time.monotonic(), self.client_address[0], self.headers["toll-owner"], self.path))
         time.sleep(self.server.pause)
         self.wfile.write(f"HTTP/1.1 {self.server.status} X\r\ncontent-length: 2\r\n\r\n{{}}".encode())
 
-    def log_message(self, *_):
+    def log_message(self, *_: object) -> None:
         pass
 
 
 @contextlib.contextmanager
-def serving(status=200, pause=0):
+def serving(status: int = 200, pause: float = 0) -> Iterator[Stub]:
     it = Stub(status, pause)
     thread = threading.Thread(target=it.serve_forever)
     thread.start()

@@ -319,6 +319,31 @@ def test_ended_by_a_signal_it_leaves_nothing_but_what_was_finished(repository, n
     assert set(ALL) - {"low", "short"} <= set(repository.noted()) <= set(ALL) - {"low"}
 
 
+MANY_SIGNALS = """
+import random, threading
+
+def send():
+    while True:
+        time.sleep(random.random() / 500)
+        os.kill(os.getpid(), signal.SIGTERM)
+
+session = Session(0)
+threading.Thread(target=send, daemon=True).start()
+for _ in range(20):
+    session.is_over = False
+    with contextlib.suppress(InterruptedError):
+        while True:
+            session.pause(lambda: "on it goes")
+os._exit(0)
+"""
+
+
+def test_a_signal_at_any_moment_ends_the_build(tmp_path):
+    (tmp_path / "program.py").write_text((ROOT / "tools/build-program").read_text().replace("sys.exit(main())\n", MANY_SIGNALS))
+    done = subprocess.run(["/usr/bin/python3", tmp_path / "program.py"], capture_output=True, text=True, timeout=PATIENCE, preexec_fn=heed_signals)
+    assert done.returncode == 0 and "on it goes" in done.stderr, done.stderr
+
+
 def test_ctrl_c_ends_all_at_once(repository):
     repository.write("low", "seconds 300\n")
     how = {"stdin": subprocess.DEVNULL, "stderr": subprocess.PIPE, "text": True, "start_new_session": True, "preexec_fn": heed_signals}
@@ -411,3 +436,85 @@ def test_a_list_that_is_wrong_is_told(repository, text, why):
         shutil.rmtree(repository.folder / "crates" / "absent")
     done = repository.toll("script")
     assert done.returncode == 3 and why in done.err and done.err.endswith("toll: the program couldn't be built\n") and repository.log() == ""
+
+
+# As `rt try`, it has the clang of its own kit compile a stub, then the program's module unoptimized and with a sanitizer.
+TRYING = r'''#!/usr/bin/python3
+import os, pathlib, subprocess, sys, tempfile, time
+kit, told = pathlib.Path(__file__).resolve().parent.parent, pathlib.Path(os.environ["TOLD"])
+if sys.argv[1] == "version":
+    print("kit 1")
+    sys.exit()
+assert sys.argv[1] == "try" and (kit / "bin" / "rtlib.py").read_text() == "library" and (kit / "rlibs").is_dir()
+text = pathlib.Path("src/main.rt").read_text()
+assert all(pathlib.Path("..", it.partition(":")[0]).is_dir() for it in pathlib.Path("../../crates.txt").read_text().splitlines())
+(told / "pid-try").write_text(str(os.getpid()))
+time.sleep(float(text.partition("seconds ")[2].partition("\n")[0] or 0))
+if "wrong" in text:
+    sys.exit("src/main.rt:3:1: error[unknown-name]: there is no such thing")
+with tempfile.TemporaryDirectory() as folder:
+    for module, more in (("stub", []), (text, ["-fsanitize=address"])):
+        pathlib.Path(folder, "module.bc").write_text(module)
+        words = ["-c", "-x", "ir", "module.bc", "-o", "module.o", "-fPIE", "-O0", *more]
+        if subprocess.run([kit / "toolchain/bin/clang", *words], cwd=folder, env={}).returncode:
+            sys.exit("the tool clang failed")
+    print("it was run, and nothing is left")
+'''
+CLANG = r'''#!/usr/bin/python3
+import pathlib, sys
+words = sys.argv[1:]
+pathlib.Path(words[words.index("-o") + 1]).write_text(" ".join(it for it in words if it.startswith(("-O", "-f"))) + "\n" + pathlib.Path("module.bc").read_text())
+'''
+LINK = r'''#!/usr/bin/python3
+import pathlib, sys
+to = pathlib.Path(sys.argv[sys.argv.index("-o") + 1])
+to.write_text("linked " + pathlib.Path(sys.argv[sys.argv.index("-o") + 2]).read_text())
+'''
+
+
+@pytest.fixture
+def unproved(repository, tmp_path):
+    """A repository with a kit that tries."""
+    kit = tmp_path / "kit"
+    for name, text in (("bin/rt", TRYING), ("bin/rtlib.py", "library"), ("bin/rattle-link", LINK), ("toolchain/bin/clang", CLANG), ("rlibs/one", ""), ("c/libos_c.a", "")):
+        (kit / name).parent.mkdir(parents=True, exist_ok=True)
+        (kit / name).write_text(text)
+        (kit / name).chmod(0o755)
+    repository.rt.unlink()
+    repository.rt.symlink_to(kit / "bin" / "rt")
+    repository.quick = repository.folder / "out" / "quick"
+    return repository
+
+
+def test_an_unproved_build_is_the_tried_module_optimized_and_says_what_it_is(unproved):
+    done = unproved.build("--unproved")
+    assert done.returncode == 0 and "toll: out/quick/toll is compiled, and NOTHING OF IT IS PROVED" in done.err, done.err
+    assert (unproved.quick / "toll").read_text() == "linked -fPIE -O3\nfn it\n"
+    assert not (unproved.quick / "building").exists() and not (unproved.out("toll") / "toll").exists()
+
+
+def test_an_unproved_build_of_the_same_text_stays_and_another_is_compiled(unproved):
+    assert unproved.build("--unproved").returncode == 0
+    (unproved.told / "pid-try").unlink()
+    assert unproved.build("--unproved").returncode == 0 and not (unproved.told / "pid-try").exists()
+    unproved.write("toll", "fn other\n")
+    assert unproved.build("--unproved").returncode == 0
+    assert (unproved.quick / "toll").read_text().endswith("fn other\n")
+
+
+def test_what_cannot_be_compiled_is_told_and_the_last_build_stays(unproved):
+    assert unproved.build("--unproved").returncode == 0
+    unproved.write("toll", "wrong\n")
+    done = unproved.build("--unproved")
+    assert done.returncode == 3 and "toll:     src/main.rt:3:1: error[unknown-name]: there is no such thing\n" in done.err
+    assert (unproved.quick / "toll").read_text().endswith("fn it\n") and not (unproved.quick / "building").exists()
+
+
+def test_an_unproved_build_that_a_signal_ends_leaves_nothing(unproved):
+    unproved.write("toll", "seconds 300\n")
+    it = unproved.start("--unproved", program="tools/build-program")
+    assert eventually(lambda: (unproved.told / "pid-try").exists())
+    it.send_signal(signal.SIGTERM)
+    assert it.wait(20) == 143 and not (unproved.quick / "building").exists() and not (unproved.quick / "toll").exists()
+    child = int((unproved.told / "pid-try").read_text())
+    assert eventually(lambda: not os.path.exists(f"/proc/{child}"))

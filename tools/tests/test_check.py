@@ -5,7 +5,7 @@ import subprocess
 
 import pytest
 from checking import debian, parts, runner
-from checking.parts import Part
+from checking.parts import GB, Part
 from conftest import ROOT, eventually, script
 
 CHECK = [ROOT / "check"]
@@ -37,6 +37,13 @@ def test_a_part_that_fails_tells_what_it_printed(told):
     assert printed.splitlines()[1:] == ["    why", "    because"]
 
 
+@pytest.mark.parametrize("bad, is_ok", [(0, True), (1, False), (12, False)])
+def test_proofs_with_a_wrong_body_that_guards_nothing_fail(told, bad, is_ok):
+    line = f"rt: ok; handles allowed: Net; must-fail edits: 81 refused, {bad} bad; every proof and must-fail edit was done in this run"
+    ended, printed = told(parts.PROOFS._replace(words=["echo", line]), on_line=lambda _: None)
+    assert ended.is_ok == is_ok and line in printed
+
+
 def test_a_part_that_is_no_program_fails(told):
     assert not told(Part("absent", ["/nowhere/at-all"]))[0].is_ok
 
@@ -54,6 +61,15 @@ def test_a_part_that_never_ended_has_not_passed(monkeypatch, capsys):
     assert runner.main("") == 1 and "1 FAILED: sql-texts" in capsys.readouterr().out
 
 
+def test_a_part_that_failed_is_shown_again_at_the_end(monkeypatch, capsys):
+    monkeypatch.setattr(runner, "run_all", lambda one, _: (one.run(Part("ill", ["sh", "-c", "seq 99; exit 1"])), print("long", "output", sep="\n")))
+    monkeypatch.setattr("sys.argv", ["check"])
+    monkeypatch.setattr(runner.debian, "install", lambda _: [])
+    assert runner.main("") == 1
+    end = capsys.readouterr().out.rpartition("skipped for time:")[2].splitlines()
+    assert end[-43:-40] == ["ill FAILED:", "    .. 59 lines before these", "    60"] and end[-2] == "    99"
+
+
 def test_a_part_that_does_not_end_is_ended_with_all_that_it_started(told, tmp_path, monkeypatch):
     monkeypatch.setattr(subprocess.Popen, "wait", lambda self, timeout=None, wait=subprocess.Popen.wait: wait(self, timeout and timeout / 30))
     ended, printed = told(Part("endless", ["sh", "-c", f"sleep 300 & echo $! > {tmp_path}/pid; wait"], minutes=1))
@@ -62,14 +78,115 @@ def test_a_part_that_does_not_end_is_ended_with_all_that_it_started(told, tmp_pa
     assert eventually(lambda: not os.path.exists(f"/proc/{child}") or "zombie" in open(f"/proc/{child}/status").read())
 
 
+@pytest.fixture
+def side_by_side(capsys, tmp_path):
+    """What parts note of their beginnings and ends, in order, and how each ended."""
+    def run(wanted, maker=None, processors=4, memory=8 * GB, is_program_there=True):
+        notes = tmp_path / "notes"
+        notes.touch()
+        one = runner.Runner(tmp_path / "toll")
+        schedule = runner.Schedule(one, processors, memory)
+        schedule.run(wanted, maker, is_program_there)
+        assert schedule.running == []
+        return notes.read_text().splitlines(), {it.name: it.is_ok for it in one.ended}
+    return run
+
+
+@pytest.fixture
+def noting(tmp_path):
+    """A part that notes when it begins and ends, which stays until so many have begun."""
+    def make(name, until=1, then="", **more):
+        notes = tmp_path / "notes"
+        wait = f"for i in $(seq 200); do test $(grep -c begins {notes}) -ge {until} && break; sleep 0.05; done"
+        return Part(name, ["sh", "-c", f"echo {name} begins >> {notes}; {wait}; {then or 'true'}; s=$?; echo {name} ends >> {notes}; exit $s"], **more)
+    return make
+
+
+def begun_before_the_first_end(notes):
+    return [it.split()[0] for it in notes[:notes.index(next(it for it in notes if it.endswith(" ends")))]]
+
+
+def test_parts_run_side_by_side_on_as_many_processors_as_there_are(side_by_side, noting):
+    notes, ended = side_by_side([noting(it, until=3) for it in "abcd"], processors=3)
+    assert sorted(begun_before_the_first_end(notes)) == ["a", "b", "c"] and ended == dict.fromkeys("abcd", True)
+
+
+def test_the_first_of_the_list_begin_first(side_by_side, noting):
+    notes, _ = side_by_side([noting(it) for it in "abc"], processors=1)
+    assert notes == ["a begins", "a ends", "b begins", "b ends", "c begins", "c ends"]
+
+
+def test_a_part_of_several_processors_waits_for_them_and_one_of_fewer_goes_before_it(side_by_side, noting):
+    notes, _ = side_by_side([noting("a", until=2), noting("wide", processors=2), noting("c", until=2)], processors=2)
+    assert sorted(begun_before_the_first_end(notes)) == ["a", "c"] and notes[-2:] == ["wide begins", "wide ends"]
+
+
+def test_a_part_of_more_than_there_is_runs_alone(side_by_side, noting):
+    notes, ended = side_by_side([noting("wide", processors=9, memory=99 * GB), noting("b")], processors=2)
+    assert notes == ["wide begins", "wide ends", "b begins", "b ends"] and all(ended.values())
+
+
+def test_nothing_runs_beside_a_part_that_runs_alone(side_by_side, noting):
+    notes, ended = side_by_side([noting("a", until=2), noting("alone", is_alone=True), noting("c", until=2)])
+    assert sorted(begun_before_the_first_end(notes)) == ["a", "c"] and notes[-2:] == ["alone begins", "alone ends"] and all(ended.values())
+
+
+def test_no_more_runs_than_memory_allows(side_by_side, noting):
+    notes, _ = side_by_side([noting("a", until=2, memory=3 * GB), noting("b", memory=3 * GB), noting("c", until=2, memory=2 * GB)], memory=5 * GB)
+    assert sorted(begun_before_the_first_end(notes)) == ["a", "c"]
+
+
+def test_one_that_fails_or_hangs_stops_no_other(side_by_side, noting, monkeypatch):
+    monkeypatch.setattr(subprocess.Popen, "wait", lambda self, timeout=None, wait=subprocess.Popen.wait: wait(self, timeout and timeout / 30))
+    notes, ended = side_by_side([noting("ill", then="false"), noting("endless", then="sleep 300", minutes=1), noting("well"), noting("late")], processors=2)
+    assert ended == {"ill": False, "endless": False, "well": True, "late": True}
+
+
+def test_what_needs_the_program_begins_as_soon_as_it_is_proved(side_by_side, noting, tmp_path):
+    (tmp_path / "toll").touch(0o755)
+    proofs = noting("proofs", then=f"echo 'rt: toll proved'; for i in $(seq 200); do grep -q 'c ends' {tmp_path}/notes && break; sleep 0.05; done", processors=4)
+    parts_of_it = [noting("a"), noting("b", then=f": {parts.PROGRAM}"), noting("c", then=f": {parts.PROGRAM}")]
+    notes, ended = side_by_side(parts_of_it, proofs, is_program_there=False)
+    assert notes[-1] == "proofs ends" and all(ended.values())
+    # one at a time, since the proofs take all processors
+    assert [it for it in notes if not it.startswith("proofs")] == ["a begins", "a ends", "b begins", "b ends", "c begins", "c ends"]
+
+
+def test_what_needs_the_program_waits_for_proofs_that_never_say_that_it_is_there(side_by_side, noting, tmp_path):
+    (tmp_path / "toll").touch(0o755)
+    proofs = noting("proofs", then="echo 'rt: toll NOT PROVED'; false", processors=4)
+    notes, ended = side_by_side([noting("b", then=f": {parts.PROGRAM}")], proofs, is_program_there=False)
+    assert notes == ["proofs begins", "proofs ends", "b begins", "b ends"] and ended == {"proofs": False, "b": True}
+
+
+def test_a_part_waits_for_the_proofs_where_its_memory_is_lacking_beside_them(side_by_side, noting):
+    proofs = noting("proofs", processors=4, memory=6 * GB)
+    notes, _ = side_by_side([noting("large", memory=3 * GB)], proofs)
+    assert notes == ["proofs begins", "proofs ends", "large begins", "large ends"]
+
+
+def test_a_signal_lets_nothing_more_begin(noting, tmp_path):
+    (tmp_path / "notes").touch()
+    one = runner.Runner(tmp_path / "toll")
+    one.stop()
+    runner.Schedule(one, 1, GB).run([noting("a")])
+    assert (tmp_path / "notes").read_text() == "" and one.ended == []
+
+
+def test_what_a_part_leaves_has_time_to_clear_away(told, tmp_path):
+    clearing = f"sh -c 'trap \"sleep 0.5; touch {tmp_path}/cleared; exit\" TERM; touch {tmp_path}/there; sleep 300 & wait' &"
+    assert told(Part("leaving", ["sh", "-c", f"{clearing} while ! test -e {tmp_path}/there; do sleep 0.02; done"]))[0].is_ok
+    assert (tmp_path / "cleared").exists()
+
+
 def test_the_program_stands_in_the_words(told, tmp_path):
     assert told(Part("which", ["sh", "-c", f"test {parts.PROGRAM} = {tmp_path}/toll"]))[0].is_ok
 
 
 def test_parts_that_need_the_program_fail_where_there_is_none(tmp_path):
-    done = check("--program", str(tmp_path / "absent"), "--only", "try-door", "--only", "sql-texts")
+    done = check("--program", str(tmp_path / "absent"), "--only", "tests-socket", "--only", "sql-texts")
     assert done.returncode == 1 and "there is no program" in done.stdout
-    assert done.stdout.splitlines()[-1].endswith("1 FAILED: try-door")
+    assert done.stdout.splitlines()[-1].endswith("1 FAILED: tests-socket")
 
 
 @pytest.mark.parametrize("status, is_ok", [(0, True), (1, False), (2, False)])
@@ -79,6 +196,41 @@ def test_the_proofs_are_those_of_rt(tmp_path, status, is_ok):
     assert (done.returncode == 0) == is_ok
     assert "rt ci, jobs " in done.stdout and ("ok" if is_ok else "FAILED") in done.stdout
     assert [it.split()[0] for it in done.stdout.splitlines() if " s  ok" in it or " s  FAILED" in it].count("sql-texts") == 1
+
+
+def listed(*words):
+    return [it.split()[0] for it in check(*words, "--list").stdout.splitlines()]
+
+
+def test_the_list_names_each_part_and_what_it_needs():
+    lines = check("--list").stdout.splitlines()
+    assert [it.split()[0] for it in lines] == [it.name for it in parts.parts()]
+    assert "proofs               makes the program" in lines
+    assert any(it.startswith("shell                needs no program   git shellcheck") for it in lines)
+    assert any(it.startswith("tests-http           needs the program  python3-pytest ") for it in lines)
+
+
+def test_quick_runs_everything_but_the_proofs_over_an_unproved_build(tmp_path):
+    assert listed("--quick") == ["unproved-build" if it == "proofs" else it for it in listed()]
+    assert "unproved-build" not in listed("--quick", "--program", str(tmp_path / "toll"))
+    assert check("--quick", "--only", "proofs").returncode == 2 and check("--only", "unproved-build").returncode == 2
+
+
+def test_quick_tries_the_unproved_program_and_says_that_nothing_was_proved(monkeypatch, capsys):
+    tried = []
+    monkeypatch.setattr(runner, "run_all", lambda one, wanted: tried.append(one.program))
+    monkeypatch.setattr(debian, "install", lambda _: [])
+    monkeypatch.setattr("sys.argv", ["check", "--quick"])
+    assert runner.main("") == 1 and tried == [ROOT / "out" / "quick" / "toll"]
+    assert "NOTHING WAS PROVED" in capsys.readouterr().out
+
+
+def test_the_proofs_take_all_processors_and_leave_memory_to_one_part(monkeypatch):
+    monkeypatch.setenv("RT_JOBS", "4")
+    maker = runner.maker_of([parts.PROOFS], 4, 22 * GB)
+    assert (maker.name, maker.processors, maker.memory) == ("proofs", 4, 19.5 * GB)
+    assert runner.maker_of([parts.PROOFS], 2, 22 * GB).memory == 10 * GB and runner.maker_of([parts.PROOFS], 4, 4 * GB).memory == 5 * GB
+    assert runner.maker_of([parts.UNPROVED], 4, 22 * GB) == parts.UNPROVED and runner.maker_of([], 4, 22 * GB) is None
 
 
 def test_what_is_missing_is_told_in_one_line(tmp_path):
@@ -107,17 +259,27 @@ def test_ended_by_a_signal_it_leaves_nothing(tmp_path):
     assert eventually(lambda: not os.path.exists(f"/proc/{child}"))
 
 
+def test_a_signal_that_is_ignored_as_under_nohup_ends_nothing(tmp_path):
+    script(tmp_path / "rt", f"echo $$ > {tmp_path}/pid; sleep 1")
+    how = {"stdout": subprocess.DEVNULL, "env": {**os.environ, "PATH": f"{tmp_path}:{os.environ['PATH']}"}}
+    it = subprocess.Popen([*CHECK, "--only", "proofs"], preexec_fn=lambda: signal.signal(signal.SIGHUP, signal.SIG_IGN), **how)
+    assert eventually(lambda: (tmp_path / "pid").exists())
+    it.send_signal(signal.SIGHUP)
+    assert it.wait(30) == 0
+
+
 def test_each_tool_that_tries_the_program_is_a_part_or_told_as_skipped():
     words = [str(word) for part in parts.BESIDE + parts.BEHIND if not callable(part.words) for word in part.words]
     named = " ".join([*words, *(it.command for it in parts.SKIPPED)])
     tools = {it.name for it in (ROOT / "tools").iterdir() if it.name.startswith(("try-", "check-", "bench", "load")) and it.is_file()}
     assert {it for it in tools if f"tools/{it}" not in named} == set()
+    assert {it.name for it in (ROOT / "tests").glob("test_*.py") if f"tests/{it.name}" not in words} == set()
 
 
 def test_each_source_is_of_a_language_that_is_looked_at():
     shell, python = ({it.relative_to(ROOT) for it in parts.sources(language)} for language in (parts.SHELL, parts.PYTHON_SOURCE))
-    assert {ROOT / it for it in ("toll", "demo/run", ".ci/run", "packaging/debian/postinst", "packaging/completion.bash")} <= {ROOT / it for it in shell}
-    assert {ROOT / it for it in ("check", "plant/bin/hilpoven", "tools/try-door", "tools/plant_words.py")} <= {ROOT / it for it in python}
+    assert {ROOT / it for it in ("toll", "demo/run", ".ci/run", "debian/toll.postinst", "packaging/completion.bash")} <= {ROOT / it for it in shell}
+    assert {ROOT / it for it in ("check", "plant/bin/hilpoven", "tools/try-page", "tests/test_socket.py")} <= {ROOT / it for it in python}
 
 
 def test_the_gate_runs_this_and_nothing_else():

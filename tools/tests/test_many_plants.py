@@ -23,12 +23,14 @@ def sites(tmp_path):
 
 def test_each_plant_has_its_own_name_and_port_and_the_rest_stands_once(sites):
     common = (sites / "conf.d" / "toll.conf").read_text()
-    assert common.count("limit_req_zone") == 1 and "toll.example.com" not in common
+    zones = re.findall(r"limit_\w+_zone .* zone=(\w+):", common)
+    assert sorted(zones) == ["toll", "toll_at_once", "toll_wrong_keys"] and "toll.example.com" not in common
     for name, (host, port) in PLANTS.items():
         text = (sites / "sites-enabled" / f"toll-{name}.conf").read_text()
         assert re.findall(r"server_name (.*);", text) == [host]
         assert set(re.findall(r"proxy_pass http://127\.0\.0\.1:(\d+)", text)) == {str(port)}
         assert "toll.example.com" not in text and "limit_req_zone" not in text
+        assert {re.sub(r".*/", "", it) for it in re.findall(r"access_log (\S+) toll", text)} == {f"toll-{name}.log", f"unauthenticated-toll-{name}.log"}
 
 
 def test_nginx_takes_the_sites_of_two_plants(sites):

@@ -78,7 +78,8 @@ def test_the_validator_finds_what_is_wrong(tmp_path, path, broken):
 
 
 def test_the_routes_are_those_of_the_code():
-    routes = [it for text in sources() for it in re.findall(r'pattern: "(.*?)",\s+parts: Parts::\w+,\s+get: (\w+).*?,\s+post: (\w+)', text)]
+    row = r'pattern: "(.*?)",\s+endpoint: Endpoint {\s+parts: Parts::\w+,\s+get: (\w+).*?,\s+post: (\w+)'
+    routes = [route for text in sources() for route in re.findall(row, text)]
     code = {(method, re.sub(r"{\w+}", "{}", pattern)) for pattern, *asks in routes for method, ask in zip(METHODS, asks) if ask == "Some"}
     assert code and code == {(method, re.sub(r"{\w+}", "{}", path)) for path, method, _ in operations()}
 

@@ -1,70 +1,235 @@
-"""tools/package: packages that are made wherever they are asked for, and documents with the names that are installed."""
-import datetime
+"""tools/package: the packages of a program that only tells its version, and what they contain."""
+import os
+import pathlib
 import re
 import shutil
 import subprocess
+import sys
 
 import pytest
-from conftest import tool
-from packages import documents, plant, tree
+from conftest import ROOT, script, tool
 
-WHEN = datetime.datetime.fromtimestamp(1_700_000_000, datetime.timezone.utc)
+sys.path[:0] = [str(ROOT / "packaging"), str(ROOT / "plant" / "src")]
+import documents  # noqa: E402
+import hilpoven  # noqa: E402
+import versions  # noqa: E402
+from checking.parts import BUILD_NEEDS  # noqa: E402
+
+LIBRARIES = pathlib.Path("/opt/rattle/rattle")
+USAGE = f"toll {hilpoven.VERSION}, office format {hilpoven.OFFICE_VERSION}"
 
 
-@pytest.fixture
-def stub(tmp_path):
+def stub(folder, usage=USAGE):
     """A program that stands in for toll."""
-    return shutil.copy("/bin/true", tmp_path / "toll")
+    return script(folder / "program", f"printf '%s\\n' '{usage}' usage: >&2; exit 2")
 
 
-@pytest.mark.parametrize("words", [[], ["."], ["made"], ["./made/"]])
-def test_a_relative_folder_is_as_good_as_another(tmp_path, stub, words):
-    (tmp_path / "made").mkdir()
-    done = tool("package", "--program", stub, "--version", "7.5", *words, cwd=tmp_path)
+@pytest.fixture(scope="module")
+def made(tmp_path_factory):
+    """The current folder, which gets the packages if none is given."""
+    top = tmp_path_factory.mktemp("package")
+    done = tool("package", "--program", stub(top), cwd=top, timeout=900)
     assert done.returncode == 0, done.stderr
-    folder = tmp_path / (words[0] if words else ".")
-    assert {it.name for it in folder.glob("*_7.5-1_*")} == {"toll_7.5-1_amd64.deb", "hilpoven_7.5-1_all.deb"} and (folder / "toll-7.5-x86_64.tar.gz").exists()
-    assert all(not it.name.startswith((".", "package")) for it in tmp_path.iterdir())
+    return top
 
 
-def test_what_is_packaged_is_named_as_it_is_installed(stub):
-    entries = {**tree.tree(stub), **dict(plant.entries(WHEN))}
-    pages = {path: it.content.decode() for path, it in entries.items() if path.endswith(".md")}
+@pytest.fixture(scope="module")
+def unpacked(made):
+    """What the packages install, and the tarball beside it in /usr/local."""
+    root = made / "root"
+    for package in made.glob("*.deb"):
+        subprocess.run(["dpkg-deb", "-x", package, root], check=True)
+    local = root / "usr/local"
+    local.mkdir()
+    subprocess.run(["tar", "-C", local, "--strip-components=1", "-xzf", *made.glob("*-x86_64.tar.gz")], check=True)
+    return root
+
+
+def fields(package):
+    """The fields of a package by their names."""
+    printed = subprocess.run(["dpkg-deb", "-f", package], capture_output=True, text=True, check=True).stdout
+    return dict(re.findall(r"(?m)^([\w-]+): (.*)$", printed))
+
+
+def test_the_folder_gets_the_packages_and_nothing_else(made):
+    files = {re.sub(r"[\d.]+(-\d+)?(?=[._-])", "V", it.name, count=1) for it in made.iterdir() if it.is_file()}
+    assert files == {"program", "toll_V_amd64.deb", "hilpoven_V_all.deb", "hilpoven-papers_V_all.deb",
+                     "toll-V-x86_64.tar.gz", "hilpoven_V.dsc", "hilpoven_V.orig.tar.gz", "hilpoven_V.debian.tar.xz"}
+    assert not [it for it in made.iterdir() if it.name.startswith((".", "package"))]
+
+
+def test_the_source_package_has_the_tracked_files(made):
+    words = ["dpkg-source", "--no-check", "--skip-patches", "-x", *made.glob("*.dsc"), made / "source"]
+    subprocess.run(words, check=True, capture_output=True)
+    git = ["git", "-c", f"safe.directory={ROOT}", "-C", ROOT, "ls-files"]
+    listed = subprocess.run(git, capture_output=True, text=True, check=True).stdout.splitlines()
+    tracked = {it for it in listed if (ROOT / it).exists()}
+    found = {str(it.relative_to(made / "source")) for it in (made / "source").rglob("*") if not it.is_dir()}
+    assert found == tracked and "debian/README.source" in tracked
+
+
+# Documents
+
+def test_pages_have_the_names_that_are_installed(unpacked):
+    pages = {it: it.read_text() for it in (unpacked / "usr/share").rglob("*.md")}
     assert len(pages) > 10
-    assert {path: found for path, text in pages.items() if (found := documents.named_in_sources(text))} == {}
-    named = {it for text in pages.values() for it in re.findall(r"(?<![\w.])/usr/((?:share/doc/toll/examples|lib/systemd/system)/[\w@./-]*\w)", text)}
-    assert {it for it in named if it not in entries} == set()
-    assert "bin/hilpoven" in entries and ".Xr hilpoven 1" in (tree.ROOT / "docs" / "toll.1").read_text()
+    assert {path: names for path, text in pages.items() if (names := documents.named_in_sources(text))} == {}
+    forms = r"(?<![\w.])(/usr/(?:share/doc/toll/examples|lib/systemd/system)/[\w@./-]*\w)"
+    named = {it for text in pages.values() for it in re.findall(forms, text)}
+    assert {it for it in named if not os.path.exists(f"{unpacked}{it}")} == set()
+    assert ".Xr hilpoven 1" in (ROOT / "docs" / "toll.1").read_text()
+
+
+def test_what_a_page_links_to_is_packaged(unpacked):
+    """Pages and their pictures, and what /owner/ serves."""
+    share = unpacked / "usr/share"
+    form = r"\]\(([^)#\s]+)|(?:href|src)=\"([^\"#]+)\""
+    pages = [it for it in share.rglob("*") if it.suffix in (".md", ".html")]
+    links = [(page, "".join(it)) for page in pages for it in re.findall(form, page.read_text())]
+    inner = [(page, it) for page, it in links if "://" not in it]
+    assert len(inner) > 30
+    assert [(page, it) for page, it in inner if not os.path.exists(os.path.normpath(page.parent / it))] == []
+    cited = set(re.findall(r"`docs/([\w-]+\.md)`", (share / "toll/page/http.md").read_text()))
+    assert {"commands.md", "refusals.md"} <= cited <= set(os.listdir(share / "toll/page"))
 
 
 @pytest.mark.parametrize("source, installed", [
-    ("`plant/bin/hilpoven status`", "`hilpoven status`"), ("`plant/tests`", "`SOURCES/plant/tests`"), ("$ ./toll --db", "$ toll --db"), ("toll() { ./toll --db", "toll() { command toll --db"),
-    ("apt-get install ./toll_1.0-1_amd64.deb", "apt-get install ./toll_1.0-1_amd64.deb"), ("`demo/run day`", "`/usr/share/doc/toll/examples/demo day`"),
-    ("`packaging/toll@.service`", "`/usr/lib/systemd/system/toll@.service`"), ("`tools/check-docs`", "`SOURCES/tools/check-docs`")])
+    ("`plant/bin/hilpoven status`", "`hilpoven status`"), ("`plant/tests`", "`SOURCES/plant/tests`"),
+    ("$ ./toll --db", "$ toll --db"), ("toll() { ./toll --db", "toll() { command toll --db"),
+    ("apt-get install ./toll_*.deb", "apt-get install ./toll_*.deb"),
+    ("`demo/run day`", "`/usr/share/doc/toll/examples/demo day`"), ("`tools/check-docs`", "`SOURCES/tools/check-docs`"),
+    ("`packaging/toll@.service`", "`/usr/lib/systemd/system/toll@.service`")])
 def test_a_name_becomes_that_which_is_installed(source, installed):
     assert documents.installed(source) == installed
 
 
-def test_the_command_runs_where_it_is_installed(tmp_path, stub):
-    tree.write({**tree.tree(stub), **dict(plant.entries(WHEN))}, tmp_path / "usr", WHEN.timestamp())
-    shutil.copy(stub, tmp_path / "usr" / "bin" / "toll")
-    told = subprocess.run([tmp_path / "usr" / "bin" / "hilpoven", "--version"], capture_output=True, text=True)
-    assert (told.returncode, told.stdout, told.stderr) == (0, f"hilpoven, version {tree.version()}\n", "")
-    assert not [it for it in (tmp_path / "usr").rglob("__pycache__")]
+# One version
+
+USED = {"crates/toll_programs/src/task.rt": r'USAGE: &str = "toll (\S+), office format (\d+)\n',
+        "crates/toll_programs/src/laws.rt": r'codes "toll (\S+), office format (\d+)\\n',
+        "crates/toll_programs/src/version.rt": r'VERSION: &str = "(\S+), office format (\d+)"',
+        "docs/commands.md": r"(?m)^toll (\S+), office format (\d+)$"}
 
 
-def test_each_module_of_the_command_is_packaged():
-    entries = dict(plant.entries(WHEN))
-    for source in plant.sources():
-        for module in re.findall(r"^from (\.+[\w.]*) import|^from \. import (.*)$", source.read_text(), re.M):
-            for name in [module[0].lstrip(".")] if module[0] else [it.split(" as ")[0].strip() for it in module[1].split(",")]:
-                assert not name or name.isupper() or any(path.endswith((f"/{name.replace('.', '/')}.py", f"/{name}/__init__.py")) for path in entries), (source, name)
+@pytest.mark.parametrize("file", USED)
+def test_the_program_has_the_version_of_all(file):
+    assert re.findall(USED[file], (ROOT / file).read_text()) == [(hilpoven.VERSION, str(hilpoven.OFFICE_VERSION))]
 
 
-def test_the_rule_of_sudo_is_one_that_sudo_reads(tmp_path):
-    rule = tmp_path / "rule"
-    rule.write_bytes(plant.settings()["etc/sudoers.d/hilpoven"].content)
-    rule.chmod(0o440)
-    assert plant.settings()["etc/sudoers.d/hilpoven"].mode == 0o440
+USAGES = [(USAGE, hilpoven.VERSION), ("toll 0.9, office format 2", "0.9"), ("", "no version")]
+
+
+@pytest.mark.parametrize("usage, version", USAGES)
+def test_each_file_has_one_version_and_a_program_that_of_its_usage(tmp_path, usage, version):
+    program = str(stub(tmp_path, usage))
+    files = (versions.VERSION_FILE, "CHANGELOG.md", "debian/changelog")
+    assert versions.versions(program) == {**dict.fromkeys(files, hilpoven.VERSION), program: version}
+
+
+def test_the_packages_and_the_command_have_the_version(made, unpacked):
+    assert {re.sub(r"-\d+$", "", fields(it)["Version"]) for it in made.glob("*.deb")} == {hilpoven.VERSION}
+    assert (unpacked / f"usr/lib/python3/dist-packages/hilpoven-{hilpoven.VERSION}.dist-info").is_dir()
+
+
+def test_no_other_page_or_file_says_a_version():
+    form = r"(?:toll|hilpoven|papers)[_-]\d+\.\d[\w.-]*"
+    pages = [ROOT / "README.md", *(ROOT / "docs").glob("*.md")]
+    named = {page.name: names for page in pages if (names := re.findall(form, page.read_text()))}
+    assert named == {"packages.md": ["toll_1.0-1_amd64.deb"]}
+
+
+def test_a_program_of_another_version_is_not_packaged(tmp_path):
+    program = stub(tmp_path, "no usage")
+    done = tool("package", "--program", program, tmp_path)
+    wanted = f"package: {versions.VERSION_FILE} has version {hilpoven.VERSION}, but {program} has no version\n"
+    assert (done.returncode, done.stdout, done.stderr, os.listdir(tmp_path)) == (2, "", wanted, ["program"])
+    step = ["make", "-f", "debian/rules", "execute_before_dh_auto_configure", f"TOLL={program}"]
+    direct = subprocess.run(step, cwd=ROOT, capture_output=True)
+    assert direct.returncode and b"has no version" in direct.stderr
+
+
+# Of each package
+
+def test_the_gate_installs_what_a_build_needs():
+    provided = {"debhelper-compat": "debhelper", "dh-sequence-installsysusers": "debhelper",
+                "dh-sequence-python3": "dh-python"}
+    listed = re.search(r"(?m)^Build-Depends: ((?:.*,\n)*.*)$", (ROOT / "debian/control").read_text())[1]
+    names = [it.split()[0] for it in listed.split(",")]
+    assert {provided.get(it, it) for it in names} <= set(BUILD_NEEDS)
+
+
+def test_a_server_and_its_command_need_no_compiler(made):
+    """WeasyPrint brings one. If it is there, apt keeps it, because an installed package suggests it."""
+    command, papers = (fields(*made.glob(f"{it}_*.deb")) for it in ("hilpoven", "hilpoven-papers"))
+    heavy = {"weasyprint", "graphviz"}
+    assert not heavy & {it.split()[0] for it in (command["Depends"] + ", " + command["Recommends"]).split(", ")}
+    assert heavy | {"hilpoven-papers"} <= set(command["Suggests"].split(", "))
+    assert heavy | {"hilpoven"} <= {it.split()[0] for it in papers["Depends"].split(", ")}
+
+
+def test_debians_command_is_isolated(unpacked):
+    """Behind sudo no module comes from a member's environment or folder, and there is no other script."""
+    (command,) = [it for it in (unpacked / "usr/bin").iterdir() if it.name != "toll"]
+    assert re.fullmatch(r"#! ?/usr/bin/python3 -IB", command.read_text().splitlines()[0]) and command.name == "hilpoven"
+
+
+@pytest.mark.parametrize("folder", ["usr/lib/python3/dist-packages", "usr/local/share/hilpoven/src"])
+def test_each_file_of_the_command_is_packaged(unpacked, folder):
+    here, there = ROOT / "plant/src", unpacked / folder
+    files = {it.relative_to(here) for it in (here / "hilpoven").rglob("*") if it.is_file() and it.suffix != ".pyc"}
+    packaged = {it.relative_to(there) for it in (there / "hilpoven").rglob("*") if it.is_file()}
+    assert packaged == files and len(files) > 50
+
+
+def test_the_command_runs_from_the_tarball(unpacked):
+    local = unpacked / "usr/local"
+    done = subprocess.run([local / "bin/hilpoven", "--version"], capture_output=True, text=True)
+    assert (done.returncode, done.stdout, done.stderr) == (0, f"hilpoven, version {hilpoven.VERSION}\n", "")
+    assert (local / "bin/toll").is_file() and not list(local.rglob("__pycache__"))
+
+
+def test_the_tarball_has_what_the_packages_have(unpacked):
+    """Except what is Debian's alone. The settings of /etc are examples there."""
+    def files(top, *left_out):
+        paths = {str(it.relative_to(top)) for it in top.rglob("*") if not it.is_dir()}
+        return {it for it in paths if not it.startswith(left_out)}
+    debians = ("local/", "lib/python3/", "share/lintian/", "share/doc/hilpoven-papers/")
+    packaged = {it for it in files(unpacked / "usr", *debians) if not it.endswith("changelog.Debian.gz")}
+    examples = {f"share/doc/hilpoven/examples/{it}" for it in files(unpacked / "etc")}
+    assert len(examples) == 3 and files(unpacked / "usr/local", "share/hilpoven/") == packaged | examples
+
+
+def test_the_rule_of_sudo_is_one_that_sudo_reads(unpacked, tmp_path):
+    rule = pathlib.Path(shutil.copy(unpacked / "etc/sudoers.d/hilpoven", tmp_path))
+    assert rule.stat().st_mode & 0o777 == 0o440
     if shutil.which("visudo"):
         assert subprocess.run(["visudo", "-c", "-f", rule], capture_output=True).returncode == 0
+
+
+# Licences
+
+def linked_libraries():
+    """The toolchain's libraries that crates.txt names, and those that they use."""
+    names = set(re.findall(r"\w+", re.sub(r"(?m)^#.*", "", (ROOT / "crates.txt").read_text())))
+    linked: set[str] = set()
+    while found := {it for it in names - linked if (LIBRARIES / it / "src").is_dir()}:
+        linked |= found
+        sources = [it for library in found for it in (LIBRARIES / library / "src").rglob("*.rt")]
+        names = {name for it in sources for name in re.findall(r"\b([a-z_]\w*)::", it.read_text(errors="replace"))}
+    return linked
+
+
+def test_the_licences_of_all_linked_libraries_are_in_the_copyright():
+    """By the library's name, each holder, and the licence's last sentence; of Apache-2.0 Debian has the text."""
+    def plain(text):
+        return " ".join(re.sub(r"(?m)^ \.$", "", text).split())
+    said, wrong = plain((ROOT / "debian/copyright").read_text()), []
+    for library in sorted(linked_libraries()):
+        for file in sorted((LIBRARIES / library).glob("LICENSE*")):
+            if file.name == "LICENSE-APACHE" and (LIBRARIES / library / "LICENSE-MIT").exists():
+                continue  # one of the two is to be chosen
+            text = file.read_text()
+            holders = re.findall(r"(?mi)^ *copyright (?:\(c\)|©) (?:20\d\d,? )?(.*)$", text)
+            end = "Apache-2.0" if "Apache License" in text[:100] else plain(text)[-400:]
+            wrong += [(file, it) for it in (library, *holders, end) if it not in said]
+    assert wrong == []

@@ -8,6 +8,7 @@ import gzip
 import http.client
 import http.server
 import json
+import os
 import pathlib
 import re
 import socket
@@ -19,6 +20,7 @@ import time
 
 import pytest
 import yaml
+from conftest import eventually
 
 ROOT = pathlib.Path(__file__).resolve().parent.parent.parent
 sys.path.insert(0, str(ROOT / "tools"))
@@ -62,6 +64,7 @@ class Stub(http.server.ThreadingHTTPServer):
     def __init__(self):
         super().__init__(("127.0.0.1", 0), StubAnswer)
         self.go, self.counting, self.now, self.most = threading.Event(), threading.Lock(), 0, 0
+        self.heads = []  # of all requests
 
     def handle_error(self, *_):
         """Whoever asked went away: the site does, where an answer takes long."""
@@ -78,17 +81,24 @@ class Stub(http.server.ThreadingHTTPServer):
                 self.now -= 1
 
 
+STATUSES = {"/nowhere": 404, "/stock/method": 405, "/orders/refused": 409, "/orders/malformed": 400, "/orders/locked": 503}
+WRONG_KEY = "WRONGKEY1"
+
+
 class StubAnswer(http.server.BaseHTTPRequestHandler):
     def do_GET(self):
+        self.server.heads.append(self.headers)
         if self.path == "/lots/SLOW":
             with self.server.counted():
                 self.server.go.wait(20)
         if self.path == "/lots/NEVER":
             time.sleep(4)
         body = json.dumps({"lots": [{"lot": f"{self.headers['toll-owner']}-{it}"} for it in range(40)]}).encode()
-        status = 404 if self.path == "/nowhere" else 200
+        status = 403 if self.headers["toll-key"] == WRONG_KEY else STATUSES.get(self.path, 200)
+        if foreign := re.fullmatch("/foreign/([0-9]+)", self.path):
+            status, body = int(foreign[1]), b"<h1>Welcome to our wireless network</h1>"
         self.send_response_only(status)
-        self.send_header("content-type", "application/json")
+        self.send_header("content-type", "text/html" if foreign else "application/json")
         self.send_header("content-length", str(len(body)))
         self.end_headers()
         self.wfile.write(body)
@@ -138,9 +148,9 @@ class Reply:
         return json.loads(self.body)
 
 
-def ask(site, path, method="GET", body=None, to="127.0.0.1", **fields):
-    """Asks the site; `fields` stand in the head, with - for _."""
-    line = socket.create_connection((to, site.port), timeout=20)
+def ask(site, path, method="GET", body=None, to="127.0.0.1", source=None, **fields):
+    """Asks the site, from a source address if one is given; `fields` stand in the head, with - for _."""
+    line = socket.create_connection((to, site.port), timeout=20, source_address=source and (source, 0))
     peer = http.client.HTTPConnection("localhost")
     peer.sock = trusting().wrap_socket(line, server_hostname="localhost")
     try:
@@ -178,6 +188,13 @@ def test_nginx_takes_the_site_without_a_warning(site):
     assert done.returncode == 0 and "[warn]" not in done.stderr, done.stderr
 
 
+@pytest.mark.parametrize("status", [200, 400, 403, 404, 413, 429, 500, 502, 503, 504])
+def test_what_is_not_the_offices_does_not_look_like_it(site, status):
+    """Something else at the office's port: its 403 sends no owner away, and its 500 is no office that is away."""
+    reply = ask(site, f"/foreign/{status}")
+    assert reply.status == status and reply.fields["content-type"].startswith("text/") and reply.fields["cache-control"] == "no-store"
+
+
 # Nobody keeps what an owner is told
 
 def test_every_reply_of_the_interface_says_that_nobody_keeps_it(site):
@@ -209,8 +226,10 @@ def test_files_of_the_page_are_looked_after_each_time(site):
 # Browsers are told to be careful
 
 def test_all_that_the_site_tells_has_the_fields_for_browsers(site):
-    for it in (ask(site, "/stock"), ask(site, "/nowhere"), ask(site, "/owner/"), ask(site, "/owner/nothing.js"), ask(site, "/lots/NEVER")):
+    for it in (ask(site, "/stock"), ask(site, "/nowhere"), ask(site, "/owner/"), ask(site, "/owner/nothing.js"), ask(site, "/lots/NEVER"),
+               ask(site, "/stock", toll_owner="ACME", toll_key=WRONG_KEY)):
         assert re.fullmatch(r"max-age=\d{8,}", it.fields["strict-transport-security"])
+        assert it.fields["cross-origin-opener-policy"] == it.fields["cross-origin-resource-policy"] == "same-origin"
         assert it.fields["x-content-type-options"] == "nosniff" and it.fields["referrer-policy"] == "no-referrer"
         assert "default-src 'none'" in it.fields["content-security-policy"] and "unsafe" not in it.fields["content-security-policy"]
 
@@ -282,23 +301,76 @@ def test_an_address_asks_four_things_at_once_and_others_go_on(site, stub):
     assert {(it.fields["retry-after"], it.body) for it in turned_away} == {("1", b'{"error":"TooManyRequests"}')}
 
 
+def slow_statuses(site, stub, most, addresses, **more):
+    """The statuses of requests from these addresses at once. The office answers when so many have come, and a moment has gone by."""
+    def answer():
+        eventually(lambda: stub.now >= most)
+        time.sleep(0.7)
+        stub.go.set()
+
+    stub.go.clear()
+    answering = threading.Thread(target=answer)
+    answering.start()
+    found = at_once(lambda i: ask(site, "/lots/SLOW", **addresses[i], **more).status, len(addresses))
+    answering.join()
+    return sorted(found)
+
+
 @pytest.mark.parametrize("address", ["2001:db8:1:2::{:x}", "2001:db8:1:2:3:4:5:{:x}", "2001:db8:7::{:x}"])
 def test_a_network_of_the_sixth_version_counts_as_one_address(site, stub, address):
-    stub.go.clear()
-    asking = threading.Timer(1, stub.go.set)
-    asking.start()
-    found = at_once(lambda i: ask(site, "/lots/SLOW", x_address=address.format(i + 1)).status, 8)
-    asking.join()
-    assert sorted(found) == [200] * 4 + [429] * 4
+    assert slow_statuses(site, stub, 4, [{"x_address": address.format(it + 1)} for it in range(8)]) == [200] * 4 + [429] * 4
+
+
+@pytest.mark.parametrize("spellings", [
+    ["2001:db8::1", "2001:db8::1:0:0:1", "2001:db8:0:0:1::1", "2001:db8:0:0:5:6:7:8", "2001:0DB8:0000:0000:0:0:0:2", "2001:db8::5:6:7:9"],
+    ["2001:0:0:1::1", "2001::1:5:6:7:8", "2001:0:0:1:5:6:7:9", "2001::1:5:0:0:8", "2001:0:0:1:0:0:7:8", "2001:0000:0000:0001::2"],
+    ["2a00::1", "2a00:0:0:0:1::", "2a00::1:2:3:4", "2a00:0:0:0:5::6", "2a00::ffff:192.0.2.7", "2a00:0:0::9"],
+    ["192.0.2.77", "::ffff:192.0.2.77", "::ffff:c000:24d", "0:0:0:0:0:ffff:192.0.2.77", "::FFFF:192.0.2.77", "0::ffff:c000:024d"],
+])
+def test_a_network_counts_once_whatever_its_spelling(site, stub, spellings):
+    assert slow_statuses(site, stub, 4, [{"x_address": it} for it in spellings]) == [200] * 4 + [429] * 2
+
+
+@pytest.mark.parametrize("addresses", [["2001::1:5:6:7:8", "2001::2:5:6:7:8", "2001::5:6:7:8", "2001:0:1::8", "2001:1::8"],
+                                       ["::ffff:192.0.2.78", "::ffff:192.0.2.79", "192.0.2.80", "::1", "::fffe:192.0.2.78"]])
+def test_other_networks_are_other_addresses(site, stub, addresses):
+    assert slow_statuses(site, stub, 5, [{"x_address": it} for it in addresses]) == [200] * 5
+
+
+IN_A_NETWORK = "TOLL_IN_A_NETWORK"  # set where this file's tests run in a network that a test made
+ADDRESSES = ("fd00:0:0:1::1", "fd00::1:5:6:7:8", "fd00:0:0:1:0:6:0:8", "fd00:0:0:1:9:9:9:9", "fd00::1:0:0:0:2", "fd00:0:0:2::1", "fd00:0:0:2::2")
+
+
+@pytest.fixture
+def network():
+    """A network of this test's own, whose loopback interface has addresses of two networks of the sixth version."""
+    name = f"toll-{os.getpid()}"
+    if os.geteuid() or not has_ipv6() or subprocess.run(["ip", "netns", "add", name], capture_output=True).returncode:
+        pytest.skip("only root can make a network, and this machine may have none of IPv6")
+    within = ["ip", "netns", "exec", name]
+    try:
+        subprocess.run([*within, "ip", "link", "set", "lo", "up"], check=True)
+        for it in ADDRESSES:
+            subprocess.run([*within, "ip", "-6", "addr", "add", f"{it}/128", "dev", "lo", "nodad"], check=True)
+        yield within
+    finally:
+        subprocess.run(["ip", "netns", "del", name], check=True)
+
+
+def test_addresses_of_the_system_count_by_their_network(network):
+    words = [*network, sys.executable, "-B", "-m", "pytest", "-q", "-p", "no:cacheprovider", f"{__file__}::test_addresses_in_a_network"]
+    done = subprocess.run(words, capture_output=True, text=True, timeout=60, env={**os.environ, IN_A_NETWORK: "1"})
+    assert done.returncode == 0 and "1 passed" in done.stdout, done.stdout + done.stderr
+
+
+@pytest.mark.skipif(IN_A_NETWORK not in os.environ, reason="it runs in the network that the test above makes")
+def test_addresses_in_a_network(site, stub):
+    """Five addresses of one network have four connections, two of another theirs."""
+    assert slow_statuses(site, stub, 6, [{"source": it} for it in ADDRESSES], to="::1") == [200] * 6 + [429]
 
 
 def test_networks_of_the_sixth_version_are_told_apart(site, stub):
-    stub.go.clear()
-    asking = threading.Timer(1, stub.go.set)
-    asking.start()
-    found = at_once(lambda i: ask(site, "/lots/SLOW", x_address=f"2001:db8:1:{i + 1:x}::1").status, 8)
-    asking.join()
-    assert found == [200] * 8
+    assert slow_statuses(site, stub, 8, [{"x_address": f"2001:db8:1:{it + 1:x}::1"} for it in range(8)]) == [200] * 8
 
 
 def test_an_address_that_asks_without_end_is_told_to_wait(site):
@@ -318,7 +390,7 @@ def test_who_sends_nothing_is_dropped(site):
 # What stands where
 
 def test_the_contract_stands_beside_the_page(site):
-    for name in ("openapi.yaml", "http.md"):
+    for name in ("openapi.yaml", "http.md", "commands.md", "refusals.md"):
         it = ask(site, f"/owner/{name}")
         assert (it.status, it.fields["content-type"]) == (200, "text/plain; charset=utf-8")
         assert it.body == (ROOT / "docs" / name).read_bytes()
@@ -337,6 +409,142 @@ def test_no_log_has_a_key(site):
     logs = {it.name: it.read_text() for it in site.folder.glob("*.log")}
     assert not [name for name, text in logs.items() if "SECRETKEY1" in text]
     assert '"ACME"' in logs["toll.log"]
+
+
+AUTHENTICATED, UNAUTHENTICATED = "toll.log", "unauthenticated-toll.log"
+
+
+def logged(site, mark, is_there=True):
+    """The lines with this mark, by the log that they are in; a request's line comes behind its reply."""
+    def found():
+        return {name: [it for it in (site.folder / name).read_text().splitlines() if mark in it] for name in (AUTHENTICATED, UNAUTHENTICATED)}
+    if is_there:
+        assert eventually(lambda: any(found().values()))
+    else:
+        time.sleep(0.3)
+    return found()
+
+
+@pytest.mark.parametrize("path, status", [("/stock", 200), *((it, status) for it, status in STATUSES.items() if status in (404, 405, 409))])
+def test_requests_with_a_key_are_in_the_log_that_is_kept(site, path, status):
+    address = f"198.51.100.{status % 100}"
+    assert ask(site, path, toll_owner="ACME", toll_key="ACMEKEY1", x_address=address).status == status
+    lines = logged(site, address)
+    assert [it.split(" [")[0] for it in lines[AUTHENTICATED]] == [f'{address} "ACME"'] and lines[UNAUTHENTICATED] == []
+    assert f'"GET {path} HTTP/1.1" {status} ' in lines[AUTHENTICATED][0]
+
+
+@pytest.mark.parametrize("mark, asked", [
+    ("a-key", {"path": "/stock?a-key", "toll_key": WRONG_KEY}), ("malformed", {"path": "/orders/malformed"}), ("locked", {"path": "/orders/locked"}),
+    ("a-body", {"path": "/orders?a-body", "method": "POST", "body": b"x" * 5000}), ("a-trace", {"path": "/a-trace", "method": "TRACE"}), ("a-page", {"path": "/?a-page"})])
+def test_requests_without_a_key_are_in_a_log_of_their_own(site, mark, asked):
+    """Also those that the site answers by itself, whatever their status."""
+    assert ask(site, **asked).status in (302, 400, 403, 405, 413, 503)
+    assert {name: len(lines) for name, lines in logged(site, mark).items()} == {AUTHENTICATED: 0, UNAUTHENTICATED: 1}
+
+
+def test_what_nobody_need_know_is_in_no_log(site):
+    """The page's files, and requests for other names, which come without a limit."""
+    for asked in ({"path": "/owner/?unlogged"}, {"path": "/owner/unlogged"}, {"path": "/stock?unlogged", "host": "evil.example"}):
+        ask(site, **asked)
+    assert set(map(len, logged(site, "unlogged", False).values())) == {0}
+    assert ask(site, "/owner/../a-detour", toll_key=WRONG_KEY).status == 403
+    assert len(logged(site, "a-detour")[UNAUTHENTICATED]) == 1
+
+
+def test_a_line_of_a_log_is_short_whatever_is_sent(site):
+    for fields in ({"toll_owner": "X" * 1900}, {"toll_owner": '=cmd|"/c"!A1'}, {"toll_owner": "A\x1b[2J"}):
+        assert ask(site, "/stock?a-flood" + "\"" * 1900, toll_key=WRONG_KEY, **fields).status == 403
+    assert eventually(lambda: len(logged(site, "a-flood")[UNAUTHENTICATED]) == 3)
+    lines = logged(site, "a-flood")[UNAUTHENTICATED]
+    assert len(lines) == 3 and max(map(len, lines)) < 500 and {it.split()[1] for it in lines} == {'"-"'}
+    assert "a-flood" not in (site.folder / "error.log").read_text()
+
+
+@pytest.mark.parametrize("target", [b"%s/lots/S-1/release?%s", b"https://localhost:%s443/lots/S-1/release?%s",
+                                    b"HTTPS://LOCALHOST:%s1/lots/S-1/release?%s"])
+def test_no_padding_hides_what_an_owner_changed(site, target):
+    """The path of a request is in the log, whatever precedes it."""
+    address, padding = f"203.0.113.{len(target)}", b" " * 150 if target.startswith(b"%s") else b"0" * 150
+    head = b"POST " + target % (padding, b"x" * 150) + b" HTTP/1.1\r\nHost: localhost\r\nx-address: " + address.encode()
+    key = b"\r\ntoll-owner: ACME\r\ntoll-key: ACMEKEY1\r\nContent-Length: 0\r\nConnection: close\r\n\r\n"
+    reply, _ = told(site, head + key)
+    line, = logged(site, address)[AUTHENTICATED]
+    assert b" 200 OK" in reply and '"POST /lots/S-1/release?x' in line and len(line) < 500
+
+
+def test_a_client_that_goes_away_is_logged_with_what_was_done(site, stub):
+    """An owner, or a thief of its key, hides no release by closing the connection early."""
+    stub.go.clear()
+    with trusting().wrap_socket(socket.create_connection(("127.0.0.1", site.port), timeout=20), server_hostname="localhost") as peer:
+        before = stub.now
+        peer.sendall(b"POST /lots/SLOW HTTP/1.1\r\nHost: localhost\r\ntoll-owner: GONE\r\ntoll-key: GONEKEY1\r\nContent-Length: 0\r\n\r\n")
+        assert eventually(lambda: stub.now > before)
+    time.sleep(0.5)
+    stub.go.set()
+    assert ['"POST /lots/SLOW HTTP/1.1" 200 ' in it for it in logged(site, '"GONE"')[AUTHENTICATED]] == [True]
+
+
+# How long a head is
+
+LONGEST = {"toll_owner": "A" * 16, "toll_key": "k" * 32}
+
+
+def test_the_longest_requests_of_the_interface_come_to_the_office_unchanged(site, stub):
+    """With all that a browser may add."""
+    browser = {f"sec_ch_ua_{it}": "v" * 200 for it in range(26)}
+    for method, path in (("GET", "/trace/forward/" + "L" * 16), ("POST", f"/lots/{'L' * 16}/release"), ("POST", f"/orders/{'O' * 16}/cancel"), ("GET", f"/batches/{'O' * 16}/99")):
+        reply = ask(site, f"{path}?{'q' * 1800}", method, b"{" + b" " * 4094 + b"}" if method == "POST" else None, **LONGEST, user_agent="u" * 1900, **browser)
+        assert reply.status == 200, reply.body
+        head = stub.heads[-1]
+        assert (head["toll-owner"], head["toll-key"], len(head["user-agent"])) == (LONGEST["toll_owner"], LONGEST["toll_key"], 1900)
+        assert [head[f"sec-ch-ua-{it}"] for it in range(26)] == ["v" * 200] * 26
+
+
+@pytest.mark.parametrize("path, fields, status", [("/stock?" + "q" * 2100, {}, 414), ("/stock", {"user_agent": "u" * 2100}, 400),
+                                                  ("/stock", {f"field_{it}": "v" * 1900 for it in range(6)}, 400)], ids=["line", "field", "fields"])
+def test_a_longer_head_is_refused(site, stub, path, fields, status):
+    before = len(stub.heads)
+    reply = ask(site, path, **LONGEST, **fields)
+    assert (reply.status, reply.value()) == (status, {"error": "BadRequest"}) and len(stub.heads) == before
+
+
+# Wrong keys
+
+def guess(site, address, owner, key=WRONG_KEY):
+    """The status of a request with a key, and after how many seconds it came."""
+    begun = time.monotonic()
+    reply = ask(site, "/stock", toll_owner=owner, toll_key=key, x_address=address)
+    assert reply.status == 200 or (reply.value(), reply.fields["content-type"]) == ({"error": "Forbidden"}, "application/json")
+    return reply.status, time.monotonic() - begun
+
+
+def test_the_twentieth_wrong_key_within_a_minute_is_answered_slowly(site):
+    address = "2001:db8:9::{:x}"  # of one network
+    assert max(after for status, after in [guess(site, address.format(it), "ACME") for it in range(19)]) < 1
+    status, after = guess(site, address.format(20), "ACME")
+    assert status == 403 and 1 < after < 5
+    # nobody else waits: another owner, a right key of this one, and this one's people elsewhere
+    for other in ((address.format(21), "BOLT"), (address.format(22), "ACME", "ACMEKEY1"), ("2001:db8:a::1", "ACME"), ("192.0.2.40", "ACME", "ACMEKEY1")):
+        assert guess(site, *other)[1] < 1, other
+    # who writes the name otherwise guesses for the same owner
+    status, after = guess(site, address.format(23), "ACME\t")
+    assert status == 403 and after > 1
+
+
+def test_who_closes_after_a_wrong_key_waits_all_the_same(site, stub):
+    """Otherwise a late answer would be as good as one, and whoever guesses would go on at once."""
+    def leave(owner):
+        with trusting().wrap_socket(socket.create_connection(("127.0.0.1", site.port), timeout=20), server_hostname="localhost") as peer:
+            peer.sendall(f"GET /stock HTTP/1.1\r\nHost: localhost\r\nx-address: 192.0.2.50\r\ntoll-owner: {owner}\r\ntoll-key: {WRONG_KEY}\r\n\r\n".encode())
+            time.sleep(0.1)
+
+    def guessed():
+        return sum(1 for it in stub.heads if it["toll-owner"] == "CARL")
+
+    for _ in range(40):
+        leave("CARL")
+    assert 19 <= guessed() <= 25
 
 
 # What the site tells by itself is in the contract

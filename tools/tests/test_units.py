@@ -2,10 +2,14 @@
 import re
 import shutil
 import subprocess
+import sys
+import tomllib
 
 import pytest
 from conftest import ROOT
-from packages import plant, tree
+
+sys.path.insert(0, str(ROOT / "plant" / "src"))
+from hilpoven.core import settings  # noqa: E402
 
 OFFICE = ["toll@acme.service", "toll-backup@acme.service", "toll-backup@acme.timer", "toll-failed@toll@acme.service.service"]
 SINGLE = ["toll.service", "toll-backup.service", "toll-backup.timer"]
@@ -18,11 +22,11 @@ def installed(tmp_path_factory):
     folder = tmp_path_factory.mktemp("units")
     for name in ("toll", "hilpoven"):
         shutil.copy("/bin/true", folder / name)
-    for path, entry in [*tree.unit_entries(), *tree.units(plant.UNITS)]:
-        if "lib/systemd/system/" in path:
-            target = folder / "system" / path.removeprefix("lib/systemd/system/")
-            target.parent.mkdir(parents=True, exist_ok=True)
-            target.write_text(re.sub(PROGRAMS, rf"\1{folder}/\2", entry.content.decode()))
+    lines = [line.split() for file in (ROOT / "debian").glob("*.install") for line in file.read_text().splitlines()]
+    for source, target in (it for it in lines if it[-1].startswith("usr/lib/systemd/system")):
+        unit = folder / target.removeprefix("usr/lib/systemd/") / source.rpartition("/")[2]
+        unit.parent.mkdir(parents=True, exist_ok=True)
+        unit.write_text(re.sub(PROGRAMS, rf"\1{folder}/\2", (ROOT / source).read_text()))
     return folder / "system"
 
 
@@ -77,6 +81,27 @@ def test_server_and_backup_have_one_file_of_settings():
         assert setting(it, "Environment")[0].split()[0] == "FILE=/var/lib/toll/%i/office.db"
     used = set(re.findall(r"\$\{(\w+)\}", "".join(units)))
     assert used == set(re.findall(r"(?m)^#?([A-Z]+)=", text_of("office.env")))
+
+
+def test_the_timers_backup_keeps_what_its_settings_say():
+    (command,) = setting(text_of("toll-backup@.service"), "ExecStart")
+    assert re.findall(r"--(keep|days) \$\{(\w+)\}", command) == [("keep", "HOURS"), ("days", "DAYS")]
+
+
+def test_page_example_unit_and_command_have_the_same_defaults(tmp_path, monkeypatch):
+    backup = dict(it.split("=") for it in setting(text_of("toll-backup@.service"), "Environment")[0].split())
+    defaults = {name: value.replace("%i", "NAME") for name, value in backup.items()}
+    rows = re.findall(r"(?m)^\| `([A-Z]+)` \| .* \| `?(\S+?)`? \|$", (ROOT / "docs" / "operations.md").read_text())
+    assert dict(rows) == defaults == dict(re.findall(r"(?m)^#([A-Z]+)=(.*)$", text_of("office.env")))
+    (tmp_path / "NAME.env").write_text("PORT=801\n")
+    monkeypatch.setattr(settings, "OFFICES", str(tmp_path))
+    office = settings.of_office(settings.Settings(), "NAME")
+    assert [office.file, office.backups, str(office.keep), str(office.days)] == list(defaults.values())
+
+
+def test_the_journal_reads_the_log_that_the_site_keeps():
+    kept = re.findall(r"access_log (\S+) toll if=\$toll_authenticated;", text_of("nginx.conf"))
+    assert tomllib.loads(text_of("etc/hilpoven.toml"))["site_logs"] == kept and len(kept) == 1
 
 
 def test_no_site_goes_to_a_port_that_no_unit_serves():

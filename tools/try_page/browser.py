@@ -9,7 +9,7 @@ import subprocess
 import time
 
 ELEMENT = "element-6066-11e4-a52e-4f735466cecf"
-PATIENCE = 30
+PATIENCE = 90  # seconds
 # milliseconds: to look at all of a long list takes a while, where the machine is busy
 SCRIPT_PATIENCE = 110_000
 # seconds
@@ -43,6 +43,8 @@ class Browser:
 
     def _begin(self, folder):
         words = ["--headless=new", "--disable-gpu", "--disable-dev-shm-usage", "--hide-scrollbars", "--no-first-run", "--lang=en",
+                 # a window that Chromium takes for hidden has its clocks stopped for up to a minute
+                 "--disable-background-timer-throttling", "--disable-backgrounding-occluded-windows", "--disable-renderer-backgrounding",
                  f"--user-data-dir={folder}", "--window-size=%d,%d" % self.size]
         if os.geteuid() == 0:
             words.append("--no-sandbox")

@@ -72,8 +72,7 @@ next();"""
 def far(t):
     """A list that is scrolled far down is there again after going back."""
     b = t.browser
-    b.js("scrollTo(0, 40000)")
-    time.sleep(0.4)
+    scroll_far(b)
     b.js("[...document.querySelectorAll('tbody a')].find(it => it.getBoundingClientRect().top > 200).click()")
     until(lambda: b.text("h1").startswith("Lot "), "a lot")
     b.back()
@@ -82,13 +81,19 @@ def far(t):
     b.click("#nav a", "Orders")
     b.heading("Orders")
     b.click("button.sort", "Recipe")
-    until(lambda: b.js("scrollTo(0, 40000); return scrollY") == 40000, "the list is long")
+    scroll_far(b)
     name = until(lambda: b.js("return [...document.querySelectorAll('[data-key^=cancel]')].find(it => it.getBoundingClientRect().top > 200)?.dataset.key"), "buttons are in sight")
     b.click(f"[data-key={name}]")
     b.click("dialog button", "Cancel the order")
     b.wait("is cancelled.")
     until(lambda: abs(b.js("return scrollY") - 40000) < 100, "the list stays where it was when an order is cancelled")
     t.shot("36-far-down", "an order far down the list was cancelled: the list stays where it was, and what was done is seen", whole=False)
+
+
+def scroll_far(b):
+    """Scrolls down as soon as so many rows are drawn, and waits until the window's history has it."""
+    until(lambda: b.js("scrollTo(0, 40000); return scrollY") == 40000, "the list is long")
+    until(lambda: b.js("return history.state?.scroll") == 40000, "the history has where the list stands")
 
 
 def folds(t):
@@ -105,7 +110,7 @@ def folds(t):
     until(lambda: t.pictured()["boxes"] > found["boxes"] + 20, "more lots are shown")
     t.check_drawing("S-1, unfolded")
     b.click("[data-key=all]")
-    until(lambda: t.pictured()["boxes"] == 302, "300 lots are shown", patience=90)
+    until(lambda: t.pictured()["boxes"] == 302, "300 lots are shown")
     t.check_sight("S-1 with 300 others", "ACME/S-1")
     b.js("document.querySelector('.picture').scrollIntoView({block: 'center'})")
     t.shot("37-unfolded", "the same with 300 lots: what was asked for is in sight", whole=False)
@@ -132,7 +137,7 @@ def chain(t):
     until(lambda: t.pictured()["boxes"] > before["boxes"], "a step more is shown")
     t.check_sight("C-16, a step further", *made_of)
     b.click("[data-key=all]")
-    until(lambda: not b.seen("[data-key=all]"), "the whole chain is shown", patience=60)
+    until(lambda: not b.seen("[data-key=all]"), "the whole chain is shown")
     t.check_drawing("C-16, wholly unfolded")
     t.check_sight("C-16, wholly unfolded", *made_of, "ACME/C-17")
     b.js("document.querySelector('.picture').scrollIntoView({block: 'center'})")

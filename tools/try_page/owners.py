@@ -69,7 +69,7 @@ def leaving(t):
 
 
 def idle(t):
-    """A site that logs owners off after six seconds without a key or a click."""
+    """A site that logs owners off after fifteen seconds without a key or a click: a picture may take some of them."""
     b = t.browser
     t.entered()
     b.click("#who button", "Log off")
@@ -77,7 +77,7 @@ def idle(t):
     t.proxy.end()
     folder = t.folder / "idle"
     folder.mkdir()
-    quick = Proxy(folder, t.office_port, changes=[(r'"idle_minutes":\d+', '"idle_minutes":0.1')], port=t.proxy.port)
+    quick = Proxy(folder, t.office_port, changes=[(r'"idle_minutes":\d+', '"idle_minutes":0.25')], port=t.proxy.port)
     quick.start()
     try:
         t.enter("ACME")
@@ -98,7 +98,7 @@ def doing_nothing(t):
     b.press("shift")
     until(lambda: b.text("#idle") == "", "a key takes the warning away")
     t.expect(b.text("h1").startswith("Lot B-1"), "a key doesn't keep the owner logged in")
-    b.wait("You were logged off after 6 seconds without a key or a click.")
+    b.wait("You were logged off after 15 seconds without a key or a click.")
     b.heading("Log in")
     t.expect(b.js("return sessionStorage.length") == 0, "the key stays after the time is over")
     shown = b.js("return document.title + document.body.innerText")
@@ -117,7 +117,7 @@ def brought_back(t):
             sessionStorage.hilpoven = JSON.stringify({...it, seen: it.seen - 60000});
         }); location.reload()""")
     b.heading("Log in")
-    b.wait("You were logged off after 6 seconds")
+    b.wait("You were logged off after 15 seconds")
 
 
 def nothing_of_acme(t, when):

@@ -5,9 +5,10 @@ import json
 import os
 import pathlib
 import re
-import shutil
 import socket
 import subprocess
+
+from trial import free_port
 
 from .browser import until
 
@@ -31,15 +32,6 @@ http {{
     {site}
 }}
 """
-# What packages put beside the page's files.
-CONTRACT = ("openapi.yaml", "http.md")
-
-
-def free_port():
-    with socket.socket() as it:
-        it.bind(("127.0.0.1", 0))
-        return it.getsockname()[1]
-
 
 def has_ipv6():
     try:
@@ -166,10 +158,7 @@ class Proxy:
 
     def _lay_out_page(self):
         """The page's files and the contract, as packages have them."""
-        page = self.folder / "page"
-        shutil.copytree(ROOT / "page", page, ignore=shutil.ignore_patterns("tests"), dirs_exist_ok=True)
-        for name in CONTRACT:
-            shutil.copyfile(ROOT / "docs" / name, page / name)
+        subprocess.run([ROOT / "packaging" / "documents.py", self.folder], check=True)
 
     def _site(self, office_port, changes):
         """The site as packages have it; host, ports, the certificate, the page's folder and the logs are those of the trial."""
@@ -179,8 +168,9 @@ class Proxy:
                               (r"server_name [^;]*;", "server_name localhost;"),
                               (r"ssl_certificate [^;]*;", f"ssl_certificate {self.folder}/certificate.pem;"),
                               (r"ssl_certificate_key [^;]*;", f"ssl_certificate_key {self.folder}/key.pem;"),
+                              (r"127\.0\.0\.1:800\b", f"127.0.0.1:{free_port()}"),
                               (r"proxy_pass http://127\.0\.0\.1:\d+", f"proxy_pass http://127.0.0.1:{office_port}"),
-                              (r"alias [^;]*/page/;", f"alias {self.folder}/page/;"), (r"/var/log/nginx/", f"{self.folder}/")):
+                              (r"alias [^;]*/page/;", f"alias {self.folder}/toll/page/;"), (r"/var/log/nginx/", f"{self.folder}/")):
             site = re.sub(pattern, ours, site)
         return site
 

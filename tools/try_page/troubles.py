@@ -107,7 +107,7 @@ def away(t):
     # in the end it is told, and asked again by a click
     t.office.end()
     b.click("#nav a", "Stock")
-    until(lambda: b.seen("button", "Ask again"), "the page gives up", patience=120)
+    until(lambda: b.seen("button", "Ask again"), "the page gives up", patience=240)
     t.shot("22-gave-up", "the office was away for a minute: the page says so, and asks again by a click", whole=False)
     t.office.serve()
     b.click("button", "Ask again")

@@ -1,0 +1,1 @@
+"""What measures the program, and the offices over which that is done."""

@@ -1,0 +1,1 @@
+"""What tries the built program from outside."""

@@ -1,0 +1,234 @@
+"""Each route of docs/openapi.yaml answers each status that the office gives there, and what was answered survives a
+kill.
+
+Each reply is held against the schema that the page gives for its status, and each refusal that the page has for a
+route is given there. What the site answers by itself is asked of nginx by tools/tests/test_site.py; what the page
+says without a server is checked by tools/tests/test_openapi.py.
+"""
+import contextlib
+import fcntl
+import json
+import random
+import sqlite3
+import threading
+import time
+from collections.abc import Callable
+from typing import Any, NamedTuple
+
+import jsonschema  # type: ignore[import]
+import pytest
+import yaml  # type: ignore[import]
+
+from tests.harness import ACCEPTED, REPLY, ROOT, Office, Server, content, http_request, meanwhile, put
+from tests.lines import SERVED
+
+PAGE = yaml.safe_load((ROOT / "docs" / "openapi.yaml").read_text())
+LIMIT_REACHED = {"code": 39, "error": "LimitReached"}
+KILLS = 20
+
+# Lots A (all consumed), B, C and D of M, P1 of P, which has an open test, and HOUSE's H-1; a batch of O, and O-2
+# without.
+OFFICE = SERVED.replace("recipe-add", "test-add ACME P PH 1 2\nrecipe-add", 1)
+
+
+class Ask(NamedTuple):
+    """A request; `fields` has the values of each field that isn't as usual."""
+    method: str
+    path: str
+    body: str = ""
+    fields: dict[str, list[str]] = {}
+
+
+class Reply(NamedTuple):
+    status: int
+    fields: dict[str, str]
+    body: str
+
+
+def ask(server: Server, asked: Ask) -> Reply | None:
+    """The reply, which is well formed and as long as it says; none where there is none."""
+    usual = {"host": ["127.0.0.1"], "toll-owner": ["ACME"], "toll-key": ["ACMEKEY1"],
+             "content-length": [str(len(asked.body))]}
+    usual.update(asked.fields)
+    lines = [(name, value) for name, values in usual.items() for value in values]
+    text = server.send(http_request(asked.method.upper(), asked.path, asked.body, lines))
+    if not text:
+        return None
+    reply = REPLY.fullmatch(text)
+    assert reply, text
+    got = dict(line.split(": ", 1) for line in reply[2].splitlines())
+    assert int(got["content-length"]) == len(reply[3].encode()), text
+    return Reply(int(reply[1]), got, reply[3])
+
+
+def new_order(name: str, recipe: str = "R", batches: int = 1) -> str:
+    return json.dumps({"order": name, "recipe": recipe, "batches": batches})
+
+
+# What is asked for each status that belongs to one route alone: the paths, or the bodies of an order. All other
+# statuses are asked for on each route in the same way.
+ASKED = {
+    "get /orders": {200: ["/orders"]},
+    "post /orders": {200: [new_order("O-3"), new_order("O-3")],
+                     400: ['{"order":"O-4"}', new_order("o"), new_order("O-4", "R", 100)],
+                     409: [new_order("O", batches=3), new_order("O-4", "NONE")]},
+    "get /orders/{order}": {200: ["/orders/O"], 404: ["/orders/O-9", "/orders/o"]},
+    "post /orders/{order}/cancel": {200: ["/orders/O-2/cancel"], 404: ["/orders/O-9/cancel", "/orders/-/cancel"],
+                                    409: ["/orders/O-2/cancel", "/orders/O/cancel"]},
+    "get /batches/{order}/{n}": {200: ["/batches/O/1"],
+                                 404: [f"/batches/{batch}" for batch in ("O-9/1", "O/2", "O/0", "O/100", "O/01")]},
+    "get /stock": {200: ["/stock", "/stock?all"]},
+    "get /lots/{lot}": {200: ["/lots/A", "/lots/P1"], 404: ["/lots/A-9", "/lots/H-1", "/lots/a"]},
+    "post /lots/{lot}/release": {200: ["/lots/C/release"], 404: ["/lots/H-1/release", "/lots/a/release"],
+                                 409: ["/lots/C/release", "/lots/P1/release"]},
+    "post /lots/{lot}/reject": {200: ["/lots/A/reject", "/lots/D/reject"], 404: ["/lots/H-1/reject", "/lots/a/reject"],
+                                409: ["/lots/D/reject"]},
+    **{f"get /trace/{way}/{{lot}}": {200: [f"/trace/{way}/{lot}"], 404: [f"/trace/{way}/{other}", f"/trace/{way}/a"]}
+       for way, lot, other in (("back", "P1", "H-1"), ("forward", "A", "H-1"), ("house", "H-1", "P1"))},
+}
+
+
+def asks_of(method: str, path: str, status: int) -> list[Ask]:
+    """What is asked for the status."""
+    sample = path.replace("{order}", "O").replace("{lot}", "P1").replace("{n}", "1")
+    anywhere = {
+        400: [Ask(method, sample, fields={"host": []}), Ask(method, sample, fields={"content-length": ["x"]})],
+        403: [Ask(method, sample, fields={"toll-key": keys.split()}) for keys in ("ACMEKEY2", "ACMEKEY1 ACMEKEY1", "")],
+        405: [Ask({"get": "post", "post": "get"}[method], sample)],
+        413: [Ask(method, sample, fields={"content-length": ["4097"]})],
+        501: [Ask("put", sample), Ask(method, sample, fields={"transfer-encoding": ["chunked"], "content-length": []})],
+        503: [Ask(method, sample)],
+    }
+    own = ASKED[f"{method} {path}"].get(status, [])
+    return anywhere.get(status, []) + [Ask(method, path, it) if it.startswith("{") else Ask(method, it) for it in own]
+
+
+# What the page says
+
+def resolved(said: dict[str, Any]) -> Any:
+    """What is said, or what its reference leads to."""
+    place: Any = said
+    if "$ref" in said:
+        place = PAGE
+        for part in said["$ref"][2:].split("/"):
+            place = place[part]
+    return place
+
+
+def examples_of(response: dict[str, Any]) -> list[Any]:
+    content = response["content"]["application/json"]
+    return [content["example"]] if "example" in content else [it["value"] for it in content["examples"].values()]
+
+
+def check(reply: Reply | None, asked: Ask, status: int, response: dict[str, Any]) -> Any:
+    """Holds a reply against what the page says of this status, and gives its value."""
+    assert reply and reply.status == status, (asked, reply)
+    fields = response.get("headers", {})
+    assert ("allow" in reply.fields) == ("allow" in fields), (asked, reply)
+    assert "allow" not in fields or reply.fields["allow"] in fields["allow"]["schema"]["enum"], (asked, reply)
+    if "content" not in response:
+        assert reply.body == "", asked
+        return None
+    value = json.loads(reply.body)
+    # schemas of OpenAPI 3.0 stand on the fourth draft of JSON Schema
+    resolver = jsonschema.RefResolver.from_schema(PAGE)
+    jsonschema.Draft4Validator(response["content"]["application/json"]["schema"], resolver=resolver).validate(value)
+    assert reply.body == json.dumps(value, separators=(",", ":"), sort_keys=True), asked
+    assert status < 400 or value in examples_of(response), (asked, reply)
+    return value
+
+
+METHODS = ("get", "post")
+OPERATIONS = [f"{method} {path}" for path, ways in PAGE["paths"].items() for method in METHODS if method in ways]
+
+
+@pytest.fixture(scope="module")
+def laid(new: Callable[[], Office]) -> str:
+    return new().lay(OFFICE)
+
+
+@pytest.fixture
+def office(new: Callable[[], Office], laid: str) -> Office:
+    copy = new()
+    put(laid, copy.db)
+    return copy
+
+
+@pytest.mark.parametrize("operation", OPERATIONS)
+def test_a_route_answers_each_status_and_each_refusal_of_the_page(office: Office, operation: str) -> None:
+    method, path = operation.split(" ")
+    responses = {status: resolved(it) for status, it in PAGE["paths"][path][method]["responses"].items()}
+    with office.serve() as server:
+        for status in sorted(int(it) for it, response in responses.items() if response.get("x-told-by") != "site"):
+            response, asks = responses[str(status)], asks_of(method, path, status)
+            assert asks, f"nothing is asked for {status}"
+            with open(f"{office.db}.lock", "a") as lock:
+                if status == 503:
+                    fcntl.flock(lock, fcntl.LOCK_EX)
+                values = [check(ask(server, it), it, status, response) for it in asks]
+            if status in (404, 409):
+                assert [it for it in examples_of(response) if it not in values and it != LIMIT_REACHED] == []
+
+
+def test_a_full_office_refuses_an_order(office: Office) -> None:
+    with contextlib.closing(sqlite3.connect(office.db)) as base, base:
+        (count,), = base.execute("SELECT count(*) FROM orders WHERE owner = 'ACME'")
+        names = [(f"N-{at}",) for at in range(2000 - count)]
+        base.executemany("INSERT INTO orders VALUES ('ACME', ?, 'R', 1, 0)", names)
+    asked, response = Ask("post", "/orders", new_order("O-4")), PAGE["paths"]["/orders"]["post"]["responses"]["409"]
+    with office.serve() as server:
+        assert check(ask(server, asked), asked, 409, resolved(response)) == LIMIT_REACHED
+
+
+# Kills
+
+class Day:
+    """An owner that orders and a plant that receives until the server is killed, and what was answered so far."""
+
+    def __init__(self, office: Office) -> None:
+        self.office = office
+        self.orders, self.receipts = {"O", "O-2"}, dict[str, str]()
+
+    def order(self, server: Server, turn: int, over: threading.Event) -> None:
+        for name in (f"T-{turn}-{number}" for number in range(10 ** 9)):
+            if over.is_set():
+                return
+            reply = ask(server, Ask("post", "/orders", new_order(name)))
+            if reply and reply.status == 200:
+                self.orders.add(name)
+
+    def receive(self, turn: int, over: threading.Event) -> None:
+        for key in (f"R-{turn}-{number}" for number in range(10 ** 9)):
+            if over.is_set():
+                return
+            if self.office.plant("receive", "ACME", key, "M", f"L-{turn}", "S", "1", "103") == ACCEPTED:
+                self.receipts[key] = f"L-{turn}"
+            time.sleep(0.02)
+
+    def work_until_killed(self, turn: int, seconds: float) -> None:
+        with self.office.serve() as server, meanwhile(lambda over: self.order(server, turn, over),
+                                                      lambda over: self.receive(turn, over)):
+            time.sleep(seconds)
+            server.kill()
+
+    def check_rows(self) -> None:
+        """What was answered is in the file, as sqlite3 reads it, and then as the office does."""
+        rows = content(self.office.db)
+        assert isinstance(rows, dict), rows
+        assert self.orders <= {row[1] for row in rows["orders"][1] if row[0] == "ACME"}
+        assert set(self.receipts) <= {row[1] for row in rows["moves"][1] if row[0] == "ACME" and row[2] == 0}
+        with self.office.serve() as server:
+            orders, stock = (ask(server, Ask("get", path)) for path in ("/orders", "/stock"))
+        assert orders and stock and self.orders <= {it["order"] for it in json.loads(orders.body)["orders"]}
+        self.orders |= {it["order"] for it in json.loads(orders.body)["orders"]}
+        amounts = {it["lot"]: it["amount"] for it in json.loads(stock.body)["lots"]}
+        for lot in set(self.receipts.values()):
+            assert amounts.get(lot, 0) >= list(self.receipts.values()).count(lot), lot
+
+
+def test_what_was_answered_before_a_kill_is_there(office: Office) -> None:
+    day, chance = Day(office), random.Random(1)
+    for turn in range(KILLS):
+        day.work_until_killed(turn, chance.uniform(0.1, 1.5))
+        day.check_rows()
+    assert len(day.orders) > KILLS and len(day.receipts) > KILLS

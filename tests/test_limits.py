@@ -1,0 +1,186 @@
+"""What one client can't do to the others: each limit of a server, with bounds that hold on a busy machine."""
+import contextlib
+import os
+import pathlib
+import selectors
+import socket
+import subprocess
+import time
+import types
+from collections.abc import Callable, Iterator
+
+import pytest
+
+from bench import offices
+from bench.offices import KEY, Dense, owner_name
+
+ROOT = pathlib.Path(__file__).resolve().parent.parent
+TOLL = pathlib.Path(os.environ.get("TOLL", ROOT / "crates" / "toll" / "out" / "toll")).resolve()
+HELD, RESERVE = 40, 24  # connections of a server with few descriptors, and the descriptors that it keeps for itself
+DROPPED_AFTER = 10  # seconds
+SOON = 30  # seconds: more than any answer takes on a busy machine, less than a client waits that is never answered
+ASKER, OTHER = owner_name(0), owner_name(1)
+
+
+class Server:
+    """A server of an office, and clients of it."""
+
+    def __init__(self, db: pathlib.Path, count: int = 1_000_000, descriptors: int = 1_024) -> None:
+        self.db = db
+        words: list[str | pathlib.Path] = ["prlimit", f"--nofile={descriptors}", TOLL]
+        words += ["--db", db, "serve", "0", str(count)]
+        self.process = subprocess.Popen(words, stdout=subprocess.PIPE, text=True)
+        assert self.process.stdout
+        self.port = int(self.process.stdout.readline().split()[1])
+
+    def connect(self, sent: bytes = b"") -> socket.socket:
+        peer = socket.create_connection(("127.0.0.1", self.port), timeout=SOON)
+        peer.sendall(sent)
+        return peer
+
+    def ask(self, message: bytes) -> bytes:
+        with self.connect(message) as peer:
+            return read(peer)
+
+    def plant(self, *words: str) -> str:
+        """What a command prints, which the server answers."""
+        return subprocess.run([TOLL, "--db", self.db, *words], capture_output=True, text=True, timeout=SOON).stdout
+
+
+def request(target: str, owner: str = OTHER, more: str = "") -> bytes:
+    return f"GET {target} HTTP/1.1\r\nhost: x\r\ntoll-owner: {owner}\r\ntoll-key: {KEY}\r\n{more}\r\n".encode()
+
+
+def read(peer: socket.socket) -> bytes:
+    """All that a peer gets until its end, also one by a reset."""
+    reply = b""
+    with contextlib.suppress(ConnectionResetError):
+        while more := peer.recv(65536):
+            reply += more
+    return reply
+
+
+def is_open(peer: socket.socket) -> bool:
+    """Whether nothing came from the server, not even an end."""
+    peer.settimeout(0)
+    try:
+        return bool(peer.recv(1, socket.MSG_PEEK))
+    except BlockingIOError:
+        return True
+    except ConnectionError:
+        return False
+    finally:
+        peer.settimeout(SOON)
+
+
+@pytest.fixture(scope="module")
+def office(tmp_path_factory: pytest.TempPathFactory) -> pathlib.Path:
+    """The file of an owner with 5,000 lots and a dense genealogy, and one with few orders."""
+    db = tmp_path_factory.mktemp("limits") / "office.db"
+
+    def plant(*words: str) -> types.SimpleNamespace:
+        done = subprocess.run([TOLL, "--db", db, *words], capture_output=True, text=True)
+        return types.SimpleNamespace(out=done.stdout)
+
+    offices.with_genealogies(types.SimpleNamespace(db=db, plant=plant), Dense(20), Dense(10, 400), orders=3)
+    return db
+
+
+@pytest.fixture
+def serve(office: pathlib.Path) -> Iterator[Callable[..., Server]]:
+    servers: list[Server] = []
+
+    def start(**how: int) -> Server:
+        servers.append(Server(office, **how))
+        return servers[-1]
+
+    yield start
+    for server in servers:
+        server.process.kill()
+        server.process.wait()
+
+
+def test_silent_clients_block_neither_an_owner_nor_the_plant(serve: Callable[..., Server]) -> None:
+    server = serve()
+    with contextlib.ExitStack() as stack:
+        for _ in range(800):
+            stack.enter_context(server.connect())
+        for _ in range(200):
+            with socket.socket(socket.AF_UNIX) as peer:
+                peer.connect(f"{server.db}.sock")
+        began = time.monotonic()
+        assert server.ask(request("/orders")).startswith(b"HTTP/1.1 200") and server.plant("stock", OTHER)
+        assert time.monotonic() - began < DROPPED_AFTER - 2  # so none of them was dropped meanwhile
+
+
+def test_a_full_server_drops_the_client_that_has_been_sending_longest(serve: Callable[..., Server]) -> None:
+    server = serve(descriptors=HELD + RESERVE)
+    with contextlib.ExitStack() as stack:
+        peers = [stack.enter_context(server.connect(b"GET /")) for _ in range(HELD)]
+        for answered in range(5):
+            assert server.ask(request("/orders")).startswith(b"HTTP/1.1 200")
+            stack.enter_context(server.connect(b"GET /"))
+        assert server.plant("stock", OTHER)
+        dropped = [not is_open(peer) for peer in peers]
+        assert 5 <= sum(dropped) <= 7 and dropped == sorted(dropped, reverse=True)
+
+
+def test_who_reads_or_sends_slowly_is_dropped_after_ten_seconds(serve: Callable[..., Server]) -> None:
+    server = serve()
+    stock = request("/stock", ASKER)
+    whole = server.ask(stock)
+    with socket.socket() as reader, server.connect(request("/orders")[:-2]) as sender:
+        reader.setsockopt(socket.IPPROTO_TCP, socket.TCP_MAXSEG, 536)  # by which the system reckons the server's buffer
+        reader.setsockopt(socket.SOL_SOCKET, socket.SO_RCVBUF, 4_096)
+        reader.connect(("127.0.0.1", server.port))
+        reader.sendall(stock)
+        began = time.monotonic()
+        while is_open(sender) and time.monotonic() < began + SOON:
+            with contextlib.suppress(ConnectionError):
+                sender.sendall(b"x")
+            assert server.ask(request("/orders")).startswith(b"HTTP/1.1 200")
+            time.sleep(0.5)
+        assert DROPPED_AFTER - 2 < time.monotonic() - began < SOON
+        time.sleep(5)  # the reader's seconds began a little later
+        reader.settimeout(SOON)
+        assert len(read(reader)) < len(whole)
+
+
+@pytest.mark.parametrize("more, status", [("x: " + "y" * 8_192 + "\r\n", 400), ("x: y\r\n" * 32, 400),
+                                          ("content-length: 4097\r\n", 413)], ids=["bytes", "fields", "body"])
+def test_a_head_that_is_too_long_is_refused(serve: Callable[..., Server], more: str, status: int) -> None:
+    server = serve()
+    for _ in range(3):
+        assert server.ask(request("/orders", more=more)).startswith(f"HTTP/1.1 {status} ".encode())
+    assert server.ask(request("/orders")).startswith(b"HTTP/1.1 200")
+
+
+def replies_before(server: Server, requests: list[bytes], last: bytes) -> int:
+    """How many of these requests, which are sent at once, are answered before one that is sent behind them."""
+    with contextlib.ExitStack() as stack, selectors.DefaultSelector() as selector:
+        for message in (*requests, last):
+            selector.register(stack.enter_context(server.connect(message)), selectors.EVENT_READ, message)
+        for answered in range(len(requests) + 1):
+            key, _ = selector.select(SOON)[0]
+            if key.data == last:
+                return answered
+            assert isinstance(key.fileobj, socket.socket) and read(key.fileobj).startswith(b"HTTP/1.1 200")
+            selector.unregister(key.fileobj)
+    raise AssertionError("the last one is never answered")
+
+
+def test_an_owner_that_asks_without_pause_delays_others_by_no_queue_of_its_own(serve: Callable[..., Server]) -> None:
+    server, traces = serve(), [request(f"/trace/forward/{offices.product(1, 0)}", ASKER)] * 150
+    # in order all traces would come first; a busy machine may show this client several replies at once
+    assert min(replies_before(server, traces, request("/orders")) for _ in range(3)) < 75
+
+
+def test_a_client_that_never_ends_its_request_does_not_keep_a_server_from_its_end(serve: Callable[..., Server]) -> None:
+    server = serve(count=3)
+    with server.connect(b"G"):
+        assert server.ask(request("/orders")).startswith(b"HTTP/1.1 200") and server.ask(request("/orders"))
+        with pytest.raises(ConnectionRefusedError):
+            for _ in range(100):  # the port closes as soon as the last has connected
+                server.connect().close()
+                time.sleep(0.01)
+        assert server.process.wait(DROPPED_AFTER + SOON) == 0

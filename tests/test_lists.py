@@ -1,0 +1,42 @@
+"""A test over a keep in lists, which the program doesn't use, in the toolchain's trial: one request for memory is
+refused, the line that met it says so, and nothing breaks."""
+import re
+import subprocess
+
+import pytest
+
+from tests.harness import ROOT
+
+TEST, REFUSED = "each_of_300_receipts_is_in_stock_over_lists", 20_000
+WANT_OF_MEMORY = re.compile(r'^    error: (?:Memory|".*(?:fault Memory|503 {\\"error\\":\\"Unavailable\\"})")$', re.M)
+
+
+def is_want_of_memory(text: str) -> bool:
+    """Whether the trial says that the test failed for want of memory, and for nothing else."""
+    return "0 passed; 1 failed" in text and len(WANT_OF_MEMORY.findall(text)) == 1
+
+
+def test_one_refusal_over_lists_is_answered_as_want_of_memory() -> None:
+    words = ["rt", "try", "--test", "--fail-alloc", str(REFUSED), "--", TEST]
+    done = subprocess.run(words, cwd=ROOT / "crates" / "toll_tests", capture_output=True, text=True, errors="replace")
+    assert is_want_of_memory(done.stdout), done.stdout + done.stderr
+
+
+FAILED = f"""tests: 190
+test wire::ample::{TEST} ... FAILED
+    error: {{}}
+    the test failed: its result gives status 1
+    the test exited with status 101
+test result: FAILED. 0 passed; 1 failed; 0 ignored; 189 filtered out
+run=ended status=101 runners=1 proved=no
+"""
+PASSED = f"test wire::ample::{TEST} ... ok\ntest result: ok. 1 passed; 0 failed; 0 ignored; 189 filtered out\n"
+KILLED = FAILED.replace("    error: {}", "    src/wire/ample.rt:44:9: the test was killed by signal 6 (SIGABRT)")
+
+
+@pytest.mark.parametrize("text, is_want", [
+    (FAILED.format(r'"89: accepted, 503 {\"error\":\"Unavailable\"}"'), True), (FAILED.format("Memory"), True),
+    (FAILED.format('"7: accepted, fault Memory"'), True), (FAILED.format('"7: accepted, refused 33 NotEnough"'), False),
+    (FAILED.format("Disk"), False), (KILLED, False), (PASSED, False), ("", False)])
+def test_what_the_trial_says_is_read_right(text: str, is_want: bool) -> None:
+    assert is_want_of_memory(text) == is_want

@@ -1,0 +1,612 @@
+"""The plant's socket of a server, FILE.sock: what commands and imports come to where a server is there, where none
+is, and where one comes, goes or is killed on the way; and what owners notice of damage, locks and changes of the
+files."""
+import contextlib
+import fcntl
+import functools
+import os
+import pathlib
+import random
+import re
+import shutil
+import signal
+import socket
+import stat
+import subprocess
+import threading
+import time
+from collections.abc import Callable, Iterator
+from typing import Any
+
+import pytest
+
+from tests import socket_client as client
+from tests.attempts import Import, New
+from tests.harness import (ACCEPTED, KILLED_AFTER, KILLED_BEFORE, PATIENCE, REPEATED, Disk, Office, Result, Server,
+                           content, fault, meanwhile, put, wrong_outcomes)
+from tests.lines import ACTUALS, many_actuals
+
+LOCKED, LOST, NOT_OURS, DAMAGED = (fault(name) for name in ("Locked", "Lost", "NotOurs", "Damaged"))
+DOOR_BEGAN, DOOR_ENDED = "fault Door began", "fault Door ended"
+Change = Callable[[str], Any]
+ORDERS, NOBODY = "> ACME ACMEKEY1 GET /orders", 65534
+
+# Each of the plant's commands and questions, also refused, repeated and unread.
+LINES = """\
+unit-add U2; unit-add U2; owner-add COLT COLTKEY1; owner-add COLT short; material-add ACME N kg;
+test-add ACME M T M5 5; recipe-add ACME R-2 1; require ACME R-2 1 consumed ACME N 5; recipe-add HOUSE H 1;
+order H-1 H 1; order H-1 NONE 1; cancel H-1; cancel H-2; receive ACME K2 N B S1 100 10;
+receive ACME K2 N B S1 100 10; receive ACME K3 NONE B S1 100 10; split ACME K4 B S1 S2 40 11;
+scrap ACME K5 B S2 10 11; ship ACME K6 B S1 10 12; result ACME A T 3 12; release A; reject A;
+actual K7 ACME O 1 1 consumed M ACME A S1 40 11; void ACME K7; actual K8 ACME O 1 1 consumed M ACME A S1 40 11;
+actual K9 ACME O 1 1 produced P ACME P1 S1 30 11; actual K9 ACME O 1 1 produced P ACME P1 S1 31 11;
+do ACME O 1 stop; do ACME O 1 done; close ACME O 1; open ACME O U1; orders ACME; orders NONE; stock ACME;
+stock HOUSE; batch ACME O 1; batch ACME O 2; trace ACME P1 back; trace ACME A forward; recall ACME A;
+recall ACME NONE; no such words; stock; stock ACME --all""".split(";")
+
+# Files of actuals that are imported, each twice.
+IMPORTS = {"whole": ACTUALS, "empty": "", "no header": "a,b\n1,2\n", "bad records": ACTUALS + "1,2,3\n\n",
+           "too long": "x" * 1_100_000, "many": many_actuals(1200)}
+
+
+def owner_statuses(server: Server) -> list[str]:
+    """What ACME and BOLT are answered when they ask for their stock."""
+    return [server.ask(f"> {owner} {owner}KEY1 GET /stock")[:3] for owner in ("ACME", "BOLT")]
+
+
+def is_answered(server: Server) -> bool:
+    return server.ask(ORDERS).startswith("200 ")
+
+
+def has_socket(office: Office, unit: str = "U-BY-HAND") -> bool:
+    """Whether a command by hand comes through the socket."""
+    return client.ask(office, "unit-add", unit) == client.answer(0, b"accepted\n")
+
+
+@contextlib.contextmanager
+def locked(office: Office) -> Iterator[Any]:
+    """FILE's lock in other hands; it is released by closing it, too."""
+    with open(f"{office.db}.lock", "a") as lock:
+        fcntl.flock(lock, fcntl.LOCK_EX)
+        yield lock
+
+
+def by_others(office: Office, statement: str) -> None:
+    """What another program does to the rows, under the lock."""
+    subprocess.run(["flock", f"{office.db}.lock", "sqlite3", office.db, statement], check=True)
+
+
+def openings(server: Server) -> int:
+    return sum(line.startswith("opened anew") for line in server.lines())
+
+
+@pytest.fixture
+def at_work(at_work: Office) -> Office:
+    """An office at work, beside the socket of a server that was killed."""
+    with at_work.serve():
+        return at_work
+
+
+# With a server and without
+
+def test_each_command_and_import_answers_and_leaves_the_same_with_a_server_and_without(new: New, work: str) -> None:
+    alone, served = new(), new()
+    for office in (alone, served):
+        put(work, office.db)
+    with served.serve() as server:
+        server.ask(ORDERS)
+        for line in LINES:
+            assert served.plant(*line.split()) == alone.plant(*line.split()), line
+        for name, text in (*IMPORTS.items(), ("none", None)):
+            paths = ["none.csv" if text is None else office.write(f"{name}.csv", text) for office in (alone, served)]
+            for _ in range(2):
+                wanted, answer = (office.plant("import", path) for office, path in zip((alone, served), paths))
+                assert answer == wanted, name
+        assert server.lines() == []
+        mode = os.stat(client.path_of(served)).st_mode
+        assert stat.S_ISSOCK(mode) and stat.S_IMODE(mode) == 0o600
+    assert content(alone.db) == content(served.db)
+
+
+def test_an_answer_that_cannot_be_written_ends_with_3_and_what_was_done_stands(at_work: Office) -> None:
+    with at_work.serve():
+        for closed, words in ((">/dev/full", "stock ACME"), (">&-", "unit-add U5"), ("2>&-", "stock"),
+                              (">&- 2>&-", "unit-add U6")):
+            assert at_work.plant(*words.split(), closed=closed) == Result(3, ""), words
+        assert [at_work.plant("unit-add", unit).status for unit in ("U5", "U6")] == [1, 1]
+
+
+# Where the socket comes from, and what may be in its place
+
+def test_the_socket_is_removed_when_serving_ends_and_only_owners_count(at_work: Office) -> None:
+    with at_work.serve(count=2) as server:
+        assert [at_work.plant("unit-add", unit) for unit in ("U2", "U3", "U4")] == [ACCEPTED] * 3
+        assert is_answered(server) and is_answered(server) and server.has_ended(PATIENCE)
+        assert server.process.returncode == 0 and not os.path.exists(client.path_of(at_work))
+    assert at_work.plant("unit-add", "U5") == ACCEPTED
+
+
+def test_a_socket_that_a_killed_server_left_is_in_nobodys_way_and_the_next_server_takes_it(at_work: Office) -> None:
+    assert os.path.exists(client.path_of(at_work)) and at_work.plant("unit-add", "U2") == ACCEPTED
+    with at_work.serve() as server:
+        assert at_work.plant("unit-add", "U3") == ACCEPTED and has_socket(at_work) and server.lines() == []
+
+
+@pytest.mark.parametrize("make", [os.mkdir, lambda path: pathlib.Path(path).write_text("mine"),
+                                  lambda path: os.symlink("nowhere", path)], ids=["a folder", "a file", "a link"])
+def test_what_is_in_the_sockets_place_stays_and_the_server_serves_without(at_work: Office, make: Change) -> None:
+    os.unlink(client.path_of(at_work))
+    make(client.path_of(at_work))
+    before = os.lstat(client.path_of(at_work)).st_ino
+    with at_work.serve() as server:
+        assert at_work.plant("unit-add", "U2") == ACCEPTED and is_answered(server)
+        assert server.lines()[:1] == [DOOR_BEGAN]
+    assert os.lstat(client.path_of(at_work)).st_ino == before
+
+
+def test_a_path_that_is_too_long_for_a_socket_is_said_and_commands_open_the_file(at_work: Office) -> None:
+    folder = os.path.join(at_work.folder, "f" * (120 - len(at_work.folder) - len("/.office.db")))
+    os.mkdir(folder)
+    base, at_work.db = at_work.db, os.path.join(folder, "office.db")
+    put(base, at_work.db)
+    with at_work.serve() as server:
+        assert at_work.plant("unit-add", "U2") == ACCEPTED and is_answered(server)
+        assert server.lines()[:1] == [DOOR_BEGAN]
+        assert not os.path.exists(client.path_of(at_work))
+
+
+def test_the_second_server_of_a_file_has_no_socket_and_leaves_the_first_ones(at_work: Office) -> None:
+    with at_work.serve() as first, at_work.serve() as second:
+        assert (first.lines(), second.lines()) == ([], [DOOR_BEGAN])
+        for number in range(10):
+            assert at_work.plant("unit-add", f"V{number}") == ACCEPTED and is_answered(first) and is_answered(second)
+        second.kill()
+        assert has_socket(at_work)
+
+
+def test_a_server_that_begins_behind_the_lock_opens_its_socket_when_that_is_free(at_work: Office) -> None:
+    with locked(at_work) as lock, at_work.serve() as server:
+        assert server.ask(ORDERS).startswith("503 ")
+        lock.close()
+        server.ask(ORDERS)
+        assert has_socket(at_work)
+        assert sorted(server.lines()) == sorted([DOOR_BEGAN, "fault Locked began", DOOR_ENDED, "fault Locked ended"])
+
+
+def test_a_socket_that_was_deleted_is_made_again_when_an_owner_comes(at_work: Office) -> None:
+    with at_work.serve() as server:
+        server.ask(ORDERS)
+        os.unlink(client.path_of(at_work))
+        server.ask(ORDERS)
+        assert has_socket(at_work) and server.lines() == [DOOR_BEGAN, DOOR_ENDED]
+
+
+def test_the_socket_of_a_server_that_died_is_taken_by_the_one_that_goes_on(at_work: Office) -> None:
+    with at_work.serve() as first, at_work.serve() as second:
+        first.kill()
+        time.sleep(1.1)
+        second.ask(ORDERS)
+        assert has_socket(at_work) and second.lines() == [DOOR_BEGAN, DOOR_ENDED]
+
+
+def is_refused_to_nobody(path: str) -> bool:
+    """Whether another user may not connect."""
+    child = os.fork()
+    if child == 0:
+        status = 1
+        try:
+            os.setgroups([])
+            os.setgid(NOBODY)
+            os.setuid(NOBODY)
+            client.connect(path)
+        except PermissionError:
+            status = 0
+        finally:
+            os._exit(status)
+    return os.waitpid(child, 0)[1] == 0
+
+
+@pytest.mark.skipif(os.geteuid() != 0, reason="only root can be another user")
+def test_another_user_cannot_use_the_socket_and_a_socket_of_another_user_is_not_used(at_work: Office) -> None:
+    path = client.path_of(at_work)
+    for folder in (os.path.dirname(at_work.folder), at_work.folder):
+        os.chmod(folder, 0o755)
+    with at_work.serve():
+        assert is_refused_to_nobody(path)
+    os.unlink(path)
+    with socket.socket(socket.AF_UNIX) as theirs:
+        theirs.bind(path)
+        theirs.listen()
+        os.chown(path, NOBODY, NOBODY)
+        assert at_work.plant("unit-add", "U2") == ACCEPTED
+        with at_work.serve() as server:
+            assert server.lines() == [DOOR_BEGAN]
+
+
+# Locks, damage, and what others do to the files
+
+def test_faults_are_said_when_they_begin_and_end_and_a_changed_file_when_it_is_opened_anew(at_work: Office) -> None:
+    with at_work.serve() as server:
+        assert is_answered(server)
+        with locked(at_work):
+            assert owner_statuses(server) == ["503", "503"] and at_work.plant("stock", "ACME") == LOCKED
+        assert owner_statuses(server) == ["200", "200"]
+        assert server.lines() == ["fault Locked began", "fault Locked ended"]
+        by_others(at_work, "INSERT INTO units VALUES ('U9')")
+        assert is_answered(server) and at_work.plant("unit-add", "U9").status == 1
+        assert re.fullmatch(r"opened anew in \d+ ms", "\n".join(server.lines()[2:]))
+
+
+def test_a_server_has_its_file_open_before_it_listens_and_says_so_where_it_cannot(at_work: Office) -> None:
+    with at_work.serve() as server:
+        files = pathlib.Path(f"/proc/{server.process.pid}/fd")
+        assert os.path.realpath(at_work.db) in [os.path.realpath(file) for file in files.iterdir()]
+    with locked(at_work) as lock, at_work.serve() as server:
+        assert "fault Locked began" in server.lines()
+        lock.close()
+        assert is_answered(server)
+
+
+def test_a_backup_under_the_lock_is_whole_while_the_plant_and_owners_ask(at_work: Office) -> None:
+    answers = dict[str, Result]()
+
+    def command(over: threading.Event) -> None:
+        while not over.is_set():
+            unit = f"B{len(answers)}"
+            answers[unit] = at_work.plant("unit-add", unit)
+
+    with at_work.serve() as server:
+        with meanwhile(command):
+            for number in range(10):
+                copy = os.path.join(at_work.folder, f"copy{number}.db")
+                by_others(at_work, f".backup {copy}")
+                assert isinstance(content(copy), dict)
+                server.ask(ORDERS)
+        assert set(answers.values()) <= {ACCEPTED, LOCKED}
+        done = [unit for unit, answer in answers.items() if answer == ACCEPTED]
+        assert done and [unit for unit in done if at_work.plant("unit-add", unit).status != 1] == []
+
+
+def test_damage_of_one_owner_costs_the_others_no_opening_and_is_known_until_the_file_changes(at_work: Office) -> None:
+    with at_work.serve() as server:
+        by_others(at_work, "UPDATE lots SET disposition = 9 WHERE owner = 'ACME'")
+        assert [owner_statuses(server) for _ in range(20)] == [["503", "200"]] * 20
+        for_owners = openings(server)
+        answers = [(at_work.plant("stock", "ACME"), owner_statuses(server)[1]) for _ in range(10)]
+        assert answers == [(DAMAGED, "200")] * 10
+        count = openings(server)
+        assert for_owners <= 3 and count - for_owners <= 2
+        assert at_work.plant("unit-add", "U2") == ACCEPTED and owner_statuses(server) == ["503", "200"]
+        assert openings(server) == count, "a command that meets no damage has the server forget it"
+        by_others(at_work, "UPDATE lots SET disposition = 0 WHERE owner = 'ACME'")
+        assert owner_statuses(server) == ["200", "200"] and at_work.plant("stock", "ACME").status == 0
+
+
+def test_a_link_to_the_file_is_the_file_with_one_lock_and_one_socket(at_work: Office) -> None:
+    file, at_work.db = at_work.db, os.path.join(at_work.folder, "link.db")
+    os.symlink(file, at_work.db)
+    with at_work.serve() as server:
+        assert is_answered(server) and at_work.plant("unit-add", "U2") == ACCEPTED
+        assert is_answered(server) and at_work.run(["--db", file, "unit-add", "U3"]) == ACCEPTED
+        assert server.lines() == []
+        assert [name for name in os.listdir(at_work.folder) if name.startswith(("link.db.", "link.db-"))] == []
+        with open(f"{file}.lock", "r+") as lock:
+            fcntl.flock(lock, fcntl.LOCK_EX)
+            assert not is_answered(server)
+    assert at_work.plant("unit-add", "U4") == ACCEPTED
+
+
+def test_a_pipe_in_the_place_of_the_file_is_refused_at_once(new: New) -> None:
+    office = new()
+    os.mkfifo(office.db)
+    began = time.monotonic()
+    assert office.plant("stock", "ACME") == NOT_OURS and time.monotonic() - began < 5
+    with office.serve() as server:
+        assert server.ask(ORDERS).startswith("503 ") and server.lines() == ["fault NotOurs began"]
+
+
+def test_a_server_whose_lines_nobody_reads_goes_on_and_tells_later_how_many_it_dropped(at_work: Office) -> None:
+    out, into = os.pipe()
+    fcntl.fcntl(into, fcntl.F_SETPIPE_SZ, 4096)
+    server = Server(at_work, errors=into)
+    os.close(into)
+    try:
+        for _ in range(150):
+            with locked(at_work):
+                assert not is_answered(server)
+            assert is_answered(server)
+        os.set_blocking(out, False)
+        with contextlib.suppress(BlockingIOError):
+            while os.read(out, 65536):
+                pass
+        with locked(at_work):
+            server.ask(ORDERS)
+        assert os.read(out, 65536).startswith(b"dropped ")
+    finally:
+        server.kill()
+        os.close(out)
+
+
+def sqlite(db: str, statement: str) -> None:
+    subprocess.run(["sqlite3", db, statement], check=True, stdout=subprocess.DEVNULL)
+
+
+def remove_with_log(db: str) -> None:
+    os.unlink(db)
+    os.unlink(f"{db}-wal")
+
+
+def move_over(source: str, target: str) -> None:
+    shutil.copyfile(source, source + ".new")
+    os.replace(source + ".new", target)
+
+
+def move_away_and_back(db: str) -> None:
+    os.rename(db, db + ".away")
+    os.rename(db + ".away", db)
+
+
+def restore(db: str) -> None:
+    os.unlink(f"{db}-wal")
+    shutil.copyfile(db + ".old", db)
+
+
+def answers_around(office: Office, change: Change) -> tuple[list[str], Result, list[str], bool]:
+    """What owners and the plant are answered after a change of the files of a server that knows them, what the server
+    writes, and whether the files stay as they were changed."""
+    def files() -> list[bytes | None]:
+        paths = [pathlib.Path(office.db + end) for end in ("", "-wal")]
+        return [path.read_bytes() if path.exists() else None for path in paths]
+
+    shutil.copyfile(office.db, office.db + ".old")
+    with office.serve() as server:
+        assert server.ask('> ACME ACMEKEY1 POST /orders {"order":"O-2","recipe":"R","batches":1}').startswith("200 ")
+        change(office.db)
+        before = files()
+        return owner_statuses(server), office.plant("stock", "ACME"), server.lines(), files() == before
+
+
+@pytest.mark.parametrize("change", [
+    pytest.param(lambda db: os.truncate(f"{db}-wal", 0), id="a log that was emptied"),
+    pytest.param(lambda db: os.unlink(f"{db}-wal"), id="a log that was removed"),
+    pytest.param(lambda db: os.truncate(f"{db}-wal", 100), id="a log that was cut"),
+    pytest.param(lambda db: os.truncate(db, 0), id="an empty FILE"),
+    pytest.param(os.unlink, id="a FILE that was removed"),
+    pytest.param(remove_with_log, id="a FILE that was removed with its log"),
+    pytest.param(lambda db: move_over(db + ".old", db), id="a copy that was moved over FILE"),
+    pytest.param(lambda db: shutil.copyfile(db + ".old", db), id="a copy that was written over FILE"),
+])
+def test_a_server_refuses_files_that_lost_rows_and_writes_nothing(at_work: Office, change: Change) -> None:
+    assert answers_around(at_work, change) == (["503", "503"], NOT_OURS, ["fault NotOurs began"], True)
+
+
+@pytest.mark.parametrize("change", [
+    pytest.param(lambda db: sqlite(db, "PRAGMA wal_checkpoint(TRUNCATE)"), id="a checkpoint"),
+    pytest.param(lambda db: sqlite(db, f".backup {db}.saved"), id="a copy by sqlite3"),
+    pytest.param(lambda db: os.chmod(db, 0o640), id="a new mode"),
+    pytest.param(move_away_and_back, id="a FILE that was moved away and back"),
+    pytest.param(restore, id="a copy in the place of both"),
+])
+def test_what_others_did_by_sqlite_or_put_back_is_taken(at_work: Office, change: Change) -> None:
+    statuses, answer, lines, _ = answers_around(at_work, change)
+    assert statuses == ["200", "200"] and answer.status == 0 and not any(line.startswith("fault") for line in lines)
+
+
+# Servers that stop or take long
+
+def test_a_command_waits_five_seconds_for_a_server_that_is_stopped(at_work: Office) -> None:
+    with at_work.serve() as server:
+        server.ask(ORDERS)
+        server.process.send_signal(signal.SIGSTOP)
+        began = time.monotonic()
+        assert at_work.plant("unit-add", "U2") == ACCEPTED and 4 < time.monotonic() - began < 8
+        server.process.send_signal(signal.SIGCONT)
+        assert is_answered(server)
+        assert at_work.plant("unit-add", "U2").status == 1 and at_work.plant("unit-add", "U3") == ACCEPTED
+        server.process.send_signal(signal.SIGSTOP)
+        with locked(at_work):
+            assert at_work.plant("unit-add", "U4") == LOCKED
+        server.process.send_signal(signal.SIGCONT)
+
+
+def test_behind_the_handshake_a_command_waits_for_its_answer_as_long_as_it_takes(at_work: Office) -> None:
+    path, answers = at_work.write("actuals.csv", many_actuals(3000)), list[Result]()
+    with at_work.serve() as server:
+        server.ask(ORDERS)
+        worker = threading.Thread(target=lambda: answers.append(at_work.plant("import", path)), daemon=True)
+        worker.start()
+        while not server.ask(ORDERS):
+            time.sleep(0.01)
+        server.process.send_signal(signal.SIGSTOP)
+        time.sleep(7)
+        server.process.send_signal(signal.SIGCONT)
+        worker.join(PATIENCE)
+    assert answers and not answers[0].err and answers[0].out.splitlines()[-1].endswith(" fault 0")
+
+
+# Servers of another build, or that end or answer nothing, half or too much
+
+@contextlib.contextmanager
+def false_server(office: Office, greeting: bytes, reply: bytes | None = None, ends: bool = False
+                 ) -> Iterator[list[bytes]]:
+    """A socket of ours, which greets who comes, and ends or takes a byte, or replies where it has a reply; with what
+    it took."""
+    path, received = client.path_of(office), list[bytes]()
+    pathlib.Path(path).unlink(missing_ok=True)
+
+    def play(listener: socket.socket) -> None:
+        with contextlib.suppress(OSError):
+            while True:
+                peer, _ = listener.accept()
+                with peer, contextlib.suppress(OSError):
+                    peer.sendall(greeting)
+                    if ends:
+                        continue
+                    received.append(peer.recv(1) if reply is None else client.take_parcel(peer))
+                    peer.sendall(reply or b"")
+
+    with socket.socket(socket.AF_UNIX) as listener:
+        listener.bind(path)
+        listener.listen()
+        worker = threading.Thread(target=play, args=[listener], daemon=True)
+        worker.start()
+        try:
+            yield received
+        finally:
+            listener.shutdown(socket.SHUT_RDWR)
+            worker.join()
+    os.unlink(path)
+
+
+@pytest.fixture
+def greeting(at_work: Office) -> bytes:
+    """What a server of this build greets with."""
+    with at_work.serve(), client.connect(client.path_of(at_work)) as peer:
+        return client.take_parcel(peer)
+
+
+@pytest.mark.parametrize("other, ends", [
+    pytest.param(lambda ours: b"", True, id="nothing"), pytest.param(lambda ours: ours[:-1], True, id="half"),
+    pytest.param(lambda ours: client.parcel(b"toll 0.9"), False, id="another build"),
+    pytest.param(lambda ours: ours + b"x", False, id="a longer one"),
+    pytest.param(lambda ours: b"\xff\xff\xff\xff", False, id="a long parcel")])
+def test_another_greeting_is_asked_nothing(at_work: Office, greeting: bytes, other: Callable[[bytes], bytes], ends: bool
+                                           ) -> None:
+    assert greeting[4:].decode() == at_work.run([]).err.splitlines()[0]
+    with false_server(at_work, other(greeting), ends=ends) as received:
+        assert at_work.plant("unit-add", "U2") == ACCEPTED
+    assert not any(received)
+
+
+@pytest.mark.parametrize("reply", [
+    b"", b"\0", client.answer(0, b"accepted\n")[:-1], client.answer(0, b"accepted\n") + b"x", client.parcel(b""),
+    client.parcel(b"\0\0\0\0\xff")])
+def test_a_command_that_is_taken_and_not_answered_is_lost(at_work: Office, greeting: bytes, reply: bytes) -> None:
+    with false_server(at_work, greeting, reply):
+        assert at_work.plant("unit-add", "U2") == LOST
+    assert at_work.plant("unit-add", "U2") == ACCEPTED
+
+
+def test_an_answer_is_passed_on_as_it_is(at_work: Office, greeting: bytes) -> None:
+    with false_server(at_work, greeting, client.answer(1, b"one\n", b"two\n")) as received:
+        assert at_work.plant("unit-add", "U2") == Result(1, "one\n", "two\n")
+    assert received == [client.question("unit-add", "U2")]
+
+
+# Clients that end or are killed
+
+CUT = [b"\xff\xff\xff\xff", client.parcel(b"x"), client.parcel(client.parcel(b"unit-add\0U2\0") + b"\2"),
+       client.parcel(client.parcel(b"unit-add\0U2")), b"GET / HTTP/1.1\r\n\r\n"]
+
+
+def test_of_a_client_that_ends_before_all_was_sent_nothing_is_done_and_of_one_behind_it_all(at_work: Office) -> None:
+    whole, path = client.question("unit-add", "U2"), client.path_of(at_work)
+    with at_work.serve() as server:
+        server.ask(ORDERS)
+        before = content(at_work.db)
+        for size in range(len(whole)):
+            with client.connect(path) as peer:
+                if size % 2:
+                    client.take_parcel(peer)
+                peer.sendall(whole[:size])
+        for damaged in CUT:
+            with client.connect(path) as peer:
+                client.take_parcel(peer)
+                peer.sendall(damaged)
+                peer.shutdown(socket.SHUT_WR)
+                assert client.take_parcel(peer) == b"", damaged
+        server.ask(ORDERS)
+        assert content(at_work.db) == before
+        with client.connect(path) as peer:
+            client.take_parcel(peer)
+            peer.sendall(whole)
+        server.ask(ORDERS)
+        assert at_work.plant("unit-add", "U2").status == 1
+        assert not server.has_ended() and server.lines() == []
+
+
+def test_a_command_that_is_killed_is_done_whole_or_not_at_all_and_the_server_goes_on(at_work: Office) -> None:
+    actuals, chance = at_work.write("actuals.csv", IMPORTS["many"]), random.Random(1)
+    with at_work.serve() as server:
+        for turn in range(40):
+            words = ["import", actuals] if turn % 4 == 0 else f"receive ACME X{turn} M L{turn} S 1 10".split()
+            process = subprocess.Popen([at_work.program, "--db", at_work.db, *words], stdout=subprocess.DEVNULL,
+                                       stderr=subprocess.DEVNULL, cwd=at_work.folder)
+            time.sleep(chance.uniform(0, 0.03))
+            process.kill()
+            process.wait()
+            again = at_work.plant(*words)
+            assert "fault" not in again.err if words[0] == "import" else again in (ACCEPTED, REPEATED), words
+            assert is_answered(server)
+        assert not server.has_ended() and server.lines() == []
+
+
+# A server that is killed at each of its calls over the file
+
+def wrong_kills(disks: list[Disk], base: str, words: list[str], done: list[Result], left: list[Any]) -> dict[str, Any]:
+    """What is wrong where the server is killed before or after a call that the words have it make."""
+    def attempt(office: Disk, point: tuple[int, int]) -> str:
+        (answer, _), rows = answer_and_calls(office, *point), content(office.db)
+        if rows not in left or answer not in (LOST, *done):
+            return f"{answer}, with {'its rows' if rows in left else 'rows that it may not leave'}"
+        if answer in done and rows == left[0]:
+            return f"what was answered {answer} is not there"
+        again = office.plant(*words)
+        return "" if again in done and content(office.db) == left[-1] else f"{answer}, and the same again {again}"
+
+    def answer_and_calls(office: Disk, at: int, way: int) -> tuple[Result, int]:
+        put(base, office.db)
+        pathlib.Path(client.path_of(office)).unlink(missing_ok=True)
+        office.disturb(0)
+        with office.serve(office.env) as server:
+            server.ask(ORDERS)
+            before = len(office.calls())
+            office.aim(before + at, way)
+            answer, made = office.plant(*words), len(office.calls()) - before
+            office.leave()
+        return answer, made
+
+    points = range(1, min(60, answer_and_calls(disks[0], 0, 0)[1]) + 1)
+    assert len(points) > 10
+    kills = [(at, way) for at in (0, *points) for way in (KILLED_BEFORE, KILLED_AFTER)]
+    return wrong_outcomes(disks, attempt, kills, [""])
+
+
+def test_a_command_whose_server_is_killed_is_done_whole_or_not_at_all(disks: list[Disk], new: New, work: str) -> None:
+    words, office = "receive ACME K2 M B S1 100 10".split(), new()
+    put(work, office.db)
+    before = content(office.db)
+    assert office.plant(*words) == ACCEPTED
+    assert wrong_kills(disks, work, words, [ACCEPTED, REPEATED], [before, content(office.db)]) == {}
+
+
+def test_an_import_whose_server_is_killed_is_done_up_to_a_record(disks: list[Disk], new: New, work: str) -> None:
+    command = Import(new, work)
+    rows, reports = zip(*command.lefts)
+    assert wrong_kills(disks, work, command.words, list(reports), list(rows)) == {}
+
+
+def test_what_is_accepted_while_servers_come_and_go_is_there_once(at_work: Office) -> None:
+    answers, chance = dict[str, Result](), random.Random(1)
+
+    def receipt(key: str) -> Result:
+        return at_work.plant(*f"receive ACME {key} M {key} S 1 10".split())
+
+    def receive(name: str, over: threading.Event) -> None:
+        for key in (f"{name}{number}" for number in range(10 ** 9)):
+            if over.is_set():
+                return
+            answers[key] = receipt(key)
+
+    with meanwhile(*(functools.partial(receive, name) for name in "XYZ")):
+        for turn in range(20):
+            with at_work.serve(count=2 if turn % 3 else 1_000_000) as server:
+                time.sleep(chance.uniform(0, 0.3))
+                if turn % 3:
+                    for _ in range(2):
+                        server.ask(ORDERS)
+                    server.has_ended(PATIENCE)
+            time.sleep(chance.uniform(0, 0.1))
+    done = [key for key, answer in answers.items() if answer == ACCEPTED]
+    assert set(answers.values()) <= {ACCEPTED, LOCKED, LOST} and len(done) > 20
+    assert {key: again for key in done if (again := receipt(key)) != REPEATED} == {}

@@ -1,1 +1,0 @@
-"""What tools/attack does to a server, and what it measures meanwhile."""

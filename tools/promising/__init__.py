@@ -1,1 +1,0 @@
-"""docs/PROMISES.md, made of docs/PROVED.md and the sources."""

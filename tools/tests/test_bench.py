@@ -1,0 +1,133 @@
+"""bench/: offices keep the office's own limits, and what is measured beside the program looks and writes as it does."""
+import collections
+import json
+import re
+import sqlite3
+import subprocess
+import sys
+from collections.abc import Iterator
+from pathlib import Path
+
+import pytest
+from conftest import ROOT
+
+sys.path.append(str(ROOT))
+from bench import beside, offices  # noqa: E402
+from bench.offices import CONSUMED, HOUSE, PRODUCED, RECEIVED, WATER, Dense, Genealogy  # noqa: E402
+
+Output = pytest.CaptureFixture[str]
+KINDS = (ROOT / "crates" / "toll_sql" / "src" / "table_kind.rt").read_text()
+TABLES = re.findall(r'"(CREATE TABLE .*?)"', KINDS)
+
+
+# Offices
+
+@pytest.mark.parametrize("genealogy", [*map(Dense, (1, 10, 20, 50, 100)), Genealogy(19_900), offices.AT_THE_LIMITS])
+def test_a_genealogy_keeps_the_limits_of_an_owner(genealogy: Dense | Genealogy) -> None:
+    rows = list(genealogy.moves("OWNER-01"))
+    made = [row[3:5] for row in rows if row[2] in (RECEIVED, PRODUCED)]
+    assert len(rows) <= offices.MOST_MOVEMENTS and len(set(made)) <= offices.MOST_LOTS
+    assert max(collections.Counter(row[8:10] for row in rows if row[8]).values()) <= offices.MOST_OF_BATCH
+    assert [row[1] for row in rows] == sorted({row[1] for row in rows})
+    there: set[offices.Row] = {(HOUSE, WATER)}
+    for row in rows:  # what is consumed was made before
+        assert row[2] != CONSUMED or row[3:5] in there
+        there.add(row[3:5])
+
+
+@pytest.mark.parametrize("across, batches", [(10, 480), (20, 250), (100, 49), (50, 100), (1, 5_000)])
+def test_a_dense_genealogy_has_all_edges_between_neighbours(across: int, batches: int) -> None:
+    assert Dense(across).batches == batches
+    made, consumed = (collections.defaultdict[offices.Row, set[offices.Row]](set) for _ in range(2))
+    for row in Dense(across).moves("O"):
+        (made if row[2] == PRODUCED else consumed)[row[8:10]].add(row[3:5])
+    orders = [offices.batch_name(number) for number in range(1, batches + 1)]
+    assert consumed[orders[0]] == {(HOUSE, WATER)} and all(len(made[it]) == across for it in orders)
+    assert all(consumed[later] == made[earlier] for earlier, later in zip(orders, orders[1:]))
+
+
+def test_half_of_a_dense_genealogy_is_the_front_of_all() -> None:
+    half = list(Dense(20, 2).moves("O"))
+    assert Dense(20, 2).batches == 125 and list(Dense(20).moves("O"))[:len(half)] == half
+
+
+def test_a_second_file_of_actuals_goes_on_behind_the_first() -> None:
+    first, more, both = (list(offices.records(*it)) for it in ((300,), (100, 300), (400,)))
+    assert first[0] == more[0] and first + more[1:] == both
+
+
+# What stands beside
+
+@pytest.fixture
+def base(tmp_path: Path) -> Iterator[beside.Base]:
+    """The office's tables with an owner's lot of 1,000, of which a batch consumes."""
+    base = beside.Base(":memory:")
+    base.base.executescript(";".join(TABLES) + """;
+        INSERT INTO owners VALUES ('ACME', 'KEY');
+        INSERT INTO recipes VALUES ('ACME', 'R', 1);
+        INSERT INTO orders VALUES ('ACME', 'O-1', 'R', 1, 0);
+        INSERT INTO materials VALUES ('ACME', 'SALT', 'kg');
+        INSERT INTO batches VALUES ('ACME', 'O-1', 1, 'U', 1, 0);
+        INSERT INTO lots VALUES ('ACME', 'S-1', 'SALT', '', 0, 1);
+        INSERT INTO sublots VALUES ('ACME', 'S-1', 'BAY1', 1000);
+        INSERT INTO requirements VALUES ('ACME', 'R', 1, 0, 'ACME', 'SALT', 1), ('ACME', 'R', 1, 1, 'ACME', 'SALT', 1);
+    """)
+    base.base.execute(offices.MOVE, offices.receipt("ACME", "K1", "S-1", "SALT"))
+    yield base
+    base.base.close()
+
+
+def test_an_order_beside_looks_and_writes(base: beside.Base) -> None:
+    body = '{"order":"O-2","recipe":"R","batches":2}'
+    assert json.loads(base.place("ACME", "KEY", body)) == {**json.loads(body), "status": "open"}
+    assert base.one("SELECT * FROM orders WHERE ord = 'O-2'") == ("ACME", "O-2", "R", 2, 0)
+    other = body.replace("O-2", "O-3")
+    for key, sent in (("KEY", body), ("OTHER", other), ("KEY", other.replace('"R"', '"S"'))):
+        with pytest.raises(beside.Refused):
+            base.place("ACME", key, sent)
+        base.base.execute("ROLLBACK")
+
+
+HEAD = next(offices.records(1))
+USED = "C1,ACME,O-1,1,1,consumed,SALT,ACME,S-1,BAY1,10,101\n"
+MADE = "C3,ACME,O-1,1,1,produced,SALT,ACME,P-1,BAY1,7,101\n"
+
+
+def test_an_import_beside_writes_by_an_index_what_recalls_and_stock_print(base: beside.Base, tmp_path: Path,
+                                                                          capsys: Output) -> None:
+    (tmp_path / "lines").write_text(HEAD + USED + USED.replace("C1", "C2") + MADE)
+    base.import_(str(tmp_path / "lines"))
+    assert capsys.readouterr().out.splitlines()[-1] == "accepted 3 repeated 0 refused 0 bad 0 fault 0"
+    assert "moves_by_batch" in base.one(f"EXPLAIN QUERY PLAN {beside.COUNT_OF_BATCH}", "ACME", "O-1", 1)[-1]
+    base.trace("ACME", "S-1", "forward")
+    base.recall("ACME", "S-1")
+    base.stock("ACME")
+    assert [" ".join(line.split()) for line in capsys.readouterr().out.splitlines()] == [
+        "0 ACME S-1", "1 ACME P-1", "steps owner lot disposition on-hand shipped", "0 ACME S-1 released 980 0",
+        "1 ACME P-1 quarantined 7 0", "P-1 BAY1 SALT quarantined 7 kg", "S-1 BAY1 SALT released 980 kg"]
+
+
+@pytest.mark.parametrize("old, new", [
+    ("C1", "K1"), ("O-1,1", "O-1,2"), ("consumed", "produced"), ("S-1", "S-2"), ("BAY1", "BAY2"), (",10,", ",1001,"),
+    ("SALT", "SUGAR"), ("1,1,consumed", "1,2,consumed")])
+def test_an_import_beside_looks_before_it_writes(base: beside.Base, tmp_path: Path, old: str, new: str) -> None:
+    (tmp_path / "lines").write_text(HEAD + USED.replace(old, new))
+    with pytest.raises(beside.Refused):
+        base.import_(str(tmp_path / "lines"))
+    base.base.execute("ROLLBACK")
+    assert base.one("SELECT amount FROM sublots") == (1_000,) and base.one("SELECT count(*) FROM moves") == (1,)
+
+
+def test_columns_are_those_of_the_office() -> None:
+    with sqlite3.connect(":memory:") as base:
+        for table in TABLES:
+            base.execute(table)
+        for text in (offices.DEFINITIONS, offices.DERIVED, offices.FULL, offices.RUNNING):
+            base.executescript(text)
+        base.execute(offices.MOVE, next(Dense(10).moves("A")))
+
+
+@pytest.mark.parametrize("words", [["--no-such"], ["nothing"], ["--runs", "x"], ["--program", "/etc/passwd"]])
+def test_a_wrong_use_has_status_2(words: list[str]) -> None:
+    done = subprocess.run(["/usr/bin/python3", ROOT / "bench" / "run", *words], capture_output=True, text=True)
+    assert done.returncode == 2 and done.stdout == ""

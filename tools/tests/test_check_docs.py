@@ -1,0 +1,282 @@
+"""tools/check-docs: docs/PROMISES.md, the names on the pages, and their examples."""
+import os
+import shutil
+import subprocess
+from collections.abc import Iterator
+from pathlib import Path
+
+import pytest
+from conftest import ROOT, script, tool
+from docs import examples
+from docs.names import Pages
+from docs.promises import Promises
+from docs.sources import Sources
+
+Output = pytest.CaptureFixture[str]
+STOCK = """\
+//! Stock.
+ghost use Rattle.std.specs.Prelude.{IfOk};
+ghost use Rattle.toll_stock.specs.Common.{Decides, IsEnough};
+pub use shipping::ship;
+
+/// Ships it.
+pub fn ship(amount: u64) -> Result<Decision, Refusal>
+    ensures decides { IfOk result (Decides amount.now) }
+    ensures enough { (row : Row) → IsEnough row amount.now
+        result }
+{
+    check_amount(amount)
+}
+
+fn check_amount(amount: u64) -> Result<Decision, Refusal> {
+    if amount > ON_HAND { return Err(Refusal::NotEnough); }
+}
+
+pub struct Lots;
+
+impl Lots {
+    pub fn total(&self) -> u64
+        ensures { result ≡ 0 }
+    { 0 }
+}
+"""
+VERDICT = "Decides : Amount → Type\nship_checks : Amount → Checks\nrecord Row\n"
+PROVED = """\
+# What is proved
+
+- **1.1** An amount that is shipped is there. (`ship` (`enough`))
+- **1.2** A decision is the verdict. (`ship`)
+- **1.3** A lot has a total. (`Lots::total`)
+"""
+OTHER_BODY = "crates/toll_stock/must-fail/a_total_is_one_more.edit"
+FILES = {
+    "README.md": "Of `ship` and [stock](docs/PROVED.md): the program's 2 crates.\n",
+    "CONTRIBUTING.md": "`crates/FOLDER`, `Lots::total`, `shipping.rt`, `cargo build`, `ship_checks`\n",
+    "CHANGELOG.md": "",
+    **{f"docs/{name}.md": "" for name in ("PROMISES", "ARCHITECTURE", "DECISIONS", "GLOSSARY")},
+    "docs/DEFINITIONS.md":
+        "|what|read|lines|\n|---|---|---|\n|a verdict|`toll_history/specs`: Verdict; `toll_stock/specs`|4|\n",
+    "docs/operations.md": "```nginx\nlisten 80;\n```\nSee `packaging/site.conf`.\n", "docs/PROVED.md": PROVED,
+    "packaging/site.conf": "server {\nlisten 80;\n}\n",
+    "crates.txt": "# All.\ntoll_stock:\ntoll_history:\ntoll: toll_stock\n",
+    "crates/toll_stock/src/shipping.rt": STOCK,
+    "crates/toll_history/specs/Verdict.antt": VERDICT,
+    "crates/toll_stock/specs/Enough.antt": "IsEnough : Row → Amount → Type\n",
+    "crates/toll_stock/must-fail/more_shipped_than_there_is.edit":
+        "# promise 1.1\nfile: src/shipping.rt\nold: amount > ON_HAND\nnew: false\n",
+    "crates/toll_tests/src/stock.rt": "#[test]\nfn what_is_there_is_shipped(rt: HostRuntime) {}\n",
+    "tools/check-docs": "", "tools/docs/tests.txt": "# The tests.\n1.1 what_is_there_is_shipped\n",
+}
+
+
+@pytest.fixture
+def repository(tmp_path: Path) -> Path:
+    for name, text in FILES.items():
+        (tmp_path / name).parent.mkdir(parents=True, exist_ok=True)
+        (tmp_path / name).write_text(text)
+    (tmp_path / "docs" / "PROMISES.md").write_text(Promises(tmp_path, Sources(tmp_path)).page())
+    return tmp_path
+
+
+def mistakes(root: Path) -> list[str]:
+    """The mistakes in a repository, except that docs/PROMISES.md is old."""
+    sources = Sources(root)
+    found = [*Promises(root, sources).mistakes(), *Pages(root, sources).mistakes()]
+    return [mistake for mistake in found if not mistake.startswith("docs/PROMISES.md: it is not")]
+
+
+def change(root: Path, name: str, old: str, new: str) -> None:
+    text = (root / name).read_text()
+    assert old in text
+    (root / name).write_text(text.replace(old, new))
+
+
+# Promises
+
+def rows(root: Path) -> dict[str, list[str]]:
+    lines = (line.split("|") for line in Promises(root, Sources(root)).page().split("\n"))
+    return {cells[1]: cells[2:-1] for cells in lines if len(cells) == 8 and cells[1][0].isdigit()}
+
+
+def test_a_promise_leads_to_all_that_belongs_to_it(repository: Path) -> None:
+    found = rows(repository)
+    enough = "`toll_stock/specs/Enough.antt`: `IsEnough`"
+    assert found["1.1"] == ["`ship` (`enough`)", enough, "`toll_stock/src/shipping.rt`",
+                            "`more_shipped_than_there_is`", "`what_is_there_is_shipped`"]
+    assert found["1.2"][1] == f"`toll_history/specs/Verdict.antt`: `ship_checks`, `Decides`; {enough}"
+    assert found["1.3"] == ["`Lots::total`", "-", "`toll_stock/src/shipping.rt`", "-", "-"]
+
+
+def add_wrong_body(root: Path, name: str, *, promise: str, old: str = "    { 0 }") -> None:
+    path = root / "crates" / "toll_stock" / "must-fail" / f"{name}.edit"
+    path.write_text(f"{promise}\nfile: src/shipping.rt\nold: {old}\nnew:     {{ 1 }}\n")
+
+
+def test_a_wrong_body_names_its_promise(repository: Path) -> None:
+    add_wrong_body(repository, "a_total_is_one_more", promise="# promise 1.3: A lot has a total")
+    bodies = [cells[3] for cells in rows(repository).values()]
+    assert bodies == ["`more_shipped_than_there_is`", "-", "`a_total_is_one_more`"]
+    assert mistakes(repository) == []
+
+
+@pytest.mark.parametrize("promise, old, mistake", [
+    ("# A total", "    { 0 }", "its first line names no promise"),
+    ("# promise 1.4", "    { 0 }", "1.4 is no promise"),
+    ("# promise 1.3: A lot has two totals", "    { 0 }", "1.3 doesn't say: A lot has two totals"),
+    ("# promise 1.1", "    { 0 }", f"{OTHER_BODY} guards 1.1 too"),
+    ("# promise 1.1: is there", "    { 0 }", f"{OTHER_BODY} guards 1.1 too"),
+    ("# promise 1.3", "total += 1", "not once in its file: total += 1"),
+])
+def test_a_wrong_body_without_a_promise_of_its_own_is_a_mistake(repository: Path, promise: str, old: str,
+                                                                mistake: str) -> None:
+    add_wrong_body(repository, "a_total_is_one_more", promise=promise, old=old)
+    assert [text.split(": ", 1)[1] for text in mistakes(repository)] == [mistake]
+
+
+def test_wrong_bodies_may_share_a_promise_if_each_guards_other_words_of_it(repository: Path) -> None:
+    add_wrong_body(repository, "more_shipped_than_there_is", promise="# promise 1.1: An amount")
+    add_wrong_body(repository, "a_total_is_one_more", promise="# promise 1.1: is there")
+    assert mistakes(repository) == []
+
+
+def test_a_crate_has_six_wrong_bodies_at_most(repository: Path) -> None:
+    with open(repository / "docs" / "PROVED.md", "a") as page:
+        page.writelines(f"- **2.{number}** A rule. (`ship`)\n" for number in range(1, 7))
+    for number in range(1, 7):
+        add_wrong_body(repository, f"edit_{number}", promise=f"# promise 2.{number}")
+    assert mistakes(repository) == ["crates/toll_stock: 7 wrong bodies, at most 6"]
+
+
+def test_an_old_page_is_a_mistake(repository: Path) -> None:
+    assert list(Promises(repository, Sources(repository)).mistakes()) == []
+    change(repository, "docs/PROMISES.md", "1.3", "1.4")
+    assert list(Promises(repository, Sources(repository)).mistakes()) == [
+        "docs/PROMISES.md: it is not what `tools/check-docs promises` makes"]
+
+
+def test_the_page_of_the_repository_has_each_wrong_body_once() -> None:
+    text = (ROOT / "docs" / "PROMISES.md").read_text()
+    names = [path.stem for path in ROOT.glob("crates/*/must-fail/*.edit")]
+    assert names and [name for name in names if text.count(f"`{name}`") != 1] == []
+
+
+# Each fault on the pages
+
+@pytest.mark.parametrize("name, old, new, mistake", [
+    ("docs/PROVED.md", "`ship` (`enough`)", "`check_amount`", "docs/PROVED.md: 1.1: check_amount is not public"),
+    ("docs/PROVED.md", "(`enough`)", "(`decides`, `total`)", "docs/PROVED.md: 1.1: ship has no clause total"),
+    ("docs/PROVED.md", " (`Lots::total`)", "", "docs/PROVED.md: 1.3: it names nothing that carries it"),
+    ("docs/PROVED.md", "**1.3**", "**1.4**", "docs/PROVED.md: 1.4 doesn't follow 1.2"),
+    ("tools/docs/tests.txt", "1.1", "2.1", "tools/docs/tests.txt: 2.1 is no promise"),
+    ("tools/docs/tests.txt", "is_there", "is_gone", "tools/docs/tests.txt: there is no test what_is_gone_is_shipped"),
+    ("README.md", "`ship`", "`sink`", "README.md:1: there is no sink"),
+    ("README.md", "docs/PROVED.md", "docs/LOST.md", "README.md:1: the link docs/LOST.md leads to nothing"),
+    ("README.md", "2 crates", "3 crates", "README.md: the program has 2 crates"),
+    ("README.md", "Of ", "Of " * 900, "README.md: 907 words, not at most 900"),
+    ("CONTRIBUTING.md", "Lots::total", "Lots::sum", "CONTRIBUTING.md:1: there is no sum"),
+    ("CONTRIBUTING.md", "`shipping.rt`", "`sinking.rt`", "CONTRIBUTING.md:1: there is no sinking.rt"),
+    ("CONTRIBUTING.md", "`ship_checks`", "`sink_checks`", "CONTRIBUTING.md:1: there is no sink_checks"),
+    ("docs/DEFINITIONS.md", "|4|", "|5|", "docs/DEFINITIONS.md:3: 4 lines, not 5"),
+    ("docs/operations.md", "80", "81", "docs/operations.md:1: the block is no lines of a file of packaging/"),
+    ("docs/operations.md", "site.conf", "sites.conf", "docs/operations.md:4: there is no packaging/sites.conf"),
+    ("docs/operations.md", "See ", "See [more](more.md) in ", "docs/operations.md:4: there is no more.md"),
+])
+def test_a_fault_on_a_page_is_a_mistake(repository: Path, name: str, old: str, new: str, mistake: str) -> None:
+    assert mistakes(repository) == []
+    change(repository, name, old, new)
+    assert mistakes(repository) == [mistake]
+
+
+def test_a_page_that_is_gone_is_a_mistake(repository: Path) -> None:
+    (repository / "docs" / "GLOSSARY.md").unlink()
+    assert mistakes(repository) == ["docs/GLOSSARY.md is not there"]
+
+
+# Examples
+
+PAGE = """\
+```console
+$ toll one
+ran one
+$ echo two \\
+> three
+two three
+```
+```text
+$ nothing
+```
+```sh
+toll four  # ran four
+printf 'a\\nb'
+# a
+# b
+
+(sleep 0.5; echo late 8080) &
+# late 8080
+```
+"""
+
+
+@pytest.fixture
+def shell(tmp_path: Path) -> Iterator[examples.Shell]:
+    with examples.shell_of_page(ROOT, script(tmp_path / "program", 'echo "ran $*"'), tmp_path / "hilpoven") as shell:
+        yield shell
+
+
+@pytest.fixture
+def page(tmp_path: Path) -> Path:
+    (tmp_path / "page.md").write_text(PAGE)
+    return tmp_path / "page.md"
+
+
+def test_the_commands_of_a_page_are_read_with_what_they_print(page: Path) -> None:
+    assert [(example.line, example.command, example.printed) for example in examples.examples_of(page)] == [
+        (2, "toll one", ["ran one"]), (4, "echo two \\\nthree", ["two three"]), (12, "toll four", ["ran four"]),
+        (13, "printf 'a\\nb'", ["a", "b"]), (17, "(sleep 0.5; echo late 8080) &", ["late 8080"])]
+
+
+def test_examples_that_print_what_the_page_says_pass(page: Path, shell: examples.Shell, capsys: Output) -> None:
+    assert examples.check(page, list(examples.examples_of(page)), shell) == 5 and capsys.readouterr().out == ""
+
+
+def test_an_example_that_prints_something_else_is_told_and_the_next_runs(page: Path, shell: examples.Shell,
+                                                                         capsys: Output) -> None:
+    change(page.parent, "page.md", "ran one", "ran none")
+    assert examples.check(page, list(examples.examples_of(page)), shell) == 4
+    assert capsys.readouterr().out == f"{page}:2: toll one\n  the page says:\n    ran none\n  it prints:\n    ran one\n"
+
+
+def test_an_example_that_hangs_ends_its_page(page: Path, shell: examples.Shell, capsys: Output,
+                                             monkeypatch: pytest.MonkeyPatch) -> None:
+    monkeypatch.setattr(examples, "PATIENCE", 1)
+    change(page.parent, "page.md", "toll one", "echo so; sleep 300")
+    assert examples.check(page, list(examples.examples_of(page)), shell) == 0
+    assert "    so\n" in (told := capsys.readouterr().out) and "nothing more within 1 s" in told
+
+
+@pytest.mark.parametrize("page, status, told", [
+    ("$ toll x\nran x\n```\n| 33 | NotEnough |\n", 0, "1 of 1 examples"),
+    ("$ toll x\nran y\n```\n", 1, "0 of 1 examples"), ("$ toll x\n```\n", 1, "0 of 1 examples"),
+    ("$ toll x\nran x\nand more\n```\n", 1, "0 of 1 examples"),
+    ("$ toll x\nran x\n```\n| 32 | NotEnough |\n", 1, "NotEnough is 33, not 32")])
+def test_the_tool_runs_a_page_and_compares_its_numbers(tmp_path: Path, page: str, status: int, told: str) -> None:
+    (tmp_path / "page.md").write_text(f"```console\n{page}")
+    program = script(tmp_path / "program", 'echo "ran $*"')
+    done = tool("check-docs", tmp_path / "page.md", env={**os.environ, "TOLL": str(program)})
+    assert (done.returncode, told in done.stdout) == (status, True), done.stdout
+
+
+def test_a_line_of_commands_that_the_code_has_not_is_a_mistake(tmp_path: Path) -> None:
+    for name in ("tools", "tests", "crates/toll_plant/src", "crates/toll_base/src", "docs"):
+        shutil.copytree(ROOT / name, tmp_path / name, ignore=shutil.ignore_patterns("__pycache__", "papers", "tests"))
+    (tmp_path / "page.md").write_text("")
+    change(tmp_path, "docs/commands.md", "    scrap OWNER", "    scrub OWNER")
+    done = subprocess.run([tmp_path / "tools" / "check-docs", "page.md"], capture_output=True, text=True, cwd=tmp_path,
+                          env={**os.environ, "TOLL": "/bin/true"})
+    assert done.returncode == 1 and "docs/commands.md and the code don't both have: scrub OWNER" in done.stdout
+
+
+@pytest.mark.parametrize("words", [["--help-me"], ["names", "README.md"], ["promises", "names"]])
+def test_a_wrong_use_has_status_2(words: list[str]) -> None:
+    done = tool("check-docs", *words)
+    assert (done.returncode, done.stderr) == (2, "usage: tools/check-docs [names | promises | PAGE ..]\n")

@@ -1,0 +1,114 @@
+"""tools/check-worked: changes apply once, CONTRIBUTING.md names what they touch, and the toolchain reads what comes of them."""
+import os
+import shutil
+import subprocess
+
+import pytest
+from conftest import ROOT, script
+
+PAGE = """# Working
+
+## Add a thing
+
+In `low`: `src/lib.rt`, and `README.md`.
+
+## Other
+
+`low/src/other.rt`, which `tools/texts` writes.
+"""
+EDIT = """The worked change of CONTRIBUTING.md, "Add a thing": two of it.
+
+file: crates/low/src/lib.rt
+old: fn one()
+new: fn one()
+new: fn two()
+
+file: README.md
+old: one thing
+new: two things
+"""
+WRITTEN = """The worked change of CONTRIBUTING.md, "Other": a file that a tool writes.
+
+file: tools/texts
+old: one
+new: two
+
+file: crates/low/src/other.rt
+by: tools/texts
+"""
+# As `rattle`: it refuses text with the word "wrong", and tells what it was asked to read.
+RATTLE = """case $1 in
+fmt) shift 2; ! grep -l unformatted "$@" ;;
+check) echo "$*" >> "$TOLD"; ! grep -rn wrong ../*/src | sed 's/^/error[unknown-name]: /' | grep . || exit 1; echo only=0 ;;
+esac"""
+
+
+@pytest.fixture
+def worked(tmp_path):
+    """Runs the tool over a repository with one change, after its files were edited."""
+    top, kit = tmp_path / "repository", tmp_path / "kit"
+    files = {"crates.txt": "low: serde\ntop: low\n", "crates/low/src/lib.rt": "fn one()\n", "crates/low/src/other.rt": "\n", "crates/top/src/main.rt": "fn main()\n",
+             "README.md": "It is one thing.\n", "CONTRIBUTING.md": PAGE, "tools/worked/thing.edit": EDIT}
+    for name, text in files.items():
+        (top / name).parent.mkdir(parents=True, exist_ok=True)
+        (top / name).write_text(text)
+    shutil.copy(ROOT / "tools" / "check-worked", top / "tools")
+    (kit / "bin").mkdir(parents=True)
+    for name, text in (("rt", ""), ("rattle", RATTLE)):
+        script(kit / "bin" / name, text)
+
+    def run(**edits):
+        for name, (old, new) in edits.items():
+            path = top / {"page": "CONTRIBUTING.md", "change": "tools/worked/thing.edit", "code": "crates/low/src/lib.rt"}[name]
+            path.write_text(path.read_text().replace(old, new))
+        environment = {**os.environ, "PATH": f"{kit}/bin:{os.environ['PATH']}", "TOLD": str(tmp_path / "told")}
+        done = subprocess.run([top / "tools" / "check-worked"], capture_output=True, text=True, timeout=60, env=environment)
+        return done.returncode, done.stdout + done.stderr
+    run.told = tmp_path / "told"
+    run.top = top
+    return run
+
+
+def test_a_change_that_applies_is_read_by_the_front_end_in_a_copy(worked):
+    assert worked() == (0, "check-worked: 1 changes apply, and their code is typed\n")
+    words = worked.told.read_text().split()
+    assert words[words.index("--crate-name") + 1] == "low" and "src/lib.rt" in words and any(it.endswith("rlibs/serde.rlib") for it in words)
+    assert (worked.top / "crates/low/src/lib.rt").read_text() == "fn one()\n"
+
+
+def test_a_change_whose_text_is_gone_or_twice_there_is_told(worked):
+    status, told = worked(code=("fn one()", "fn one() fn one()"))
+    assert status == 1 and "crates/low/src/lib.rt has 2 times, and not once: 'fn one()'" in told
+    assert "has 0 times" in worked(code=("fn one()", "fn other()"))[1]
+
+
+def test_code_that_the_front_end_refuses_is_told(worked):
+    status, told = worked(change=("fn two()", "fn wrong()"))
+    assert status == 1 and "error[unknown-name]" in told
+
+
+def test_text_that_the_formatter_refuses_is_told(worked):
+    status, told = worked(change=("fn two()", "fn unformatted()"))
+    assert status == 1 and "crates/low/src/lib.rt" in told
+
+
+def test_a_file_that_the_section_does_not_name_is_told(worked):
+    status, told = worked(page=("`src/lib.rt`, and", "and"))
+    assert status == 1 and "'Add a thing', doesn't name crates/low/src/lib.rt, which thing.edit changes" in told
+    assert "CONTRIBUTING.md has no section Add a thing" in worked(page=("## Add a thing", "## Add one"))[1]
+
+
+def test_a_file_that_a_tool_writes_is_written_in_the_copy(worked):
+    script(worked.top / "tools" / "texts", "echo 'fn one()' > crates/low/src/other.rt")
+    (worked.top / "tools" / "worked" / "written.edit").write_text(WRITTEN)
+    assert worked() == (0, "check-worked: 2 changes apply, and their code is typed\n")
+    assert (worked.top / "crates/low/src/other.rt").read_text() == "\n"
+    script(worked.top / "tools" / "texts", "echo 'fn one()' > crates/low/src/third.rt")
+    assert "written.edit: tools/texts leaves crates/low/src/other.rt as it was" in worked()[1]
+    script(worked.top / "tools" / "texts", "echo one is amiss; exit 1")
+    assert "written.edit: tools/texts fails: two is amiss" in worked()[1]
+
+
+def test_a_line_that_is_none_of_a_change_is_told(worked):
+    status, told = worked(change=("old: one thing", "was: one thing"))
+    assert status == 1 and "thing.edit: 'was: one thing' is no line of a change" in told

@@ -1,1 +1,0 @@
-"""What tools/try-door looks at."""

@@ -1,1 +1,0 @@
-"""What tools/try-memory stands on."""
