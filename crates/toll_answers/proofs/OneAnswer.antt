@@ -5,7 +5,7 @@ use Rattle.toll_trace.specs.declared.way.Way.{Way}
 use Rattle.toll_history.specs.Command.{Command}
 use Rattle.toll_answers.specs.declared.plant_cmd.PlantCmd.{PlantCmd}
 use Rattle.toll_answers.specs.declared.plant_cmd.PlantCmd.TheVariants as cmd
-use Rattle.toll_answers.specs.PlantAnswers.{command_of, PlantAnswer, Shows, AreOrdersShown, IsStockShown, IsBatchShown, IsBatchShownOr, IsTraceShown, IsRecallShown, IsCheckedOr, owner_checks, lot_checks, IsVerdictOr, IsQuestionAnswer, IsPlantAnswer}
+use Rattle.toll_answers.specs.PlantAnswers.{recorded_command, PlantAnswer, Shows, AreOrdersShown, IsStockShown, IsBatchShown, IsBatchShownOr, IsTraceShown, IsRecallShown, IsCheckedOr, owner_checks, lot_checks, IsVerdictOr, IsQuestionAnswer, IsPlantAnswer}
 use Rattle.toll_answers.specs.Recall.{recall_line_of, IsRecall}
 use Rattle.toll_answers.specs.declared.genealogy.recall.RecallLine.{RecallLine}
 use Rattle.toll_answers.specs.Texts.{orders_text, stock_text, shown_over, IsStockText, batch_text, trace_text, recall_text}
@@ -77,4 +77,4 @@ module _ (H : History) where
   one_question_answer _ = λ r r' a b. absurd a
 
   pub one_plant_answer : (q : PlantCmd) → IsOne (IsPlantAnswer H q)
-  one_plant_answer q = one_verdict_or (command_of q) (IsQuestionAnswer H q) (one_question_answer q)
+  one_plant_answer q = one_verdict_or (recorded_command q) (IsQuestionAnswer H q) (one_question_answer q)

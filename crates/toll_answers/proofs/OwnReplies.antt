@@ -3,7 +3,7 @@ use Rattle.std.proofs.Common.{◌≡◌, ℕ, Bool, true, false, not, ◌&&◌, 
 use Rattle.toll_answers.proofs.Common.{list_any, Bytes, same_bytes, Action, PlaceOrder, CancelOrder, Release, Reject, Command, by, History, part, acts, owner_known, owner_key, adds_owner, measure_of, order_of, batch_of, requirement_of, Verdict, Accepted, Repeated, Refused, Checks, verdict_of_checks, checks, verdict, grow, grown, IsLawful, IsValidAction, order_checks, cancel_checks, release_checks, reject_checks, known_batch_checks, OrderRow, LotRow, BatchRow, same_bytes-refl, Back, Forward, IsOwnJoined, line_of}
 use Rattle.std.specs.Prelude.{IfSome}
 use Rattle.std.specs.Option.{option_map, option_map_or, option_and_then}
-use Rattle.toll_answers.specs.PlantAnswers.{IsValidCommand, after_plant, command_of}
+use Rattle.toll_answers.specs.PlantAnswers.{IsValidCommand, after_plant, recorded_command}
 use Rattle.toll_answers.specs.declared.plant_cmd.PlantCmd.{PlantCmd}
 use Rattle.toll_base.specs.Values.{house_name}
 use Rattle.toll_base.specs.Words.{where_so, is_some_where}
@@ -29,7 +29,7 @@ pub lawful-grow : (H : History) (c : Command) → IsLawful H → IsValidAction c
 lawful-grow H c lawful valid = lawful-grown H c (verdict H c) refl lawful valid
 
 pub lawful-after_plant : (H : History) (q : PlantCmd) → IsLawful H → IsValidCommand q → IsLawful (after_plant H q)
-lawful-after_plant H q lawful valid = by_done (command_of q) valid
+lawful-after_plant H q lawful valid = by_done (recorded_command q) valid
   where
     by_done : (done : Option Command) → IfSome done (λ (c : Command). IsValidAction c.action) → IsLawful (option_map_or (grow H) done H)
     by_done (Some c) valid = lawful-grow H c lawful valid

@@ -14,28 +14,28 @@ use Rattle.toll_answers.specs.Texts.{orders_text, IsStockText, batch_text, trace
 -- ---- what a command of the plant is
 
 -- what is recorded of it; nothing of a question, nor of words of which a value couldn't be read
-abbrev pub command_of : PlantCmd → Option Command
-command_of (cmd.OwnerAdd owner key) = Some (by owner (AddOwner key))
-command_of (cmd.UnitAdd unit) = Some (by house_name (AddUnit unit))
-command_of (cmd.MaterialAdd owner material measure) = Some (by owner (AddMaterial (record { material = material; measure = measure })))
-command_of (cmd.TestAdd owner material test limits) = Some (by owner (AddTest (record { material = material; test = test; limits = limits })))
-command_of (cmd.RecipeAdd owner recipe segments) = Some (by owner (AddRecipe (record { recipe = recipe; segments = segments })))
-command_of (cmd.Require owner row) = Some (by owner (Require row))
-command_of (cmd.Order order recipe batches) = Some (by house_name (PlaceOrder order recipe batches))
-command_of (cmd.Cancel order) = Some (by house_name (CancelOrder order))
-command_of (cmd.Open owner order unit) = Some (by owner (OpenBatch order unit))
-command_of (cmd.Do owner order number command) = Some (by owner (CommandBatch order number command))
-command_of (cmd.Close owner order number) = Some (by owner (CloseBatch order number))
-command_of (cmd.Receive owner key material lot sublot amount day) = Some (moves owner key (move.Receive material lot sublot) amount day)
-command_of (cmd.Split owner key lot sublot target amount day) = Some (moves owner key (move.Split lot sublot target) amount day)
-command_of (cmd.Ship owner key lot sublot amount day) = Some (moves owner key (move.Ship lot sublot) amount day)
-command_of (cmd.Scrap owner key lot sublot amount day) = Some (moves owner key (move.Scrap lot sublot) amount day)
-command_of (cmd.Result owner lot test value day) = Some (by owner (RecordResult lot test value day))
-command_of (cmd.Release lot) = Some (by house_name (Release lot))
-command_of (cmd.Reject lot) = Some (by house_name (Reject lot))
-command_of (cmd.Actual key owner order number segment role material lot sublot amount day) = Some (moves owner key (move.Actual order number segment role material lot sublot) amount day)
-command_of (cmd.Void owner key) = Some (by owner (Void key))
-command_of _ = None
+abbrev pub recorded_command : PlantCmd → Option Command
+recorded_command (cmd.OwnerAdd owner key) = Some (by owner (AddOwner key))
+recorded_command (cmd.UnitAdd unit) = Some (by house_name (AddUnit unit))
+recorded_command (cmd.MaterialAdd owner material measure) = Some (by owner (AddMaterial (record { material = material; measure = measure })))
+recorded_command (cmd.TestAdd owner material test limits) = Some (by owner (AddTest (record { material = material; test = test; limits = limits })))
+recorded_command (cmd.RecipeAdd owner recipe segments) = Some (by owner (AddRecipe (record { recipe = recipe; segments = segments })))
+recorded_command (cmd.Require owner row) = Some (by owner (Require row))
+recorded_command (cmd.Order order recipe batches) = Some (by house_name (PlaceOrder order recipe batches))
+recorded_command (cmd.Cancel order) = Some (by house_name (CancelOrder order))
+recorded_command (cmd.Open owner order unit) = Some (by owner (OpenBatch order unit))
+recorded_command (cmd.Do owner order number command) = Some (by owner (CommandBatch order number command))
+recorded_command (cmd.Close owner order number) = Some (by owner (CloseBatch order number))
+recorded_command (cmd.Receive owner key material lot sublot amount day) = Some (moves owner key (move.Receive material lot sublot) amount day)
+recorded_command (cmd.Split owner key lot sublot target amount day) = Some (moves owner key (move.Split lot sublot target) amount day)
+recorded_command (cmd.Ship owner key lot sublot amount day) = Some (moves owner key (move.Ship lot sublot) amount day)
+recorded_command (cmd.Scrap owner key lot sublot amount day) = Some (moves owner key (move.Scrap lot sublot) amount day)
+recorded_command (cmd.Result owner lot test value day) = Some (by owner (RecordResult lot test value day))
+recorded_command (cmd.Release lot) = Some (by house_name (Release lot))
+recorded_command (cmd.Reject lot) = Some (by house_name (Reject lot))
+recorded_command (cmd.Actual key owner order number segment role material lot sublot amount day) = Some (moves owner key (move.Actual order number segment role material lot sublot) amount day)
+recorded_command (cmd.Void owner key) = Some (by owner (Void key))
+recorded_command _ = None
 
 -- the owner that a question is about; HOUSE, where it names none
 abbrev pub asked_about : PlantCmd → Bytes
@@ -48,11 +48,11 @@ asked_about _ = house_name
 
 -- whom it concerns
 abbrev pub concerned : PlantCmd → Bytes
-concerned q = option_map_or (λ c. c.owner) (command_of q) (asked_about q)
+concerned q = option_map_or (λ c. c.owner) (recorded_command q) (asked_about q)
 
 -- the values of what is recorded are within their bounds
 abbrev pub IsValidCommand : PlantCmd → Type 0
-IsValidCommand q = IfSome (command_of q) (λ c. IsValidAction c.action)
+IsValidCommand q = IfSome (recorded_command q) (λ c. IsValidAction c.action)
 
 -- an answer to the plant: a verdict, or a text
 pub data PlantAnswer : Type 0 where
@@ -123,8 +123,8 @@ IsQuestionAnswer H (cmd.Unread why) r = r ≡ Judged (Refused why)
 IsQuestionAnswer H _ r = ⊥
 
 abbrev pub IsPlantAnswer : History → PlantCmd → PlantAnswer → Type 0
-IsPlantAnswer H q r = IsVerdictOr H (command_of q) (IsQuestionAnswer H q r) r
+IsPlantAnswer H q r = IsVerdictOr H (recorded_command q) (IsQuestionAnswer H q r) r
 
 -- the history after it
 abbrev pub after_plant : History → PlantCmd → History
-after_plant H q = option_map_or (grow H) (command_of q) H
+after_plant H q = option_map_or (grow H) (recorded_command q) H

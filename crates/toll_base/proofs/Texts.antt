@@ -4,7 +4,7 @@ use Rattle.toll_base.proofs.Common.{false≢true, IsTotalOrder, eq_by_cmp_equiv,
 use Rattle.std.specs.FinMap.{slice_cmp-IsAntisymmetric, nat_cmp-IsAntisymmetric}
 use Rattle.toll_base.specs.Bytes.{Bytes, same_bytes, bytes_cmp}
 use Rattle.toll_base.specs.Keys.{pair_cmp, batch_cmp, result_cmp, RequirementKey, requirement_cmp}
-use Rattle.toll_base.specs.Roles.{role_rank, role_cmp}
+use Rattle.toll_base.specs.Roles.{role_number, role_cmp}
 
 equal_of : (r : Ordering) → is_eq r ≡ true → r ≡ Equal
 equal_of Less h = absurd (false≢true h)
@@ -41,7 +41,7 @@ pub result_cmp_total : IsTotalOrder result_cmp
 result_cmp_total = then_total (then_total (on_total (λ (k : Bytes × Bytes × ℕ). k.0) nat_list_cmp_total) (on_total (λ (k : Bytes × Bytes × ℕ). k.1) nat_list_cmp_total)) (on_total (λ (k : Bytes × Bytes × ℕ). k.2) nat_cmp_total)
 
 role_cmp_total : IsTotalOrder role_cmp
-role_cmp_total = on_total role_rank nat_cmp_total
+role_cmp_total = on_total role_number nat_cmp_total
 
 pub requirement_cmp_total : IsTotalOrder requirement_cmp
 requirement_cmp_total = then_total (then_total (then_total (then_total (on_total (λ (k : RequirementKey). k.0) nat_list_cmp_total) (on_total (λ (k : RequirementKey). k.1) nat_cmp_total)) (on_total (λ (k : RequirementKey). k.2) role_cmp_total)) (on_total (λ (k : RequirementKey). k.3) nat_list_cmp_total)) (on_total (λ (k : RequirementKey). k.4) nat_list_cmp_total)

@@ -73,7 +73,7 @@ pub fn add_one(counts: &mut Table<ActualCount>, what: &Move)
 }
 
 /// Stops counting the movement if it is an actual.
-pub fn take_one(counts: &mut Table<ActualCount>, what: &Move)
+pub fn subtract_one(counts: &mut Table<ActualCount>, what: &Move)
     requires row { HasRowFor counts.old what.now }
     requires counted { (order : Bytes) (number : ℕ) → is_actual_of order number what.now ≡ true → 1 ≤ count_of counts.old order number }
     ensures count { (order : Bytes) (number : ℕ) → counts_for order number what.now + count_of counts.new order number ≡ count_of counts.old order number }

@@ -5,7 +5,7 @@ ghost use Rattle.toll_base.specs.Bytes.{Bytes, bytes_cmp};
 ghost use Rattle.toll_base.specs.SliceRules.{count_actuals};
 ghost use Rattle.toll_base.specs.Table.{row_at, put_row, has_room, IsInKeyOrder};
 
-use crate::actual_count::{ActualCount, add_one, add_row, count_in, take_one};
+use crate::actual_count::{ActualCount, add_one, add_row, count_in, subtract_one};
 use crate::bounded::BatchNo;
 use crate::capacity::MOST_MOVEMENTS;
 use crate::move_rows::MoveRows;
@@ -117,7 +117,7 @@ fn recount(counts: &mut Table<ActualCount>, known: &Option<MoveRow>, what: &Move
     ensures { AreRecounted known.now what.now counts.old counts.new }
 {
     if let Some(known) = known {
-        take_one(counts, &known.what);
+        subtract_one(counts, &known.what);
     }
     add_one(counts, what);
 }

@@ -2,7 +2,7 @@
 ghost use Rattle.std.specs.Prelude.{◌≡◌, Some, refl};
 ghost use Rattle.std.proofs.lemmas.Cmp.{nat_cmp_total, on_total};
 ghost use Rattle.std.specs.Cmp.{partial_equiv_from_equiv, eq_by_cmp_equiv, partial_order_from_total};
-ghost use Rattle.toll_base.specs.Roles.{role_rank, role_cmp, same_role};
+ghost use Rattle.toll_base.specs.Roles.{role_number, role_cmp, same_role};
 ghost use Rattle.toll_base.specs.ValueWords.{use_word};
 
 use std::cmp::Ordering;
@@ -27,7 +27,7 @@ impl Role {
     }
 
     fn rank(&self) -> u8
-        ensures { result ≡ role_rank self.now }
+        ensures { result ≡ role_number self.now }
     {
         match self {
             Role::Consumed => 0,
@@ -39,7 +39,7 @@ impl Role {
 impl PartialEq for Role {
     ghost eq = { same_role };
 
-    ghost laws = { partial_equiv_from_equiv (eq_by_cmp_equiv (on_total role_rank nat_cmp_total)) };
+    ghost laws = { partial_equiv_from_equiv (eq_by_cmp_equiv (on_total role_number nat_cmp_total)) };
 
     fn eq(&self, other: &Self) -> bool {
         self.cmp(other).is_eq()
@@ -47,13 +47,13 @@ impl PartialEq for Role {
 }
 
 impl Eq for Role {
-    ghost laws = { eq_by_cmp_equiv (on_total role_rank nat_cmp_total) };
+    ghost laws = { eq_by_cmp_equiv (on_total role_number nat_cmp_total) };
 }
 
 impl PartialOrd for Role {
     ghost partial_cmp = { λ a b. Some (role_cmp a b) };
 
-    ghost laws = { partial_order_from_total (on_total role_rank nat_cmp_total) };
+    ghost laws = { partial_order_from_total (on_total role_number nat_cmp_total) };
 
     fn partial_cmp(&self, other: &Self) -> Option<Ordering> {
         Some(self.cmp(other))
@@ -63,7 +63,7 @@ impl PartialOrd for Role {
 impl Ord for Role {
     ghost cmp = { role_cmp };
 
-    ghost total = { on_total role_rank nat_cmp_total };
+    ghost total = { on_total role_number nat_cmp_total };
 
     ghost matches_partial_cmp = { λ a b. refl };
 

@@ -25,16 +25,16 @@ module _ {K : Type 0} (meaning : Meaning K) where
     pub idle : changes ≡ [] → (new ≡ old) × (result ≡ Ok tt)
     pub all : AllChangesFit c changes → OnOk result (meaning.holds new (content_after changes c))
     pub none : OnErr result (meaning.holds new c)
-    pub crash : meaning.is_live old → AllChangesFit c changes → meaning.leaves new (c ∷ content_after changes c ∷ [])
+    pub crash : meaning.is_store_open old → AllChangesFit c changes → meaning.leaves new (c ∷ content_after changes c ∷ [])
 
   module _ {X : Type 0} (old middle new : K) (result : Result (Unit {0}) KeepFault) (c : Content) (G : History) (IsTold : X → Type 0) (changes : List Change) (carried : IsCarried middle new changes c result) (held : meaning.holds middle c) where
     abbrev commit_failed : KeepFault → Result X KeepFault
     commit_failed fault = Err fault
 
     abbrev IsCommitDone : Result X KeepFault → Type 0
-    IsCommitDone outcome = IsDone (meaning.holds new) (meaning.is_live old) (meaning.leaves new) c G outcome IsTold
+    IsCommitDone outcome = IsDone (meaning.holds new) (meaning.is_store_open old) (meaning.leaves new) c G outcome IsTold
 
-    done_by : (x : X) (r : Result (Unit {0}) KeepFault) → IsTold x → ChangesLeadTo c changes G → OnOk r (meaning.holds new (content_after changes c)) → OnErr r (meaning.holds new c) → (meaning.is_live old → meaning.is_live middle) → IsCommitDone (finished (Ok x) r)
+    done_by : (x : X) (r : Result (Unit {0}) KeepFault) → IsTold x → ChangesLeadTo c changes G → OnOk r (meaning.holds new (content_after changes c)) → OnErr r (meaning.holds new c) → (meaning.is_store_open old → meaning.is_store_open middle) → IsCommitDone (finished (Ok x) r)
     done_by x (Ok done) reported leads all none live = record {
       reported = reported;
       done = record { content = content_after changes c; held = all; stands = leads.stands };
@@ -49,27 +49,27 @@ module _ {K : Type 0} (meaning : Meaning K) where
     }
 
     -- after a fault of the plan nothing is done
-    undone_by : (fault : KeepFault) → changes ≡ [] → (meaning.is_live old → meaning.leaves middle (c ∷ [])) → IsCommitDone (finished (Err fault) result)
+    undone_by : (fault : KeepFault) → changes ≡ [] → (meaning.is_store_open old → meaning.leaves middle (c ∷ [])) → IsCommitDone (finished (Err fault) result)
     undone_by fault none stop =
         let idle = carried.idle none in
         subst (λ r. IsCommitDone (finished (Err fault) r)) (sym idle.1)
-        (subst (λ k. IsDone (meaning.holds k) (meaning.is_live old) (meaning.leaves k) c G (commit_failed fault) IsTold) (sym idle.0) (record {
+        (subst (λ k. IsDone (meaning.holds k) (meaning.is_store_open old) (meaning.leaves k) c G (commit_failed fault) IsTold) (sym idle.0) (record {
           reported = tt;
           done = tt;
           undone = held;
           crash = λ was. record { others = []; stand = tt; left = stop was };
         }))
 
-    carried_done : (planned : Result X KeepFault) → OnErr planned (changes ≡ []) → IfOk planned (λ x. IsTold x × ChangesLeadTo c changes G) → OnOk planned (meaning.is_live old → meaning.is_live middle) → (meaning.is_live old → meaning.leaves middle (c ∷ [])) → IsCommitDone (finished planned result)
+    carried_done : (planned : Result X KeepFault) → OnErr planned (changes ≡ []) → IfOk planned (λ x. IsTold x × ChangesLeadTo c changes G) → OnOk planned (meaning.is_store_open old → meaning.is_store_open middle) → (meaning.is_store_open old → meaning.leaves middle (c ∷ [])) → IsCommitDone (finished planned result)
     carried_done (Ok x) none plan live stop = done_by x result plan.0 plan.1 (carried.all plan.1.fits) carried.none live
     carried_done (Err fault) none plan live stop = undone_by fault none stop
 
   -- the same where the changes are read through a reference, and the outcome is what another call makes of the two
   pub done_of : {X : Type 0} (old middle new : K) (result : Result (Unit {0}) KeepFault) (c : Content) (G : History) (IsTold : X → Type 0) (changes made : List Change) → made ≡ changes → IsCarried middle new made c result → meaning.holds middle c →
-      (planned : Result X KeepFault) → OnErr planned (changes ≡ []) → IfOk planned (λ x. IsTold x × ChangesLeadTo c changes G) → OnOk planned (meaning.is_live old → meaning.is_live middle) → (meaning.is_live old → meaning.leaves middle (c ∷ [])) →
-      (outcome : Result X KeepFault) → outcome ≡ finished planned result → IsDone (meaning.holds new) (meaning.is_live old) (meaning.leaves new) c G outcome IsTold
+      (planned : Result X KeepFault) → OnErr planned (changes ≡ []) → IfOk planned (λ x. IsTold x × ChangesLeadTo c changes G) → OnOk planned (meaning.is_store_open old → meaning.is_store_open middle) → (meaning.is_store_open old → meaning.leaves middle (c ∷ [])) →
+      (outcome : Result X KeepFault) → outcome ≡ finished planned result → IsDone (meaning.holds new) (meaning.is_store_open old) (meaning.leaves new) c G outcome IsTold
   done_of old middle new result c G IsTold changes made same carried held planned none plan live stop outcome is =
-      subst (λ r. IsDone (meaning.holds new) (meaning.is_live old) (meaning.leaves new) c G r IsTold) (sym is)
+      subst (λ r. IsDone (meaning.holds new) (meaning.is_store_open old) (meaning.leaves new) c G r IsTold) (sym is)
       (carried_done old middle new result c G IsTold changes (subst (λ changes. IsCarried middle new changes c result) same carried) held planned none plan live stop)
 
   -- where nothing was granted, what was held is held
@@ -111,7 +111,7 @@ module _ {K : Type 0} {X : Type 0} (meaning : Meaning K) (old middle new : K) (p
     pub quiet_out : (grants : Result X KeepFault → Bool) → (grants planned ≡ false → changes ≡ []) → grants outcome ≡ false → meaning.holds new c
     quiet_out grants quiet not = quiet_of meaning middle new result c changes made same carried between grants planned quiet outcome is not
 
-    pub done_out : (G : History) (IsTold : X → Type 0) → IfOk planned (λ x. IsTold x × ChangesLeadTo c changes G) → IsDone (meaning.holds new) (meaning.is_live old) (meaning.leaves new) c G outcome IsTold
+    pub done_out : (G : History) (IsTold : X → Type 0) → IfOk planned (λ x. IsTold x × ChangesLeadTo c changes G) → IsDone (meaning.holds new) (meaning.is_store_open old) (meaning.leaves new) c G outcome IsTold
     done_out G IsTold plan =
         done_of meaning old middle new result c G IsTold changes made same carried between planned none plan
         (on_ok_weaker planned (λ live was. live) (reads.goes.shown (honest now))) (λ live. (reads.keeps (honest now)).crash live c held) outcome is

@@ -10,7 +10,7 @@ pub use Rattle.std.specs.Option.{IfSome, is_some, option_map, option_map_or}
 pub use Rattle.std.specs.Ordering.{is_eq}
 pub use Rattle.toll_answers.proofs.KnownLots.{lots_known, lots_owned, some_mapped}
 pub use Rattle.toll_answers.specs.Edges.{IsOwnEdge, IsOwnJoined, IsPlantEdge, IsPlantJoined, WasDone}
-pub use Rattle.toll_answers.specs.PlantAnswers.{AreOrdersShown, IsBatchShownOr, IsCheckedOr, IsPlantAnswer, IsQuestionAnswer, IsVerdictOr, Judged, PlantAnswer, Shows, after_plant, asked_about, command_of, concerned, lot_checks, owner_checks}
+pub use Rattle.toll_answers.specs.PlantAnswers.{AreOrdersShown, IsBatchShownOr, IsCheckedOr, IsPlantAnswer, IsQuestionAnswer, IsVerdictOr, Judged, PlantAnswer, Shows, after_plant, asked_about, recorded_command, concerned, lot_checks, owner_checks}
 pub use Rattle.toll_answers.specs.Recall.{IsRecall, recall_line_of}
 unfoldable pub use Rattle.toll_answers.specs.Replies.{IsReply, after_reply}
 pub use Rattle.toll_answers.specs.Replies.{IsOrdersReply, IsOwnerAnswer, IsBatchOr, IsLotOr, IsOrderOr, IsTraceOr, IsWritingReply, after_answer, has_owner_key}

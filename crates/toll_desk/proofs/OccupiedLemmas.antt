@@ -1,6 +1,6 @@
 -- Commands of which the changes are held back.
 use Rattle.std.proofs.Common.{◌≡◌, ◌++◌, false, Option, Some, None, [], Result, Ok, Err, inl, inr, refl, sym, ap, subst, ◌∙◌}
-use Rattle.toll_desk.proofs.Common.{append-nil, changes_of, Decision, Refusal, verdict_of, History, Refused as RefusedFor, Content, content_after, Meaning, OverContent, KeepFault, Command, IsQuestionAnswer, IsVerdictOr, Judged, PlantCmd, command_of, concerned}
+use Rattle.toll_desk.proofs.Common.{append-nil, changes_of, Decision, Refusal, verdict_of, History, Refused as RefusedFor, Content, content_after, Meaning, OverContent, KeepFault, Command, IsQuestionAnswer, IsVerdictOr, Judged, PlantCmd, recorded_command, concerned}
 use Rattle.toll_answers.specs.declared.plant_cmd.PlantCmd.TheVariants.{Unread}
 use Rattle.toll_keep.specs.StagedChanges.{IsOver, ReadsThrough}
 use Rattle.toll_keep.specs.declared.staged_changes.StagedChanges.{StagedChanges}
@@ -17,8 +17,8 @@ use Rattle.toll_desk.proofs.SliceToContent.{leads_nowhere}
 use Rattle.toll_desk.specs.declared.plan.Plan.{Plan}
 
 -- A plan whose reply is a decision, with that decision's changes, is the plan of the command.
-pub planned_as : (c : Content) (H : History) (q : PlantCmd) (d : Decision) (plan : Plan PlantReply) → meaning_of_plant_reply plan.reply ≡ Ok (Judged (verdict_of d)) → plan.changes.items ≡ changes_of d → IsPlantDecision c H (command_of q) d → IsPlantPlanned c H q plan
-planned_as c H q d plan reported changes decided = rw (reported, changes) (or_else (command_of q) decided.answer, decided.leads)
+pub planned_as : (c : Content) (H : History) (q : PlantCmd) (d : Decision) (plan : Plan PlantReply) → meaning_of_plant_reply plan.reply ≡ Ok (Judged (verdict_of d)) → plan.changes.items ≡ changes_of d → IsPlantDecision c H (recorded_command q) d → IsPlantPlanned c H q plan
+planned_as c H q d plan reported changes decided = rw (reported, changes) (or_else (recorded_command q) decided.answer, decided.leads)
   where
     or_else : (done : Option Command) → IsVerdictOr H done ⊥ (Judged (verdict_of d)) → IsVerdictOr H done (IsQuestionAnswer H q (Judged (verdict_of d))) (Judged (verdict_of d))
     or_else (Some command) answer = answer

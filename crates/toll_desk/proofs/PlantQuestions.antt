@@ -5,7 +5,7 @@ use Rattle.toll_desk.specs.Outcome.{IsDone, HoldsFor}
 
 -- A command that leaves the history and the content is done if its reply is right.
 pub question_done : {K X E : Type 0} (meaning : Meaning K) (old new : K) (outcome : Result X E) (IsTold : X → Type 0) (c : Content) (H G : History) → G ≡ H
-    → Represents c H → meaning.holds old c → Keeps meaning old new → IfOk outcome IsTold → IsDone (meaning.holds new) (meaning.is_live old) (meaning.leaves new) c G outcome IsTold
+    → Represents c H → meaning.holds old c → Keeps meaning old new → IfOk outcome IsTold → IsDone (meaning.holds new) (meaning.is_store_open old) (meaning.leaves new) c G outcome IsTold
 question_done {X} {E} meaning old new outcome IsTold c H G stays stands held keeps reported = record {
   reported = reported;
   done = held_for outcome;

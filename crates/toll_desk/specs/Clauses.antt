@@ -92,8 +92,8 @@ abbrev pub IsPlannedOver : History → Slice → Request → Result (Plan Reply)
 IsPlannedOver H s q result = IfOk result (λ planned. IfOk (meaning_of_reply planned.reply) (λ reported. IsPlanOver H s q reported planned.changes.items))
 
 -- where a reply is the answer to a request that changes nothing, so is the plan to change nothing
-abbrev pub IsShowing : History → Slice → Request → Result Reply AllocError → Result (Plan Reply) AllocError → Type 0
-IsShowing H s q reply result = writes q ≡ false → RowsAnswerOwner H s.owner q reply → IsPlannedOver H s q result
+abbrev pub IsReadingPlan : History → Slice → Request → Result Reply AllocError → Result (Plan Reply) AllocError → Type 0
+IsReadingPlan H s q reply result = writes q ≡ false → RowsAnswerOwner H s.owner q reply → IsPlannedOver H s q result
 
 -- where a decision on the disposition of a lot is right, so is the plan for what asks for it
 abbrev pub IsDisposedOver : History → Slice → (lot : Bytes) → Disposition → Decision → Result (Plan Reply) AllocError → Type 0
@@ -147,12 +147,12 @@ module _ {K : Type 0} (meaning : Meaning K) (old new : K) where
   -- The reply to a client that claims the owner with this key is right over the content, and the keep then holds the content after the request.
   abbrev pub IsOwnerDone : (o key : Bytes) → Request → Result OwnerReply KeepFault → Type 0
   IsOwnerDone o key q reported =
-      Over meaning old new (λ c H. IsDone (meaning.holds new) (meaning.is_live old) (meaning.leaves new) c (after_reply o key H q) reported (IsReply o key H q))
+      Over meaning old new (λ c H. IsDone (meaning.holds new) (meaning.is_store_open old) (meaning.leaves new) c (after_reply o key H q) reported (IsReply o key H q))
 
   -- what the plant asks is answered over what was held, and what that makes of it is held
   abbrev pub IsPlantDone : PlantCmd → Result PlantAnswer KeepFault → Type 0
   IsPlantDone q reported =
-      Over meaning old new (λ c H. IsDone (meaning.holds new) (meaning.is_live old) (meaning.leaves new) c (after_plant H q) reported (IsPlantAnswer H q))
+      Over meaning old new (λ c H. IsDone (meaning.holds new) (meaning.is_store_open old) (meaning.leaves new) c (after_plant H q) reported (IsPlantAnswer H q))
 
 -- whatever history the content stands for, the name is found where the owner has this key
 abbrev pub IsFoundBy : Content → (o key : Bytes) → Result (Option Bytes) KeepFault → Type 0

@@ -1,6 +1,6 @@
 -- Words of other crates that several definitions here are said in.
 pub use Rattle.std.specs.Global.{Global}
-pub use Rattle.toll_answers.specs.PlantAnswers.{IsPlantAnswer, IsValidCommand, IsVerdictOr, Judged, PlantAnswer, Shows, after_plant, command_of, concerned}
+pub use Rattle.toll_answers.specs.PlantAnswers.{IsPlantAnswer, IsValidCommand, IsVerdictOr, Judged, PlantAnswer, Shows, after_plant, recorded_command, concerned}
 pub use Rattle.toll_answers.specs.declared.plant_cmd.PlantCmd.{PlantCmd}
 pub use Rattle.toll_answers.specs.Recall.{IsRecall, recall_line_of}
 pub use Rattle.toll_answers.specs.Replies.{IsOwnerAnswer, IsLotOr, IsOrderOr, IsReply, IsTraceOr, IsWritingReply, after_answer, after_reply, has_owner_key}

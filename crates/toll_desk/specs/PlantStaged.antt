@@ -1,6 +1,6 @@
 -- Commands of the plant of which the changes are held back.
 use Rattle.std.specs.Prelude.{◌≡◌, ◌++◌, ◌⊎◌, Bool, true, false, Option, List, [], Result, Ok, Err, IfOk, IsOk}
-use Rattle.toll_desk.specs.Common.{Change, History, IsLawful, Verdict, Content, content_after, Meaning, OverContent, KeepFault, Memory, IsPlantAnswer, Judged, PlantCmd, PlantAnswer, after_plant, command_of, concerned}
+use Rattle.toll_desk.specs.Common.{Change, History, IsLawful, Verdict, Content, content_after, Meaning, OverContent, KeepFault, Memory, IsPlantAnswer, Judged, PlantCmd, PlantAnswer, after_plant, recorded_command, concerned}
 use Rattle.toll_answers.specs.declared.plant_cmd.PlantCmd.TheVariants as cmd
 use Rattle.toll_desk.specs.Representing.{Represents}
 use Rattle.toll_base.specs.Words.{is_some_where}
@@ -18,7 +18,7 @@ use Rattle.toll_desk.specs.declared.plan.Plan.{Plan}
 -- it is decided over its owner's rows and HOUSE's, or couldn't be read
 abbrev pub looks_at_two : PlantCmd → Bool
 looks_at_two (cmd.Unread why) = true
-looks_at_two q = is_some_where (λ c. is_shared c.action) (command_of q)
+looks_at_two q = is_some_where (λ c. is_shared c.action) (recorded_command q)
 
 -- over any content that has these rows of the command's owner and of HOUSE, the plan is the command's
 abbrev pub IsPlannedOn : Option Both → PlantCmd → Plan PlantReply → Type 0

@@ -1,7 +1,7 @@
 //! Commands of the plant.
 ghost use Rattle.std.specs.Prelude.{◌≡◌, [], false, OnErr};
 ghost use Rattle.toll_history.specs.Verdict.{IsValidAction};
-ghost use Rattle.toll_answers.specs.PlantAnswers.{command_of};
+ghost use Rattle.toll_answers.specs.PlantAnswers.{recorded_command};
 ghost use Rattle.toll_keep.specs.CallEffects.{FindsNoDamage, CallEffect, IsReading};
 ghost use Rattle.toll_keep.specs.Meaning.{OverContent};
 ghost use Rattle.toll_desk.specs.Clauses.{ChangesIfAccepted, IsPlantDone, IsPlantPlanned};
@@ -19,7 +19,7 @@ use toll_keep::{Keep, KeepFault};
 
 /// Decides a command of the plant, and does it if it is accepted.
 pub fn run_command<K: Keep>(alloc: Global, keep: &mut K, command: &PlantCmd) -> PlantReply
-    requires { IsCommandSuchThat IsValidAction (command_of command.now) }
+    requires { IsCommandSuchThat IsValidAction (recorded_command command.now) }
     ensures goes { CallEffect K.meaning keep.old keep.new (meaning_of_plant_reply result) }
     ensures whole { FindsNoDamage K.meaning keep.old keep.new (meaning_of_plant_reply result) }
     ensures quiet { OverContent K.meaning keep.old keep.new (λ c. is_answer_accepted (meaning_of_plant_reply result) ≡ false → K.meaning.holds keep.new c) }
@@ -32,7 +32,7 @@ pub fn run_command<K: Keep>(alloc: Global, keep: &mut K, command: &PlantCmd) -> 
 
 // The reply if its changes succeed, and these changes. Nothing is changed yet.
 fn plan<K: Keep>(alloc: Global, keep: &mut K, command: &PlantCmd) -> Plan<PlantReply>
-    requires { IsCommandSuchThat IsValidAction (command_of command.now) }
+    requires { IsCommandSuchThat IsValidAction (recorded_command command.now) }
     ensures reads { IsReading K.meaning keep.old keep.new (meaning_of_plant_reply result.reply) }
     ensures none { OnErr (meaning_of_plant_reply result.reply) (result.changes.items ≡ []) }
     ensures quiet { ChangesIfAccepted result }

@@ -2,7 +2,7 @@
 ghost use Rattle.std.specs.Prelude.{◌≡◌, true, Some, IfOk};
 ghost use Rattle.toll_history.specs.Command.{OpenBatch, by};
 ghost use Rattle.toll_history.specs.Verdict.{IsValidAction};
-ghost use Rattle.toll_answers.specs.PlantAnswers.{command_of};
+ghost use Rattle.toll_answers.specs.PlantAnswers.{recorded_command};
 ghost use Rattle.toll_work.specs.Opening.{AreUnitFacts};
 ghost use Rattle.toll_keep.specs.CallEffects.{IsReading};
 ghost use Rattle.toll_keep.specs.Meaning.{OverContent};
@@ -27,9 +27,9 @@ pub fn decide<K: Keep>(
     keep: &mut K,
     command: &PlantCmd,
 ) -> Result<Decision, KeepFault>
-    requires { IsCommandSuchThat IsValidAction (command_of command.now) }
+    requires { IsCommandSuchThat IsValidAction (recorded_command command.now) }
     ensures reads { IsReading K.meaning keep.old keep.new result }
-    ensures over { IsDecidedOver K.meaning keep.old keep.new (command_of command.now) result }
+    ensures over { IsDecidedOver K.meaning keep.old keep.new (recorded_command command.now) result }
 {
     match *command {
         PlantCmd::OwnerAdd { owner, key } => decide_owner(alloc, keep, owner, key),
@@ -48,10 +48,10 @@ fn decide_over<K: Keep>(
     keep: &mut K,
     command: &PlantCmd,
 ) -> Result<Decision, KeepFault>
-    requires own { IsCommandSuchThat ConcernsOwnRows (command_of command.now) }
-    requires valid { IsCommandSuchThat IsValidAction (command_of command.now) }
+    requires own { IsCommandSuchThat ConcernsOwnRows (recorded_command command.now) }
+    requires valid { IsCommandSuchThat IsValidAction (recorded_command command.now) }
     ensures reads { IsReading K.meaning keep.old keep.new result }
-    ensures over { IsDecidedOver K.meaning keep.old keep.new (command_of command.now) result }
+    ensures over { IsDecidedOver K.meaning keep.old keep.new (recorded_command command.now) result }
 {
     match keep.slice(alloc, &command.owner()) {
         Ok(Some(slice)) => match decide_own(alloc, &slice, command) {
@@ -84,10 +84,10 @@ fn decide_both<K: Keep>(
     keep: &mut K,
     command: &PlantCmd,
 ) -> Result<Decision, KeepFault>
-    requires shared { IsCommandSuchThat (λ a. is_shared a ≡ true) (command_of command.now) }
-    requires valid { IsCommandSuchThat IsValidAction (command_of command.now) }
+    requires shared { IsCommandSuchThat (λ a. is_shared a ≡ true) (recorded_command command.now) }
+    requires valid { IsCommandSuchThat IsValidAction (recorded_command command.now) }
     ensures reads { IsReading K.meaning keep.old keep.new result }
-    ensures over { IsDecidedOver K.meaning keep.old keep.new (command_of command.now) result }
+    ensures over { IsDecidedOver K.meaning keep.old keep.new (recorded_command command.now) result }
 {
     match both_of(alloc, keep, &command.owner()) {
         Ok(Some(both)) => match decide_shared(alloc, &both.own, &both.house, command) {

@@ -5,7 +5,7 @@ ghost use Rattle.toll_base.specs.Changes.{changes_of};
 ghost use Rattle.toll_history.specs.Command.{by};
 ghost use Rattle.toll_history.specs.Decision.{DecidesWith, DecisionKeepsRules};
 ghost use Rattle.toll_history.specs.OwnChanges.{PutsOnly};
-ghost use Rattle.toll_answers.specs.PlantAnswers.{command_of};
+ghost use Rattle.toll_answers.specs.PlantAnswers.{recorded_command};
 ghost use Rattle.toll_desk.specs.Clauses.{DecidesCommand};
 ghost use Rattle.toll_desk.specs.Plans.{PutsShared};
 ghost use Rattle.toll_desk.specs.Subjects.{IsCommandSuchThat, IsOfLot, ConcernsOwnRows, is_shared};
@@ -23,8 +23,8 @@ use toll_work::{
 
 /// The decision over the rows of the slice's owner.
 pub fn decide_own(alloc: Global, slice: &Slice, command: &PlantCmd) -> Result<Decision, AllocError>
-    requires { IsCommandSuchThat ConcernsOwnRows (command_of command.now) }
-    ensures decides { DecidesCommand slice.now (command_of command.now) result }
+    requires { IsCommandSuchThat ConcernsOwnRows (recorded_command command.now) }
+    ensures decides { DecidesCommand slice.now (recorded_command command.now) result }
     ensures rules { IfOk result (DecisionKeepsRules slice.now) }
     ensures own { IfOk result (λ d. PutsOnly slice.now.owner (changes_of d)) }
 {
@@ -71,8 +71,8 @@ pub fn decide_own(alloc: Global, slice: &Slice, command: &PlantCmd) -> Result<De
 
 // The same for a movement, and for a lot's release and rejection.
 fn decide_lot(alloc: Global, slice: &Slice, command: &PlantCmd) -> Result<Decision, AllocError>
-    requires { IsCommandSuchThat IsOfLot (command_of command.now) }
-    ensures decides { DecidesCommand slice.now (command_of command.now) result }
+    requires { IsCommandSuchThat IsOfLot (recorded_command command.now) }
+    ensures decides { DecidesCommand slice.now (recorded_command command.now) result }
     ensures rules { IfOk result (DecisionKeepsRules slice.now) }
     ensures own { IfOk result (λ d. PutsOnly slice.now.owner (changes_of d)) }
 {
@@ -124,8 +124,8 @@ pub fn decide_shared(
     house: &Slice,
     command: &PlantCmd,
 ) -> Result<Decision, AllocError>
-    requires { IsCommandSuchThat (λ a. is_shared a ≡ true) (command_of command.now) }
-    ensures decides { IsCommandSuchThat (λ a. IfOk result (DecidesWith (by own.now.owner a) own.now house.now)) (command_of command.now) }
+    requires { IsCommandSuchThat (λ a. is_shared a ≡ true) (recorded_command command.now) }
+    ensures decides { IsCommandSuchThat (λ a. IfOk result (DecidesWith (by own.now.owner a) own.now house.now)) (recorded_command command.now) }
     ensures rules { IfOk result (DecisionKeepsRules own.now) }
     ensures house_rules { same_bytes own.now.owner house.now.owner ≡ false → IfOk result (DecisionKeepsRules house.now) }
     ensures own { IfOk result (λ d. PutsShared own.now.owner (changes_of d)) }

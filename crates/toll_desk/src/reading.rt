@@ -6,7 +6,7 @@ ghost use Rattle.toll_base.specs.declared.request.Request.TheVariants.{Batch, Or
 ghost use Rattle.toll_history.specs.History.{History};
 ghost use Rattle.toll_history.specs.OverRows.{OverRows};
 ghost use Rattle.toll_history.specs.OwnerFacts.{IsRowsOf};
-ghost use Rattle.toll_desk.specs.Clauses.{IsLotShown, IsOrderShown, IsShowing, RowsAnswerOwner};
+ghost use Rattle.toll_desk.specs.Clauses.{IsLotShown, IsOrderShown, IsReadingPlan, RowsAnswerOwner};
 ghost use Rattle.toll_desk.specs.Translations.{meaning_of_reply};
 
 use crate::plan::Plan;
@@ -20,7 +20,7 @@ use toll_work::batch_view;
 pub fn shown(alloc: Global, reply: Result<Reply, AllocError>) -> Result<Plan<Reply>, AllocError>
     ensures reported { IfOk reply (λ reply. is_ok (meaning_of_reply reply) ≡ true) → IfOk result (λ planned. is_ok (meaning_of_reply planned.reply) ≡ true) }
     ensures none { IfOk result (λ planned. planned.changes.items ≡ []) }
-    ensures over { (H : History) (s : Slice) (q : Request) → IsShowing H s q reply result }
+    ensures over { (H : History) (s : Slice) (q : Request) → IsReadingPlan H s q reply result }
 {
     match reply {
         Ok(reply) => Ok(Plan::unchanged(alloc, reply)),

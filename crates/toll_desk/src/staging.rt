@@ -1,7 +1,7 @@
 //! Commands of the plant whose changes are pending.
 ghost use Rattle.std.specs.Prelude.{◌≡◌, [], false, true};
 ghost use Rattle.toll_history.specs.Verdict.{IsValidAction};
-ghost use Rattle.toll_answers.specs.PlantAnswers.{IsValidCommand, command_of};
+ghost use Rattle.toll_answers.specs.PlantAnswers.{IsValidCommand, recorded_command};
 ghost use Rattle.toll_keep.specs.Content.{Content};
 ghost use Rattle.toll_keep.specs.StagedChanges.{IsOver};
 ghost use Rattle.toll_desk.specs.Clauses.{ChangesIfAccepted};
@@ -48,8 +48,8 @@ fn stage_shared<K: Keep>(
     pending: &mut StagedChanges,
     command: &PlantCmd,
 ) -> Result<PlantReply, KeepFault>
-    requires shared { IsCommandSuchThat (λ a. is_shared a ≡ true) (command_of command.now) }
-    requires valid { IsCommandSuchThat IsValidAction (command_of command.now) }
+    requires shared { IsCommandSuchThat (λ a. is_shared a ≡ true) (recorded_command command.now) }
+    requires valid { IsCommandSuchThat IsValidAction (recorded_command command.now) }
     ensures { IsPlantStaged K.meaning keep.old keep.new pending.old pending.new command.now result }
 {
     match both_over(alloc, keep, pending, &command.owner()) {
@@ -63,8 +63,8 @@ fn stage_shared<K: Keep>(
 
 // The reply if its changes succeed, and these changes, over these rows of its owner and of HOUSE.
 fn plan_on(alloc: Global, both: Option<Both>, command: &PlantCmd) -> Plan<PlantReply>
-    requires shared { IsCommandSuchThat (λ a. is_shared a ≡ true) (command_of command.now) }
-    requires valid { IsCommandSuchThat IsValidAction (command_of command.now) }
+    requires shared { IsCommandSuchThat (λ a. is_shared a ≡ true) (recorded_command command.now) }
+    requires valid { IsCommandSuchThat IsValidAction (recorded_command command.now) }
     ensures quiet { ChangesIfAccepted result }
     ensures judged { IsVerdictOrMemory (meaning_of_plant_reply result.reply) }
     ensures plan { IsPlannedOn both command.now result }

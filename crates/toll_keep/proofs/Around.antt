@@ -57,7 +57,7 @@ module _ {T : Type 0} (K : Ghosts T) where
   -- ---- what the cache may have beside the keep inside
 
   abbrev pub MayStand : T → Cache → Type 0
-  MayStand keep r = record { unclosed : ¬ (IsNothing r) → K.meaning.is_closed keep ≡ false; live : ¬ (IsNothing r) → K.meaning.is_honest keep → ∥ K.meaning.is_live keep ∥₁ }
+  MayStand keep r = record { unclosed : ¬ (IsNothing r) → K.meaning.is_closed keep ≡ false; live : ¬ (IsNothing r) → K.meaning.is_honest keep → ∥ K.meaning.is_store_open keep ∥₁ }
 
   -- an empty cache, beside any keep
   pub cached_nothing_stands : (keep : T) (r : Cache) → IsNothing r → MayStand keep r
@@ -103,7 +103,7 @@ module _ {T : Type 0} (K : Ghosts T) where
 
   -- That a store is live is a mere fact.
   abbrev LivesOnce : Type 0
-  LivesOnce = (k : T) (a b : K.meaning.is_live k) → a ≡ b
+  LivesOnce = (k : T) (a b : K.meaning.is_store_open k) → a ≡ b
 
   -- If the cache isn't empty, the keep inside is as after an answered reading call.
   abbrev RestsWhereSome : CachedKeep T K → Type 0

@@ -44,7 +44,7 @@ module _ {K : Type 0} (meaning : Meaning K) where
 
   -- While the store is live, a stop between two calls leaves the content that is held.
   abbrev pub Rests : Type 0
-  Rests = (k : K) (c : Content) → meaning.is_honest k → meaning.is_live k → meaning.holds k c → meaning.leaves k (c ∷ [])
+  Rests = (k : K) (c : Content) → meaning.is_honest k → meaning.is_store_open k → meaning.holds k c → meaning.leaves k (c ∷ [])
 
   -- The same holds once a call has returned, or the store met a cause of Disk.
   pub settles : {X : Type 0} (old new : K) (r : Result X KeepFault) → Rests → GoesTo old new r → Settles meaning old new
@@ -57,7 +57,7 @@ module _ {K : Type 0} (meaning : Meaning K) where
       elim (goes.spares now is lived) [ inl lives ↦ inl (lives, same, settled new c now lives same) | inr unsure ↦ inr unsure ]
 
   -- An open keep that is live while it is honest is as after an answered reading call.
-  pub rests : Rests → (k : K) → meaning.is_closed k ≡ false → (meaning.is_honest k → meaning.is_live k) → ReadsTo {X = Unit {0}} k k (answered tt)
+  pub rests : Rests → (k : K) → meaning.is_closed k ≡ false → (meaning.is_honest k → meaning.is_store_open k) → ReadsTo {X = Unit {0}} k k (answered tt)
   rests settled k open_there lives =
       let shut : IsTrue (meaning.is_closed k) → ⊥ = λ closed. false≢true (sym open_there ∙ closed) in
       record {
@@ -93,8 +93,8 @@ module _ {K : Type 0} (meaning : Meaning K) where
 
   -- The effect of a call is also that of a call with another answer: the same fault, or none, or Memory where there was none.
   goes_under : {X Y : Type 0} (old new : K) (was : Result X KeepFault) (reported : Result Y KeepFault) →
-      ((reported ≡ Err Closed) ↔ (was ≡ Err Closed)) → closes_keep was ≡ closes_keep reported → (OnOk was (meaning.is_live new) → OnOk reported (meaning.is_live new)) → (reported ≡ Err Disk → was ≡ Err Disk)
-      → (reported ≡ Err Memory → (was ≡ Err Memory) ⊎ (OnOk was (meaning.is_live new) → meaning.is_live new)) → GoesTo old new was → GoesTo old new reported
+      ((reported ≡ Err Closed) ↔ (was ≡ Err Closed)) → closes_keep was ≡ closes_keep reported → (OnOk was (meaning.is_store_open new) → OnOk reported (meaning.is_store_open new)) → (reported ≡ Err Disk → was ≡ Err Disk)
+      → (reported ≡ Err Memory → (was ≡ Err Memory) ⊎ (OnOk was (meaning.is_store_open new) → meaning.is_store_open new)) → GoesTo old new was → GoesTo old new reported
   goes_under old new was reported shut_out alike shows fails lacks goes = record {
     honest = goes.honest;
     closed = (λ is. goes.closed.0 (shut_out.0 is), λ closed. shut_out.1 (goes.closed.1 closed));

@@ -16,7 +16,7 @@ use Rattle.toll_trace.proofs.Members.{Contains-from_filter}
 use Rattle.toll_trace.proofs.Recording.{graph_same}
 use Rattle.toll_keep.proofs.Common.{false≢true, list_any, is_eq, All-contains, Bytes, bytes_cmp, same_bytes, same_bytes-exact, Slice, with_row, after_change, after_changes, Change, Owner, Unit as UnitAdded, Put, Edge, IsEdge, Contains-here, Contains-later}
 use Rattle.toll_keep.specs.Content.{Content, slice_of, knows, content_after}
-use Rattle.toll_keep.specs.Graphs.{AreGraphsOf, is_actual, is_drawn, lacks_key, may_draw}
+use Rattle.toll_keep.specs.Graphs.{AreGraphsOf, is_actual, may_change_graph, lacks_key, may_draw}
 use Rattle.toll_keep.specs.Remembered.{AreOf}
 use Rattle.toll_keep.specs.Slices.{is_slice_of}
 use Rattle.toll_keep.specs.declared.known_graph.KnownGraph.{KnownGraph}
@@ -138,9 +138,9 @@ lacks_in c slices o key all h =
 
 -- ---- the graphs that are kept
 
-pub graphs_left : (changes : List Change) (c : Content) (slices : List Slice) (old : List KnownGraph) → AreOf c slices → AreGraphsOf c old → AreGraphsOf (content_after changes c) (filter (λ known. not (is_drawn slices changes known)) old)
+pub graphs_left : (changes : List Change) (c : Content) (slices : List Slice) (old : List KnownGraph) → AreOf c slices → AreGraphsOf c old → AreGraphsOf (content_after changes c) (filter (λ known. not (may_change_graph slices changes known)) old)
 graphs_left changes c slices old all of known i =
-    let r = Contains-from_filter (λ (k : KnownGraph). not (is_drawn slices changes k)) old known i in
+    let r = Contains-from_filter (λ (k : KnownGraph). not (may_change_graph slices changes k)) old known i in
     let o = known.owner in
     let is = of known r.0 in
     let start : SameActuals (c.rows o) (c.rows o) = record { there = λ row a h. h; back = λ row a h. h; voids = refl } in

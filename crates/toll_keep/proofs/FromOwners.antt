@@ -5,7 +5,7 @@ use Rattle.std.specs.Prelude.{Contains, if◌then◌else◌}
 use Rattle.std.proofs.lemmas.Map.Lookups.{exact_bytes}
 use Rattle.std.proofs.lemmas.Map.Views.{tells_apart}
 use Rattle.toll_keep.specs.Content.{Content, knows}
-use Rattle.toll_keep.specs.Holding.{IsEdgeOfSome, AreMore}
+use Rattle.toll_keep.specs.Holding.{IsEdgeOfSome, AreExtendedBy}
 use Rattle.toll_keep.specs.Remembered.{OnlyKnownHaveRows}
 use Rattle.toll_keep.proofs.AllOwners.{no_edges}
 
@@ -18,8 +18,8 @@ pub record AreFrom (c : Content) (owners : List OwnerRow) (edges : List Edge) : 
 -- ---- the edges of one owner
 
 -- An owner's edges were added to the others.
-pub more_edges : (s : Slice) (old own new : List Edge) → AreEdges (IsEdge s) own → new ≡ old ++ own → AreMore s old new
-more_edges s old own new are is = subst (AreMore s old) (sym is) (record {
+pub more_edges : (s : Slice) (old own new : List Edge) → AreEdges (IsEdge s) own → new ≡ old ++ own → AreExtendedBy s old new
+more_edges s old own new are is = subst (AreExtendedBy s old) (sym is) (record {
   only = λ e i. elim (Contains-append_cases old own e i) [ inl before ↦ inl before | inr added ↦ inr (are.only e added) ];
   before = λ e i. Contains-append_left old own e i;
   own = λ e edge. Contains-append_right old own e (are.every e edge);
@@ -30,14 +30,14 @@ of_some c o e edge = record { owner = o; edge = edge }
 
 -- ---- the edges of HOUSE, and then of one owner after another
 
-pub edges_of_house : (c : Content) (none edges : List Edge) (house : Bytes) → house ≡ house_name → none ≡ [] → AreMore (c.rows house) none edges → AreFrom c [] edges
+pub edges_of_house : (c : Content) (none edges : List Edge) (house : Bytes) → house ≡ house_name → none ≡ [] → AreExtendedBy (c.rows house) none edges → AreFrom c [] edges
 edges_of_house c none edges house named is more = record {
   only = λ e i. elim (more.only e i) [ inl before ↦ absurd (Contains-none e (subst (λ es. Contains es e) is before)) | inr edge ↦ of_some c house e edge ];
   house = λ e edge. more.own e (subst (λ o. IsEdge (c.rows o) e) (sym named) edge);
   each = λ row i. absurd (Contains-none row i);
 }
 
-edges_of_more : (c : Content) (owners : List OwnerRow) (row : OwnerRow) (old new : List Edge) → AreFrom c owners old → AreMore (c.rows row.owner) old new → AreFrom c (owners ++ row ∷ []) new
+edges_of_more : (c : Content) (owners : List OwnerRow) (row : OwnerRow) (old new : List Edge) → AreFrom c owners old → AreExtendedBy (c.rows row.owner) old new → AreFrom c (owners ++ row ∷ []) new
 edges_of_more c owners row old new so_far more = record {
   only = λ e i. elim (more.only e i) [ inl before ↦ so_far.only e before | inr edge ↦ of_some c row.owner e edge ];
   house = λ e edge. more.before e (so_far.house e edge);
@@ -47,7 +47,7 @@ edges_of_more c owners row old new so_far more = record {
   ];
 }
 
-pub from_next : (c : Content) (owners : List OwnerRow) (i : ℕ) (row : OwnerRow) (old new : List Edge) → i < length owners → row ≡ get_or owners i row → AreFrom c (take i owners) old → AreMore (c.rows row.owner) old new → AreFrom c (take (i + 1) owners) new
+pub from_next : (c : Content) (owners : List OwnerRow) (i : ℕ) (row : OwnerRow) (old new : List Edge) → i < length owners → row ≡ get_or owners i row → AreFrom c (take i owners) old → AreExtendedBy (c.rows row.owner) old new → AreFrom c (take (i + 1) owners) new
 from_next c owners i row old new lt is so_far more =
     subst (λ front. AreFrom c front new) (sym (take_more owners i row lt ∙ ap (λ t. take i owners ++ t ∷ []) (sym is)))
     (edges_of_more c (take i owners) row old new so_far more)

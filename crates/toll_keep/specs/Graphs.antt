@@ -44,5 +44,5 @@ may_draw slices o named (Put p (row.Move moved)) = same_bytes p named && (is_act
 may_draw slices o named (Put p (row.Void voided)) = same_bytes p named
 may_draw slices o named _ = false
 
-abbrev pub is_drawn : List Slice → List Change → KnownGraph → Bool
-is_drawn slices changes known = list_any (may_draw slices known.owner known.named) changes
+abbrev pub may_change_graph : List Slice → List Change → KnownGraph → Bool
+may_change_graph slices changes known = list_any (may_draw slices known.owner known.named) changes

@@ -50,7 +50,7 @@ pub record AreGathered (slices : List Slice) (edges : List Edge) : Type 0 where
   pub every : (s : Slice) (e : Edge) → Contains slices s → IsEdge s e → Contains edges e
 
 -- The edges are those from before and those of the slice.
-pub record AreMore (s : Slice) (old new : List Edge) : Type 0 where
+pub record AreExtendedBy (s : Slice) (old new : List Edge) : Type 0 where
   pub only : (e : Edge) → Contains new e → Contains old e ⊎ IsEdge s e
   pub before : (e : Edge) → Contains old e → Contains new e
   pub own : (e : Edge) → IsEdge s e → Contains new e

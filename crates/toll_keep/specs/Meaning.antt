@@ -10,7 +10,7 @@ pub record Meaning (K : Type 0) : Type 1 where
   -- whether it answered Disk or Damaged, after which it answers Closed
   pub is_closed : K → Bool
   -- Its store has not shut itself.
-  pub is_live : K → Type 0
+  pub is_store_open : K → Type 0
   -- whether there was no memory to ask if its store is still live
   pub is_unsure : K → Bool
   -- Its store met a cause of Disk between the first and the second.
@@ -24,7 +24,7 @@ meaning_of inside meaning = record {
   holds = λ k c. meaning.holds (inside k) c;
   is_honest = λ k. meaning.is_honest (inside k);
   is_closed = λ k. meaning.is_closed (inside k);
-  is_live = λ k. meaning.is_live (inside k);
+  is_store_open = λ k. meaning.is_store_open (inside k);
   is_unsure = λ k. meaning.is_unsure (inside k);
   has_cause = λ old new. meaning.has_cause (inside old) (inside new);
   leaves = λ k cs. meaning.leaves (inside k) cs;
@@ -36,7 +36,7 @@ OverContent meaning old new P = meaning.is_honest new → (c : Content) → mean
 
 -- The same, if its store was live before.
 abbrev pub OverLive : {K : Type 0} → Meaning K → (old new : K) → (Content → Type 0) → Type 0
-OverLive meaning old new P = meaning.is_honest new → meaning.is_live old → (c : Content) → meaning.holds old c → P c
+OverLive meaning old new P = meaning.is_honest new → meaning.is_store_open old → (c : Content) → meaning.holds old c → P c
 
 -- No keep of the type is ever closed.
 abbrev pub NeverCloses : {K : Type 0} → Meaning K → Type 0

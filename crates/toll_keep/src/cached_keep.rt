@@ -23,7 +23,7 @@ pub struct CachedKeep<K: Keep> {
     keep: K,
     cache: Cache,
     ghost unclosed: { ¬ (IsNothing cache) → K.meaning.is_closed keep ≡ false },
-    ghost live: { ¬ (IsNothing cache) → K.meaning.is_honest keep → ∥ K.meaning.is_live keep ∥₁ },
+    ghost live: { ¬ (IsNothing cache) → K.meaning.is_honest keep → ∥ K.meaning.is_store_open keep ∥₁ },
 }
 
 /// Written by hand: a derived `Drop` is expanded at every exit of every function that owns a keep.
@@ -77,7 +77,7 @@ impl<K: Keep> Keep for CachedKeep<K> {
       holds = λ r c. K.meaning.holds r.keep c × IsCacheOf c r.cache × OnlyKnownHaveRows c;
       is_honest = λ r. K.meaning.is_honest r.keep;
       is_closed = λ r. K.meaning.is_closed r.keep;
-      is_live = λ r. K.meaning.is_live r.keep;
+      is_store_open = λ r. K.meaning.is_store_open r.keep;
       is_unsure = λ r. K.meaning.is_unsure r.keep;
       has_cause = λ r s. K.meaning.has_cause r.keep s.keep;
       leaves = λ r cs. K.meaning.leaves r.keep cs;

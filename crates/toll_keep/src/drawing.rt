@@ -1,6 +1,6 @@
 //! Changes that leave the graphs of owners as they are.
 ghost use Rattle.std.specs.Prelude.{◌≡◌, not, filter};
-ghost use Rattle.toll_keep.specs.Graphs.{is_actual, is_drawn, lacks_key, may_draw};
+ghost use Rattle.toll_keep.specs.Graphs.{is_actual, may_change_graph, lacks_key, may_draw};
 
 use crate::cached_slice::CachedSlice;
 use crate::known_graph::KnownGraph;
@@ -9,13 +9,13 @@ use toll_base::{Change, Move, Name, Row};
 /// Forgets the graphs of owners if one of the changes may add or remove an edge of theirs. The slices
 /// are those from before the changes.
 pub fn forget_drawn(graphs: &mut Vec<KnownGraph>, slices: &[CachedSlice], changes: &[Change])
-    ensures { graphs.new.items ≡ filter (λ known. not (is_drawn slices.now changes.now known)) graphs.old.items }
+    ensures { graphs.new.items ≡ filter (λ known. not (may_change_graph slices.now changes.now known)) graphs.old.items }
 {
-    graphs.retain(|known| !is_drawn(slices, changes, known));
+    graphs.retain(|known| !may_change_graph(slices, changes, known));
 }
 
-fn is_drawn(slices: &[CachedSlice], changes: &[Change], known: &KnownGraph) -> bool
-    ensures { result ≡ is_drawn slices.now changes.now known.now }
+fn may_change_graph(slices: &[CachedSlice], changes: &[Change], known: &KnownGraph) -> bool
+    ensures { result ≡ may_change_graph slices.now changes.now known.now }
 {
     changes.iter().any(|change| may_draw(slices, known, change))
 }

@@ -2,7 +2,7 @@
 ghost use Rattle.std.specs.Prelude.{◌≡◌, IfOk, OnOk};
 ghost use Rattle.toll_keep.specs.Common.{AreEdges, IsEdge};
 ghost use Rattle.toll_keep.specs.CallEffects.{IsReading};
-ghost use Rattle.toll_keep.specs.Holding.{AreMore, GivesAllEdges};
+ghost use Rattle.toll_keep.specs.Holding.{AreExtendedBy, GivesAllEdges};
 ghost use Rattle.toll_keep.specs.Meaning.{OverContent};
 ghost use Rattle.toll_keep.specs.Reads.{HaveRead, IsContentKept};
 ghost use Rattle.toll_keep.specs.Remembered.{IfOf, IsNothing, IsCacheOf, OnlyKnownHaveRows};
@@ -66,7 +66,7 @@ fn add_edges<K: Keep>(
     ensures reads { (first : K) → HaveRead K.meaning first keep.old → IsReading K.meaning first keep.new result }
     ensures kept { IsContentKept K.meaning keep.old keep.new }
     ensures same { slices.new.items ≡ slices.old.items }
-    ensures added { OverContent K.meaning keep.old keep.new (λ c. IfOf c slices.old.items (OnOk result (AreMore (c.rows owner.now) edges.old.items edges.new.items))) }
+    ensures added { OverContent K.meaning keep.old keep.new (λ c. IfOf c slices.old.items (OnOk result (AreExtendedBy (c.rows owner.now) edges.old.items edges.new.items))) }
 {
     let own = own_edges(alloc, keep, slices, owner)?;
     Ok(edges.extend_from_slice(&own)?)

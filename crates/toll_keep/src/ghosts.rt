@@ -12,7 +12,7 @@ use crate::mem_keep::MemKeep;
 /// A keep in memory is always honest and live, never unsure or closed, and has no cause of Disk.
 pub fn a_keep_in_memory_is_always_open()
     ensures honest { (k : Kept) → ⟦<MemKeep as Keep>⟧.meaning.is_honest k }
-    ensures live { (k : Kept) → ⟦<MemKeep as Keep>⟧.meaning.is_live k }
+    ensures live { (k : Kept) → ⟦<MemKeep as Keep>⟧.meaning.is_store_open k }
     ensures sure { (k : Kept) → ⟦<MemKeep as Keep>⟧.meaning.is_unsure k ≡ false }
     ensures not_closed { (k : Kept) → ⟦<MemKeep as Keep>⟧.meaning.is_closed k ≡ false }
     ensures no_cause { (old new : Kept) → ⟦<MemKeep as Keep>⟧.meaning.has_cause old new → ⊥ }
@@ -28,7 +28,7 @@ pub fn a_keep_in_memory_has_its_content()
 /// same causes of Disk.
 pub fn a_cached_keep_is_as_open_as_the_one_inside<K: Keep>()
     ensures honest { (r : CachedKeep K ⟦<K as Keep>⟧) → ⟦<CachedKeep<K> as Keep>⟧.meaning.is_honest r ↔ K.meaning.is_honest r.keep }
-    ensures live { (r : CachedKeep K ⟦<K as Keep>⟧) → ⟦<CachedKeep<K> as Keep>⟧.meaning.is_live r ↔ K.meaning.is_live r.keep }
+    ensures live { (r : CachedKeep K ⟦<K as Keep>⟧) → ⟦<CachedKeep<K> as Keep>⟧.meaning.is_store_open r ↔ K.meaning.is_store_open r.keep }
     ensures unsure { (r : CachedKeep K ⟦<K as Keep>⟧) → ⟦<CachedKeep<K> as Keep>⟧.meaning.is_unsure r ≡ K.meaning.is_unsure r.keep }
     ensures closed { (r : CachedKeep K ⟦<K as Keep>⟧) → ⟦<CachedKeep<K> as Keep>⟧.meaning.is_closed r ≡ K.meaning.is_closed r.keep }
     ensures cause { (old new : CachedKeep K ⟦<K as Keep>⟧) → ⟦<CachedKeep<K> as Keep>⟧.meaning.has_cause old new ↔ K.meaning.has_cause old.keep new.keep }

@@ -82,10 +82,10 @@ pub trait Keep {
         ensures crash { OverLive meaning self.old self.new (λ c. AllChangesFit c changes.now → meaning.leaves self.new (c ∷ content_after changes.now c ∷ [])) };
 
     // While the store lives, a stop between two calls leaves the content and nothing else.
-    ghost settled: { (k : Self) (c : Content) → meaning.is_honest k → meaning.is_live k → meaning.holds k c → meaning.leaves k (c ∷ []) };
+    ghost settled: { (k : Self) (c : Content) → meaning.is_honest k → meaning.is_store_open k → meaning.holds k c → meaning.leaves k (c ∷ []) };
 
     // There is one proof at most that a store is live.
-    ghost lives_once: { (k : Self) (a b : meaning.is_live k) → a ≡ b };
+    ghost lives_once: { (k : Self) (a b : meaning.is_store_open k) → a ≡ b };
 
     // If a stop leaves one of some contents, it also leaves one of more contents.
     ghost widened: { (k : Self) (cs more : List Content) → meaning.leaves k cs → meaning.leaves k (cs ++ more) };

@@ -183,7 +183,7 @@ impl Keep for MemKeep {
       holds = λ k c. content_of k ≡ c;
       is_honest = λ _. ⊤;
       is_closed = λ _. false;
-      is_live = λ _. ⊤;
+      is_store_open = λ _. ⊤;
       is_unsure = λ _. false;
       has_cause = λ _ _. ⊥;
       leaves = λ k cs. IsAmong (λ c. content_of k ≡ c) cs;

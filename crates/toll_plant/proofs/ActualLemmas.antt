@@ -1,7 +1,7 @@
 -- The commands of records.
 use Rattle.std.proofs.Common.{◌≡◌, Bool, true, false, cond, Option, Some, None, List, [], ◌∷◌, length, refl, ap, sym, subst, inl, inr}
 use Rattle.std.specs.Prelude.{◌==◌, IsSome, Result, Ok, Err}
-use Rattle.toll_plant.proofs.Common.{AllByRecursion, Refusal, IsValidCommand, command_of, PlantCmd, looks_at_two}
+use Rattle.toll_plant.proofs.Common.{AllByRecursion, Refusal, IsValidCommand, recorded_command, PlantCmd, looks_at_two}
 use Rattle.toll_base.proofs.Texts.{nat_eq-exact}
 use Rattle.toll_base.specs.Lots.{lot_id}
 use Rattle.toll_base.specs.declared.movement.Move.TheVariants as move
@@ -37,7 +37,7 @@ deeds_made fields (Ok values) same e command is =
     values_have actual_line.values MakeDeed fields values same
     (λ key owner order number segment role material lot_owner lot sublot amount within day command is.
     let command_made : Actual key owner order number segment role material (lot_id lot_owner lot) sublot amount day ≡ command = cc is in
-    (inl (owner, record { key = key; what = move.Actual order number segment role material (lot_id lot_owner lot) sublot; amount = amount; day = day }, ap command_of (sym command_made)), ap looks_at_two (sym command_made), subst IsValidCommand command_made within))
+    (inl (owner, record { key = key; what = move.Actual order number segment role material (lot_id lot_owner lot) sublot; amount = amount; day = day }, ap recorded_command (sym command_made)), ap looks_at_two (sym command_made), subst IsValidCommand command_made within))
     e command is
 
 in_record : (fields : Fields) (b : Bool) → (length fields == length actual_line.values) ≡ b → (command : PlantCmd) → cond b (command_with actual_line fields) None ≡ Some command → IsDeedOfTwo command

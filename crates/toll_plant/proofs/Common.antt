@@ -39,5 +39,5 @@ pub use Rattle.toll_keep.proofs.Calls.{Rests, goes_as, goes_fault, goes_memory, 
 pub use Rattle.toll_keep.specs.StagedChanges.{IsOver, IsReadThrough, ReadsThrough}
 pub use Rattle.toll_keep.specs.Reads.{IsContentKept}
 pub use Rattle.toll_keep.specs.declared.fault.KeepFault.TheVariants.{Closed, Disk}
-pub use Rattle.toll_plant.specs.Common.{Accepted, AllByRecursion, BadAmount, BadName, Bytes, Content, Damaged, CallEffect, History, IsLawful, IsPlantAnswer, IsReading, IsValidCommand, Judged, KeepFault, Meaning, Memory, PlantCmd, PlantAnswer, Refusal, Refused, Repeated, Settles, Represents, Verdict, acts, content_after, after_plant, bytes_eq, command_of, is_some_where, list_all, list_any, same_bytes, where_so}
+pub use Rattle.toll_plant.specs.Common.{Accepted, AllByRecursion, BadAmount, BadName, Bytes, Content, Damaged, CallEffect, History, IsLawful, IsPlantAnswer, IsReading, IsValidCommand, Judged, KeepFault, Meaning, Memory, PlantCmd, PlantAnswer, Refusal, Refused, Repeated, Settles, Represents, Verdict, acts, content_after, after_plant, bytes_eq, recorded_command, is_some_where, list_all, list_any, same_bytes, where_so}
 pub use mathlib.Core.Bool.{false≢true}

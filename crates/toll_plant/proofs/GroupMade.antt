@@ -47,8 +47,8 @@ module _ {K : Type 0} (meaning : Meaning K) where
       let wanting : CallEffect {X = Unit {0}} meaning old new (Err Memory) = goes_memory meaning old new tt goes in
       subst (λ f. CallEffect {X = Unit {0}} meaning old new (Err f)) (sym memory) wanting
 
-  asked_lives : (old middle : K) (end : End) → IsReadOrUnused meaning old middle end → meaning.is_honest middle → meaning.is_live old → meaning.is_live middle
-  asked_lives old middle end (inl none) honest live = subst meaning.is_live (sym none.0) live
+  asked_lives : (old middle : K) (end : End) → IsReadOrUnused meaning old middle end → meaning.is_honest middle → meaning.is_store_open old → meaning.is_store_open middle
+  asked_lives old middle end (inl none) honest live = subst meaning.is_store_open (sym none.0) live
   asked_lives old middle end (inr have) honest live = have.goes.shown honest
 
   asked_settles : (old middle new : K) (end : End) → IsReadOrUnused meaning old middle end → (meaning.is_honest new → meaning.is_honest middle) → Settles meaning middle new → Settles meaning old new
@@ -71,7 +71,7 @@ module _ {K : Type 0} (meaning : Meaning K) where
     group_goes_made (change ∷ made) carried = inr (with_end old new held.end are.memory (then_goes old middle new held.end (Ok tt) are.requested (carried.goes (λ e. (cc e)))))
 
     -- A stop leaves the rows from before, or those after a first part of the group.
-    group_stopped : (r : End) → AreCarried meaning middle new group_changes r → meaning.is_honest new → (c : Content) (H : History) → meaning.holds old c → (over : IsStagedFor c H commands reported group_changes) → meaning.is_live old
+    group_stopped : (r : End) → AreCarried meaning middle new group_changes r → meaning.is_honest new → (c : Content) (H : History) → meaning.holds old c → (over : IsStagedFor c H commands reported group_changes) → meaning.is_store_open old
         → LeavesOr (meaning.leaves new) c (after_records H (take (front_of H over.last commands reported over.imported).0 commands))
     group_stopped r carried honest c H there over live =
         let before = carried.honest honest in

@@ -2,7 +2,7 @@
 use Rattle.std.proofs.Common.{◌≡◌, ◌<◌, ◌≤◌, ℕ, suc, Bool, true, false, ◌||◌, cond, Option, Some, None, List, [], ◌∷◌, ◌++◌, length, Result, Ok, Err, refl, sym, subst, ap, ◌∙◌, append_assoc, arith}
 use Rattle.std.specs.Prelude.{take}
 use mathlib.Core.Bool.{or-false}
-use Rattle.toll_plant.proofs.Common.{MatchBool, list_any, append-nil, list_any-append, Change, History, Verdict, Accepted, Repeated, Refused, IsLawful, grown, verdict, Content, content_after, KeepFault, Represents, IsPlantAnswer, IsQuestionAnswer, IsVerdictOr, Judged, after_plant, command_of, grow, option_map_or, ChangesLeadTo, PlantCmd}
+use Rattle.toll_plant.proofs.Common.{MatchBool, list_any, append-nil, list_any-append, Change, History, Verdict, Accepted, Repeated, Refused, IsLawful, grown, verdict, Content, content_after, KeepFault, Represents, IsPlantAnswer, IsQuestionAnswer, IsVerdictOr, Judged, after_plant, recorded_command, grow, option_map_or, ChangesLeadTo, PlantCmd}
 use Rattle.toll_history.specs.Command.{Command}
 use Rattle.toll_desk.proofs.Unknown.{or_false_parts}
 use Rattle.toll_keep.proofs.StagedLemmas.{after_behind, fits_behind}
@@ -109,7 +109,7 @@ quiet_verdict H (Some c) otherwise v none answer =
 quiet_verdict H None otherwise v none answer = refl
 
 judged_quiet : (old new : History) (command : PlantCmd) (o : Outcome) → is_outcome_accepted o ≡ false → (v : Verdict) → IsPlantAnswer old command (Judged v) → o ≡ outcome_of_verdict v → new ≡ after_plant old command → new ≡ old
-judged_quiet old new command o none v answer is grows = grows ∙ quiet_verdict old (command_of command) (IsQuestionAnswer old command (Judged v)) v (ap is_outcome_accepted (sym is) ∙ none) answer
+judged_quiet old new command o none v answer is grows = grows ∙ quiet_verdict old (recorded_command command) (IsQuestionAnswer old command (Judged v)) v (ap is_outcome_accepted (sym is) ∙ none) answer
 
 -- A record that was not accepted leaves the history unchanged.
 pub comes_quiet : (old new : History) (command : Option PlantCmd) (o : Outcome) → is_outcome_accepted o ≡ false → Comes old command o new → new ≡ old

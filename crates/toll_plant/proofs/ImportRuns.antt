@@ -1,7 +1,7 @@
 -- The records of a file of actuals, one after another, are a run.
 use Rattle.std.proofs.Common.{◌≡◌, Option, Some, None, refl}
 use Rattle.std.specs.Prelude.{◌⊎◌}
-use Rattle.toll_plant.proofs.Common.{Bytes, MoveRow, Refusal, Record, by, History, Verdict, Accepted, Repeated, Refused, Judged, IsPlantAnswer, after_plant, command_of, PlantCmd}
+use Rattle.toll_plant.proofs.Common.{Bytes, MoveRow, Refusal, Record, by, History, Verdict, Accepted, Repeated, Refused, Judged, IsPlantAnswer, after_plant, recorded_command, PlantCmd}
 use Rattle.toll_answers.specs.declared.plant_cmd.PlantCmd.TheVariants.{Unread}
 use Rattle.toll_plant.specs.Outcomes.{outcome_of_verdict}
 use Rattle.toll_plant.specs.Imports.{Comes}
@@ -10,7 +10,7 @@ use Rattle.toll_plant.specs.Imports.{Comes}
 
 -- The command records a movement, or couldn't be read.
 abbrev pub IsDeed : PlantCmd → Type 0
-IsDeed command = ((o : Bytes) × (row : MoveRow) × (command_of command ≡ Some (by o (Record row)))) ⊎ ((why : Refusal) × (command ≡ Unread why))
+IsDeed command = ((o : Bytes) × (row : MoveRow) × (recorded_command command ≡ Some (by o (Record row)))) ⊎ ((why : Refusal) × (command ≡ Unread why))
 
 abbrev pub IsDeedOrNone : Option PlantCmd → Type 0
 IsDeedOrNone None = Unit {0}

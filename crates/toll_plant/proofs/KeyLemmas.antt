@@ -1,6 +1,6 @@
 -- A key acts once.
 use Rattle.std.proofs.Common.{◌≡◌, ◌+◌, ◌≤◌, ℕ, Bool, true, false, ◌&&◌, cond, Option, Some, None, is_some, List, [], ◌∷◌, ◌++◌, refl, sym, ap, subst, ◌∙◌, arith}
-use Rattle.toll_plant.proofs.Common.{MatchBool, Bytes, same_bytes, Command, History, acts, movement_of, Verdict, Accepted, Repeated, Refused, IsLawful, grown, verdict, count_acts, found_once, Judged, IsQuestionAnswer, IsVerdictOr, after_plant, command_of, grow, is_some_where, option_map_or, PlantCmd}
+use Rattle.toll_plant.proofs.Common.{MatchBool, Bytes, same_bytes, Command, History, acts, movement_of, Verdict, Accepted, Repeated, Refused, IsLawful, grown, verdict, count_acts, found_once, Judged, IsQuestionAnswer, IsVerdictOr, after_plant, recorded_command, grow, is_some_where, option_map_or, PlantCmd}
 use Rattle.toll_history.specs.Laws.{has_this_key}
 use Rattle.toll_plant.specs.Outcomes.{is_fault_outcome}
 use Rattle.toll_plant.specs.Imports.{Comes, IsImport, commands_in}
@@ -54,10 +54,10 @@ module _ (o key : Bytes) where
       subst (λ H. key_counted None outcome + keyed old ≤ keyed H) (sym comes.1) (subst (λ x. key_counted None x + keyed old ≤ keyed old) (sym comes.0) (omega arith))
   comes_counted old new (Some command) (came.Fault fault) comes = no_more old old new comes (omega arith)
   comes_counted old new (Some command) came.Accepted comes =
-      subst (λ H. cond (is_keyed o key (Some command)) 1 0 + keyed old ≤ keyed H) (sym comes.3) (accepted_adds (command_of command) (IsQuestionAnswer old command (Judged comes.0)) old comes.0 comes.1 (verdict_accepted comes.0 comes.2))
-  comes_counted old new (Some command) came.Repeated comes = no_more old (after_plant old command) new comes.3 (kept_after (command_of command) old)
-  comes_counted old new (Some command) (came.Refused why) comes = no_more old (after_plant old command) new comes.3 (kept_after (command_of command) old)
-  comes_counted old new (Some command) came.BadRecord comes = no_more old (after_plant old command) new comes.3 (kept_after (command_of command) old)
+      subst (λ H. cond (is_keyed o key (Some command)) 1 0 + keyed old ≤ keyed H) (sym comes.3) (accepted_adds (recorded_command command) (IsQuestionAnswer old command (Judged comes.0)) old comes.0 comes.1 (verdict_accepted comes.0 comes.2))
+  comes_counted old new (Some command) came.Repeated comes = no_more old (after_plant old command) new comes.3 (kept_after (recorded_command command) old)
+  comes_counted old new (Some command) (came.Refused why) comes = no_more old (after_plant old command) new comes.3 (kept_after (recorded_command command) old)
+  comes_counted old new (Some command) came.BadRecord comes = no_more old (after_plant old command) new comes.3 (kept_after (recorded_command command) old)
 
   -- ---- records in order
 

@@ -1,7 +1,7 @@
 -- A standing record is repeated, and a record that was accepted or repeated stands.
 use Rattle.std.proofs.Common.{◌≡◌, ℕ, Bool, true, false, ◌&&◌, ◌||◌, not, cond, Option, Some, None, is_some, List, [], ◌∷◌, refl, sym, ap, subst, ◌∙◌, inl, inr, arith}
 use Rattle.std.specs.Prelude.{◌==◌, option_and_then}
-use Rattle.toll_plant.proofs.Common.{nat_tests, MatchBool, AllByRecursion, list_any, not-false, false≢true, Bytes, same_bytes, house_name, is_some_where, MoveRow, Refusal, UnknownOwner, KeyConflict, Voided, Record, Command, by, History, acts, adds_owner, owner_known, has_move_key, movement_of, movements, voided_in, voids_key, any_acts, void_of_actual, grow, IsQuestionAnswer, IsVerdictOr, Judged, IsPlantAnswer, after_plant, command_of, option_map_or, PlantCmd}
+use Rattle.toll_plant.proofs.Common.{nat_tests, MatchBool, AllByRecursion, list_any, not-false, false≢true, Bytes, same_bytes, house_name, is_some_where, MoveRow, Refusal, UnknownOwner, KeyConflict, Voided, Record, Command, by, History, acts, adds_owner, owner_known, has_move_key, movement_of, movements, voided_in, voids_key, any_acts, void_of_actual, grow, IsQuestionAnswer, IsVerdictOr, Judged, IsPlantAnswer, after_plant, recorded_command, option_map_or, PlantCmd}
 use Rattle.toll_base.specs.Moves.{same_movement, same_what}
 use Rattle.toll_base.specs.declared.movement.Move.{Move}
 use Rattle.toll_base.specs.declared.movement.Move.TheVariants.{Receive, Split, Ship, Scrap, Actual}
@@ -76,15 +76,15 @@ standing_repeats H lawful command s =
     (known_found H lawful s.owner s.row.key (same_movement s.row) s.equal) s.equal s.unvoided
 
 -- The answer to a command that records this is the verdict on it, and the history grows by it.
-answer_is : (H : History) (c : Command) (command : PlantCmd) (v : Verdict) → command_of command ≡ Some c → IsPlantAnswer H command (Judged v) → v ≡ verdict H c
+answer_is : (H : History) (c : Command) (command : PlantCmd) (v : Verdict) → recorded_command command ≡ Some c → IsPlantAnswer H command (Judged v) → v ≡ verdict H c
 answer_is H c command v is answer =
     let reported : Judged v ≡ Judged (verdict H c) = subst (λ done. IsVerdictOr H done (IsQuestionAnswer H command (Judged v)) (Judged v)) is answer in
     cc reported
 
-after_is : (H : History) (c : Command) (command : PlantCmd) → command_of command ≡ Some c → after_plant H command ≡ grow H c
+after_is : (H : History) (c : Command) (command : PlantCmd) → recorded_command command ≡ Some c → after_plant H command ≡ grow H c
 after_is H c command is = ap (λ done. option_map_or (grow H) done H) is
 
-repeated_alone : (H : History) (c : Command) (command : PlantCmd) (v : Verdict) → command_of command ≡ Some c → verdict H c ≡ Repeated → IsPlantAnswer H command (Judged v) → (v ≡ Repeated) × (after_plant H command ≡ H)
+repeated_alone : (H : History) (c : Command) (command : PlantCmd) (v : Verdict) → recorded_command command ≡ Some c → verdict H c ≡ Repeated → IsPlantAnswer H command (Judged v) → (v ≡ Repeated) × (after_plant H command ≡ H)
 repeated_alone H c command v is repeats answer = (answer_is H c command v is answer ∙ repeats, after_is H c command is ∙ ap (λ w. grown w H c) repeats)
 
 judged_repeats : (old new : History) (lawful : IsLawful old) (command : PlantCmd) (outcome : Outcome) → IsRecordStanding old (Some command)
@@ -144,7 +144,7 @@ repeat_means false true false taken more refuse is = (refl, refl)
 repeat_means false false void true more refuse is = absurd (cc is)
 repeat_means false false void false more refuse is = absurd (never_repeats more refuse is)
 
-repeated_stands : (H : History) (command : Option PlantCmd) (o : Bytes) (row : MoveRow) → option_and_then command_of command ≡ Some (by o (Record row)) → verdict H (by o (Record row)) ≡ Repeated → IsRecordStanding H command
+repeated_stands : (H : History) (command : Option PlantCmd) (o : Bytes) (row : MoveRow) → option_and_then recorded_command command ≡ Some (by o (Record row)) → verdict H (by o (Record row)) ≡ Repeated → IsRecordStanding H command
 unfolding checks
 repeated_stands H command o row requested repeated =
     let so = repeat_means (not (owner_known H o)) (is_some_where (same_movement row) (movement_of (acts o H) row.key)) (voided_in (acts o H) row.key) (is_some (movement_of (acts o H) row.key))
@@ -166,7 +166,7 @@ new_is_unvoided H lawful o row accepted = by_voided (voided_in (acts o H) row.ke
     by_voided false is = refl
     by_voided true is = absurd (false≢true (sym (ap (is_some_where (λ r. is_actual r.what)) (key_is_new H o row accepted)) ∙ void_of_actual o row.key H lawful is))
 
-accepted_stands : (H : History) → IsLawful H → (command : Option PlantCmd) (o : Bytes) (row : MoveRow) → option_and_then command_of command ≡ Some (by o (Record row)) → verdict H (by o (Record row)) ≡ Accepted → IsRecordStanding (by o (Record row) ∷ H) command
+accepted_stands : (H : History) → IsLawful H → (command : Option PlantCmd) (o : Bytes) (row : MoveRow) → option_and_then recorded_command command ≡ Some (by o (Record row)) → verdict H (by o (Record row)) ≡ Accepted → IsRecordStanding (by o (Record row) ∷ H) command
 accepted_stands H lawful command o row requested accepted =
     let found : movement_of (acts o (by o (Record row) ∷ H)) row.key ≡ Some row =
     movement_of-recorded H o row o row.key ∙ ap (λ b. cond b (Some row) (movement_of (acts o H) row.key)) (and_is _ _ (same_bytes-refl o) (same_bytes-refl row.key)) in
@@ -204,7 +204,7 @@ abbrev LeavesStanding : History → History → Option PlantCmd → Type 0
 LeavesStanding old new command = IsRecordStanding new command × ((c : Option PlantCmd) → IsRecordStanding old c → IsRecordStanding new c)
 
 verdict_alone : (H : History) (command : PlantCmd) (v w : Verdict) → IsDeed command → IsPlantAnswer H command (Judged v) → v ≡ w → ((why : Refusal) → w ≡ Refused why → ⊥)
-    → (o : Bytes) × (row : MoveRow) × (command_of command ≡ Some (by o (Record row))) × (verdict H (by o (Record row)) ≡ w)
+    → (o : Bytes) × (row : MoveRow) × (recorded_command command ≡ Some (by o (Record row))) × (verdict H (by o (Record row)) ≡ w)
 verdict_alone H command v w (inl does) answer is never =
     (does.0, does.1, does.2, sym (answer_is H (by does.0 (Record does.1)) command v does.2 answer) ∙ is)
 verdict_alone H command v w (inr unread) answer is never =
@@ -260,10 +260,10 @@ before_plant None H lawful = lawful
 before_record : (old new : History) (command : Option PlantCmd) → IsDeedOrNone command → (outcome : Outcome) → Comes old command outcome new → IsLawful new → IsLawful old
 before_record old new None deed outcome comes lawful = subst IsLawful comes.1 lawful
 before_record old new (Some command) deed (came.Fault fault) comes lawful = subst IsLawful comes lawful
-before_record old new (Some command) deed came.Accepted comes lawful = before_plant (command_of command) old (subst IsLawful comes.3 lawful)
-before_record old new (Some command) deed came.Repeated comes lawful = before_plant (command_of command) old (subst IsLawful comes.3 lawful)
-before_record old new (Some command) deed (came.Refused why) comes lawful = before_plant (command_of command) old (subst IsLawful comes.3 lawful)
-before_record old new (Some command) deed came.BadRecord comes lawful = before_plant (command_of command) old (subst IsLawful comes.3 lawful)
+before_record old new (Some command) deed came.Accepted comes lawful = before_plant (recorded_command command) old (subst IsLawful comes.3 lawful)
+before_record old new (Some command) deed came.Repeated comes lawful = before_plant (recorded_command command) old (subst IsLawful comes.3 lawful)
+before_record old new (Some command) deed (came.Refused why) comes lawful = before_plant (recorded_command command) old (subst IsLawful comes.3 lawful)
+before_record old new (Some command) deed came.BadRecord comes lawful = before_plant (recorded_command command) old (subst IsLawful comes.3 lawful)
 
 standing_goes_on : (outcome : Outcome) → IsAcceptedOrRepeated outcome → is_fault_outcome outcome ≡ false
 standing_goes_on outcome (inl is) = ap is_fault_outcome is

@@ -1,7 +1,7 @@
 -- Definitions of other crates that several files here use.
 pub use Rattle.std.specs.List.{AllByRecursion, list_all, list_any}
 pub use Rattle.std.specs.Str.{bytes_eq}
-pub use Rattle.toll_answers.specs.PlantAnswers.{IsPlantAnswer, IsValidCommand, Judged, PlantAnswer, Shows, after_plant, command_of}
+pub use Rattle.toll_answers.specs.PlantAnswers.{IsPlantAnswer, IsValidCommand, Judged, PlantAnswer, Shows, after_plant, recorded_command}
 pub use Rattle.toll_answers.specs.declared.plant_cmd.PlantCmd.{PlantCmd}
 pub use Rattle.toll_base.specs.Bytes.{Bytes, same_bytes}
 pub use Rattle.toll_base.specs.Words.{count, is_some_where, total, where_so}

@@ -1,6 +1,6 @@
 -- What imports do with keys.
 use Rattle.std.specs.Prelude.{◌≡◌, ◌⊎◌, ◌+◌, ◌≤◌, ℕ, Bool, true, false, ◌&&◌, if◌then◌else◌, Option, Some, List, [], ◌∷◌, ◌++◌, option_and_then}
-use Rattle.toll_plant.specs.Common.{AllByRecursion, Bytes, same_bytes, count, is_some_where, total, History, acts, PlantCmd, command_of}
+use Rattle.toll_plant.specs.Common.{AllByRecursion, Bytes, same_bytes, count, is_some_where, total, History, acts, PlantCmd, recorded_command}
 use Rattle.toll_base.specs.Moves.{same_movement}
 use Rattle.toll_base.specs.declared.movement.MoveRow.{MoveRow}
 use Rattle.toll_history.specs.Command.{Record, by}
@@ -30,7 +30,7 @@ AreImports old (i ∷ imports) new =
 
 -- whether the command records a movement of this owner with this key
 abbrev pub is_keyed : (o key : Bytes) → Option PlantCmd → Bool
-is_keyed o key command = is_some_where (λ c. same_bytes c.owner o && has_this_key key c.action) (option_and_then command_of command)
+is_keyed o key command = is_some_where (λ c. same_bytes c.owner o && has_this_key key c.action) (option_and_then recorded_command command)
 
 -- how many records of this owner with this key were accepted
 abbrev pub count_accepted : (o key : Bytes) → List (Option PlantCmd) → List Outcome → ℕ
@@ -51,7 +51,7 @@ count_keyed o key H = count (has_this_key key) (acts o H)
 pub record IsRecordStanding (H : History) (command : Option PlantCmd) : Type 0 where
   pub owner : Bytes
   pub row : MoveRow
-  pub requested : option_and_then command_of command ≡ Some (by owner (Record row))
+  pub requested : option_and_then recorded_command command ≡ Some (by owner (Record row))
   pub equal : is_some_where (same_movement row) (movement_of (acts owner H) row.key) ≡ true
   pub unvoided : voided_in (acts owner H) row.key ≡ false
 

@@ -140,7 +140,7 @@ module _ {K : Type 0} (meaning : Meaning K) where
     pub settles : Settles meaning old new
     pub whole : FindsNoDamage meaning old new end
     pub quiet : OverContent meaning old new (λ c. list_any is_outcome_accepted reported ≡ false → meaning.holds new c)
-    pub done : Over meaning old new (λ c H. IsGroupDone (meaning.holds new) (meaning.is_live old) (meaning.leaves new) c H commands reported)
+    pub done : Over meaning old new (λ c H. IsGroupDone (meaning.holds new) (meaning.is_store_open old) (meaning.leaves new) c H commands reported)
 
   -- These groups of records, of which the last comes first, changed the keep one after another. No group follows one that met a fault.
   abbrev pub AreGroupsServed : K → List Group → K → Type 0
@@ -160,8 +160,8 @@ module _ {K : Type 0} (meaning : Meaning K) where
     pub held : meaning.holds new d
     pub stands : Represents d G
     pub front : ℕ
-    pub crash : meaning.is_live old → LeavesOr (meaning.leaves new) c (after_records H (take front g.commands))
-    pub settled : meaning.is_live old → meaning.leaves new (d ∷ []) ⊎ meaning.has_cause old new
+    pub crash : meaning.is_store_open old → LeavesOr (meaning.leaves new) c (after_records H (take front g.commands))
+    pub settled : meaning.is_store_open old → meaning.leaves new (d ∷ []) ⊎ meaning.has_cause old new
 
   -- Such steps one after another, of which the last comes first. A stop during one leaves the rows after all steps before it, or those
   -- after a first part of its records.

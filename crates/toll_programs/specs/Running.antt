@@ -43,7 +43,7 @@ pub record IsCutShort (Ran : List Event → List Answer → Type 0) (unread rest
   pub written : Appends held now_held (take count (printed answers))
 
 -- A script was read from a stream and run.
-pub record HasRun (Ran : List Event → List Answer → Type 0) (unread rest : Option Bytes) : Type 0 where
+pub record IsReadAndRun (Ran : List Event → List Answer → Type 0) (unread rest : Option Bytes) : Type 0 where
   pub input : Bytes
   pub whole : IsWholeInput unread rest input
   pub answers : List Answer
@@ -80,7 +80,7 @@ pub record IsScriptRun {R W K : Type 0} (from : source.Ghosts R) (to : sink.Ghos
   pub done : end ≡ Done → IsInputRun (RanOver meaning old new) (from.unread reader) (from.unread rest) (to.held writer) (to.held written)
   pub cut_short : end ≡ WriteFault → IsCutShort (RanOver meaning old new) (from.unread reader) (from.unread rest) (to.held writer) (to.held written)
   -- If memory was short, nothing was read; or nothing ran, and no line is bad that can be seen to be bad without memory; or all of it ran.
-  pub memory : end ≡ Memory → ((new ≡ old) × ((rest ≡ reader) ⊎ LacksMemory (from.unread reader) (from.unread rest))) ⊎ HasRun (RanOver meaning old new) (from.unread reader) (from.unread rest)
+  pub memory : end ≡ Memory → ((new ≡ old) × ((rest ≡ reader) ⊎ LacksMemory (from.unread reader) (from.unread rest))) ⊎ IsReadAndRun (RanOver meaning old new) (from.unread reader) (from.unread rest)
   pub honest : meaning.is_honest new → meaning.is_honest old
   pub bad_line : (number : ℕ) → end ≡ BadLine number → HasBadLine (from.unread reader) (from.unread rest) number
   pub too_long : end ≡ TooLong → IsTooLong (from.unread reader) (from.unread rest)

@@ -15,7 +15,7 @@ use Rattle.toll_wire.proofs.Serving.{run_all_honest, events_run_of, run_steps_of
 use Rattle.toll_wire.specs.declared.event.Answer.TheVariants.{Bytes as Reply, Plant as CommandReply}
 use Rattle.toll_wire.specs.declared.event.Event.TheVariants.{Owner, Plant as Command}
 
-module _ {K : Type 0} (meaning : Meaning K) (settled : (k : K) (c : Content) → meaning.is_honest k → meaning.is_live k → meaning.holds k c → meaning.leaves k (c ∷ [])) where
+module _ {K : Type 0} (meaning : Meaning K) (settled : (k : K) (c : Content) → meaning.is_honest k → meaning.is_store_open k → meaning.holds k c → meaning.leaves k (c ∷ [])) where
   -- A keep that is honest now was honest before. From each lawful history there is a run whose events and answers Are holds of.
   record Ran (old new : K) (Are : List Event → List Answer → Type 0) : Type 0 where
     honest : meaning.is_honest new → meaning.is_honest old

@@ -7,7 +7,7 @@ use Rattle.toll_service.specs.Openings.{IsOneOpened, IsOneRefused, IsNoneOpened,
 use Rattle.toll_service.specs.declared.file_stamps.LeftFiles.{LeftFiles}
 use Rattle.toll_service.specs.declared.office_fault.OfficeFault.{OfficeFault}
 use Rattle.toll_service.specs.declared.office_session.OfficeSession.{OfficeSession}
-use Rattle.toll_service.specs.Sessions.{AnswersBy, AreAsLeft, AreCounted, AreThoseTaken, HasReadAhead, IsAtHand, IsSessionIdle, IsLeftOpen, IsNewSession, IsOpenedAhead, IsSessionRun, IsTakenOver, IsToldBy, IsSessionUnopened, IsUnserved, IsWithheld, ResumesBy, SessionState, state_of_session}
+use Rattle.toll_service.specs.Sessions.{AnswersBy, AreAsLeft, AreCounted, AreThoseTaken, HasReadAhead, IsAtHand, IsSessionIdle, IsLeftOpen, IsNewSession, IsOpenedAhead, IsSessionRun, IsAnsweredAtHand, IsToldBy, IsSessionUnopened, IsUnserved, IsWithheld, ResumesBy, SessionState, state_of_session}
 use Rattle.toll_service.specs.Listeners.{IsReadyWith}
 use Rattle.toll_server.specs.Runs.{Input, Request, Task, Yields, TakesTurns, Turn}
 use Rattle.toll_server.specs.declared.poll.Poll.{Poll}
@@ -18,7 +18,7 @@ use Rattle.toll_service.specs.Serving.{AnswersOver, ResumesOver, RunsOver}
 module _ {K : Type 0} (meaning : Meaning K) (is_opened : K → Type 0) where
   -- The input was taken over an office, or no office was available and the response says so.
   abbrev IsReportedOver : SessionState K → Input ImportState → Poll ImportState → SessionState K → Type 0
-  IsReportedOver old input poll new = IsTakenOver meaning is_opened ⊤ old input poll new ⊎ (IsSessionIdle old new × IsReadyWith poll (IsUnserved input))
+  IsReportedOver old input poll new = IsAnsweredAtHand meaning is_opened ⊤ old input poll new ⊎ (IsSessionIdle old new × IsReadyWith poll (IsUnserved input))
 
   -- Each turn acts on the session that the turns before it left.
   abbrev TurnsLead : SessionState K → List (Turn ImportState) → SessionState K → Type 0
@@ -106,7 +106,7 @@ module _ {K : Type 0} (meaning : Meaning K) (is_opened : K → Type 0) where
 
   -- The condition on an office that was open may be dropped.
   taken_over : (IsSo : Type 0) (old new : SessionState K) (input : Input ImportState) (poll : Poll ImportState)
-      → IsTakenOver meaning is_opened IsSo old input poll new → IsTakenOver meaning is_opened ⊤ old input poll new
+      → IsAnsweredAtHand meaning is_opened IsSo old input poll new → IsAnsweredAtHand meaning is_opened ⊤ old input poll new
   taken_over IsSo old new input poll one = record {
     first = one.first;
     begins = elim (one.begins) [ inl (there, same, still) ↦ inl (there, same, tt) | inr opened ↦ inr opened ];
@@ -134,7 +134,7 @@ module _ {K : Type 0} (meaning : Meaning K) (is_opened : K → Type 0) where
         (state_of_session (session middle), reported_by session tally old middle t.input t.poll one, told_over session tally middle new turns rest)
 
     -- The inputs while one office stayed open are a run over it.
-    pub sitting : {O : Type 0} → ((k : K) (c : Content) → meaning.is_honest k → meaning.is_live k → meaning.holds k c → meaning.leaves k (c ∷ []))
+    pub sitting : {O : Type 0} → ((k : K) (c : Content) → meaning.is_honest k → meaning.is_store_open k → meaning.holds k c → meaning.leaves k (c ∷ []))
         → (session : O → OfficeSession K) (tally : O → Option Openings) (old new : O) (turns : List (Turn ImportState)) (first : K)
         → TakesTurns (AnswersBy meaning is_opened is_found session tally) (ResumesBy meaning is_opened is_found session tally) old turns new
         → (state_of_session (session old)).keep ≡ Some first → (state_of_session (session new)).openings ≡ (state_of_session (session old)).openings

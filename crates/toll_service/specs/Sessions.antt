@@ -140,7 +140,7 @@ module _ {K : Type 0} (meaning : Meaning K) where
 
 module _ {K : Type 0} (meaning : Meaning K) (is_opened : K → Type 0) where
   -- The input had this outcome over the open office, or over one that was opened for it.
-  pub record IsTakenOver (IsAsLeft : Type 0) (old : SessionState K) (input : Input ImportState) (poll : Poll ImportState) (new : SessionState K) : Type 0 where
+  pub record IsAnsweredAtHand (IsAsLeft : Type 0) (old : SessionState K) (input : Input ImportState) (poll : Poll ImportState) (new : SessionState K) : Type 0 where
     pub first : K
     pub begins : IsAtHand is_opened IsAsLeft old new first
     pub taken : IsTakenFrom meaning first input poll new
@@ -148,7 +148,7 @@ module _ {K : Type 0} (meaning : Meaning K) (is_opened : K → Type 0) where
 module _ {K : Type 0} (meaning : Meaning K) (is_opened : K → Type 0) (is_found : LeftFiles → Result Bool OfficeFault → Type 0) where
   -- The same for a session.
   abbrev pub TakesInput : OfficeSession K → Input ImportState → Poll ImportState → OfficeSession K → Type 0
-  TakesInput old input poll new = IsTakenOver meaning is_opened (AreAsLeft is_found old) (state_of_session old) input poll (state_of_session new)
+  TakesInput old input poll new = IsAnsweredAtHand meaning is_opened (AreAsLeft is_found old) (state_of_session old) input poll (state_of_session new)
 
   -- No office was used, for a cause, and the response says so. The session knows no more of the files and their damage than before.
   pub record IsTurnedAwayFor (old : OfficeSession K) (before behind : Option Openings) (input : Input ImportState) (poll : Poll ImportState) (new : OfficeSession K) : Type 0 where

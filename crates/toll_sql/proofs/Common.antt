@@ -78,7 +78,7 @@ pub use Rattle.std.specs.Option.{option_or, option_to_list}
 pub use Rattle.std.specs.Ordering.{int_cmp, is_le, nat_cmp, ordering_reverse, ordering_then}
 pub use Rattle.toll_base.proofs.Texts.{batch_cmp_total, is_eq-then, pair_cmp_total, requirement_cmp_total, result_cmp_total, same_bytes-exact, same_bytes-refl}
 pub use Rattle.toll_base.specs.Keys.{batch_cmp, pair_cmp, requirement_cmp, result_cmp}
-pub use Rattle.toll_base.specs.Roles.{role_rank}
+pub use Rattle.toll_base.specs.Roles.{role_number}
 pub use Rattle.toll_base.specs.Slice.{batch_at, empty_slice, lot_at, material_at, void_at}
 pub use Rattle.toll_base.specs.SliceRules.{KeepsRules, is_actual_of}
 unfoldable pub use Rattle.toll_base.specs.Table.{put_row, row_at}

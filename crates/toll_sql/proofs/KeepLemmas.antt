@@ -69,7 +69,7 @@ module _ {K : Type 0} (store : K → State) (closed unsure : K → Bool) where
   IsHonest k = meaning.is_honest k
 
   abbrev IsLive : K → Type 0
-  IsLive k = meaning.is_live k
+  IsLive k = meaning.is_store_open k
 
   abbrev HoldsOpen : K → Content → Type 0
   HoldsOpen k c = meaning.holds k c

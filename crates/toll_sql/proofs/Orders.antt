@@ -1,6 +1,6 @@
 -- The order of a table's key is that of the rows' keys.
 use Rattle.std.proofs.Common.{◌≡◌, ℕ, pos, refl, ap, ◌∙◌, arith, Ordering, Less, Equal, Greater}
-use Rattle.toll_sql.proofs.Common.{IsTotalOrder, ordering_then, nat_cmp, int_cmp, nat_tests, on_total, tied_itself, value_cmp, Int, Text, row_cmp_total, value_cmp_total, value_cmp-Int, value_cmp-Text, Bytes, bytes_cmp, pair_cmp, batch_cmp, result_cmp, requirement_cmp, role_rank, MoveRow, BatchRow, LotRow, MaterialRow, OrderRow, OwnerRow, RecipeRow, RequirementRow, ResultRow, SublotRow, TestRow, UnitRow, VoidRow}
+use Rattle.toll_sql.proofs.Common.{IsTotalOrder, ordering_then, nat_cmp, int_cmp, nat_tests, on_total, tied_itself, value_cmp, Int, Text, row_cmp_total, value_cmp_total, value_cmp-Int, value_cmp-Text, Bytes, bytes_cmp, pair_cmp, batch_cmp, result_cmp, requirement_cmp, role_number, MoveRow, BatchRow, LotRow, MaterialRow, OrderRow, OwnerRow, RecipeRow, RequirementRow, ResultRow, SublotRow, TestRow, UnitRow, VoidRow}
 use Rattle.toll_sql.specs.Cells.{key_cells, key_order}
 use Rattle.toll_sql.specs.Encode.{owner_cells, unit_cells, material_cells, test_cells, recipe_cells, requirement_cells, order_cells, batch_cells, lot_cells, sublot_cells, move_cells, result_cells, void_cells}
 use Rattle.toll_sql.specs.declared.table_kind.TableKind.{TableKind}
@@ -52,10 +52,10 @@ module _ (o : Bytes) where
   requirements_order a b =
       let p = bytes_cmp a.recipe b.recipe in
       let q = nat_cmp a.segment b.segment in
-      let r = nat_cmp (role_rank a.role) (role_rank b.role) in
+      let r = nat_cmp (role_number a.role) (role_number b.role) in
       let s = bytes_cmp a.source b.source in
       let t = bytes_cmp a.material b.material in
-      rw (text_tied o, value_cmp-Text a.recipe b.recipe, numbers a.segment b.segment, numbers (role_rank a.role) (role_rank b.role), value_cmp-Text a.source b.source, value_cmp-Text a.material b.material)
+      rw (text_tied o, value_cmp-Text a.recipe b.recipe, numbers a.segment b.segment, numbers (role_number a.role) (role_number b.role), value_cmp-Text a.source b.source, value_cmp-Text a.material b.material)
       (ap (λ u. ordering_then p (ordering_then q (ordering_then r (ordering_then s u)))) (then_end t) ∙ then_assoc p q (ordering_then r (ordering_then s t)) ∙ then_assoc (ordering_then p q) r (ordering_then s t)
       ∙ then_assoc (ordering_then (ordering_then p q) r) s t)
 

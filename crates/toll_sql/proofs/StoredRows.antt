@@ -1,6 +1,6 @@
 -- Rows of each kind: determined by their cells, and added to a slice when they are read.
 use Rattle.std.proofs.Common.{◌≡◌, ℕ, ◌+◌, ◌<◌, ℤ, Bool, true, false, List, [], ◌∷◌, length, map, take, get_or, refl, sym, ap, ap₂, subst, ◌∙◌, IsTrue, Ordering}
-use Rattle.toll_sql.proofs.Common.{false≢true, IsTotalOrder, nat_list_cmp_total, Row, column, Bytes, bytes_cmp, pair_cmp, batch_cmp, result_cmp, requirement_cmp, role_rank, put_row, Slice, with_row, is_name, MoveRow, Role, Consumed, Produced, BatchRow, LotRow, MaterialRow, OrderRow, RecipeRow, RequirementRow, ResultRow, SublotRow, TestRow, VoidRow, pair_cmp_total, batch_cmp_total, result_cmp_total, requirement_cmp_total}
+use Rattle.toll_sql.proofs.Common.{false≢true, IsTotalOrder, nat_list_cmp_total, Row, column, Bytes, bytes_cmp, pair_cmp, batch_cmp, result_cmp, requirement_cmp, role_number, put_row, Slice, with_row, is_name, MoveRow, Role, Consumed, Produced, BatchRow, LotRow, MaterialRow, OrderRow, RecipeRow, RequirementRow, ResultRow, SublotRow, TestRow, VoidRow, pair_cmp_total, batch_cmp_total, result_cmp_total, requirement_cmp_total}
 use Rattle.std.specs.Int.Signed.{le_z}
 use Rattle.std.specs.Prelude.{T}
 use Rattle.std.proofs.Math.Dec.{T_prop}
@@ -45,8 +45,8 @@ same_by_number all first number at a b h = sym (at a) ∙ ap (λ n. get_or all n
 same_flag : (a b : Bool) → flag a ≡ flag b → a ≡ b
 same_flag = same_by_number (false ∷ true ∷ []) false flag (λ x. elim x as (λ v. get_or (false ∷ true ∷ []) (flag v) false ≡ v) [ false ↦ refl | true ↦ refl ])
 
-same_role_by_rank : (a b : Role) → role_rank a ≡ role_rank b → a ≡ b
-same_role_by_rank = same_by_number (Consumed ∷ Produced ∷ []) Consumed role_rank (λ x. elim x as (λ v. get_or (Consumed ∷ Produced ∷ []) (role_rank v) Consumed ≡ v) [ Consumed ↦ refl | Produced ↦ refl ])
+same_role_by_rank : (a b : Role) → role_number a ≡ role_number b → a ≡ b
+same_role_by_rank = same_by_number (Consumed ∷ Produced ∷ []) Consumed role_number (λ x. elim x as (λ v. get_or (Consumed ∷ Produced ∷ []) (role_number v) Consumed ≡ v) [ Consumed ↦ refl | Produced ↦ refl ])
 
 dispositions : List Disposition
 dispositions = Quarantined ∷ Released ∷ Rejected ∷ []

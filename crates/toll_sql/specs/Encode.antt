@@ -1,7 +1,7 @@
 -- Rows as the tables have them: the cells after the rowid.
 use Rattle.std.specs.Prelude.{ℕ, pos, Bool, true, false, List, [], ◌∷◌, map, codes}
 use Rattle.toll_sql.specs.Common.{Row, Int, Text, Bytes, Slice, LotId, Origin, Receipts, Batch as OfBatch, Move, Receive, Split, Ship, Scrap, Actual, MoveRow, Role, BatchRow, LotRow, MaterialRow, OrderRow, OwnerRow, RecipeRow, RequirementRow, ResultRow, SublotRow, TestRow, UnitRow, VoidRow}
-use Rattle.toll_base.specs.Roles.{role_rank}
+use Rattle.toll_base.specs.Roles.{role_number}
 use Rattle.toll_base.specs.declared.lot.Disposition.{Disposition}
 use Rattle.toll_base.specs.declared.lot.Disposition.TheVariants.{Quarantined, Released, Rejected}
 use Rattle.toll_base.specs.declared.role.Role.TheVariants.{Consumed, Produced}
@@ -115,7 +115,7 @@ abbrev pub recipe_cells : Bytes → RecipeRow → Row
 recipe_cells o row = Text o ∷ Text row.recipe ∷ Int (pos row.segments) ∷ []
 
 abbrev pub requirement_cells : Bytes → RequirementRow → Row
-requirement_cells o row = Text o ∷ Text row.recipe ∷ Int (pos row.segment) ∷ Int (pos (role_rank row.role)) ∷ Text row.source ∷ Text row.material ∷ Int (pos row.amount) ∷ []
+requirement_cells o row = Text o ∷ Text row.recipe ∷ Int (pos row.segment) ∷ Int (pos (role_number row.role)) ∷ Text row.source ∷ Text row.material ∷ Int (pos row.amount) ∷ []
 
 abbrev pub order_cells : Bytes → OrderRow → Row
 order_cells o row = Text o ∷ Text row.order ∷ Text row.recipe ∷ Int (pos row.batches) ∷ Int (pos (flag row.cancelled)) ∷ []

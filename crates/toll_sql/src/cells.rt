@@ -2,7 +2,7 @@
 ghost use Rattle.std.specs.Prelude.{◌≡◌, ◌≢◌, ◌≤◌, ◌↔◌, ℕ, ℤ, pos, List, [], Bool, None, IsTrue, IfSome};
 ghost use Rattle.sqlite.specs.Order.{column};
 ghost use Rattle.sqlite.specs.declared.types.Value.TheVariants.{Int, Text};
-ghost use Rattle.toll_base.specs.Roles.{role_rank};
+ghost use Rattle.toll_base.specs.Roles.{role_number};
 ghost use Rattle.toll_base.specs.Values.{is_name, is_measure, is_owner_key, IsValue};
 ghost use Rattle.toll_base.specs.declared.limits.Limits.{Limits as Bounds};
 ghost use Rattle.toll_base.specs.declared.lot.Disposition.{Disposition as Dispositions};
@@ -127,8 +127,8 @@ pub fn flag_at(row: &Row, at: usize) -> Option<bool>
 
 /// The role in this column.
 pub fn role_at(row: &Row, at: usize) -> Option<Role>
-    ensures some { IfSome result (λ r. column row.now at ≡ Int (pos (role_rank r))) }
-    ensures none { result ≡ None → (r : Roles) → column row.now at ≢ Int (pos (role_rank r)) }
+    ensures some { IfSome result (λ r. column row.now at ≡ Int (pos (role_number r))) }
+    ensures none { result ≡ None → (r : Roles) → column row.now at ≢ Int (pos (role_number r)) }
 {
     match number_at(row, at) {
         Some(0) => Some(Role::Consumed),

@@ -1,7 +1,7 @@
 //! Cells of rows for the tables.
 ghost use Rattle.std.specs.Prelude.{◌≡◌, ℕ, pos, IsTrue, [], ◌∷◌};
 ghost use Rattle.sqlite.specs.Values.{bound};
-ghost use Rattle.toll_base.specs.Roles.{role_rank};
+ghost use Rattle.toll_base.specs.Roles.{role_number};
 ghost use Rattle.toll_base.specs.Values.{is_name};
 ghost use Rattle.toll_sql.specs.Encode as stored;
 ghost use Rattle.toll_sql.specs.Valid.{IsOwner, IsUnit, IsMaterial, IsTest, IsRecipe, IsRequirement, IsOrder, IsBatch, IsLot, IsOrigin, IsSublot, IsMovement, IsResult, IsVoid, IsStorable};
@@ -220,7 +220,7 @@ fn flag(value: bool) -> u64
 }
 
 fn role_number(role: Role) -> u64
-    ensures { result ≡ role_rank role }
+    ensures { result ≡ role_number role }
 {
     match role {
         Role::Consumed => 0,

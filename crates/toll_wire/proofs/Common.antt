@@ -18,7 +18,7 @@ pub use Rattle.std.specs.List.{AllByRecursion, list_all, position_or_len, starts
 pub use Rattle.std.specs.Option.{IfSome, is_none, option_map_or}
 pub use Rattle.std.specs.Result.{MatchResult, OkIff, result_ok}
 pub use Rattle.std.specs.Str.{IsAscii, IsCharBoundary, IsUtf8}
-pub use Rattle.toll_answers.specs.PlantAnswers.{IsCheckedOr, IsPlantAnswer, IsQuestionAnswer, IsRecallShown, IsTraceShown, IsValidCommand, IsVerdictOr, Judged, PlantAnswer, Shows, after_plant, command_of, lot_checks}
+pub use Rattle.toll_answers.specs.PlantAnswers.{IsCheckedOr, IsPlantAnswer, IsQuestionAnswer, IsRecallShown, IsTraceShown, IsValidCommand, IsVerdictOr, Judged, PlantAnswer, Shows, after_plant, recorded_command, lot_checks}
 pub use Rattle.toll_answers.specs.declared.plant_cmd.PlantCmd.{PlantCmd}
 unfoldable pub use Rattle.toll_answers.specs.Replies.{IsReply, after_reply}
 pub use Rattle.toll_answers.specs.Replies.{IsOwnerAnswer, IsTraceReply, IsValidOwnerRequest, after_answer, has_owner_key}

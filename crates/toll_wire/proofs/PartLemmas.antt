@@ -2,7 +2,7 @@
 use Rattle.std.proofs.Common.{◌≡◌, Bool, true, false, cond, Option, Some, None, List, [], ◌∷◌, ◌++◌, Result, Ok, Err, refl, sym, ap, subst, ◌∙◌, inl, inr}
 use Rattle.std.specs.Prelude.{◌⊎◌, ◌&&◌, IsSomeAnd}
 use Rattle.toll_base.specs.Words.{is_some_where}
-use Rattle.toll_wire.proofs.Common.{false≢true, Bytes, same_bytes, Command, History, part, Accepted, Repeated, Refused, KeepFault, PlantCmd, PlantAnswer, Judged, Shows as ShowsText, command_of, meaning_of_plant_reply}
+use Rattle.toll_wire.proofs.Common.{false≢true, Bytes, same_bytes, Command, History, part, Accepted, Repeated, Refused, KeepFault, PlantCmd, PlantAnswer, Judged, Shows as ShowsText, recorded_command, meaning_of_plant_reply}
 use Rattle.toll_wire.specs.declared.event.Event.{Event}
 use Rattle.toll_wire.specs.declared.event.Event.TheVariants.{Owner, Plant as CommandOf}
 use Rattle.toll_wire.specs.declared.event.Answer.{Answer}
@@ -21,7 +21,7 @@ use Rattle.toll_wire.proofs.Determined.{run_one_told}
 abbrev pub AreRead : List OwnEvent → List RunEvent → Type 0
 AreRead [] [] = Unit {0}
 AreRead (Sent bytes ∷ own) (RequestEvent s ∷ happenings) = Says bytes s × AreRead own happenings
-AreRead (Did c ∷ own) (PlantEvent command ∷ happenings) = (command_of command ≡ Some c) × AreRead own happenings
+AreRead (Did c ∷ own) (PlantEvent command ∷ happenings) = (recorded_command command ≡ Some c) × AreRead own happenings
 AreRead _ _ = ⊥
 
 -- replies alone over what is read are those over the bytes
@@ -76,7 +76,7 @@ module _ (o : Bytes) where
   add_request bytes s out own replies happenings reported says false own_is Rest rest (inr not) = rest own replies not.1
 
   -- what one more command and its answer add
-  add_done : (c : Command) (command : PlantCmd) → command_of command ≡ Some c → (own : List OwnEvent) (replies : List Bytes) (happenings : List RunEvent) (reported : List Bytes) → (b : Bool) → (Rest : List OwnEvent → Type 0) → ((own : List OwnEvent) → Rest own → Reads own replies happenings reported) →
+  add_done : (c : Command) (command : PlantCmd) → recorded_command command ≡ Some c → (own : List OwnEvent) (replies : List Bytes) (happenings : List RunEvent) (reported : List Bytes) → (b : Bool) → (Rest : List OwnEvent → Type 0) → ((own : List OwnEvent) → Rest own → Reads own replies happenings reported) →
       WithDone (cond b (Some c) None) Rest own → Reads own replies (cond b (PlantEvent command ∷ happenings) happenings) reported
   add_done c command does own replies happenings reported true Rest rest is =
       let below = rest is.0 is.2 in (subst (λ own. AreRead own (PlantEvent command ∷ happenings)) (sym is.1) (does, below.0), below.1)
@@ -86,7 +86,7 @@ module _ (o : Bytes) where
     abbrev AddsToPart : PlantCmd → Answered → Type 0
     AddsToPart command t = Reads own replies (cond (is_own_event http o (PlantEvent command) t) (PlantEvent command ∷ happenings) happenings) replies_to
 
-    add_told : (command : PlantCmd) (done : Option Command) → command_of command ≡ done → (answer : PlantAnswer) → WithDone (done_for o (Ok answer) done) Rest own →
+    add_told : (command : PlantCmd) (done : Option Command) → recorded_command command ≡ done → (answer : PlantAnswer) → WithDone (done_for o (Ok answer) done) Rest own →
         Reads own replies (cond (accepts http answer && is_some_where (λ (c : Command). same_bytes c.owner o) done) (PlantEvent command ∷ happenings) happenings) replies_to
     add_told command (Some c) does (Judged Accepted) is = add_done c command does own replies happenings replies_to (same_bytes c.owner o) Rest rest is
     add_told command None does (Judged Accepted) is = rest own is
@@ -94,8 +94,8 @@ module _ (o : Bytes) where
     add_told command done does (Judged (Refused why)) is = rest own is
     add_told command done does (ShowsText text) is = rest own is
 
-    add_command : (command : PlantCmd) (outcome : Result PlantAnswer KeepFault) (t : Answered) → PlantShows outcome t → WithDone (done_for o outcome (command_of command)) Rest own → AddsToPart command t
-    add_command command (Ok answer) t shows is = subst (AddsToPart command) (sym shows) (add_told command (command_of command) refl answer is)
+    add_command : (command : PlantCmd) (outcome : Result PlantAnswer KeepFault) (t : Answered) → PlantShows outcome t → WithDone (done_for o outcome (recorded_command command)) Rest own → AddsToPart command t
+    add_command command (Ok answer) t shows is = subst (AddsToPart command) (sym shows) (add_told command (recorded_command command) refl answer is)
     add_command command (Err fault) t shows is = subst (AddsToPart command) (sym shows) (rest own is)
 
   module _ (events : List Event) (answers : List Answer) (happenings : List RunEvent) (tolds : List Answered) (below : (own : List OwnEvent) (replies : List Bytes) → IsPart o events answers own replies → Reads own replies (own_events http o happenings tolds) (replies_to http o happenings tolds)) where
@@ -146,7 +146,7 @@ module _ (o : Bytes) where
       ]
   event_part events answers (Owner bytes) (Reply NoText) (RequestEvent s) t shown below = (below.0, below.1, below.2)
   event_part events answers (CommandOf command) (CommandReply reply) (PlantEvent requested) t shown below =
-      let more = with_done (done_for o (meaning_of_plant_reply reply) (command_of command)) (λ own. IsPart o events answers own below.1) below.0 below.2 in
+      let more = with_done (done_for o (meaning_of_plant_reply reply) (recorded_command command)) (λ own. IsPart o events answers own below.1) below.0 below.2 in
       (more.0, below.1, more.1)
   event_part events answers (Owner bytes) (Reply (OutText text)) (PlantEvent requested) t shown below = absurd shown
   event_part events answers (Owner bytes) (Reply NoText) (PlantEvent requested) t shown below = absurd shown

@@ -1,6 +1,6 @@
 -- Each owner's replies in a run are those that its own events give by themselves.
 use Rattle.std.proofs.Common.{◌≡◌, Bool, true, false, ◌&&◌, cond, Option, Some, None, List, [], ◌∷◌, ◌++◌, refl, sym, ap, subst, ◌∙◌}
-use Rattle.toll_wire.proofs.Common.{false≢true, Bytes, same_bytes, PlaceOrder, CancelOrder, Release, Reject, Command, by, History, part, Verdict, Accepted, Repeated, Refused, verdict, grow, grown, IsLawful, Request, IsValidOwnerRequest, has_owner_key, IsReply, after_answer, after_reply, PlantCmd, IsQuestionAnswer, IsVerdictOr, command_of, option_map_or, PlantAnswer, Judged}
+use Rattle.toll_wire.proofs.Common.{false≢true, Bytes, same_bytes, PlaceOrder, CancelOrder, Release, Reject, Command, by, History, part, Verdict, Accepted, Repeated, Refused, verdict, grow, grown, IsLawful, Request, IsValidOwnerRequest, has_owner_key, IsReply, after_answer, after_reply, PlantCmd, IsQuestionAnswer, IsVerdictOr, recorded_command, option_map_or, PlantAnswer, Judged}
 use Rattle.std.specs.Prelude.{IsSomeAnd}
 use mathlib.Core.Bool.{and-false}
 use Rattle.toll_base.specs.Values.{house_name}
@@ -101,7 +101,7 @@ module _ (wire : Wire) where
           subst (λ F. IsAlone wire F events replies) (ap (part o) new_is ∙ sym (after_over_part old lawful p key asking is)) alone,
         )
 
-    command_alone : (old new : History) (command : PlantCmd) (c : Command) → command_of command ≡ Some c → (v : Verdict) (events : List RunEvent) (replies : List Bytes) → new ≡ grown v old c →
+    command_alone : (old new : History) (command : PlantCmd) (c : Command) → recorded_command command ≡ Some c → (v : Verdict) (events : List RunEvent) (replies : List Bytes) → new ≡ grown v old c →
         IsAlone wire (part o new) events replies → (b : Bool) → same_bytes c.owner o ≡ b → IsAlone wire (part o old) (cond (accepts wire (Judged v) && b) (PlantEvent command ∷ events) events) replies
     command_alone old new command c does Accepted events replies new_is alone true own =
         subst (λ (done : Option Command). IsSomeAnd done (λ c. IsAlone wire (c ∷ part o old) events replies)) (sym does)
@@ -110,7 +110,7 @@ module _ (wire : Wire) where
     command_alone old new command c does Repeated events replies new_is alone b is = subst (λ F. IsAlone wire (part o F) events replies) new_is alone
     command_alone old new command c does (Refused why) events replies new_is alone b is = subst (λ F. IsAlone wire (part o F) events replies) new_is alone
 
-    plant_alone : (old new : History) (command : PlantCmd) (done : Option Command) → command_of command ≡ done → (otherwise : Type 0) (answer : PlantAnswer) (events : List RunEvent) (replies : List Bytes) →
+    plant_alone : (old new : History) (command : PlantCmd) (done : Option Command) → recorded_command command ≡ done → (otherwise : Type 0) (answer : PlantAnswer) (events : List RunEvent) (replies : List Bytes) →
         IsVerdictOr old done otherwise answer → new ≡ option_map_or (grow old) done old → IsAlone wire (part o new) events replies →
         IsAlone wire (part o old) (cond (accepts wire answer && is_some_where (λ (c : Command). same_bytes c.owner o) done) (PlantEvent command ∷ events) events) replies
     plant_alone old new command (Some c) does otherwise answer events replies answered new_is alone =
@@ -124,7 +124,7 @@ module _ (wire : Wire) where
     step_alone old (RequestEvent s) (Text out) new events replies lawful step alone = request_alone old new out s events replies lawful step.0 step.1 alone (claims o s) refl
     step_alone old (RequestEvent s) Unavailable new events replies lawful step alone = subst (λ F. IsAlone wire (part o F) events replies) step alone
     step_alone old (PlantEvent command) (PlantAnswers answer) new events replies lawful step alone =
-        plant_alone old new command (command_of command) refl (IsQuestionAnswer old command answer) answer events replies step.0 step.1 alone
+        plant_alone old new command (recorded_command command) refl (IsQuestionAnswer old command answer) answer events replies step.0 step.1 alone
     step_alone old (PlantEvent command) PlantFault new events replies lawful step alone = subst (λ F. IsAlone wire (part o F) events replies) step alone
     step_alone old (RequestEvent s) (PlantAnswers answer) new events replies lawful step alone = absurd step
     step_alone old (RequestEvent s) PlantFault new events replies lawful step alone = absurd step

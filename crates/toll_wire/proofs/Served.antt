@@ -88,7 +88,7 @@ module _ {K : Type 0} (meaning : Meaning K) where
   -- ---- without a call of the keep
 
   -- replies to the bytes alone, and without a key
-  pub untouched : (k : K) (settled : (c : Content) → meaning.is_honest k → meaning.is_live k → meaning.holds k c → meaning.leaves k (c ∷ [])) (text : Bytes) (out : Out) → IsText out (Some text) → Serves k k (Nobody text) out
+  pub untouched : (k : K) (settled : (c : Content) → meaning.is_honest k → meaning.is_store_open k → meaning.holds k c → meaning.leaves k (c ∷ [])) (text : Bytes) (out : Out) → IsText out (Some text) → Serves k k (Nobody text) out
   untouched k settled text out is = record {
     tells = so_of_reply out text (MayBeReply http (Nobody text)) is refl;
     goes = refl;
@@ -97,10 +97,10 @@ module _ {K : Type 0} (meaning : Meaning K) where
     asks = λ now c held none. held;
     quiet = λ now c held not. held;
     once = λ now c held. tt;
-    served = λ now c H held stands lawful. none_to_do (meaning.holds k) (meaning.is_live k) (meaning.leaves k) c held H (reply_outcome out) (IsTold http H (Nobody text)) stands (λ live. settled c now live held) (so_of_text out text (IsTold http H (Nobody text)) is refl);
+    served = λ now c H held stands lawful. none_to_do (meaning.holds k) (meaning.is_store_open k) (meaning.leaves k) c held H (reply_outcome out) (IsTold http H (Nobody text)) stands (λ live. settled c now live held) (so_of_text out text (IsTold http H (Nobody text)) is refl);
   }
 
-  pub keyless : (k : K) (settled : (c : Content) → meaning.is_honest k → meaning.is_live k → meaning.holds k c → meaning.leaves k (c ∷ [])) (o : Bytes) (asking : ClaimedRequest) (out : Out) → IsText out (Some (text_of_failure Forbidden)) → Serves k k (By o None asking) out
+  pub keyless : (k : K) (settled : (c : Content) → meaning.is_honest k → meaning.is_store_open k → meaning.holds k c → meaning.leaves k (c ∷ [])) (o : Bytes) (asking : ClaimedRequest) (out : Out) → IsText out (Some (text_of_failure Forbidden)) → Serves k k (By o None asking) out
   keyless k settled o asking out is = record {
     tells = so_of_reply out (text_of_failure Forbidden) (MayBeReply http (By o None asking)) is refl;
     goes = refl;
@@ -109,7 +109,7 @@ module _ {K : Type 0} (meaning : Meaning K) where
     asks = λ now c held none. held;
     quiet = λ now c held not. held;
     once = λ now c held. tt;
-    served = λ now c H held stands lawful. none_to_do (meaning.holds k) (meaning.is_live k) (meaning.leaves k) c held H (reply_outcome out) (IsTold http H (By o None asking)) stands (λ live. settled c now live held) (so_of_text out (text_of_failure Forbidden) (IsTold http H (By o None asking)) is refl);
+    served = λ now c H held stands lawful. none_to_do (meaning.holds k) (meaning.is_store_open k) (meaning.leaves k) c held H (reply_outcome out) (IsTold http H (By o None asking)) stands (λ live. settled c now live held) (so_of_text out (text_of_failure Forbidden) (IsTold http H (By o None asking)) is refl);
   }
 
   -- ---- after a reading
@@ -164,7 +164,7 @@ module _ {K : Type 0} (meaning : Meaning K) where
       quiet = λ now c held not. (reads.keeps now).content c held;
       once = λ now c held. so_again c (By o (Some key) asking) (meaning.holds new c) ((reads.keeps now).content c held);
       served = λ now c H held stands lawful.
-          none_done (meaning.holds new) (meaning.is_live old) (meaning.leaves new) c ((reads.keeps now).content c held) (after_saying http H (By o (Some key) asking)) tt (IsTold http H (By o (Some key) asking)) (λ live. (reads.keeps now).crash live c held);
+          none_done (meaning.holds new) (meaning.is_store_open old) (meaning.leaves new) c ((reads.keeps now).content c held) (after_saying http H (By o (Some key) asking)) tt (IsTold http H (By o (Some key) asking)) (λ live. (reads.keeps now).crash live c held);
     }
 
     module _ (failure : Failure) {X : Type 0} (x : X) (reads : ServedReads {X = X} old new (Ok x)) (b : Bool) (admits : meaning.is_honest new → (c : Content) (H : History) → meaning.holds old c → Represents c H → b ≡ has_owner_key o key H) where
@@ -183,7 +183,7 @@ module _ {K : Type 0} (meaning : Meaning K) where
         quiet = λ now c held not. (reads.keeps now).content c held;
         once = λ now c held. tt;
         served = λ now c H held stands lawful.
-            none_to_do (meaning.holds new) (meaning.is_live old) (meaning.leaves new) c ((reads.keeps now).content c held) H (reply_outcome (Text text)) (IsTold http H served_failing) stands (λ live. (reads.keeps now).crash live c held)
+            none_to_do (meaning.holds new) (meaning.is_store_open old) (meaning.leaves new) c ((reads.keeps now).content c held) H (reply_outcome (Text text)) (IsTold http H served_failing) stands (λ live. (reads.keeps now).crash live c held)
             (b, admits now c H held stands, is);
       }
 
@@ -197,7 +197,7 @@ module _ {K : Type 0} (meaning : Meaning K) where
     pub all : meaning.is_honest new → (c : Content) → meaning.holds middle c → AllChangesFit c changes → OnOk made (meaning.holds new (content_after changes c))
     pub none : meaning.is_honest new → (c : Content) → meaning.holds middle c → OnErr made (meaning.holds new c)
     pub whole : meaning.is_honest new → (c : Content) → meaning.holds middle c → ContentKeepsRules c → made ≢ Err Damaged
-    pub crash : meaning.is_honest new → meaning.is_live middle → (c : Content) → meaning.holds middle c → AllChangesFit c changes → meaning.leaves new (c ∷ content_after changes c ∷ [])
+    pub crash : meaning.is_honest new → meaning.is_store_open middle → (c : Content) → meaning.holds middle c → AllChangesFit c changes → meaning.leaves new (c ∷ content_after changes c ∷ [])
 
   module _ (old middle new : K) (o key : Bytes) (q : Request) (reported : OwnerReply) (changes : List Change) (reads : ServedReads {X = OwnerReply} old middle (Ok reported)) (quiet : may_change q (Ok reported) ≡ false → changes ≡ []) (once : meaning.is_honest middle → (c : Content) → meaning.holds old c → IfPlacedAgain (c.rows o) q (changes ≡ []))
       (plan : Over meaning old middle (λ c H. IsPlan c H o key q reported changes)) (text : Vec ℕ) (is : text.items ≡ text_of_reply_meaning reported) where
@@ -233,8 +233,8 @@ module _ {K : Type 0} (meaning : Meaning K) where
     tells_out (Ok done) = (reported, tt, is)
     tells_out (Err fault) = tt
 
-    served_out : (made : Result (Unit {0}) KeepFault) (c : Content) (H : History) → IsDone (meaning.holds new) (meaning.is_live old) (meaning.leaves new) c (after_reply o key H q) (finished planned made) (IsReply o key H q) →
-        IsSayingServed (meaning.holds new) (meaning.is_live old) (meaning.leaves new) c H asking (text_if text made)
+    served_out : (made : Result (Unit {0}) KeepFault) (c : Content) (H : History) → IsDone (meaning.holds new) (meaning.is_store_open old) (meaning.leaves new) c (after_reply o key H q) (finished planned made) (IsReply o key H q) →
+        IsSayingServed (meaning.holds new) (meaning.is_store_open old) (meaning.leaves new) c H asking (text_if text made)
     served_out (Ok done) c H came = record { reported = (reported, came.reported, is); done = came.done; undone = tt; crash = came.crash }
     served_out (Err fault) c H came = record { reported = tt; done = tt; undone = came.undone; crash = came.crash }
 

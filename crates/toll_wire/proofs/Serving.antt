@@ -45,12 +45,12 @@ module _ {K : Type 0} (meaning : Meaning K) where
   run_all_honest old new [] (a ∷ answers) served now = absurd served
   run_all_honest old new (e ∷ events) [] served now = absurd served
 
-  module _ (settled : (k : K) (c : Content) → meaning.is_honest k → meaning.is_live k → meaning.holds k c → meaning.leaves k (c ∷ [])) where
+  module _ (settled : (k : K) (c : Content) → meaning.is_honest k → meaning.is_store_open k → meaning.holds k c → meaning.leaves k (c ∷ [])) where
     -- ---- one event is a step
 
     module _ (old new : K) (now : meaning.is_honest new) (c : Content) (H : History) (held : meaning.holds old c) (stands : Represents c H) (lawful : IsLawful H) where
       abbrev Step : Event → Answer → Type 0
-      Step e a = IsStepOf (meaning.holds new) (meaning.is_live old) (meaning.leaves new) (meaning.has_cause old new) c H e a
+      Step e a = IsStepOf (meaning.holds new) (meaning.is_store_open old) (meaning.leaves new) (meaning.has_cause old new) c H e a
 
       -- its bytes were not read, and nothing happened
       unread_step : (bytes : Vec ℕ) → new ≡ old → Step (Owner bytes) (Reply NoText)
@@ -64,16 +64,16 @@ module _ {K : Type 0} (meaning : Meaning K) where
             next = H;
             step = refl;
             left = record { content = c; held = still; stands = stands };
-            crash = λ live. record { others = []; stand = tt; left = settled new c now (subst meaning.is_live (sym same) live) still };
-            settled = λ live. inl (settled new c now (subst meaning.is_live (sym same) live) still);
+            crash = λ live. record { others = []; stand = tt; left = settled new c now (subst meaning.is_store_open (sym same) live) still };
+            settled = λ live. inl (settled new c now (subst meaning.is_store_open (sym same) live) still);
           }
 
       -- what its bytes say was served
       -- a stop behind it leaves what is held
-      rests_behind : Settles meaning old new → (d : Content) → meaning.holds new d → meaning.is_live old → meaning.leaves new (d ∷ []) ⊎ meaning.has_cause old new
+      rests_behind : Settles meaning old new → (d : Content) → meaning.holds new d → meaning.is_store_open old → meaning.leaves new (d ∷ []) ⊎ meaning.has_cause old new
       rests_behind rests d there live = elim (rests now live d there) [ inl lives ↦ inl lives.1 | inr cause ↦ inr cause ]
 
-      reply_step : (bytes : Vec ℕ) (saying : Saying) (out : Out) → Settles meaning old new → Says bytes.items saying → IsSayingServed (meaning.holds new) (meaning.is_live old) (meaning.leaves new) c H saying out → Step (Owner bytes) (Reply out)
+      reply_step : (bytes : Vec ℕ) (saying : Saying) (out : Out) → Settles meaning old new → Says bytes.items saying → IsSayingServed (meaning.holds new) (meaning.is_store_open old) (meaning.leaves new) c H saying out → Step (Owner bytes) (Reply out)
       reply_step bytes saying (OutText text) rests says served = record {
         happening = RequestEvent saying;
         reported = Text text.items;
@@ -99,7 +99,7 @@ module _ {K : Type 0} (meaning : Meaning K) where
 
       -- the plant has an answer, or there was a fault
       plant_step : (command : PlantCmd) (reply : PlantReply) (outcome : Result PlantAnswer KeepFault) → meaning_of_plant_reply reply ≡ outcome → Settles meaning old new → IsValidCommand command →
-          IsDone (meaning.holds new) (meaning.is_live old) (meaning.leaves new) c (after_plant H command) outcome (IsPlantAnswer H command) → Step (Command command) (CommandReply reply)
+          IsDone (meaning.holds new) (meaning.is_store_open old) (meaning.leaves new) c (after_plant H command) outcome (IsPlantAnswer H command) → Step (Command command) (CommandReply reply)
       plant_step command reply (Ok reported) outcome_is rests valid done = record {
         happening = PlantEvent command;
         reported = PlantAnswers reported;
@@ -145,7 +145,7 @@ module _ {K : Type 0} (meaning : Meaning K) where
         let middle = served.0 in
         let then = run_all_honest middle new events answers served.2 now in
         let step = event_step old middle then c H held stands lawful e a served.1 in
-        (middle, step, run_steps_of middle new events answers served.2 now step.left.content step.next step.left.held step.left.stands (lawful_next (meaning.is_live old) (meaning.holds middle) (meaning.leaves middle) (meaning.has_cause old middle) c H e a lawful step))
+        (middle, step, run_steps_of middle new events answers served.2 now step.left.content step.next step.left.held step.left.stands (lawful_next (meaning.is_store_open old) (meaning.holds middle) (meaning.leaves middle) (meaning.has_cause old middle) c H e a lawful step))
     run_steps_of old new [] (a ∷ answers) served now c H held stands lawful = absurd served
     run_steps_of old new (e ∷ events) [] served now c H held stands lawful = absurd served
 
@@ -163,7 +163,7 @@ module _ {K : Type 0} (meaning : Meaning K) where
     }
     events_run_of old new (e ∷ events) (a ∷ answers) c H held stands lawful steps =
         let step = steps.1 in
-        let rest = events_run_of steps.0 new events answers step.left.content step.next step.left.held step.left.stands (lawful_next (meaning.is_live old) (meaning.holds steps.0) (meaning.leaves steps.0) (meaning.has_cause old steps.0) c H e a lawful step) steps.2 in
+        let rest = events_run_of steps.0 new events answers step.left.content step.next step.left.held step.left.stands (lawful_next (meaning.is_store_open old) (meaning.holds steps.0) (meaning.leaves steps.0) (meaning.has_cause old steps.0) c H e a lawful step) steps.2 in
         let run : IsRun http H (step.happening ∷ rest.happenings) (step.reported ∷ rest.reported) rest.last = (step.next, step.step, rest.run) in
         record {
           happenings = step.happening ∷ rest.happenings;
@@ -214,7 +214,7 @@ module _ {K : Type 0} (meaning : Meaning K) where
           let then = run_all_honest middle new events answers served.2 now in
           let step = event_step old middle then c H held stands lawful e a served.1 in (
             open_event old middle then c H held stands lawful e a served.1,
-            run_all_open middle new events answers served.2 now step.left.content step.next step.left.held step.left.stands (lawful_next (meaning.is_live old) (meaning.holds middle) (meaning.leaves middle) (meaning.has_cause old middle) c H e a lawful step),
+            run_all_open middle new events answers served.2 now step.left.content step.next step.left.held step.left.stands (lawful_next (meaning.is_store_open old) (meaning.holds middle) (meaning.leaves middle) (meaning.has_cause old middle) c H e a lawful step),
           )
       run_all_open old new [] (a ∷ answers) served now c H held stands lawful = absurd served
       run_all_open old new (e ∷ events) [] served now c H held stands lawful = absurd served

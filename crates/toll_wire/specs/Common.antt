@@ -1,5 +1,5 @@
 -- Words of other crates that several definitions here are said in.
-pub use Rattle.toll_answers.specs.PlantAnswers.{IsPlantAnswer, IsValidCommand, Judged, PlantAnswer, Shows, after_plant, command_of}
+pub use Rattle.toll_answers.specs.PlantAnswers.{IsPlantAnswer, IsValidCommand, Judged, PlantAnswer, Shows, after_plant, recorded_command}
 pub use Rattle.toll_answers.specs.Texts.{recall_line_text, recall_text, trace_text}
 pub use Rattle.toll_answers.specs.OwnerReply.{OwnerReply, ReplyTrace}
 pub use Rattle.toll_answers.specs.declared.plant_cmd.PlantCmd.{PlantCmd}

@@ -5,7 +5,7 @@ use Rattle.toll_answers.specs.declared.plant_cmd.PlantCmd.TheVariants.{Recall}
 use Rattle.toll_base.specs.Lots.{lot_id}
 use Rattle.toll_trace.specs.declared.step.Step.{Step}
 use Rattle.toll_answers.specs.Agreement.{IsOwnTrace, IsPlantTrace}
-use Rattle.toll_wire.specs.OfficeRuns.{IsRunOf, answered_by}
+use Rattle.toll_wire.specs.OfficeRuns.{IsRunOf, meaning_of_answer}
 use Rattle.toll_wire.specs.Parts.{AreAlone, IsPart, OwnEvent}
 use Rattle.toll_wire.specs.Printed.{PrintsLine, asks_trace}
 use Rattle.toll_wire.specs.ReplyTexts.{text_of_reply_meaning}
@@ -49,7 +49,7 @@ AreRunsAlike one other = (o : Bytes) → same_bytes o house_name ≡ false → A
 abbrev pub AnswerAlike : (Content → Type 0) → (Content → Type 0) → History → List Event → Type 0
 AnswerAlike holds keeps H events =
     (answers others : List Answer) → IsRunOf holds H events answers → IsRunOf keeps H events others →
-    NoFaults http (map answered_by answers) → NoFaults http (map answered_by others) → map answered_by answers ≡ map answered_by others
+    NoFaults http (map meaning_of_answer answers) → NoFaults http (map meaning_of_answer others) → map meaning_of_answer answers ≡ map meaning_of_answer others
 
 -- every run of these events is private
 abbrev pub RunPrivately : Wire → History → List RunEvent → Type 0

@@ -42,10 +42,10 @@ plant_answered (Ok reported) = PlantAnswers reported
 plant_answered (Err fault) = PlantFault
 
 -- the bytes of a reply, or the answer to the plant; or that there was no reply, or a fault
-abbrev pub answered_by : Answer → Answered
-answered_by (Reply (Text text)) = OwnerReply text.items
-answered_by (Reply NoText) = Unavailable
-answered_by (CommandReply reply) = plant_answered (meaning_of_plant_reply reply)
+abbrev pub meaning_of_answer : Answer → Answered
+meaning_of_answer (Reply (Text text)) = OwnerReply text.items
+meaning_of_answer (Reply NoText) = Unavailable
+meaning_of_answer (CommandReply reply) = plant_answered (meaning_of_plant_reply reply)
 
 -- ---- one event
 
@@ -79,7 +79,7 @@ module _ {K : Type 0} (meaning : Meaning K) where
   abbrev pub AreSteps : K → Content → History → List Event → List Answer → K → Type 0
   AreSteps old c H [] [] new = new ≡ old
   AreSteps old c H (e ∷ events) (a ∷ answers) new =
-      (middle : K) × (step : IsStepOf (meaning.holds middle) (meaning.is_live old) (meaning.leaves middle) (meaning.has_cause old middle) c H e a) × AreSteps middle step.left.content step.next events answers new
+      (middle : K) × (step : IsStepOf (meaning.holds middle) (meaning.is_store_open old) (meaning.leaves middle) (meaning.has_cause old middle) c H e a) × AreSteps middle step.left.content step.next events answers new
   AreSteps old c H _ _ new = ⊥
 
 -- the only fault in an answer to the plant is lack of memory

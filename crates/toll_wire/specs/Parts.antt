@@ -1,6 +1,6 @@
 -- What one owner has of a run, as bytes: its requests and their replies, and the commands on its rows.
 use Rattle.std.specs.Prelude.{◌≡◌, ◌⊎◌, true, if◌then◌else◌, Option, Some, None, List, [], ◌∷◌, Result, Ok}
-use Rattle.toll_wire.specs.Common.{Bytes, same_bytes, History, Accepted, KeepFault, PlantAnswer, Judged, command_of, meaning_of_plant_reply}
+use Rattle.toll_wire.specs.Common.{Bytes, same_bytes, History, Accepted, KeepFault, PlantAnswer, Judged, recorded_command, meaning_of_plant_reply}
 use Rattle.toll_history.specs.Command.{Command}
 use Rattle.toll_wire.specs.declared.event.Event.{Event}
 use Rattle.toll_wire.specs.declared.event.Event.TheVariants.{Owner, Plant}
@@ -37,7 +37,7 @@ IsPart o (Owner bytes ∷ events) (Reply (Text text) ∷ answers) own replies =
     ⊎ ((¬ (IsClaimed o bytes.items)) × IsPart o events answers own replies)
 IsPart o (Owner bytes ∷ events) (Reply Unavailable ∷ answers) own replies = IsPart o events answers own replies
 IsPart o (Plant command ∷ events) (PlantReply reply ∷ answers) own replies =
-    WithDone (done_for o (meaning_of_plant_reply reply) (command_of command)) (λ others. IsPart o events answers others replies) own
+    WithDone (done_for o (meaning_of_plant_reply reply) (recorded_command command)) (λ others. IsPart o events answers others replies) own
 IsPart o _ _ own replies = ⊥
 
 -- these are the replies to the owner's requests if nothing but these events comes, and each command is accepted without a test

@@ -1,6 +1,6 @@
 -- Runs of events with their answers, and what one owner's events give alone.
 use Rattle.std.specs.Prelude.{◌≡◌, Bool, false, true, ◌&&◌, if◌then◌else◌, Option, Some, None, List, [], ◌∷◌, ◌++◌, IsSomeAnd}
-use Rattle.toll_wire.specs.Common.{Bytes, same_bytes, house_name, History, part, Accepted, Request, OwnerReply, PlantCmd, command_of, PlantAnswer, Judged, IsPlantAnswer, after_plant, IsValidCommand}
+use Rattle.toll_wire.specs.Common.{Bytes, same_bytes, house_name, History, part, Accepted, Request, OwnerReply, PlantCmd, recorded_command, PlantAnswer, Judged, IsPlantAnswer, after_plant, IsValidCommand}
 use Rattle.toll_base.specs.Words.{is_some_where}
 use Rattle.toll_answers.specs.Replies.{IsValidOwnerRequest, has_owner_key, IsReply, after_reply}
 
@@ -99,7 +99,7 @@ module _ (wire : Wire) where
   -- an event of the owner's own: a request that claims it and has a reply, or an accepted command that concerns it
   abbrev pub is_own_event : Bytes → RunEvent → Answered → Bool
   is_own_event o (RequestEvent s) (Text out) = claims o s
-  is_own_event o (PlantEvent command) (PlantAnswers reported) = accepts reported && is_some_where (λ c. same_bytes c.owner o) (command_of command)
+  is_own_event o (PlantEvent command) (PlantAnswers reported) = accepts reported && is_some_where (λ c. same_bytes c.owner o) (recorded_command command)
   is_own_event o _ _ = false
 
   abbrev pub own_events : Bytes → List RunEvent → List Answered → List RunEvent
@@ -121,7 +121,7 @@ module _ (wire : Wire) where
   abbrev pub IsAlone : History → List RunEvent → List Bytes → Type 0
   IsAlone F [] [] = Unit {0}
   IsAlone F (RequestEvent s ∷ events) (out ∷ replies) = IsTold F s out × IsAlone (after_saying F s) events replies
-  IsAlone F (PlantEvent command ∷ events) replies = IsSomeAnd (command_of command) (λ c. IsAlone (c ∷ F) events replies)
+  IsAlone F (PlantEvent command ∷ events) replies = IsSomeAnd (recorded_command command) (λ c. IsAlone (c ∷ F) events replies)
   IsAlone F _ _ = ⊥
 
   -- each owner's replies are those that its own events give by themselves

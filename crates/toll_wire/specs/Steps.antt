@@ -102,7 +102,7 @@ module _ {K : Type 0} (meaning : Meaning K) (old new : K) where
     -- an order that is there is not placed again, whatever rows there are
     pub once : meaning.is_honest new → (c : Content) → meaning.holds old c → IfPlacedBefore c saying (meaning.holds new c)
     -- the reply and the content are those that the definitions say
-    pub served : Over meaning old new (λ c H. IsSayingServed (meaning.holds new) (meaning.is_live old) (meaning.leaves new) c H saying out)
+    pub served : Over meaning old new (λ c H. IsSayingServed (meaning.holds new) (meaning.is_store_open old) (meaning.leaves new) c H saying out)
 
   -- there was no memory to read the bytes, and the keep is untouched
   pub record IsNotRead (out : Out) : Type 0 where

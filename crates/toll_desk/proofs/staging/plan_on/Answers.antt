@@ -1,5 +1,5 @@
 use Rattle.std.proofs.Common.{refl, ap, subst, sym}
-use Rattle.toll_desk.proofs.Common.{verdict_of, Refused, Refuse, UnknownOwner, asked_about, command_of, concerned}
+use Rattle.toll_desk.proofs.Common.{verdict_of, Refused, Refuse, UnknownOwner, asked_about, recorded_command, concerned}
 use Rattle.toll_desk.specs.Translations.{meaning_of_plant_reply}
 use Rattle.toll_desk.specs.PlantStaged.{IsVerdictOrMemory}
 use Rattle.toll_desk.specs.Reads.{AreBoth}
@@ -11,7 +11,7 @@ use Rattle.toll_desk.proofs.staging.plan_on.Goals as goal
 pub returns-in-Ok-clause-plan : goal.returns-in-Ok-clause-plan
 returns-in-Ok-clause-plan c = λ content H both_are stands lawful.
     let q = c.args.command.now in
-    let done = command_of q in
+    let done = recorded_command q in
     let both = c.in-Some.both in
     let are = subst (AreBoth content (concerned q)) c.in-Some.is both_are in
     planned_as content H q c.in-Ok.decision c.of.result c.of.ensures.reported c.of.ensures.changes
@@ -22,7 +22,7 @@ returns-in-Ok-clause-plan c = λ content H both_are stands lawful.
 pub returns-clause-plan : goal.returns-clause-plan
 returns-clause-plan c = λ content H both_are stands lawful.
     let q = c.args.command.now in
-    let done = command_of q in
+    let done = recorded_command q in
     planned_as content H q (Refuse UnknownOwner) c.unchanged-in-None.result (ap meaning_of_plant_reply c.unchanged-in-None.ensures.reply) c.unchanged-in-None.ensures.changes
     (decided_unknown content H stands done (asked_about q) (deed_so _ _ shared_adds done c.requires.shared) (unread_is_unknown content H (concerned q) stands (subst (AreBoth content (concerned q)) c.in-None.is both_are)))
 

@@ -1,7 +1,7 @@
 use Rattle.std.proofs.Common.{◌≡◌, ◌∙◌, ap, inl, inr, subst, sym}
 use Rattle.toll_service.specs.Common.{Request}
 use Rattle.toll_service.specs.Damages.{IsNoted, KnowsNoMore}
-use Rattle.toll_service.specs.Sessions.{AreAsLeft, IsSessionIdle, IsTakenOver, IsWithheld, state_of_session}
+use Rattle.toll_service.specs.Sessions.{AreAsLeft, IsSessionIdle, IsAnsweredAtHand, IsWithheld, state_of_session}
 use Rattle.toll_service.proofs.DamageLemmas.{noted_behind, noted_none}
 use Rattle.toll_service.proofs.office_service.OfficeServiceService.answer.Goals as goal
 use Rattle.toll_service.proofs.office_service.OfficeServiceService.answer.Goals.{then-not-reply, else-not-reply}
@@ -30,8 +30,8 @@ returns-after-not-reply g c =
     ] in
     let state : state_of_session c.logged.new.self.session ≡ state_of_session c.answer.new.self = ap (λ s. state_of_session s) session ∙ noted.0 in
     inl (
-      subst (λ s. IsTakenOver g.K.Keep.meaning g.O.KeepOpener.is_opened Kept old (Request c.args.listener c.args.bytes.now) c.logged.result s) (sym state)
-          (subst (λ p. IsTakenOver g.K.Keep.meaning g.O.KeepOpener.is_opened Kept old (Request c.args.listener c.args.bytes.now) p (state_of_session c.answer.new.self)) (sym c.logged.ensures.poll)
+      subst (λ s. IsAnsweredAtHand g.K.Keep.meaning g.O.KeepOpener.is_opened Kept old (Request c.args.listener c.args.bytes.now) c.logged.result s) (sym state)
+          (subst (λ p. IsAnsweredAtHand g.K.Keep.meaning g.O.KeepOpener.is_opened Kept old (Request c.args.listener c.args.bytes.now) p (state_of_session c.answer.new.self)) (sym c.logged.ensures.poll)
           c.in-Ok.ensures.ok),
       subst (λ s. IsNoted g.K.Keep.meaning g.O.KeepOpener.is_opened Kept known s.damage c.args.listener c.args.bytes.now c.logged.result) (sym session)
           (subst (λ p. IsNoted g.K.Keep.meaning g.O.KeepOpener.is_opened Kept known c.if-not-reply.self.session.damage c.args.listener c.args.bytes.now p) (sym c.logged.ensures.poll) noted.1),

@@ -1,6 +1,6 @@
 use Rattle.std.proofs.Common.{◌≡◌, ◌+◌, ◌-◌, ◌≤◌, ◌∙◌, arith}
 use Rattle.toll_base.proofs.ActualCountLemmas.{own_batch, one_less, same_batches}
-use Rattle.toll_base.proofs.actual_count.take_one.Goals as goal
+use Rattle.toll_base.proofs.actual_count.subtract_one.Goals as goal
 
 pub overflow_sub-count : goal.overflow_sub-count
 overflow_sub-count c = rw c.count_in-count.ensures (c.requires.counted c.in-Actual.order c.in-Actual.number (rw c.in-Actual.is (own_batch c.in-Actual.order c.in-Actual.number)))
