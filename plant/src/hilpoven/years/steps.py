@@ -8,6 +8,7 @@ from typing import Any
 from .. import HOUSE
 from ..core.forms import MOST_VALUE
 from ..records.gauge import OF_OWNER
+from ..records.measures import value_word
 from ..records.schema import LATEST, Disposition, Role
 
 Base = sqlite3.Connection
@@ -39,11 +40,6 @@ class Step:
         if self.owner:
             return f"{self.owner} POST {self.path}"
         return " ".join((*self.words[:-1], BLOTTED) if self.words[0] == "owner-add" else self.words)
-
-
-def value_word(number: int) -> str:
-    """A value of a test as a word."""
-    return f"M{-number}" if number < 0 else str(number)
 
 
 def lines(base: Base, word: str, sql: str) -> Iterator[Step]:
