@@ -12,7 +12,7 @@ import time
 
 import pytest
 from conftest import Plant, command, environment
-from hilpoven.core import backups
+from hilpoven.core import backups, settings as site
 from hilpoven.journal.query import check
 
 
@@ -358,7 +358,9 @@ def test_a_full_disk_is_blamed_on_the_right_file(at_work):
     ("keep = 0", "keep is to be from 1"), ("days = -1", "days is to be from 0"), ("wait = true", "wait is to be a number"),
     ("site_logs = [1]", "site_logs is to be a list of texts"), ("port = 70000", "port is to be from 0 to 65,535"),
     ("backup_hours = 0", "backup_hours is to be from 1"), ("wait = -1", "wait is to be from 0"),
-    ("keep = true", "keep is to be a whole number")])
+    ("keep = true", "keep is to be a whole number"), ("plant = 1", "plant is to be a table: [plant]"), ("[plant]\nphone = 'x'", "phone is nothing that [plant] says"),
+    ("[plant]\nname = 5", "name is to be a text"), ('[plant]\nname = "a\\nb"', "name has a line end"), ('[plant]\naddress = "\\u001b[2J"', "address has U+001B"),
+    (f"[plant]\ncontact = '{'x' * 201}'", "contact has 201 letters"), ("[plant]\nlogo = ['x']", "logo is to be a text")])
 def test_settings_have_bounds(at_work, line, why):
     at_work.settle()
     with open(at_work.folder / "hilpoven.toml", "a") as file:
@@ -373,3 +375,11 @@ def test_settings_of_an_office_have_bounds(at_work, line, why):
     (at_work.folder / "acme.env").write_text(f"FILE={at_work.db}\n{line}\n")
     done = at_work.run("stock", "ACME", options=("--office", "acme"))
     assert done.status == 2 and why in done.err
+
+
+def test_the_settings_say_what_papers_say_of_the_plant(tmp_path):
+    path = tmp_path / "hilpoven.toml"
+    path.write_text('[plant]\nname = "Toll & Söhne"\naddress = "1 Kai"\ncontact = "qa@toll.example"\nlogo = "art/logo.png"\napprover = "Dr. Berg"\n')
+    assert site.load(str(path)).plant == ("Toll & Söhne", "1 Kai", "qa@toll.example", str(tmp_path / "art" / "logo.png"), "Dr. Berg")
+    path.write_text("")
+    assert site.load(str(path)).plant == ("", "", "", "", "")

@@ -2,9 +2,11 @@
 /etc/toll/NAME.env, or the words of the command."""
 import os
 import re
+from collections.abc import Callable
 from typing import Any, NamedTuple
 
 from .failure import WRONG_USE, Failure
+from .forms import TEXT
 from .rights import advice
 
 PATH = "/etc/hilpoven.toml"
@@ -24,6 +26,16 @@ class Require(NamedTuple):
     recipient: bool = False  # whether each shipment names the party that gets it
 
 
+class PlantFacts(NamedTuple):
+    """What papers say of the plant. Each field is a line below [plant]."""
+
+    name: str = ""
+    address: str = ""  # in one line
+    contact: str = ""  # who answers questions about a paper, and how
+    logo: str = ""  # a file, PNG or JPEG
+    approver: str = ""  # who approves certificates
+
+
 class Settings(NamedTuple):
     """What a site says of its office. Each field is a line of /etc/hilpoven.toml, or a table of it."""
 
@@ -41,6 +53,7 @@ class Settings(NamedTuple):
     wait: float = 10.0  # seconds for a lock that somebody has
     site_logs: list[str] = []  # of the proxy, with all owners' requests
     require: Require = Require()
+    plant: PlantFacts = PlantFacts()
 
 
 DEFAULTS = Settings()._asdict()
@@ -58,10 +71,12 @@ def load(path: str = PATH, office: str = "", db: str = "") -> Settings:
     """
     path = of_environment("HILPOVEN_SETTINGS") or os.fspath(path)
     settings = Settings(**{name: value_of(path, name, value) for name, value in lines_of(path).items()})
-    file, journal, backups = (
-        it and os.path.join(os.path.dirname(path), it) for it in (settings.file, settings.journal, settings.backups)
+    file, journal, backups, logo = (
+        it and os.path.join(os.path.dirname(path), it)
+        for it in (settings.file, settings.journal, settings.backups, settings.plant.logo)
     )
-    settings = settings._replace(file=file, journal=journal, backups=backups)
+    plant = settings.plant._replace(logo=logo)
+    settings = settings._replace(file=file, journal=journal, backups=backups, plant=plant)
     default = settings.office or ("" if db or settings.file else only_office())
     if not office or office == default:
         return of_office(settings, default) if default else settings
@@ -87,8 +102,8 @@ def value_of(path: str, name: str, value: Any, called: str = "") -> Any:
     """The value of a setting, in its type and its bounds; `called` is its name in the file where that is another."""
     if name not in DEFAULTS:
         raise Failure(f"{path}: {name} is no setting", WRONG_USE, f"there are: {', '.join(DEFAULTS)}")
-    if name == "require":
-        return requirements_of(path, value)
+    if name in TABLES:
+        return TABLES[name](path, name, value)
     kind = type(DEFAULTS[name])
     if type(value) is int and kind is float:
         value = float(value)
@@ -100,18 +115,36 @@ def value_of(path: str, name: str, value: Any, called: str = "") -> Any:
     return value
 
 
-def requirements_of(path: str, table: Any) -> Require:
-    """What the table [require] of the settings says."""
+def lines_below(path: str, name: str, table: Any, names: tuple[str, ...], none: str) -> dict[str, Any]:
+    """The lines of a table of the settings; fails if it is none, or has a line that is none of these."""
     if type(table) is not dict:
-        raise Failure(f"{path}: require is to be a table: [require]", WRONG_USE)
-    for name, value in table.items():
-        if name not in Require._fields:
-            raise Failure(
-                f"{path}: {name} is nothing to require", WRONG_USE, f"there are: {', '.join(Require._fields)}"
-            )
+        raise Failure(f"{path}: {name} is to be a table: [{name}]", WRONG_USE)
+    if strange := [line for line in table if line not in names]:
+        raise Failure(f"{path}: {strange[0]} is {none}", WRONG_USE, f"there are: {', '.join(names)}")
+    return table
+
+
+def requirements_of(path: str, name: str, table: Any) -> Require:
+    """What the table [require] of the settings says."""
+    lines = lines_below(path, name, table, Require._fields, "nothing to require")
+    for line, value in lines.items():
         if type(value) is not bool:
-            raise Failure(f"{path}: {name} is to be {CALLED[bool]}", WRONG_USE)
-    return Require(**table)
+            raise Failure(f"{path}: {line} is to be {CALLED[bool]}", WRONG_USE)
+    return Require(**lines)
+
+
+def plant_of(path: str, name: str, table: Any) -> PlantFacts:
+    """What the table [plant] of the settings says: texts of one line that can be printed."""
+    lines = lines_below(path, name, table, PlantFacts._fields, f"nothing that [{name}] says")
+    for line, value in lines.items():
+        if type(value) is not str:
+            raise Failure(f"{path}: {line} is to be {CALLED[str]}", WRONG_USE)
+        if fault := TEXT.fault(value):
+            raise Failure(f"{path}: {line} {fault}", WRONG_USE)
+    return PlantFacts(**lines)
+
+
+TABLES: dict[str, Callable[[str, str, Any], Any]] = {"require": requirements_of, "plant": plant_of}
 
 
 def unread(path: str, error: OSError) -> Failure:
