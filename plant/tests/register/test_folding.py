@@ -8,7 +8,8 @@ from conftest import eventually
 from hilpoven.core.office import Answer
 from hilpoven.journal.log import Journal
 from hilpoven.journal.query import check
-from hilpoven.register import file, folding
+from hilpoven.register import facts, file, folding
+from hilpoven.register.kinds import Bound
 from hilpoven.register.notes import KINDS, Link, MovementFacts, NotLinked, Party, Role, Why, Withdrawal, from_json, to_json
 from hypothesis import example, given, settings
 from hypothesis import strategies as any_of
@@ -16,13 +17,16 @@ from hypothesis import strategies as any_of
 NAME = any_of.from_regex(r"[A-Z0-9][A-Z0-9-]{0,4}", fullmatch=True)
 TEXT = any_of.text(any_of.characters(whitelist_categories=["L", "N", "P"]), max_size=20)
 SOME_TEXT = TEXT.filter(bool)
+DATE = any_of.none() | any_of.integers(20, 99).map(lambda it: it * 10_000 + 228)
 OF_NOTE = any_of.from_regex(r"[0-9a-f]{16}(\.[2-9])?", fullmatch=True)
 LINKS = any_of.builds(Link, NAME, NAME.map(lambda it: f"A{it}"), any_of.just(""), any_of.just(0), any_of.just("HOUSE"), NAME, any_of.sampled_from(Why),
                       any_of.none() | any_of.integers(1, 1_000_000_000), TEXT)
 OF_BATCHES = any_of.builds(Link, NAME, any_of.just(""), NAME, any_of.integers(1, 99), any_of.just("HOUSE"), NAME, any_of.sampled_from(Why))
 NOTES = any_of.one_of(LINKS, OF_BATCHES, any_of.builds(Party, NAME, NAME, SOME_TEXT, TEXT, TEXT, TEXT, any_of.lists(any_of.sampled_from(Role), max_size=2).map(tuple)),
                       any_of.builds(MovementFacts, NAME, NAME, any_of.just("") | NAME, TEXT, TEXT), any_of.builds(NotLinked, NAME, NAME),
-                      any_of.builds(Withdrawal, NAME, OF_NOTE, SOME_TEXT))
+                      any_of.builds(Withdrawal, NAME, OF_NOTE, SOME_TEXT), any_of.builds(facts.OwnerFacts, NAME, TEXT, TEXT), any_of.builds(facts.MaterialFacts, NAME, NAME, TEXT),
+                      any_of.builds(facts.TestFacts, NAME, NAME, NAME, TEXT, TEXT, any_of.integers(0, 9), TEXT), any_of.builds(facts.LotFacts, NAME, NAME, DATE, DATE, DATE),
+                      any_of.builds(facts.ResultFacts, NAME, NAME, NAME, any_of.integers(-1_000_000_000, 1_000_000_000), any_of.integers(0, 9_999_999), any_of.sampled_from(Bound)))
 
 
 @pytest.fixture
@@ -50,7 +54,7 @@ def test_a_note_is_read_as_it_was_written(note):
 
 
 @settings(max_examples=300, deadline=None)
-@given(NOTES.map(to_json), any_of.sampled_from(["owner", "lot", "order", "batch", "of_owner", "of_lot", "why", "amount", "reason", "party", "roles", "key", "of", "kind", "more"]),
+@given(NOTES.map(to_json), any_of.sampled_from(["owner", "lot", "order", "batch", "of_owner", "of_lot", "why", "amount", "reason", "party", "roles", "key", "of", "kind", "more", "material", "test", "decimals", "expires", "value", "day", "bound"]),
        any_of.one_of(any_of.none(), any_of.integers(-2, 10**12), any_of.text(max_size=3), any_of.sampled_from(["", "a\nb", "\x1b[2J", "\ud800", "X" * 201, "wh_2", "-A"]),
                      any_of.lists(any_of.text(max_size=2), max_size=2), any_of.booleans(), any_of.dictionaries(any_of.text(max_size=2), any_of.none(), max_size=1)))
 def test_what_is_no_note_is_read_as_none_or_as_a_note_that_can_be_printed(value, member, other):

@@ -5,7 +5,7 @@ from ..core.asking import Beside
 from ..core.context import Context
 from ..register import making
 from ..register.movements import GETS, Task, facts_of, require_party
-from ..register.notes import MovementFacts
+from ..register.facts import MovementFacts
 
 Values = dict[str, str]  # of the movement, by their names
 

@@ -5,7 +5,8 @@ from dataclasses import dataclass, field
 
 from ..records.rows import Lot, Move
 from ..register.movements import UNKNOWN
-from ..register.notes import MovementFacts, Party
+from ..register.facts import MovementFacts
+from ..register.notes import Party
 from ..register.store import Register
 from .sheets import Cell, Row, Sheet, columns
 

@@ -1,4 +1,4 @@
-"""What a note may say in a word: why a lot contains some of another one, and what a party is."""
+"""What a note may say in a word: why a lot contains some of another one, what a party is, and what a result means."""
 from enum import StrEnum
 
 
@@ -17,3 +17,15 @@ class Role(StrEnum):
     CUSTOMER = "customer"
     SUPPLIER = "supplier"
     CARRIER = "carrier"
+
+
+class Bound(StrEnum):
+    """Where the measured value is of a result whose value is a bound, as `<5` has it."""
+
+    BELOW = "below"
+    ABOVE = "above"
+
+    @property
+    def sign(self) -> str:
+        """How it is written before the value."""
+        return "<" if self is Bound.BELOW else ">"

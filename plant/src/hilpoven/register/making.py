@@ -19,7 +19,8 @@ from ..years import chain, earlier
 from . import file
 from .folding import AFTER
 from .movements import GETS, RETURNS, SENDS, Parties, Task, require_party
-from .notes import Link, MovementFacts, Note, Party, Why, to_json
+from .facts import MovementFacts
+from .notes import Link, Note, Party, Why, to_json
 from .standing import HAS_BATCH, HAS_LOT, Status, files_of, statuses
 
 Base = sqlite3.Connection

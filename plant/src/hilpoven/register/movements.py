@@ -6,7 +6,8 @@ from ..core.failure import REFUSED, Failure
 from ..core.forms import listed
 from ..core.nearest import nearest
 from ..output.table import Row
-from .notes import MovementFacts, Party, Role
+from .facts import MovementFacts
+from .notes import Party, Role
 
 Facts = Mapping[tuple[str, str], MovementFacts]  # by owner and key of the movement
 Parties = Mapping[tuple[str, str], Party]  # by owner and name

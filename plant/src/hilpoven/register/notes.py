@@ -2,28 +2,20 @@
 import re
 from collections.abc import Callable
 from dataclasses import MISSING, asdict, dataclass, fields
-from typing import Any, ClassVar
+from typing import Any
 
 from .. import HOUSE
-from ..core.forms import AMOUNT, BATCH, NAME, TEXT
+from ..core.forms import AMOUNT, BATCH, DAY, MOST_VALUE, NAME, TEXT
+from ..records.days import date_of
+from ..records.measures import MOST_DECIMALS
 from ..records.rows import BatchId, LotId
+from .facts import LotFacts, MaterialFacts, MovementFacts, OwnerFacts, ResultFacts, TestFacts
+from .kinds import Bound
 from .kinds import Role as Role
 from .kinds import Why as Why
+from .note import Note as Note
 
 NAME_OF_NOTE = re.compile(r"[0-9a-f]{16}(\.([2-9]|[1-9][0-9]{1,3}))?")
-
-
-@dataclass(frozen=True)
-class Note:
-    """What the plant notes for one owner."""
-
-    KIND: ClassVar[str]
-    owner: str
-
-    @property
-    def sentence(self) -> str:
-        """What it says, in words."""
-        raise NotImplementedError
 
 
 @dataclass(frozen=True)
@@ -80,25 +72,6 @@ class Party(Note):
 
 
 @dataclass(frozen=True)
-class MovementFacts(Note):
-    """What is known of a receipt or a shipment: the party that sent or gets it, the supplier's name of the lot, and the
-    document that came or went with it. Of several notes the last one that says something counts, member by member."""
-
-    KIND = "movement"
-    key: str
-    party: str = ""
-    supplier_lot: str = ""
-    document: str = ""
-
-    @property
-    def sentence(self) -> str:
-        """Which movement, and what is known of it."""
-        told = {"party": self.party, "the supplier's lot": self.supplier_lot, "document": self.document}
-        facts = ", ".join(f"{name} {value}" for name, value in told.items() if value)
-        return f"movement {self.key} of {self.owner}: {facts}"
-
-
-@dataclass(frozen=True)
 class NotLinked(Note):
     """A receipt looks as if a trace ended there, and doesn't."""
 
@@ -151,13 +124,19 @@ class DrillEnd(Note):
         return f"the drill {self.of} ends"
 
 
-ALL: tuple[type[Note], ...] = (Link, Party, MovementFacts, NotLinked, Withdrawal, DrillStart, DrillEnd)
+DESCRIPTIONS = (OwnerFacts, MaterialFacts, TestFacts, LotFacts, ResultFacts)
+ALL: tuple[type[Note], ...] = (
+    *(Link, Party, MovementFacts, NotLinked, Withdrawal, DrillStart, DrillEnd),
+    *DESCRIPTIONS,
+)
 KINDS = {it.KIND: it for it in ALL}
+MAY_BE_ZERO = {"value", "day"}  # members of which 0 says something
 
 
 def to_json(note: Note) -> dict[str, Any]:
     """A note as a member of a line of the journal; what is empty is left out."""
-    return {"kind": note.KIND, **{name: value for name, value in asdict(note).items() if value}}
+    said = {name: value for name, value in asdict(note).items() if value or name in MAY_BE_ZERO}
+    return {"kind": note.KIND, **said}
 
 
 def is_name(value: Any) -> bool:
@@ -175,15 +154,30 @@ def is_number(form: Callable[[str], str]) -> Callable[[Any], bool]:
     return lambda value: type(value) is int and not form(str(value))
 
 
+def is_between(least: int, most: int) -> Callable[[Any], bool]:
+    """Whether a value is a whole number within these bounds."""
+    return lambda value: type(value) is int and least <= value <= most
+
+
+def is_date(value: Any) -> bool:
+    """Whether a value is a day that is a date."""
+    return type(value) is int and date_of(value) is not None
+
+
 # What each member may be, by its name; any other is a text.
 MEMBERS: dict[str, Callable[[Any], bool]] = {
-    **{name: is_name for name in ("owner", "lot", "order", "of_owner", "of_lot", "party", "key")},
+    **{name: is_name for name in ("owner", "lot", "order", "of_owner", "of_lot", "party", "key", "material", "test")},
+    **{name: is_date for name in ("made", "expires", "retest")},
     "batch": is_number(BATCH.fault),
     "amount": is_number(AMOUNT.fault),
+    "day": is_number(DAY.fault),
+    "value": is_between(-MOST_VALUE, MOST_VALUE),
+    "decimals": is_between(0, MOST_DECIMALS),
     "of": lambda value: isinstance(value, str) and NAME_OF_NOTE.fullmatch(value) is not None,
 }
-# What a member is where the note says nothing of it, and its kind demands one.
-EMPTY: dict[str, Any] = {"lot": "", "order": "", "batch": 0}
+WORDS: dict[str, Callable[[Any], Any]] = {"why": Why, "bound": Bound}  # members that are a word of a list
+# What a member of a link is where it says nothing of it: a batch may stand for its lots.
+OF_LINKS: dict[str, Any] = {"lot": "", "order": "", "batch": 0}
 
 
 def from_json(value: Any) -> Note | None:
@@ -200,17 +194,17 @@ def from_json(value: Any) -> Note | None:
             members[name] = read_member(name, member)
     except ValueError:
         return None
-    missing = {name for name, it in known.items() if it.default is MISSING and name not in members}
-    if missing - EMPTY.keys():
+    members = {**(OF_LINKS if kind is Link else {}), **members}
+    if any(it.default is MISSING and name not in members for name, it in known.items()):
         return None
-    note = kind(**{**{name: EMPTY[name] for name in missing}, **members})
+    note = kind(**members)
     return note if is_whole(note) else None
 
 
 def read_member(name: str, value: Any) -> Any:
     """A member of a note in its type; fails with ValueError if it can't be one."""
-    if name == "why":
-        return Why(value)
+    if name in WORDS:
+        return WORDS[name](value)
     if name == "roles":
         if not isinstance(value, list):
             raise ValueError("roles are a list")
@@ -222,8 +216,6 @@ def read_member(name: str, value: Any) -> Any:
 
 def is_whole(note: Note) -> bool:
     """Whether a note says all that its kind has to: a link is of a lot or of a batch, and of no third owner's lot."""
-    if isinstance(note, DrillStart):
-        return note.lot != ""
     if not isinstance(note, Link):
         return True
     is_of_lot, is_of_batch = note.lot != "", note.order != "" and note.batch > 0

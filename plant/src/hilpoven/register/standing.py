@@ -8,14 +8,16 @@ import sqlite3
 from collections.abc import Callable, Iterator, Sequence
 from dataclasses import dataclass, replace
 
-from ..core.grammar import LINES
+from ..core.grammar import LINES, faults
 from ..journal.log import Journal
+from ..records.measures import value_of
 from ..years import chain
 from ..years.earlier import CAME_OVER, MOVE, move_of
 from ..years.history import History
 from . import file
+from .facts import LotFacts, MaterialFacts, MovementFacts, OwnerFacts, ResultFacts, TestFacts, joined
 from .folding import Folded, Noted
-from .notes import Link, MovementFacts, NotLinked, Note, Party, Withdrawal, from_json
+from .notes import Link, NotLinked, Note, Party, Withdrawal, from_json
 from .store import Register
 
 Base = sqlite3.Connection
@@ -23,7 +25,16 @@ HAS_LOT = "SELECT 1 FROM lots WHERE owner = ? AND lot = ?"
 HAS_BATCH = "SELECT 1 FROM batches WHERE owner = ? AND ord = ? AND number = ?"
 HAS_KEY = "SELECT 1 FROM moves WHERE owner = ? AND mkey = ?"
 MADE = "SELECT lot FROM lots WHERE owner = ? AND ord = ? AND number = ?"
-OF_ALL_FILES = (Party, Withdrawal)  # which name nothing that a file has
+HAS_RESULT = "SELECT 1 FROM results WHERE owner = ? AND lot = ? AND test = ? AND value = ? AND day = ?"
+HAS_TEST = "SELECT 1 FROM tests WHERE owner = ? AND material = ? AND test = ? AND low = ? AND high = ?"
+# What a file has of a command that was done, and by which of its values.
+RECORDED = {
+    "result": (HAS_RESULT, ("OWNER", "LOT", "TEST", "VALUE", "DAY")),
+    "test-add": (HAS_TEST, ("OWNER", "MATERIAL", "TEST", "LOW", "HIGH")),
+}
+NUMBERS = {"VALUE", "DAY", "LOW", "HIGH"}
+# Which name nothing that a file has, or what all files of an office have in common.
+OF_ALL_FILES = (Party, Withdrawal, OwnerFacts, MaterialFacts, TestFacts)
 AGAIN = "SELECT called FROM again WHERE kind = ? AND file = ? AND owner = ? AND name = ?"
 
 
@@ -82,22 +93,38 @@ def fault_of(noted: Noted, note: Note, folded: Folded, office_file: OfficeFile |
     is_done = folded.answers.get(noted.line)
     if is_done is False:
         return "its command was refused"
-    movement = movement_of(noted.words)
-    if movement is None:
+    is_there = is_recorded(office_file.base, noted.words)
+    if is_there is None:
         return "" if is_done else "its command has no answer"
-    owner, key, row = movement
-    is_there = office_file.base.execute(MOVE, (owner, key)).fetchone() == row
-    return "" if is_there else "its movement isn't there"
+    return "" if is_there else f"its {thing_of(noted.words)} isn't there"
 
 
-def movement_of(words: Sequence[str]) -> tuple[str, str, tuple[str | int, ...]] | None:
-    """The owner, the key and the row of the movement that a command records; `None` if it records none."""
+def thing_of(words: Sequence[str]) -> str:
+    """What a command records that is looked for."""
+    return {"result": "result", "test-add": "test"}.get(words[0], "movement")
+
+
+def is_recorded(base: Base, words: Sequence[str]) -> bool | None:
+    """Whether a file has what a command records; `None` if it records nothing that is looked for."""
     line = LINES.get(words[0]) if words else None
     if line is None or len(words) != len(line.values) + 1:
         return None
     values = dict(zip(line.values, words[1:]))
+    if line.name in RECORDED:
+        sql, names = RECORDED[line.name]
+        return not faults(line, list(words[1:])) and has(base, sql, [column_of(it, values[it]) for it in names])
     row = move_of(line, values)
-    return None if row is None else (values["OWNER"], values["KEY"], row)
+    return None if row is None else base.execute(MOVE, (values["OWNER"], values["KEY"])).fetchone() == row
+
+
+def column_of(name: str, word: str) -> str | int:
+    """A value of a line as a file has it."""
+    return value_of(word) if name in NUMBERS else word
+
+
+def has(base: Base, sql: str, words: Sequence[str | int]) -> bool:
+    """Whether a query finds something."""
+    return base.execute(sql, words).fetchone() is not None
 
 
 # What a thing of one of the files is called where the notes are read; empty if it isn't there.
@@ -174,25 +201,38 @@ class Reader:
         match note:
             case Party():
                 register.parties[note.owner, note.party] = note
-            case MovementFacts():
+            case OwnerFacts():
+                register.owners[note.owner] = joined(register.owners.get(note.owner), note)
+            case MaterialFacts():
+                material = note.owner, note.material
+                register.materials[material] = joined(register.materials.get(material), note)
+            case TestFacts():
+                test = note.owner, note.material, note.test
+                register.tests[test] = joined(register.tests.get(test), note)
+            case MovementFacts() | NotLinked():
                 if key := self.key(after, note.owner, note.key):
-                    before = register.facts.get((note.owner, key))
-                    register.facts[note.owner, key] = joined(before, replace(note, key=key))
-            case NotLinked():
-                if key := self.key(after, note.owner, note.key):
-                    register.not_linked.add((note.owner, key))
+                    add_of_movement(register, replace(note, key=key))
+            case LotFacts() | ResultFacts():
+                if lot := self.lot(after, note.owner, note.lot):
+                    add_of_lot(register, replace(note, lot=lot))
 
 
-def joined(before: MovementFacts | None, facts: MovementFacts) -> MovementFacts:
-    """The facts of a movement with those of an earlier note, for what the later one doesn't say."""
-    if before is None:
-        return facts
-    return replace(
-        facts,
-        party=facts.party or before.party,
-        supplier_lot=facts.supplier_lot or before.supplier_lot,
-        document=facts.document or before.document,
-    )
+def add_of_movement(register: Register, note: MovementFacts | NotLinked) -> None:
+    """Adds a note of a movement, by the name that its key has there."""
+    key = note.owner, note.key
+    if isinstance(note, NotLinked):
+        register.not_linked.add(key)
+    else:
+        register.facts[key] = joined(register.facts.get(key), note)
+
+
+def add_of_lot(register: Register, note: LotFacts | ResultFacts) -> None:
+    """Adds a note of a lot, or of one of its results, by the name that the lot has there."""
+    if isinstance(note, ResultFacts):
+        register.bounds[note.id] = note.bound
+    else:
+        lot = note.owner, note.lot
+        register.lots[lot] = joined(register.lots.get(lot), note)
 
 
 @contextlib.contextmanager

@@ -1,7 +1,13 @@
 """The notes that stand, by what they are about."""
 from dataclasses import dataclass, field
+from typing import TypeVar
 
-from .notes import Link, MovementFacts, Party
+from .facts import LotFacts, MaterialFacts, MovementFacts, OwnerFacts, ResultId, TestFacts
+from .kinds import Bound
+from .notes import Link, Party
+
+Key = TypeVar("Key", bound=tuple[object, ...])
+Noted = TypeVar("Noted")
 
 
 @dataclass(frozen=True)
@@ -13,12 +19,26 @@ class Register:
     parties: dict[tuple[str, str], Party] = field(default_factory=dict)  # by owner and party
     facts: dict[tuple[str, str], MovementFacts] = field(default_factory=dict)  # by owner and key of the movement
     not_linked: set[tuple[str, str]] = field(default_factory=set)  # owner and key of receipts
+    owners: dict[str, OwnerFacts] = field(default_factory=dict)
+    materials: dict[tuple[str, str], MaterialFacts] = field(default_factory=dict)  # by owner and material
+    tests: dict[tuple[str, str, str], TestFacts] = field(default_factory=dict)  # by owner, material and test
+    lots: dict[tuple[str, str], LotFacts] = field(default_factory=dict)  # by owner and lot
+    bounds: dict[ResultId, Bound] = field(default_factory=dict)  # of results whose value is one
 
     def of(self, owner: str) -> "Register":
         """The notes of one owner, which are all that it gets."""
+
+        def own(notes: dict[Key, Noted]) -> dict[Key, Noted]:
+            return {key: note for key, note in notes.items() if key[0] == owner}
+
         return Register(
             [link for link in self.links if link.owner == owner],
-            {key: party for key, party in self.parties.items() if key[0] == owner},
-            {key: facts for key, facts in self.facts.items() if key[0] == owner},
+            own(self.parties),
+            own(self.facts),
             {key for key in self.not_linked if key[0] == owner},
+            {name: facts for name, facts in self.owners.items() if name == owner},
+            own(self.materials),
+            own(self.tests),
+            own(self.lots),
+            own(self.bounds),
         )

@@ -4,7 +4,7 @@ from typing import Any
 from ..core.context import Context
 from ..register import making
 from ..register.movements import GETS, SENDS, Parties, party_fault
-from ..register.notes import MovementFacts
+from ..register.facts import MovementFacts
 from .sheet import Finding, Record, Sheet
 
 COLUMNS = {"to": GETS, "from": SENDS}  # whose values are parties, with what each does
