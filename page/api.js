@@ -72,7 +72,7 @@ function restFor(milliseconds, signal) {
 
 /**
  * The office, asked by fetch. `waits(why)` is called where a request is about to be asked again, with
- * "busy" or "away"; what it gives is called when that request is over.
+ * "busy" or "away", and anew where that changes; what it gives is called when it isn't so any more.
  */
 export class Office {
   #turns = new Turns(AT_A_TIME);
@@ -113,6 +113,7 @@ export class Office {
 
   async #askUntilTold(who, method, path, body, signal) {
     let over = null;
+    let shown = null;
     try {
       for (let tries = 0; ; tries++) {
         signal?.throwIfAborted();
@@ -120,7 +121,11 @@ export class Office {
         const why = reply === null || AWAY.has(reply.status) ? "away" : BUSY.has(reply.status) ? "busy" : null;
         if (why === null) return valueOf(reply, tries > 0, it => isReply(method, path, it));
         if (tries === RESTS.length) throw new Away(why);
-        over ??= this.#waits(why);
+        if (why !== shown) {
+          const before = over;
+          [over, shown] = [this.#waits(why), why];
+          before?.();
+        }
         await this.#rest(restBefore(tries, reply), signal);
       }
     } finally {
