@@ -21,16 +21,31 @@ class Failed(Exception):
     """The browser, or what it shows, isn't as it was waited for."""
 
 
-class Stale(Failed):
-    """The page was drawn anew, so an element that was found isn't there any more."""
+class Missed(Failed):
+    """An element that was found isn't there any more, or can't be used yet: the page is being drawn anew."""
+
+
+MISSED = {"stale element reference", "element click intercepted", "element not interactable"}
+
+# From now on a click that comes to something else than this element is kept from it, as where rows have moved meanwhile.
+AIM = """const [wanted] = arguments, kinds = ["pointerdown", "mousedown", "pointerup", "mouseup", "click"];
+const aim = window.aim = {hasHit: false, end: () => kinds.forEach(it => removeEventListener(it, aim, true)), handleEvent(event) {
+    if (wanted.contains(event.target)) return void (aim.hasHit ||= event.type === "click");
+    event.preventDefault();
+    event.stopImmediatePropagation();
+}};
+kinds.forEach(it => addEventListener(it, aim, true));"""
+# Whether the click came to it; in a document that the click led to, it did.
+HAS_HIT = "window.aim?.end(); return window.aim?.hasHit ?? true"
 
 
 class Browser:
     """A browser with one window at first. Elements are named by CSS, or by `text` within CSS."""
 
-    def __init__(self, port, folder, width=1250, height=900):
+    def __init__(self, port, folder, width=1250, height=900, slowness=None):
         self.port = port
         self.size = (width, height)
+        self.slowness, self.commands = slowness, 0
         # a session of its own, so that all of the browser's processes can be ended
         self.driver = subprocess.Popen(["chromedriver", f"--port={port}", "--silent"], start_new_session=True,
                                        stdout=subprocess.DEVNULL, stderr=subprocess.DEVNULL)
@@ -52,6 +67,11 @@ class Browser:
         until(lambda: self._answers(), "chromedriver answers")
         self.session = self._send("POST", "/session", {"capabilities": {"alwaysMatch": asked}})["sessionId"]
         self.ask("POST", "/timeouts", script=SCRIPT_PATIENCE)
+        self._slow_down()
+
+    def _slow_down(self):
+        if self.slowness:
+            self.slowness.slow_down(self)
 
     def _answers(self):
         try:
@@ -69,11 +89,14 @@ class Browser:
         finally:
             line.close()
         if isinstance(value, dict) and "error" in value:
-            kind = Stale if value["error"] == "stale element reference" else Failed
+            kind = Missed if value["error"] in MISSED else Failed
             raise kind(f"{method} {path}: {value['error']}: {value['message'].splitlines()[0]}")
         return value
 
     def ask(self, method, path, **body):
+        self.commands += 1
+        if self.slowness:
+            self.slowness.pause(self.commands)
         return self._send(method, f"/session/{self.session}{path}", body if method == "POST" else None)
 
     def close(self):
@@ -108,6 +131,10 @@ class Browser:
             it.getClientRects().length > 0 && (arguments[1] === null || it.textContent.trim().startsWith(arguments[1]))) ?? null""", css, text)
         return found and found[ELEMENT]
 
+    def element(self, css):
+        """An element that is seen, as js() takes it; also one that is behind a question."""
+        return {ELEMENT: self.find(css)}
+
     def text(self, css="main"):
         return self.js("return document.querySelector(arguments[0])?.innerText ?? ''", css)
 
@@ -118,8 +145,8 @@ class Browser:
         until(lambda: not self.seen(css, text), f"{css} {text or ''} is gone")
 
     def heading(self, text):
-        """Waits for the view of this heading."""
-        until(lambda: self.js("return document.querySelector('h1')?.firstChild?.textContent ?? ''").strip() == text,
+        """Waits for the view of this heading; after back() and reload(), for one that was drawn since."""
+        until(lambda: self.js("const it = document.querySelector('h1'); return it?.isLeft ? '' : it?.firstChild?.textContent ?? ''").strip() == text,
               lambda: f"the heading is {text!r}; it is {self.text('h1')!r}")
 
     # What is done
@@ -128,23 +155,36 @@ class Browser:
         self.ask("POST", "/url", url=address)
 
     def click(self, css, text=None):
-        unless_stale(lambda: self.ask("POST", f"/element/{self.find(css, text)}/click"))
+        until(unless_missed(lambda: self._click(self.find(css, text))), f"{css} {text or ''} is clicked")
+
+    def _click(self, element):
+        """Whether a click came to the element."""
+        self.js(AIM, {ELEMENT: element})
+        try:
+            self.ask("POST", f"/element/{element}/click")
+        finally:
+            has_hit = self.js(HAS_HIT)
+        return has_hit
 
     def type(self, css, text):
-        unless_stale(lambda: self._type(self.find(css), text))
+        until(unless_missed(lambda: self._type(self.find(css), text)), f"{css} has {text!r}")
 
     def _type(self, element, text):
+        """Whether the element has the text."""
         self.ask("POST", f"/element/{element}/clear")
         self.ask("POST", f"/element/{element}/value", text=text)
+        return self.js("return arguments[0].value", {ELEMENT: element}) == text
 
     def choose(self, css, value):
         """Chooses this option of a select."""
-        unless_stale(lambda: self._choose(css, value))
+        until(unless_missed(lambda: self._choose(self.find(css), value)), f"{value!r} of {css} is chosen")
 
-    def _choose(self, css, value):
-        self.find(css)
-        option = self.js("return [...document.querySelector(arguments[0]).options].find(it => it.value === arguments[1])", css, value)
-        self.ask("POST", f"/element/{option[ELEMENT]}/click")
+    def _choose(self, element, value):
+        """Whether the select has this option, and it is chosen."""
+        option = self.js("return [...arguments[0].options].find(it => it.value === arguments[1]) ?? null", {ELEMENT: element}, value)
+        if option:
+            self.ask("POST", f"/element/{option[ELEMENT]}/click")
+        return self.js("return arguments[0].value", {ELEMENT: element}) == value
 
     def press(self, *keys):
         """Presses keys one after another; "shift+tab" holds the first."""
@@ -157,10 +197,17 @@ class Browser:
         self.press(*text)
 
     def back(self):
+        """Goes back in the window's history; heading() waits for what is drawn then."""
+        self._leave_view()
         self.ask("POST", "/back")
 
     def reload(self):
+        """Loads the document anew; heading() waits for what is drawn then."""
+        self._leave_view()
         self.ask("POST", "/refresh")
+
+    def _leave_view(self):
+        self.js("const it = document.querySelector('h1'); if (it) it.isLeft = true")
 
     # Windows
 
@@ -172,6 +219,7 @@ class Browser:
         handle = self.ask("POST", "/window/new", type="window")["handle"]
         self.turn(handle)
         self.ask("POST", "/window/rect", width=self.size[0], height=self.size[1])
+        self._slow_down()
         return handle
 
     def turn(self, handle):
@@ -222,11 +270,11 @@ def until(holds, what, patience=PATIENCE):
         time.sleep(0.03)
 
 
-def unless_stale(act, tries=5):
-    """Finds an element and acts on it; anew, where the page was drawn anew between the two."""
-    for _ in range(tries - 1):
+def unless_missed(act):
+    """What `act` gives, or nothing where it missed an element: then it is to be done anew."""
+    def acted():
         try:
             return act()
-        except Stale:
-            pass
-    return act()
+        except Missed:
+            return None
+    return acted

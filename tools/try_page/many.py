@@ -2,7 +2,7 @@
 import time
 
 from . import fillings
-from .browser import until
+from .browser import PATIENCE, until
 from .site import Office
 from .trial import TOLL
 
@@ -18,21 +18,26 @@ def many(t):
     fillings.fill_large(large)
     t.entered()
     for name, path, rows, view in (("orders", "#/orders", 2000, "35-many-orders"), ("lots", "#/stock", fillings.LARGE_LOTS, "36-many-lots")):
-        told = best(lambda: drawn(b, path, rows))
+        told = in_time(t, f"{rows} {name}", lambda: drawn(b, path, rows), first=FIRST_DRAW, longest=LONGEST_TASK)
         print(f"{rows} {name}: first rows after {told['first']} ms, all after {told['all']} ms, longest task {told['longest']} ms", flush=True)
-        t.expect(told["first"] < FIRST_DRAW and told["longest"] < LONGEST_TASK, f"{rows} {name} take long: {told}")
         t.shot(view, f"{rows} {name}", whole=False)
-    told = best(lambda: {"longest": b.later(TYPED, "L-7")})
+    told = in_time(t, "a search", lambda: {"longest": b.later(TYPED, "L-7")}, longest=LONGEST_TASK)
     print(f"a search among {fillings.LARGE_LOTS} lots: longest task {told['longest']} ms", flush=True)
-    t.expect(told["longest"] < LONGEST_TASK, f"a search takes long: {told}")
     far(t)
     folds(t)
     t.serve(small)
 
 
-def best(measured):
-    """The best of three: the machine may be busy with something else."""
-    return min((measured() for _ in range(3)), key=lambda it: it["longest"])
+def in_time(t, what, measured, **bounds):
+    """Measures until all is within its bounds: the machine may be busy with something else, and what takes long by itself
+    takes long each time. In a browser that is slowed down times have no bounds."""
+    ends = time.monotonic() + PATIENCE
+    while True:
+        found = measured()
+        is_in_time = all(found[name] < bound for name, bound in bounds.items())
+        if is_in_time or t.browser.slowness or time.monotonic() > ends:
+            t.expect(is_in_time or t.browser.slowness, f"{what} take long: {found}")
+            return found
 
 
 def drawn(b, path, rows):
@@ -82,12 +87,17 @@ def far(t):
     b.heading("Orders")
     b.click("button.sort", "Recipe")
     scroll_far(b)
-    name = until(lambda: b.js("return [...document.querySelectorAll('[data-key^=cancel]')].find(it => it.getBoundingClientRect().top > 200)?.dataset.key"), "buttons are in sight")
+    name = until(lambda: b.js(IN_SIGHT), "buttons are in sight")
     b.click(f"[data-key={name}]")
     b.click("dialog button", "Cancel the order")
     b.wait("is cancelled.")
     until(lambda: abs(b.js("return scrollY") - 40000) < 100, "the list stays where it was when an order is cancelled")
     t.shot("36-far-down", "an order far down the list was cancelled: the list stays where it was, and what was done is seen", whole=False)
+
+
+# A button in the middle of the window: to click it moves nothing.
+IN_SIGHT = """const inSight = ({top, bottom}) => top > 200 && bottom < innerHeight - 200;
+return [...document.querySelectorAll('[data-key^=cancel]')].find(it => inSight(it.getBoundingClientRect()))?.dataset.key"""
 
 
 def scroll_far(b):

@@ -4,7 +4,7 @@ import time
 from .browser import until
 from .site import Office, Proxy
 from .troubles import AWAY
-from .trial import TOLL
+from .trial import TOLL, Clock
 from .views import row
 
 # What stands on ACME's views: its name and key, lots, materials, orders and amounts.
@@ -69,7 +69,7 @@ def leaving(t):
 
 
 def idle(t):
-    """A site that logs owners off after fifteen seconds without a key or a click: a picture may take some of them."""
+    """A site that logs owners off after fifteen seconds without a key or a click."""
     b = t.browser
     t.entered()
     b.click("#who button", "Log off")
@@ -79,25 +79,31 @@ def idle(t):
     folder.mkdir()
     quick = Proxy(folder, t.office_port, changes=[(r'"idle_minutes":\d+', '"idle_minutes":0.25')], port=t.proxy.port)
     quick.start()
+    clock = Clock(b)
     try:
         t.enter("ACME")
         b.heading("Orders")
         t.to_lot("B-1")
-        doing_nothing(t)
-        brought_back(t)
+        doing_nothing(t, clock)
+        brought_back(t, clock)
     finally:
+        clock.end()
         quick.end()
         t.proxy.start()
     t.entered()
 
 
-def doing_nothing(t):
+def doing_nothing(t, clock):
     b = t.browser
+    clock.passes(8)
     b.wait("are logged off within a minute", "#idle")
     t.shot("42-idle", "nobody did anything for a while: a warning before the owner is logged off", whole=False)
     b.press("shift")
     until(lambda: b.text("#idle") == "", "a key takes the warning away")
+    clock.passes(14)
+    b.wait("are logged off within a minute", "#idle")
     t.expect(b.text("h1").startswith("Lot B-1"), "a key doesn't keep the owner logged in")
+    clock.passes(1)
     b.wait("You were logged off after 15 seconds without a key or a click.")
     b.heading("Log in")
     t.expect(b.js("return sessionStorage.length") == 0, "the key stays after the time is over")
@@ -106,16 +112,14 @@ def doing_nothing(t):
     t.shot("43-logged-off", "the owner was logged off; its name is there, and it comes back to where it was", whole=False)
 
 
-def brought_back(t):
+def brought_back(t, clock):
     """A window that is brought back later, as a browser does after it was closed."""
     b = t.browser
     b.type("input[name=key]", "ACMEKEY1")
     b.click("button", "Log in")
     b.heading("Lot B-1")
-    b.js("""addEventListener('pagehide', () => {
-            const it = JSON.parse(sessionStorage.hilpoven);
-            sessionStorage.hilpoven = JSON.stringify({...it, seen: it.seen - 60000});
-        }); location.reload()""")
+    clock.passes_meanwhile(60)
+    b.reload()
     b.heading("Log in")
     b.wait("You were logged off after 15 seconds")
 
@@ -130,17 +134,19 @@ def late_reply(t):
     """An order that was asked again and again when its owner left is given up, and nothing is told of it to the next."""
     b = t.browser
     t.entered()
+    begun = time.monotonic()
     t.office.end()
     t.place("O-LATE", "FILL", 1)
     b.wait(AWAY, "#sign")
     b.click("#who button", "Log off")
     b.wait("You logged off before the office had answered.")
+    asked = time.monotonic() - begun
     t.shot("41-left-early", "the owner logged off while the page still asked: what isn't known is told, without a name")
     t.office.serve()
     t.fill_in("BOLT")
     b.wait("No orders yet.")
-    # longer than any rest between two tries so far
-    time.sleep(4)
+    # longer than any rest between two tries: the site asks for a second, and the page about doubles it each time, up to ten
+    time.sleep(min(2 + 1.5 * asked, 12))
     t.expect(b.text("#who .owner") == "BOLT" and b.text("#told") + b.text("#wrong") + b.text("#sign") == "", "a late reply comes to the next owner")
     nothing_of_acme(t, "after a late reply")
     t.expect(t.office.ask("ACME", "ACMEKEY1", "GET", "/orders/O-LATE")[0] == 404, "what was given up is done")
@@ -160,6 +166,7 @@ def kept_page(t):
     t.fill_in("BOLT")
     b.wait("No orders yet.")
     b.back()
+    until(lambda: b.js("return location.pathname") == "/owner/icon.svg", "the picture from before")
     b.back()
     b.wait("You have no lot of this name")
     nothing_of_acme(t, "on a page from before")
@@ -181,19 +188,22 @@ def open_question(t):
     b = t.browser
     t.entered()
     t.to_lot("BL-1")
+    t.pictured()
     b.click("button", "Reject…")
     b.find("dialog")
     b.back()
     b.heading("Stock")
     b.gone("dialog")
     t.to_lot("BL-1")
+    # a trace that is read when the other office is there is told that the key isn't taken, too
+    t.pictured()
     t.expect("released" in b.text("h1"), "a question that was left is answered by yes")
     b.click("button", "Reject…")
     b.find("dialog")
     small, other = t.office, Office(TOLL, t.folder / "third.db", t.office_port)
     other.plants("owner-add ACME OTHERKEY1")
     t.serve(other)
-    b.js("document.querySelector('[data-key=again]').click()")
+    b.js("arguments[0].click()", b.element("[data-key=again]"))
     b.heading("Log in")
     b.gone("dialog")
     t.serve(small)

@@ -1,16 +1,18 @@
 """A site to look at: an office in a file, its server, and the proxy of docs/operations.md with TLS in front."""
+import contextlib
 import fcntl
 import http.client
 import json
 import os
 import pathlib
 import re
+import signal
 import socket
 import subprocess
 
 from trial import free_port
 
-from .browser import until
+from .browser import PATIENCE, until
 
 ROOT = pathlib.Path(__file__).resolve().parent.parent.parent
 WRAPPER = """
@@ -57,10 +59,20 @@ class Process:
         if self.it.poll() is None:
             self.it.terminate()
             try:
-                self.it.wait(5)
+                self.it.wait(PATIENCE)
             except subprocess.TimeoutExpired:
-                self.it.kill()
+                # with what it started: a worker that is left would keep the port
+                os.killpg(self.it.pid, signal.SIGKILL)
         self.it.wait()
+
+    @contextlib.contextmanager
+    def stopped(self):
+        """Meanwhile it does nothing, and takes nothing that is sent."""
+        self.it.send_signal(signal.SIGSTOP)
+        try:
+            yield
+        finally:
+            self.it.send_signal(signal.SIGCONT)
 
 
 class Office:
@@ -117,6 +129,10 @@ class Office:
             told = self.ask(owner, f"{owner}KEY1", method, path, json.dumps(body[0]) if body else None)
             if told[0] != 200:
                 raise SystemExit(f"try-page: the office told {told} to {method} {path}")
+
+    def stopped(self):
+        """The server doesn't answer meanwhile, and does when this is over: to be used by `with`."""
+        return self.server.stopped()
 
     def locked(self):
         """The lock, as another program would have it: to be used by `with`."""

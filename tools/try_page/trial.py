@@ -13,6 +13,12 @@ TOLL = pathlib.Path(os.environ.get("TOLL", ROOT / "crates" / "toll" / "out" / "t
 LOOKS = (ROOT / "tools" / "try_page" / "looks.js").read_text()
 
 
+def whole_file(folder):
+    """The file that the browser has written to this folder, as soon as it is whole."""
+    files = list(folder.iterdir())
+    return files[0] if len(files) == 1 and files[0].suffix == ".csv" and files[0].stat().st_size > 0 else None
+
+
 class Trial:
     """A trial of the page, which goes from one situation to the next."""
 
@@ -111,7 +117,7 @@ class Trial:
         folder.mkdir()
         self.browser.devtools("Browser.setDownloadBehavior", behavior="allow", downloadPath=str(folder))
         self.browser.click(f"button[data-key='{key}']")
-        file = until(lambda: next(iter(folder.glob("*.csv")), None), f"{key} gives a file")
+        file = until(lambda: whole_file(folder), f"{key} gives a file")
         text = file.read_bytes().decode()
         self.expect(text.count("\r\n") == text.count("\n"), f"{key}: lines don't end as RFC 4180 has it")
         return list(csv.DictReader(io.StringIO(text, newline=""), strict=True)), file.name
@@ -132,3 +138,29 @@ class Trial:
         self.browser.type("input[name=recipe]", recipe)
         self.browser.type("input[name=batches]", str(batches))
         self.browser.click("button", "Place the order")
+
+
+class Clock:
+    """The clock of a window's documents: it stands, and goes on when it is told to."""
+
+    def __init__(self, browser):
+        self.browser, self.now, self.script = browser, 1_000_000_000_000, None
+        self.passes_meanwhile(0)
+
+    def passes(self, seconds):
+        """So much time passes, also in the document that is shown."""
+        self.passes_meanwhile(seconds)
+        self.browser.js("window.now = arguments[0]", self.now)
+
+    def passes_meanwhile(self, seconds):
+        """So much time has passed when the next document is loaded."""
+        self.end()
+        self.now += seconds * 1000
+        source = f"window.now = {self.now}; Date.now = () => window.now"
+        self.script = self.browser.devtools("Page.addScriptToEvaluateOnNewDocument", source=source)["identifier"]
+
+    def end(self):
+        """The documents that are loaded from now on have the machine's clock."""
+        if self.script is not None:
+            self.browser.devtools("Page.removeScriptToEvaluateOnNewDocument", identifier=self.script)
+            self.script = None

@@ -4,12 +4,13 @@ import os
 import socket
 import subprocess
 import threading
-import time
 
-from .browser import until
+from .browser import PATIENCE, until
 from .site import Office, has_ipv6
 from .trial import TOLL
 
+# how many requests of an address the site takes at once: limit_conn of packaging/nginx.conf
+AT_ONCE = 4
 BUSY, AWAY, NOT_THE_OFFICES = "The office is busy.", "The office can't be reached.", "What came isn't the office's answer"
 
 
@@ -42,62 +43,61 @@ def busy(t):
     b.heading("Stock")
     until(lambda: b.text("#sign") == "", "the sign is gone")
     t.to_lot("S-4")
+    t.pictured()
     with t.office.locked():
         b.click("button", "Release")
         b.wait(BUSY, "#sign")
     b.wait("Lot S-4 is released.")
-    crowd(t)
-
-
-def crowd(t):
-    """Many others ask from the same address, so the proxy tells that there are too many requests."""
-    b, over, statuses = t.browser, threading.Event(), set()
-
-    def ask():
-        while not over.is_set():
-            # many requests of one process, which waits for no refusal: otherwise they would ask less than the site lets through
-            words = ["-m", "0.3", "-6" if has_ipv6() else "-4", "-sk", "-o", os.devnull, "-w", "%{http_code} ", f"https://localhost:{t.proxy.port}/stock?[1-10]"]
-            done = subprocess.run(["curl", *words], capture_output=True, text=True)
-            statuses.update(done.stdout.split())
-
-    crowd_of = [threading.Thread(target=ask) for _ in range(40)]
-    for it in crowd_of:
-        it.start()
-    try:
-        until(lambda: "429" in statuses, "the proxy tells 429")
-        until(lambda: turned_away(b), "the page is told 429 too")
+    t.pictured()
+    with crowded(t):
+        b.click("#nav a", "Orders")
+        b.wait(BUSY, "#sign")
         t.shot("21-too-many", "the proxy tells 429: the same sign", whole=False)
-    finally:
-        over.set()
-        for it in crowd_of:
-            it.join()
+    b.heading("Orders")
     until(lambda: b.text("#sign") == "" and b.seen("tbody tr"), "the crowd is gone")
 
 
-def turned_away(b):
-    """Whether the sign comes up within three seconds: the site takes its time to refuse, and a request may slip through the crowd."""
-    b.click("#nav a", "Stock" if b.text("h1") == "Orders" else "Orders")
-    for _ in range(60):
-        time.sleep(0.05)
-        if BUSY in b.text("#sign"):
-            return True
-    return False
+@contextlib.contextmanager
+def crowded(t):
+    """Meanwhile others ask from the same address, and wait for as many replies as the site lets an address wait for."""
+    # a browser may take either address
+    with t.office.stopped(), crowd_of(t.proxy, "-4"), crowd_of(t.proxy, "-6") if has_ipv6() else contextlib.nullcontext():
+        yield
+
+
+@contextlib.contextmanager
+def crowd_of(proxy, family):
+    """As many requests as the site takes at once, and one that it doesn't take."""
+    words = ["curl", family, "-sk", "-m", PATIENCE, "-o", os.devnull, "-w", "%{http_code}", f"https://localhost:{proxy.port}/stock"]
+    crowd = [subprocess.Popen([str(it) for it in words], stdout=subprocess.PIPE, text=True) for _ in range(AT_ONCE + 1)]
+    try:
+        until(lambda: any(it.poll() is not None and it.stdout.read() == "429" for it in crowd), "the proxy tells 429")
+        yield
+    finally:
+        for it in crowd:
+            it.kill()
+            it.communicate()
 
 
 def away(t):
     b = t.browser
     t.entered()
-    t.office.end()
-    b.click("#nav a", "Stock")
-    b.wait(AWAY, "#sign")
+    with t.office.locked():
+        b.click("#nav a", "Stock")
+        b.wait(BUSY, "#sign")
+        t.office.end()
+        # the sign says what is so now
+        b.wait(AWAY, "#sign")
     t.shot("22-away", "the office's server is away: a sign, and it is asked again by itself", whole=False)
     t.office.serve()
     b.heading("Stock")
+    b.find("tbody a")
     t.proxy.end()
     b.click("#nav a", "Orders")
     b.wait(AWAY, "#sign")
     t.proxy.start()
     b.heading("Orders")
+    b.find("tbody a")
     # what changes something is asked again too, and done once
     t.office.end()
     t.place("O-AWAY", "FILL", 1)
@@ -111,7 +111,7 @@ def away(t):
     t.shot("22-gave-up", "the office was away for a minute: the page says so, and asks again by a click", whole=False)
     t.office.serve()
     b.click("button", "Ask again")
-    b.heading("Stock")
+    b.find("tbody a")
 
 
 def answer(status, kind, body, length=None):
@@ -200,12 +200,13 @@ def garbled_changes(t):
     t.office.end()
     with another(t.office_port, STRANGE["a page in place of a reply"]):
         t.place("O-CUT", "FILL", 1)
-        b.wait(NOT_THE_OFFICES)
+        # a row whose order can't be read says so too
+        b.wait(NOT_THE_OFFICES, "#wrong")
         t.expect("isn't known" not in b.text(), "nothing was asked for, and that isn't said")
     no_order = answer(404, JSON, '{"code":18,"error":"UnknownOrder"}')
     with another(t.office_port, STRANGE["a page in place of a reply"], no_order):
         t.place("O-CUT", "FILL", 1)
-        b.wait("Whether this was done isn't known")
+        b.wait("Whether this was done isn't known", "#wrong")
     with another(t.office_port, answer(200, JSON, '{"batches":1,', 400), no_order):
         t.place("O-CUT", "FILL", 1)
         b.wait(AWAY, "#sign")
@@ -222,7 +223,7 @@ def garbled_entering(t):
     for what in ("a page in place of a reply", "a proxy's 403"):
         with another(t.office_port, STRANGE[what]):
             t.fill_in("ACME")
-            b.wait(NOT_THE_OFFICES)
+            b.wait(NOT_THE_OFFICES, "#wrong")
             t.expect(b.text("h1") == "Log in" and b.js("return sessionStorage.length") == 0, f"{what} logs somebody in")
     t.office.serve()
     t.fill_in("ACME")
@@ -246,7 +247,21 @@ def strange(t):
     said = b.js("""const it = document.createElement('p'); document.body.append(it); it.setAttribute('style', 'color: red');
         try { it.setAttribute('onclick', 'window.hit = 3'); } catch { } it.click(); return [window.hit ?? 0, getComputedStyle(it).color]""")
     t.expect(said == [0, "rgb(23, 33, 43)"], f"a script or a style within the page is taken: {said}")
+    moving(t)
     b.reload()
+    b.heading("Orders")
     headers = b.later("fetch('/owner/').then(it => arguments[0]([...it.headers]))")
     policy = dict(headers).get("content-security-policy", "")
     t.expect("default-src 'none'" in policy and "unsafe" not in policy, f"the policy is {policy}")
+
+
+def moving(t):
+    """A button changes places with another under the pointer: a click on it comes to it in the end, and never to the other."""
+    b = t.browser
+    b.js("""window.clicked = [];
+        const [wanted, other] = ['Wanted', 'Other'].map(it => Object.assign(document.createElement('button'), {textContent: it, onclick: () => clicked.push(it)}));
+        document.querySelector('#view').append(wanted, other);
+        addEventListener('mousemove', () => wanted.before(other), {once: true})""")
+    b.click("button", "Wanted")
+    clicked = b.js("return window.clicked")
+    t.expect(clicked == ["Wanted"], f"a click on a button that moves comes to {clicked}")
