@@ -8,7 +8,7 @@ from conftest import ROOT
 HEAVY = {"bz2", "csv", "difflib", "email", "gzip", "html", "http", "http.client", "jinja2", "lzma", "odf", "openpyxl", "pathlib", "platform", "random",
          "rich", "secrets", "shutil", "sqlite3", "ssl", "tempfile", "tomllib", "urllib.parse", "weasyprint", "xml", "zipfile", "zlib"}
 LOADED = "import sys, atexit; atexit.register(lambda: print('\\n', *sys.modules, file=sys.stderr)); sys.argv[0] = 'hilpoven'; from hilpoven.cli import main; main()"
-OWN = {"hilpoven", "hilpoven.cli", "hilpoven.cli.groups", "hilpoven.cli.words", "hilpoven.core", "hilpoven.core.context", "hilpoven.core.failure", "hilpoven.core.forms",
+OWN = {"hilpoven", "hilpoven.cli", "hilpoven.cli.groups", "hilpoven.cli.roles", "hilpoven.cli.words", "hilpoven.core", "hilpoven.core.context", "hilpoven.core.failure", "hilpoven.core.forms",
        "hilpoven.core.grammar", "hilpoven.core.lock", "hilpoven.core.office", "hilpoven.core.rights", "hilpoven.core.scratch", "hilpoven.core.settings"}
 QUESTION = OWN | {"hilpoven.cli.lines", "hilpoven.core.asking", "hilpoven.core.meanings", "hilpoven.core.names"}
 NOTED = QUESTION | {"hilpoven.cli.line_notes", "hilpoven.register", "hilpoven.register.kinds", "hilpoven.register.likeness"}
@@ -27,7 +27,7 @@ def loaded(plant, *words):
     (["--version"], OWN, set()), (["stock", "ACME"], QUESTION, set()),
     (["unit-add", "NEW"], QUESTION | {"hilpoven.journal", "hilpoven.journal.log"}, set()),
     (["receive", "ACME", "K99", "SALT", "S-99", "BAY1", "5", "102"], NOTED | {"hilpoven.journal", "hilpoven.journal.log"}, set()),
-    (["list", "lots"], LISTING, {"sqlite3"}),
+    (["list", "units"], LISTING, {"sqlite3"}), (["list", "lots"], None, {"sqlite3"}),
     (["show", "lot", "ACME", "S-1"], None, {"sqlite3"})])
 def test_a_command_imports_what_it_needs_alone(at_work, words, own, more):
     modules = loaded(at_work, *words)

@@ -358,7 +358,7 @@ def test_a_full_disk_is_blamed_on_the_right_file(at_work):
     ("keep = 0", "keep is to be from 1"), ("days = -1", "days is to be from 0"), ("wait = true", "wait is to be a number"),
     ("site_logs = [1]", "site_logs is to be a list of texts"), ("port = 70000", "port is to be from 0 to 65,535"),
     ("backup_hours = 0", "backup_hours is to be from 1"), ("wait = -1", "wait is to be from 0"),
-    ("keep = true", "keep is to be a whole number"), ("plant = 1", "plant is to be a table: [plant]"), ("[plant]\nphone = 'x'", "phone is nothing that [plant] says"),
+    ("keep = true", "keep is to be a whole number"), ("plant = 1", "plant is to be a table: [plant]"), ("[plant]\nphone = 'x'", "phone is no line of [plant]"),
     ("[plant]\nname = 5", "name is to be a text"), ('[plant]\nname = "a\\nb"', "name has a line end"), ('[plant]\naddress = "\\u001b[2J"', "address has U+001B"),
     (f"[plant]\ncontact = '{'x' * 201}'", "contact has 201 letters"), ("[plant]\nlogo = ['x']", "logo is to be a text")])
 def test_settings_have_bounds(at_work, line, why):

@@ -11,6 +11,7 @@ from ..core import scratch, settings as site
 from ..core.context import Context
 from ..core.failure import FAULT, REFUSED, WRONG_USE, Failure, printable
 from ..core.grammar import LINES
+from . import roles
 from .groups import Group, Makers, imported, lazily
 from .words import PATH
 
@@ -22,8 +23,8 @@ command that changes something, with the user.
 Example: hilpoven stock ACME
 """
 
-NOTED_LINES = {"receive", "ship"}
-NOTING = ["link", "use", "note", "party"]
+NOTED_LINES = {"receive", "ship", "scrap", "void", "reject", "cancel", "do"}
+NOTING = ["link", "use", "note", "party", "material", "sign", "hold"]
 MOST_LETTERS = 4_096  # of a word of a command
 STREAMS = (("stdin", "r", os.O_WRONLY), ("stdout", "w", os.O_RDONLY), ("stderr", "w", os.O_RDONLY))
 
@@ -48,6 +49,8 @@ SUBCOMMANDS: Makers = {
     **{name: imported("noting", name) for name in ("link", "use")},
     "note": imported("noting", "note_group"),
     "party": imported("parties", "party_group"),
+    "material": imported("materials", "material_group"),
+    **{name: imported("judging", name) for name in ("sign", "hold")},
     "drill": imported("drills", "drill_group"),
     "import": imported("importing", "import_command"),
     "to-csv": imported("converting", "to_csv"),
@@ -114,9 +117,10 @@ class Commands(Group):
 @click.option("--wait", metavar="SECONDS", type=click.FloatRange(0), help="How long to wait for the lock.")
 @click.pass_context
 def hilpoven(context: click.Context, db: str | None, office: str, wait: float | None) -> None:
-    """Reads the settings."""
+    """Reads the settings, by which a command may be for a role alone."""
     context.obj = Context(site.load(office=office, db=db or ""), db or "").waiting(wait)
     context.call_on_close(context.obj.end)
+    roles.require(context.obj, context.invoked_subcommand or "")
 
 
 def main() -> None:

@@ -7,6 +7,7 @@ from typing import cast
 import click
 
 from ..core.failure import WRONG_USE, Failure
+from . import roles
 
 Makers = dict[str, Callable[[], click.Command]]
 
@@ -51,7 +52,7 @@ class Group(click.Group):
     def resolve_command(
         self, ctx: click.Context, args: list[str]
     ) -> tuple[str | None, click.Command | None, list[str]]:
-        """Finds the subcommand of the first word."""
+        """Finds the subcommand of the first word. That of a group within all commands is one of its roles alone."""
         if args and args[0] not in self.commands and not args[0].startswith("-"):
             import difflib
 
@@ -64,7 +65,10 @@ class Group(click.Group):
                 if near
                 else f"there are: {', '.join(self.commands)}",
             )
-        return super().resolve_command(ctx, args)
+        name, command, rest = super().resolve_command(ctx, args)
+        if ctx.parent is not None and not ctx.resilient_parsing:
+            roles.require(ctx.obj, f"{ctx.info_name} {name}")
+        return name, command, rest
 
     def format_commands(self, ctx: click.Context, formatter: click.HelpFormatter) -> None:
         """Writes the subcommands in their sections, with what each is for."""

@@ -4,6 +4,7 @@ Most lines have none, so what makes them is imported where it is needed.
 """
 from collections.abc import Callable
 from dataclasses import dataclass
+from functools import partial
 from typing import Any
 
 import click
@@ -92,6 +93,26 @@ def beside_shipment(context: Context, values: Values, given: Given) -> Beside:
     return movement_notes.beside_shipment(context, values, given)
 
 
+def reason_options() -> list[click.Option]:
+    """The option of a command that takes a reason."""
+    about = "Why; the journal keeps it, and papers show it."
+    return [click.Option(["--reason"], metavar="TEXT", type=FILLED_TEXT, help=about)]
+
+
+def beside_reason(name: str, context: Context, values: Values, given: Given) -> Beside:
+    """The reason of a command."""
+    if not given["reason"]:
+        return Beside()
+    from . import reason_notes
+
+    return reason_notes.beside(context, name, values, given["reason"])
+
+
+def with_reason(name: str, example: str) -> LineNotes:
+    """What may be noted beside a line that takes a reason alone."""
+    return LineNotes(reason_options, example, partial(beside_reason, name))
+
+
 LINE_NOTES: dict[str, LineNotes] = {
     "receive": LineNotes(
         receipt_options, "receive ACME K9 BRINE B-1R BAY1 400 261127 --of B-1 --why return", beside_receipt
@@ -99,4 +120,9 @@ LINE_NOTES: dict[str, LineNotes] = {
     "ship": LineNotes(
         shipment_options, "ship ACME K7 B-1 TOTE2 480 261127 --to NORD --document 'LS 4711'", beside_shipment
     ),
+    "scrap": with_reason("scrap", "scrap HOUSE K3 W-102 TANK 50 261127 --reason 'tank was rinsed'"),
+    "void": with_reason("void", "void ACME K2 --reason 'typed twice'"),
+    "reject": with_reason("reject", "reject W-101 --reason 'wrong supplier'"),
+    "cancel": with_reason("cancel", "cancel C-1 --reason 'unit is down'"),
+    "do": with_reason("do", "do ACME O-1 1 abort --reason 'stirrer broke'"),
 }

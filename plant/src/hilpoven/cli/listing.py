@@ -57,9 +57,16 @@ def read(context: Context, listing: Listing, asked: dict[str, Any]) -> tuple[lis
         rows: list[Row] = [tuple(it) for it in base.execute(listing.sql(**asked), parameters)]
         if not listing.has_notes:
             return columns, rows
+        register = context.register(base)
+        if not (register.judged or register.facts or register.plants_test):
+            return columns, rows
+        if "key" not in columns:
+            from ..register.quality import with_statuses
+
+            return with_statuses(columns, rows, base, register)
         from ..register.movements import with_facts
 
-        return with_facts(columns, rows, context.register(base).facts)
+        return with_facts(columns, rows, register.facts)
 
 
 list_group = Group(

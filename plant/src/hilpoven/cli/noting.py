@@ -13,10 +13,10 @@ from ..core.grammar import LINES
 from ..core.nearest import nearest
 from ..output.exports import as_csv, as_json
 from ..output.table import Row, counted, print_table
-from ..records.rows import require_owner
-from ..register import file, making
+from ..records.rows import LotId, require_owner
+from ..register import file, making, quality
 from ..register.movements import facts_of
-from ..register.notes import Link, Note, NotLinked, Why, Withdrawal
+from ..register.notes import Judgement, Link, Note, NotLinked, Why, Withdrawal
 from .groups import Group
 from .words import FILLED_TEXT, TEXT, WORD, OneOf, pass_context
 
@@ -129,9 +129,17 @@ def use(
         note = Link(owner, "", order, number, of_owner, of_lot, Why.USE, int(amount), reason)
         with making.desk(context) as desk:
             desk.require_link(note)
+            require_not_held(desk, context, note.contained)
             return Beside(desk.members([note]))
 
     sys.exit(asking.run(context, LINES["scrap"], [of_owner, key, of_lot, sublot, amount, day], beside))
+
+
+def require_not_held(desk: making.Desk, context: Context, lot: LotId) -> None:
+    """Fails if the plant holds a lot, so that no batch uses it: `toll` lets it be scrapped."""
+    status = quality.statuses(desk.base, context.register(desk.base), lot).get(lot)
+    if status and status.state == quality.State.HELD:
+        raise Failure(f"lot {lot} is {status.text}", REFUSED, f"`hilpoven sign {lot.owner} {lot.name}` lets it be used")
 
 
 note_group = Group(
@@ -159,6 +167,9 @@ def withdraw(context: Context, name: str, reason: str) -> None:
             raise Failure(f"there is no note {name}", REFUSED, nearest(name, names, "notes"))
         if status.fault:
             raise Failure(f"note {name} doesn't stand: {status.fault}", REFUSED)
+        if isinstance(status.note, Judgement):
+            advice = "`hilpoven sign` or `hilpoven hold` says what holds now"
+            raise Failure(f"note {name} is a signature or a hold, which nobody withdraws", REFUSED, advice)
         same = [it.noted.name for it in desk.statuses if it.note == status.note and not it.fault and it is not status]
         notes = [Withdrawal(status.note.owner, of, reason) for of in (name, *same)]
         click.echo(f"noted {desk.record(['note', 'withdraw', name, '--reason', reason], *notes)}")

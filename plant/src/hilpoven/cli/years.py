@@ -2,6 +2,7 @@
 import sys
 from collections import Counter
 from collections.abc import Sequence
+from dataclasses import replace
 
 import click
 
@@ -172,7 +173,8 @@ def lot_card(context: Context, owner: str, lot: str, file: str, is_json: bool) -
     """
     with history.opened(context.office_to_export("years", "lot", owner, lot), owner) as whole:
         start = whole.lot(owner, lot, file)
-        thing = things.lot(whole.base, *start, standing_over_all(context.journal(), whole))
+        register = standing_over_all(context.journal(), whole)
+        thing = things.lot(whole.base, *start, replace(register, plants_test=context.settings.quality.test))
         click.echo(thing.as_json()) if is_json else thing.print()
         tell_sources(whole, start)
 

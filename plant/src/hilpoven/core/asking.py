@@ -14,6 +14,7 @@ if TYPE_CHECKING:
 
 BLOTTED = "********"  # in place of a key
 TRACES = ("recall", "trace")  # the questions to which links add lots
+TAKES = ("ship", "actual")  # the commands by which a lot leaves, or is consumed
 
 
 class Beside(NamedTuple):
@@ -67,13 +68,35 @@ def asked(
     **more: Any,
 ) -> Answer:
     """What `toll` answers; of a command it stands in the journal before it is asked, with what more there is to note,
-    and behind. What an earlier file of the office has already isn't asked."""
+    and behind. What an earlier file of the office has already isn't asked, nor what the plant's quality stops."""
     if known := known_earlier(office, line, words):
         if "notes" in more and not known.status:
             (journal or context.journal()).note(office.file, [line.name, *words], **more)
         return known
     if line.is_question:
         return office.ask_patiently([line.name, *words])
+    if stopped := stopped_by_quality(context, line, words):
+        return stopped
+    return given(context, office, line, words, journal, ask, **more)
+
+
+def stopped_by_quality(context: Context, line: Line, words: list[str]) -> Answer | None:
+    """What is answered in place of `toll` to what the plant's quality stops; mostly `None`."""
+    values = dict(zip(line.values, words))
+    is_judged = line.name in TAKES or line.name == "result" and values["TEST"] == context.settings.quality.test
+    return context.stops.answer(line, values) if is_judged else None
+
+
+def given(
+    context: Context,
+    office: Office,
+    line: Line,
+    words: list[str],
+    journal: "Journal | None" = None,
+    ask: Callable[[list[str]], Answer] | None = None,
+    **more: Any,
+) -> Answer:
+    """What `toll` answers to a command, which stands in the journal before and behind."""
     journal = journal or context.journal()
     blotted = [BLOTTED if line.name == OWNER_ADD and name == "KEY" else word for name, word in zip(line.values, words)]
     entry = journal.asked(office.file, [line.name, *blotted], **more)

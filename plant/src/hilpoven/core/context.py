@@ -13,6 +13,7 @@ if TYPE_CHECKING:
     from sqlite3 import Connection
 
     from ..journal.log import Journal
+    from ..register.stops import Stops
     from ..register.store import Register
     from .server import Place
 
@@ -53,7 +54,8 @@ class Context:
             from . import paths
 
             paths.private(os.path.dirname(self.file))
-        return Office(self.file, site.program(self.settings), self.settings.wait)
+        settings = self.settings
+        return Office(self.file, site.program(settings), settings.wait, settings.quality.test)
 
     def journal(self) -> "Journal":
         """The office's journal."""
@@ -68,12 +70,19 @@ class Context:
         from ..register import file
         from ..register.store import Register
 
-        journal = self.journal()
+        journal, plants_test = self.journal(), self.settings.quality.test
         if not file.has_notes(journal):
-            return Register()
+            return Register(plants_test=plants_test)
         from ..register.standing import standing
 
-        return standing(journal, base)
+        return replace(standing(journal, base), plants_test=plants_test)
+
+    @functools.cached_property
+    def stops(self) -> "Stops":
+        """What of the plant's lots is refused before `toll` is asked, which is looked at once."""
+        from ..register.stops import Stops
+
+        return Stops(self)
 
     def office_to_export(self, *words: str, is_seldom: bool = True) -> Office:
         """The office, of which data is about to be handed out, which is noted. What a timer does every minute isn't."""

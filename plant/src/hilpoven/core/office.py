@@ -22,11 +22,13 @@ class Answer(NamedTuple):
 
 
 class Office(NamedTuple):
-    """An office's file, the program that answers for it, and how many seconds a taken lock is waited for."""
+    """An office's file, the program that answers for it, how many seconds a taken lock is waited for, and the test of
+    the plant's own, by which it signs and holds lots; empty if it has none."""
 
     file: str
     program: str
     wait: float
+    plants_test: str = ""
 
     def ask(self, words: list[str], file: str | None = None) -> Answer:
         """What `toll` answers to these words over the file, or over a copy of it."""

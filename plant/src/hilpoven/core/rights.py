@@ -1,9 +1,11 @@
 """With whose rights a command works: what root would make beside a file, the file's owner couldn't open."""
+import grp
 import os
 import pwd
 import sys
 
 from .failure import WRONG_USE, Failure, printable
+from .forms import listed
 
 STARTED_AS = os.getuid()  # before the rights of a file's owner are taken
 
@@ -21,6 +23,28 @@ def require_operator(word: str, advice: str = "") -> None:
     """Fails for a member, who may not give a word."""
     if is_member():
         raise Failure(f"{word} is for root and the office's user alone, and by sudo for nobody else", WRONG_USE, advice)
+
+
+def require_role(command: str, role: str, groups: list[str] | None) -> None:
+    """Fails for a member who is in none of the groups to which the role of a command belongs; where none are said, it
+    belongs to all."""
+    if groups is None or not is_member() or any(is_in(group) for group in groups):
+        return
+    who = f"the members of {listed(groups, 'or')}" if groups else "root and the office's user"
+    raise Failure(f"{command} is for {who} alone, by the role {role} of the settings", WRONG_USE)
+
+
+def is_in(group: str) -> bool:
+    """Whether the caller of sudo is a member of a group, as the system's database says: the environment has its number
+    alone, which sudo sets."""
+    number = os.environ.get("SUDO_UID", "")
+    if not (number.isascii() and number.isdecimal()):
+        return False
+    try:
+        caller = pwd.getpwuid(int(number))
+        return grp.getgrnam(group).gr_gid in os.getgrouplist(caller.pw_name, caller.pw_gid)
+    except (KeyError, OverflowError):
+        return False
 
 
 def name_of(user: int) -> str:

@@ -6,7 +6,7 @@ from collections.abc import Callable
 from typing import Any, NamedTuple
 
 from .failure import WRONG_USE, Failure
-from .forms import TEXT
+from .forms import TEXT, name_fault
 from .rights import advice
 
 PATH = "/etc/hilpoven.toml"
@@ -17,7 +17,14 @@ CHECKOUT = os.path.abspath(f"{__file__}/../../../../..")
 CALLED = {str: "a text", int: "a whole number", float: "a number", list: "a list of texts", bool: "true or false"}
 MUCH = 1_000_000
 # The least and the most of each number.
-BOUNDS = {"keep": (1, MUCH), "days": (0, MUCH), "backup_hours": (1, MUCH), "port": (0, 65_535), "wait": (0, MUCH)}
+BOUNDS = {
+    "persons": (1, 2),
+    "keep": (1, MUCH),
+    "days": (0, MUCH),
+    "backup_hours": (1, MUCH),
+    "port": (0, 65_535),
+    "wait": (0, MUCH),
+}
 
 
 class Require(NamedTuple):
@@ -34,6 +41,24 @@ class PlantFacts(NamedTuple):
     contact: str = ""  # who answers questions about a paper, and how
     logo: str = ""  # a file, PNG or JPEG
     approver: str = ""  # who approves certificates
+
+
+class Quality(NamedTuple):
+    """How the plant signs and holds lots. Each field is a line below [quality]."""
+
+    test: str = ""  # the test of the plant's own, whose result 1 is a signature and 0 a hold; empty if it has none
+    persons: int = 2  # who are needed at least: 2 let nobody sign a lot of which it recorded something itself
+
+
+class Roles(NamedTuple):
+    """Which groups of the machine may give the commands of each role under sudo. Each field is a line below [roles];
+    `None` is a role that isn't told there, whose commands every member may give."""
+
+    record: list[str] | None = None  # what happens in the plant: movements, batches, results
+    quality: list[str] | None = None  # what is judged: releases, rejections, signatures, holds
+    master_data: list[str] | None = None  # units, materials, tests, recipes, parties
+    keys: list[str] | None = None  # owners and their keys
+    restore: list[str] | None = None  # the office's files: new ones, backups, restores, later ones
 
 
 class Settings(NamedTuple):
@@ -54,9 +79,19 @@ class Settings(NamedTuple):
     site_logs: list[str] = []  # of the proxy, with all owners' requests
     require: Require = Require()
     plant: PlantFacts = PlantFacts()
+    quality: Quality = Quality()
+    roles: Roles = Roles()
 
 
+TABLES: dict[str, Require | PlantFacts | Quality | Roles] = {
+    "require": Require(),
+    "plant": PlantFacts(),
+    "quality": Quality(),
+    "roles": Roles(),
+}
 DEFAULTS = Settings()._asdict()
+# What is wrong with a text that isn't empty.
+TEXT_FAULTS: dict[str, Callable[[str], str]] = {"test": name_fault, **{name: TEXT.fault for name in PlantFacts._fields}}
 
 
 def of_environment(name: str) -> str:
@@ -102,9 +137,12 @@ def value_of(path: str, name: str, value: Any, called: str = "") -> Any:
     """The value of a setting, in its type and its bounds; `called` is its name in the file where that is another."""
     if name not in DEFAULTS:
         raise Failure(f"{path}: {name} is no setting", WRONG_USE, f"there are: {', '.join(DEFAULTS)}")
-    if name in TABLES:
-        return TABLES[name](path, name, value)
-    kind = type(DEFAULTS[name])
+    return table_of(path, name, value) if name in TABLES else checked(path, name, value, DEFAULTS[name], called)
+
+
+def checked(path: str, name: str, value: Any, default: Any, called: str = "") -> Any:
+    """A value in the type of its default, and in its bounds. The default of a role is `None`, and it is a list."""
+    kind: Any = list if default is None else type(default)
     if type(value) is int and kind is float:
         value = float(value)
     if type(value) is not kind or kind is list and not all(type(it) is str for it in value):
@@ -112,39 +150,23 @@ def value_of(path: str, name: str, value: Any, called: str = "") -> Any:
     least, most = BOUNDS.get(name, (value, value))
     if not least <= value <= most:
         raise Failure(f"{path}: {called or name} is to be from {least:,} to {most:,}", WRONG_USE)
+    if name in TEXT_FAULTS and value and (fault := TEXT_FAULTS[name](value)):
+        raise Failure(f"{path}: {name} {fault}", WRONG_USE)
     return value
 
 
-def lines_below(path: str, name: str, table: Any, names: tuple[str, ...], none: str) -> dict[str, Any]:
-    """The lines of a table of the settings; fails if it is none, or has a line that is none of these."""
+def table_of(path: str, name: str, table: Any) -> Any:
+    """What a table of the settings says, such as [require]."""
+    defaults = TABLES[name]
     if type(table) is not dict:
         raise Failure(f"{path}: {name} is to be a table: [{name}]", WRONG_USE)
-    if strange := [line for line in table if line not in names]:
-        raise Failure(f"{path}: {strange[0]} is {none}", WRONG_USE, f"there are: {', '.join(names)}")
-    return table
-
-
-def requirements_of(path: str, name: str, table: Any) -> Require:
-    """What the table [require] of the settings says."""
-    lines = lines_below(path, name, table, Require._fields, "nothing to require")
-    for line, value in lines.items():
-        if type(value) is not bool:
-            raise Failure(f"{path}: {line} is to be {CALLED[bool]}", WRONG_USE)
-    return Require(**lines)
-
-
-def plant_of(path: str, name: str, table: Any) -> PlantFacts:
-    """What the table [plant] of the settings says: texts of one line that can be printed."""
-    lines = lines_below(path, name, table, PlantFacts._fields, f"nothing that [{name}] says")
-    for line, value in lines.items():
-        if type(value) is not str:
-            raise Failure(f"{path}: {line} is to be {CALLED[str]}", WRONG_USE)
-        if fault := TEXT.fault(value):
-            raise Failure(f"{path}: {line} {fault}", WRONG_USE)
-    return PlantFacts(**lines)
-
-
-TABLES: dict[str, Callable[[str, str, Any], Any]] = {"require": requirements_of, "plant": plant_of}
+    for line in table:
+        if line not in defaults._fields:
+            advice = f"there are: {', '.join(defaults._fields)}"
+            what = "nothing to require" if name == "require" else f"no line of [{name}]"
+            raise Failure(f"{path}: {line} is {what}", WRONG_USE, advice)
+    of_table = defaults._asdict()
+    return defaults._replace(**{line: checked(path, line, value, of_table[line]) for line, value in table.items()})
 
 
 def unread(path: str, error: OSError) -> Failure:

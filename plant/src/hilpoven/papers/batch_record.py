@@ -10,10 +10,12 @@ from ..records.genealogy import Genealogy
 from ..records.rows import OF_BATCH, Batch, BatchId, Lot, LotId, Move, batches_of, lots_of, moves_of, read_moves
 from ..records.rows import require_owner, requirements_of, sublots_of
 from ..records.schema import IS_ACTUAL, Kind
+from ..register import quality
 from .agreement import agree, check_lots
 from .copies import Source
 from .links import links_sheet
 from .printing import Document
+from .reasons import reasons_of_batch
 from .sheets import TESTS, Row, Sheet, columns, percent, test_rows
 
 REQUIRED = columns("segment:number use:text source=of material required:number actual:number percent=%:text")
@@ -26,7 +28,7 @@ LOTS = columns("owner=of lot material disposition:word amount:number measure=uni
 
 def documents(source: Source, asked: BatchId) -> list[Document]:
     """The record of a batch, for its owner."""
-    base, owner = source.base, asked.owner
+    base, owner, register = source.base, asked.owner, source.register
     require_owner(base, owner)
     batch = batches_of(base, [asked]).get(asked)
     if not batch:
@@ -45,13 +47,17 @@ def documents(source: Source, asked: BatchId) -> list[Document]:
     ]
     for name, kind, reader in (("made", Kind.PRODUCED, ""), ("taken", Kind.CONSUMED, owner)):
         amounts = [(lots[lot], amount) for lot, amount in amounts_of(actuals, kind).items()]
-        tests = [(lot.id.name, *row) for lot, _ in amounts if lot.id.owner == owner for row in test_rows(base, lot)]
+        tests = [
+            (lot.id.name, *row) for lot, _ in amounts if lot.id.owner == owner for row in test_rows(base, lot, register)
+        ]
         sheets += [
-            Sheet(name, LOTS, [lot_row(lot, amount, reader) for lot, amount in amounts]),
+            with_quality(Sheet(name, LOTS, [lot_row(lot, amount, reader) for lot, amount in amounts]), source, reader),
             Sheet(f"{name}_tests", [*columns("lot"), *TESTS], tests),
         ]
-    if links := Genealogy(base, source.register.links).links_in_batch(asked):
+    if links := Genealogy(base, register.links).links_in_batch(asked):
         sheets.append(links_sheet(lots_of(base, {link.contained for link in links}), links))
+    if reasons := reasons_of_batch(register, asked, actuals):
+        sheets.append(reasons)
     unit, state, _ = batch.status
     order = {"owner": owner, "order": asked.order, "batch": f"{asked.number} of {ordered}", "recipe": batch.recipe}
     run = {"unit": unit, "state": state, "closed": "yes" if batch.is_closed else "no", "order is": status}
@@ -90,6 +96,16 @@ def amounts_of(actuals: list[Move], kind: Kind) -> dict[LotId, int]:
         if move.kind == kind and not move.is_void:
             amounts[move.lot] += move.amount
     return dict(sorted(amounts.items()))
+
+
+def with_quality(sheet: Sheet, source: Source, reader: str) -> Sheet:
+    """A table of lots with what the plant's quality says of each; of its own lots only the plant reads it."""
+    lots = [LotId(str(row[0]), str(row[1])) for row in sheet.rows]
+    said = [quality.text_of(source.base, source.register, lot) if reader in ("", lot.owner) else "" for lot in lots]
+    if not any(said):
+        return sheet
+    rows = [(*row, text) for row, text in zip(sheet.rows, said)]
+    return Sheet(sheet.name, [*sheet.columns, *columns(f"noted_quality={quality.COLUMN}:text")], rows)
 
 
 def lot_row(lot: Lot, amount: int, reader: str) -> Row:

@@ -1,4 +1,5 @@
 """What is on the board, by the tables of a copy, which are compared with `toll`."""
+import textwrap
 from collections import Counter
 from dataclasses import astuple, dataclass
 
@@ -6,9 +7,10 @@ from .. import HOUSE
 from ..records import gauge
 from ..records.genealogy import Genealogy
 from ..records.answers import OrderLine, StockLine, batch_of, rows_of
-from ..records.rows import Batch, Lot, LotId, owners_of, read_batches, read_lots, requirements_of, tests_of
+from ..records.rows import Batch, Lot, LotId, lots_of, owners_of, read_batches, read_lots, requirements_of, tests_of
 from ..records.schema import Disposition
 from ..records.tables import LISTINGS
+from ..register import quality
 from ..register.below import MARK
 from ..register.notes import Link
 from .agreement import agree, agree_on_all
@@ -20,6 +22,8 @@ WHERE status = 'open' AND opened < batches ORDER BY 1, 2
 """
 LINE, EDGE = 48, 20  # pixels of a screen of 1,920 by 1,080: of a line, and around those of a row
 ROOM_OF_UNITS, ROOM, LAST_ROOM = 925, 350, 120  # pixels for the rows of one page of a panel
+
+LETTERS = 40  # of a reason, which has one line
 
 
 @dataclass
@@ -125,7 +129,7 @@ def orders(source: Source, owners: list[str]) -> Panel:
 
 
 def lots(source: Source, owners: list[str]) -> Panel:
-    """The lots on hand that wait for tests or for their release."""
+    """The lots on hand that are held, and then those that wait for tests, a signature or their release."""
     code, word = Disposition.QUARANTINED, Disposition.QUARANTINED.word
     waiting = [lot for lot in read_lots(source.base, f"l.disposition = {code:d} ORDER BY 1, 2") if lot.on_hand]
     answered: Counter[LotId] = Counter()
@@ -137,8 +141,24 @@ def lots(source: Source, owners: list[str]) -> Panel:
         {lot: (word, amount) for lot, amount in answered.items()}, {lot.id: (word, lot.on_hand) for lot in waiting}
     )
     genealogy = Genealogy(source.base, source.register.links)
-    rows = [Row(str(lot.id), why_linked(genealogy.links_in(lot.id)), waits_for(source, lot)) for lot in waiting]
-    return Panel("Lots waiting", str(len(rows)), rows, ROOM, "No lot waits.")
+    held = held_lots(source)
+    rows = [
+        Row(str(lot.id), why_linked(genealogy.links_in(lot.id)), waits_for(source, lot))
+        for lot in waiting
+        if str(lot.id) not in {row.about for row in held}
+    ]
+    return Panel("Lots waiting", str(len(held) + len(rows)), [*held, *rows], ROOM, "No lot waits.")
+
+
+def held_lots(source: Source) -> list[Row]:
+    """The lots on hand that the plant's quality holds, each with the reason."""
+    said = quality.statuses(source.base, source.register)
+    held = [lot for lot, it in said.items() if it.state == quality.State.HELD]
+    lots = [lot for lot in lots_of(source.base, held).values() if lot.on_hand] if held else []
+    return [
+        Row(str(lot.id), f"held {MARK}", textwrap.shorten(said[lot.id].reason, LETTERS, placeholder=" .."))
+        for lot in sorted(lots, key=lambda lot: lot.id)
+    ]
 
 
 def why_linked(links: list[Link]) -> str:
@@ -148,7 +168,9 @@ def why_linked(links: list[Link]) -> str:
 
 def waits_for(source: Source, lot: Lot) -> str:
     """What a lot waits for."""
-    missing = [test.name for test in tests_of(source.base, lot) if test.limits != "within"]
+    tests = [test for test in tests_of(source.base, lot) if test.limits != "within"]
+    own = quality.own_tests(source.register, tests)
+    missing = [*(test.name for test in own), *(["a signature"] if len(own) < len(tests) else [])]
     if not missing:
         return "for its release"
     return f"for {some_of(missing)}"

@@ -4,15 +4,18 @@ from ..records import things
 from ..records.answers import recall_of, trace_of
 from ..records.balance import COUNTED, balances, require_closed
 from ..records.genealogy import BACK, FORWARD, Genealogy
-from ..records.rows import Lot, LotId, lots_of, moves_of, require_lot, results_of, sublots_of
+from ..records.rows import Lot, LotId, lots_of, moves_of, require_lot, results_of, sublots_of, tests_of
 from ..records.schema import Kind
+from ..register import quality
 from ..register.below import MARK
+from ..register.store import Register
 from . import pictures
 from .agreement import agree, agree_on_all, check_lots
 from .copies import Source
 from .links import links_sheet
 from .pictures import Arrow, Box
 from .printing import Document
+from .reasons import reasons_of_lot
 from .recipients import noted_movements
 from .sheets import TESTS, Column, Row, Sheet, columns, test_rows
 
@@ -37,7 +40,7 @@ def documents(source: Source, asked: LotId) -> list[Document]:
         agree(f"what of {asked} is on hand and was shipped", (first.on_hand, first.shipped), (lot.on_hand, shipped))
     genealogy = Genealogy(source.base, source.register.links)
     beside = neighbours(source, genealogy, asked)
-    thing = things.lot(source.base, *asked)
+    thing = things.lot(source.base, *asked, Register(plants_test=source.register.plants_test))
     sublots, ledger = (
         [tuple(None if cell == "" else cell for cell in row) for row in thing.tables[name][1]]
         for name in ("sublots", "ledger")
@@ -50,8 +53,8 @@ def documents(source: Source, asked: LotId) -> list[Document]:
     ]
     links = genealogy.links_about(asked)
     sheets = [
-        Sheet("tests", TESTS, test_rows(source.base, lot)),
-        Sheet("results", RESULTS, results_of(source.base, lot)),
+        Sheet("tests", TESTS, test_rows(source.base, lot, source.register)),
+        Sheet("results", RESULTS, own_results(source, lot)),
         Sheet("sublots", held, sublots),
         Sheet("ledger", LEDGER, ledger),
         Sheet("beside", BESIDE, lots_beside),
@@ -63,16 +66,30 @@ def documents(source: Source, asked: LotId) -> list[Document]:
     about = {"owner": asked.owner, "material": lot.material, "unit": lot.measure, "comes from": lot.origin}
     disposition = f"{pictures.SIGNS[lot.disposition.word]} {lot.disposition.word}"
     sums = {**{kind.total: balance.amounts[kind] for kind in COUNTED}, "on hand": lot.on_hand}
+    if reasons := reasons_of_lot(source.register, asked, moves):
+        sheets.append(reasons)
+    said = quality.text_of(source.base, source.register, asked)
     if noted := noted_movements(source.register.of(asked.owner), lot, moves):
         sheets.append(noted)
     values = {
-        "facts": {**about, "disposition": disposition, "on hand": lot.on_hand},
+        "facts": {
+            **about,
+            "disposition": disposition,
+            **({quality.COLUMN: said} if said else {}),
+            "on hand": lot.on_hand,
+        },
         "remarks": thing.remarks,
         "balance": {**sums, "difference": balance.difference},
         "measure": lot.measure,
         "picture": picture(source, lot, beside),
     }
     return [Document("lot", asked.owner == HOUSE, f"Lot {asked.name}", sheets, values)]
+
+
+def own_results(source: Source, lot: Lot) -> list[Row]:
+    """The results of a lot without those of the plant's own test."""
+    names = {test.name for test in quality.own_tests(source.register, tests_of(source.base, lot))}
+    return [row for row in results_of(source.base, lot) if row[0] in names]
 
 
 def neighbours(source: Source, genealogy: Genealogy, asked: LotId) -> dict[str, Beside]:

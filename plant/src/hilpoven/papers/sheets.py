@@ -7,6 +7,8 @@ from typing import NamedTuple
 from ..output import exports
 from ..records.days import format_day
 from ..records.rows import Base, Lot, tests_of
+from ..register import quality
+from ..register.store import Register
 
 Cell = str | int | None
 Row = tuple[Cell, ...]
@@ -66,10 +68,11 @@ TESTS = columns("test low=from:number high=to:number value=result:number day:day
 VERDICTS = {"within": "pass", "out": "does not pass", "missing": "no result"}
 
 
-def test_rows(base: Base, lot: Lot) -> list[Row]:
-    """The rows of `TESTS` of a lot."""
+def test_rows(base: Base, lot: Lot, register: Register) -> list[Row]:
+    """The rows of `TESTS` of a lot, without the plant's own test."""
     return [
-        (test.name, test.low, test.high, test.value, test.day, VERDICTS[test.limits]) for test in tests_of(base, lot)
+        (test.name, test.low, test.high, test.value, test.day, VERDICTS[test.limits])
+        for test in quality.own_tests(register, tests_of(base, lot))
     ]
 
 

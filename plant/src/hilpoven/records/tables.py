@@ -21,7 +21,7 @@ class Listing(NamedTuple):
     is_open: str = ""  # SQL: the rows that `--open` leaves
     open_about: str = ""
     lot: str = ""  # SQL: the rows that `--lot` leaves, by the parameter :lot
-    has_notes: bool = False  # whether the register may have notes of its rows, which are movements
+    has_notes: bool = False  # whether the register may have notes of its rows, which are movements or lots
 
     def sql(
         self, owner: str | None = None, lot: str | None = None, key: str | None = None, only_open: bool = False
@@ -118,6 +118,7 @@ LISTINGS: dict[str, Listing] = {
         f"l.disposition = {Disposition.QUARANTINED:d}",
         "lots that are quarantined",
         "l.lot = :lot",
+        has_notes=True,
     ),
     "sublots": Listing(
         "sublots with what each holds",

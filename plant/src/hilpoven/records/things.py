@@ -9,6 +9,7 @@ from ..core.failure import REFUSED, Failure, printable
 from ..core.forms import BATCH
 from ..core.nearest import nearest
 from ..output.table import Row, Value, formatted, print_table
+from ..register import quality
 from ..register.movements import with_facts
 from ..register.notes import Link
 from ..register.store import Register
@@ -106,22 +107,28 @@ def lot(base: Base, owner: str, name: str, register: Register = NOTHING_NOTED) -
     facts = dict(zip(columns, row_of(base, sql, (owner, name), "lot", "SELECT lot FROM lots WHERE owner = ?")))
     thing = Thing(f"lot {name} of {owner}", {column.replace("_", " "): facts[column] for column in columns[2:]})
     words = {"owner": owner, "lot": name, "material": facts["material"]}
+    if said := quality.text_of(base, register, LotId(owner, name)):
+        thing.facts[quality.COLUMN] = said
     tests = thing.add("tests", base.execute(TESTS, words))
+    own = [row for row in tests if not quality.is_plants(register, *row[:3])]
+    thing.tables["tests"] = thing.tables["tests"][0], own
     thing.add("sublots", base.execute(SUBLOTS, words))
     thing.add("ledger", base.execute(LEDGER, words))
     heads, rows = with_facts(*thing.tables["ledger"], register.facts)
     thing.tables["ledger"] = [head.replace("_", " ") for head in heads], rows
     thing.add_links(Genealogy(base, register.links).links_about(LotId(owner, name)))
-    thing.remarks = release_of(owner, name, str(facts["disposition"]), tests)
+    thing.remarks = release_of(owner, name, str(facts["disposition"]), tests, register)
     return thing
 
 
-def release_of(owner: str, name: str, disposition: str, tests: list[Row]) -> list[str]:
+def release_of(owner: str, name: str, disposition: str, tests: list[Row], register: Register) -> list[str]:
     """What is missing for the release of a lot, or how it is released."""
     if disposition != "quarantined":
         return [f"It is {disposition}{' for good' if disposition == 'rejected' else ''}."]
     missing = [
-        f"  {test}: no result yet; the limits are {formatted(low)} to {formatted(high)}"
+        f"  the plant's signature: `hilpoven sign {owner} {name}`"
+        if quality.is_plants(register, test, low, high)
+        else f"  {test}: no result yet; the limits are {formatted(low)} to {formatted(high)}"
         if limits == "missing"
         else f"  {test}: the latest result, {formatted(latest)}, is out of {formatted(low)} to {formatted(high)}"
         for test, low, high, latest, _, _, limits in tests

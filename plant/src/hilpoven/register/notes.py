@@ -5,8 +5,9 @@ from dataclasses import MISSING, asdict, dataclass, fields
 from typing import Any
 
 from .. import HOUSE
-from ..core.forms import AMOUNT, BATCH, DAY, MOST_VALUE, NAME, TEXT
-from ..records.days import date_of
+from ..core.forms import AMOUNT, BATCH, COMMAND, DAY, MOST_VALUE, NAME, TEXT
+from ..core.grammar import LINES
+from ..records.days import date_of, format_day
 from ..records.measures import MOST_DECIMALS
 from ..records.rows import BatchId, LotId
 from .facts import LotFacts, MaterialFacts, MovementFacts, OwnerFacts, ResultFacts, TestFacts
@@ -124,9 +125,77 @@ class DrillEnd(Note):
         return f"the drill {self.of} ends"
 
 
+@dataclass(frozen=True)
+class Judgement(Note):
+    """What the plant's quality says of a lot, on a day. The last one counts, and none is withdrawn: another one
+    follows. One that belongs to no command of `toll` is of a lot whose material has no test of the plant's own."""
+
+    lot: str
+    day: int
+    reason: str = ""
+
+    @property
+    def lot_id(self) -> LotId:
+        """The lot."""
+        return LotId(self.owner, self.lot)
+
+
+@dataclass(frozen=True)
+class Signed(Judgement):
+    """A lot is signed: it may go."""
+
+    KIND = "signed"
+
+    @property
+    def sentence(self) -> str:
+        """Which lot, when and why."""
+        return f"lot {self.lot_id} is signed by the plant on {format_day(self.day)}{because(self.reason)}"
+
+
+@dataclass(frozen=True)
+class Held(Judgement):
+    """A lot is held: it stays, until it is signed again."""
+
+    KIND = "held"
+
+    @property
+    def sentence(self) -> str:
+        """Which lot, when and why."""
+        return f"lot {self.lot_id} is held by the plant on {format_day(self.day)}{because(self.reason)}"
+
+
+@dataclass(frozen=True)
+class Reason(Note):
+    """Why a command was given that changed a lot, an order, a batch, or what a key recorded."""
+
+    KIND = "reason"
+    command: str
+    reason: str
+    lot: str = ""
+    key: str = ""
+    order: str = ""
+    batch: int = 0
+
+    @property
+    def about(self) -> str:
+        """The command with what it was about."""
+        name = self.key or self.lot or (f"{self.order}/{self.batch}" if self.batch else self.order)
+        return f"{self.command} {name}"
+
+    @property
+    def sentence(self) -> str:
+        """Which command, and why."""
+        return f"{self.about} of {self.owner}{because(self.reason)}"
+
+
+def because(reason: str) -> str:
+    """A reason behind what was done for it; nothing where there is none."""
+    return f": {reason}" if reason else ""
+
+
 DESCRIPTIONS = (OwnerFacts, MaterialFacts, TestFacts, LotFacts, ResultFacts)
 ALL: tuple[type[Note], ...] = (
-    *(Link, Party, MovementFacts, NotLinked, Withdrawal, DrillStart, DrillEnd),
+    *(Link, Party, MovementFacts, NotLinked, Withdrawal, DrillStart, DrillEnd, Signed, Held, Reason),
     *DESCRIPTIONS,
 )
 KINDS = {it.KIND: it for it in ALL}
@@ -171,6 +240,7 @@ MEMBERS: dict[str, Callable[[Any], bool]] = {
     "batch": is_number(BATCH.fault),
     "amount": is_number(AMOUNT.fault),
     "day": is_number(DAY.fault),
+    "command": lambda value: isinstance(value, str) and (value in LINES or value in COMMAND.choices),
     "value": is_between(-MOST_VALUE, MOST_VALUE),
     "decimals": is_between(0, MOST_DECIMALS),
     "of": lambda value: isinstance(value, str) and NAME_OF_NOTE.fullmatch(value) is not None,
@@ -216,6 +286,8 @@ def read_member(name: str, value: Any) -> Any:
 
 def is_whole(note: Note) -> bool:
     """Whether a note says all that its kind has to: a link is of a lot or of a batch, and of no third owner's lot."""
+    if isinstance(note, Reason):
+        return bool(note.lot or note.key or note.order)
     if not isinstance(note, Link):
         return True
     is_of_lot, is_of_batch = note.lot != "", note.order != "" and note.batch > 0

@@ -8,30 +8,31 @@ import sqlite3
 from collections.abc import Callable, Iterator, Sequence
 from dataclasses import dataclass, replace
 
+from .. import HOUSE
 from ..core.grammar import LINES, faults
 from ..journal.log import Journal
 from ..records.measures import value_of
+from ..records.rows import LotId
+from ..records.schema import Disposition
 from ..years import chain
-from ..years.earlier import CAME_OVER, MOVE, move_of
+from ..years.earlier import CAME_OVER, MOVE, VOIDED, move_of
 from ..years.history import History
 from . import file
 from .facts import LotFacts, MaterialFacts, MovementFacts, OwnerFacts, ResultFacts, TestFacts, joined
 from .folding import Folded, Noted
-from .notes import Link, NotLinked, Note, Party, Withdrawal, from_json
-from .store import Register
+from .notes import Judgement, Link, NotLinked, Note, Party, Reason, Withdrawal, from_json
+from .store import Judged, Register
 
 Base = sqlite3.Connection
 HAS_LOT = "SELECT 1 FROM lots WHERE owner = ? AND lot = ?"
 HAS_BATCH = "SELECT 1 FROM batches WHERE owner = ? AND ord = ? AND number = ?"
 HAS_KEY = "SELECT 1 FROM moves WHERE owner = ? AND mkey = ?"
 MADE = "SELECT lot FROM lots WHERE owner = ? AND ord = ? AND number = ?"
+HAS_ORDER = "SELECT 1 FROM orders WHERE owner = ? AND ord = ?"
 HAS_RESULT = "SELECT 1 FROM results WHERE owner = ? AND lot = ? AND test = ? AND value = ? AND day = ?"
 HAS_TEST = "SELECT 1 FROM tests WHERE owner = ? AND material = ? AND test = ? AND low = ? AND high = ?"
-# What a file has of a command that was done, and by which of its values.
-RECORDED = {
-    "result": (HAS_RESULT, ("OWNER", "LOT", "TEST", "VALUE", "DAY")),
-    "test-add": (HAS_TEST, ("OWNER", "MATERIAL", "TEST", "LOW", "HIGH")),
-}
+IS_REJECTED = f"SELECT 1 FROM lots WHERE owner = '{HOUSE}' AND lot = ? AND disposition = {Disposition.REJECTED:d}"
+IS_CANCELLED = f"SELECT 1 FROM orders WHERE owner = '{HOUSE}' AND ord = ? AND cancelled = 1"
 NUMBERS = {"VALUE", "DAY", "LOW", "HIGH"}
 # Which name nothing that a file has, or what all files of an office have in common.
 OF_ALL_FILES = (Party, Withdrawal, OwnerFacts, MaterialFacts, TestFacts)
@@ -76,7 +77,8 @@ def statuses(folded: Folded, journal: Journal, files: Sequence[OfficeFile]) -> l
     for noted in reversed(folded.belonging(journal)):
         note = from_json(noted.value)
         fault = "can't be read" if note is None else fault_of(noted, note, folded, by_after.get(noted.after))
-        if note and withdrawn.get(noted.name, ("",))[0] == note.owner:
+        is_withdrawn = note and withdrawn.get(noted.name, ("",))[0] == note.owner
+        if is_withdrawn and not isinstance(note, Judgement):
             fault = f"withdrawn: {withdrawn[noted.name][1]}"
         if isinstance(note, Withdrawal) and not fault:
             withdrawn[note.of] = (note.owner, note.reason)
@@ -99,9 +101,32 @@ def fault_of(noted: Noted, note: Note, folded: Folded, office_file: OfficeFile |
     return "" if is_there else f"its {thing_of(noted.words)} isn't there"
 
 
+@dataclass(frozen=True)
+class Recorded:
+    """What a command other than a movement records: what that is called, the query that finds it, and of which of the
+    command's values."""
+
+    what: str
+    sql: str
+    values: tuple[str, ...]
+
+    def is_in(self, base: Base, values: dict[str, str]) -> bool:
+        """Whether a file has it."""
+        return base.execute(self.sql, [column_of(it, values[it]) for it in self.values]).fetchone() is not None
+
+
+RECORDED = {
+    "result": Recorded("result", HAS_RESULT, ("OWNER", "LOT", "TEST", "VALUE", "DAY")),
+    "test-add": Recorded("test", HAS_TEST, ("OWNER", "MATERIAL", "TEST", "LOW", "HIGH")),
+    "reject": Recorded("rejection", IS_REJECTED, ("LOT",)),
+    "void": Recorded("void", VOIDED, ("OWNER", "KEY")),
+    "cancel": Recorded("cancellation", IS_CANCELLED, ("ORDER",)),
+}
+
+
 def thing_of(words: Sequence[str]) -> str:
     """What a command records that is looked for."""
-    return {"result": "result", "test-add": "test"}.get(words[0], "movement")
+    return RECORDED[words[0]].what if words[0] in RECORDED else "movement"
 
 
 def is_recorded(base: Base, words: Sequence[str]) -> bool | None:
@@ -111,8 +136,7 @@ def is_recorded(base: Base, words: Sequence[str]) -> bool | None:
         return None
     values = dict(zip(line.values, words[1:]))
     if line.name in RECORDED:
-        sql, names = RECORDED[line.name]
-        return not faults(line, list(words[1:])) and has(base, sql, [column_of(it, values[it]) for it in names])
+        return not faults(line, list(words[1:])) and RECORDED[line.name].is_in(base, values)
     row = move_of(line, values)
     return None if row is None else base.execute(MOVE, (values["OWNER"], values["KEY"])).fetchone() == row
 
@@ -120,11 +144,6 @@ def is_recorded(base: Base, words: Sequence[str]) -> bool | None:
 def column_of(name: str, word: str) -> str | int:
     """A value of a line as a file has it."""
     return value_of(word) if name in NUMBERS else word
-
-
-def has(base: Base, sql: str, words: Sequence[str | int]) -> bool:
-    """Whether a query finds something."""
-    return base.execute(sql, words).fetchone() is not None
 
 
 # What a thing of one of the files is called where the notes are read; empty if it isn't there.
@@ -196,8 +215,9 @@ class Reader:
             if name := self.naming("lot", at, link.owner, lot):
                 yield replace(link, lot=name, order="", batch=0)
 
-    def add(self, register: Register, after: str, note: Note) -> None:
+    def add(self, register: Register, noted: Noted, note: Note) -> None:
         """Adds a note that stands, other than a link."""
+        after = noted.after
         match note:
             case Party():
                 register.parties[note.owner, note.party] = note
@@ -215,6 +235,23 @@ class Reader:
             case LotFacts() | ResultFacts():
                 if lot := self.lot(after, note.owner, note.lot):
                     add_of_lot(register, replace(note, lot=lot))
+            case Judgement():
+                if lot := self.lot(after, note.owner, note.lot):
+                    judged = register.judged.setdefault(LotId(note.owner, lot), [])
+                    judged.append(Judged(replace(note, lot=lot), noted.is_own))
+            case Reason():
+                if reason := self.reason(after, note):
+                    register.reasons.append(reason)
+
+    def reason(self, after: str, note: Reason) -> Reason | None:
+        """A reason as it is read; `None` if what it is about isn't there."""
+        if note.lot:
+            return replace(note, lot=lot) if (lot := self.lot(after, note.owner, note.lot)) else None
+        if note.key:
+            return replace(note, key=key) if (key := self.key(after, note.owner, note.key)) else None
+        at = self.place(after, HAS_ORDER, note.owner, note.order)
+        order = "" if at is None else self.naming("order", at, note.owner, note.order)
+        return replace(note, order=order) if order else None
 
 
 def add_of_movement(register: Register, note: MovementFacts | NotLinked) -> None:
@@ -252,7 +289,7 @@ def read(journal: Journal, newest: Base, whole: Base | None = None) -> Register:
             if isinstance(status.note, Link) and not status.fault:
                 links.update(dict.fromkeys(reader.links(status.noted.after, status.note)))
             elif status.note and not status.fault:
-                reader.add(register, status.noted.after, status.note)
+                reader.add(register, status.noted, status.note)
     register.links.extend(links)
     return register
 

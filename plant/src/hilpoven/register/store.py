@@ -2,12 +2,21 @@
 from dataclasses import dataclass, field
 from typing import TypeVar
 
+from ..records.rows import LotId
 from .facts import LotFacts, MaterialFacts, MovementFacts, OwnerFacts, ResultId, TestFacts
 from .kinds import Bound
-from .notes import Link, Party
+from .notes import Judgement, Link, Party, Reason
 
 Key = TypeVar("Key", bound=tuple[object, ...])
 Noted = TypeVar("Noted")
+
+
+@dataclass(frozen=True)
+class Judged:
+    """What the plant's quality said last of a lot, and whether that is a note alone, of which `toll` has nothing."""
+
+    note: Judgement
+    is_note_alone: bool
 
 
 @dataclass(frozen=True)
@@ -24,6 +33,9 @@ class Register:
     tests: dict[tuple[str, str, str], TestFacts] = field(default_factory=dict)  # by owner, material and test
     lots: dict[tuple[str, str], LotFacts] = field(default_factory=dict)  # by owner and lot
     bounds: dict[ResultId, Bound] = field(default_factory=dict)  # of results whose value is one
+    judged: dict[LotId, list[Judged]] = field(default_factory=dict)  # the last one of each lot counts
+    reasons: list[Reason] = field(default_factory=list)  # in the order in which they were noted
+    plants_test: str = ""  # by which the plant signs and holds lots, as the settings name it; empty if it has none
 
     def of(self, owner: str) -> "Register":
         """The notes of one owner, which are all that it gets."""
@@ -41,4 +53,7 @@ class Register:
             own(self.tests),
             own(self.lots),
             own(self.bounds),
+            own(self.judged),
+            [reason for reason in self.reasons if reason.owner == owner],
+            self.plants_test,
         )

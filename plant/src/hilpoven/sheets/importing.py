@@ -75,6 +75,7 @@ class Import:
         """Gives actuals by `toll import`, in parts, each noted in the journal with its keys."""
         took = 0.0
         records = earlier.left_of(self.office, self.sheet.records, self.note, self.advance)
+        records = self.context.stops.left_of(records, self.note, self.advance)
         with scratch.folder(tempfile.gettempdir()) as folder:
             for part in chunks(records, lambda: took):
                 begun = time.monotonic()

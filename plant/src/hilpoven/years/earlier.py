@@ -15,10 +15,8 @@ from ..records.schema import INCOMING, ON_HAND, Kind
 from ..sheets.sheet import Record
 from . import chain
 
-MOVE = """
-SELECT kind, lot_owner, lot, sublot, target, material, ord, number, segment, amount, day FROM moves
-WHERE owner = ? AND mkey = ?
-"""
+MOVE_COLUMNS = "kind, lot_owner, lot, sublot, target, material, ord, number, segment, amount, day"
+MOVE = f"SELECT {MOVE_COLUMNS} FROM moves WHERE owner = ? AND mkey = ?"
 VOIDED = "SELECT 1 FROM voids WHERE owner = ? AND mkey = ?"
 LOT = f"SELECT ord, number, {ON_HAND} FROM lots AS l WHERE owner = ? AND lot = ?"
 CAME_OVER = "SELECT 1 FROM moves JOIN carried_moves USING (owner, mkey) WHERE lot_owner = ? AND lot = ? LIMIT 1"

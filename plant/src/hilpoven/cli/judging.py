@@ -1,0 +1,111 @@
+"""`hilpoven sign` and `hold`: what the plant's quality says of a lot."""
+import datetime
+import sys
+
+import click
+
+from ..core import asking
+from ..core.context import Context
+from ..core.failure import REFUSED, WRONG_USE, Failure, tell
+from ..core.forms import DAY
+from ..core.grammar import LINES
+from ..core.office import pass_on
+from ..journal import log
+from ..records.days import day_of
+from ..records.rows import Lot, LotId, require_lot, tests_of
+from ..register import making, quality
+from ..register.notes import Held, Judgement, Signed
+from ..register.recorders import recorders
+from .words import FILLED_TEXT, WORD, pass_context
+
+RESULTS = {Signed: quality.LIMIT, Held: quality.LIMIT - 1}  # of the plant's own test
+day_option = click.option("--day", metavar="DAY", type=WORD, help="The day of it; today, as YYMMDD, by default.")
+
+
+@click.command()
+@click.argument("owner", metavar="OWNER", type=WORD)
+@click.argument("lot", metavar="LOT", type=WORD)
+@click.option("--reason", metavar="TEXT", type=FILLED_TEXT, help="What else there is to say.")
+@day_option
+@pass_context
+def sign(context: Context, owner: str, lot: str, reason: str | None, day: str | None) -> None:
+    """Signs a lot for the plant, so that it may be released and go. It needs each of the lot's own tests within its
+    limits, and a person who recorded none of the lot's results and movements.
+
+    It is the result 1 of the test that the settings name below [quality]. A lot whose material hasn't this test is
+    signed by a note alone.
+
+    Example: hilpoven sign ACME B-1
+    """
+    with making.desk(context) as desk:
+        it = require_lot(desk.base, LotId(owner, lot))
+        register = context.register(desk.base)
+        status = quality.statuses(desk.base, register, it.id).get(it.id)
+        if status and status.state == quality.State.SIGNED:
+            click.echo(f"lot {it.id} is {status.text} already")
+            return
+        missing = [
+            test.name for test in quality.own_tests(register, tests_of(desk.base, it)) if test.limits != "within"
+        ]
+        if missing:
+            advice = f"`hilpoven show lot {owner} {lot}` has its tests"
+            raise Failure(f"lot {it.id} has no result within the limits of {', '.join(missing)}", REFUSED, advice)
+        require_another_person(context, desk, it.id)
+    judge(context, it, Signed(owner, lot, day_given(day), reason or ""))
+
+
+@click.command()
+@click.argument("owner", metavar="OWNER", type=WORD)
+@click.argument("lot", metavar="LOT", type=WORD)
+@click.option("--reason", metavar="TEXT", type=FILLED_TEXT, required=True, help="Why it stays.")
+@day_option
+@pass_context
+def hold(context: Context, owner: str, lot: str, reason: str, day: str | None) -> None:
+    """Holds a lot, released or not, so that none of it is shipped or consumed until it is signed and released again.
+
+    It is the result 0 of the test that the settings name below [quality], so toll itself refuses what would take it. A
+    lot whose material hasn't this test is held by a note alone: then only hilpoven refuses to ship and to consume it.
+
+    Example: hilpoven hold ACME B-1 --reason 'metal in drum 7'
+    """
+    with making.desk(context) as desk:
+        it = require_lot(desk.base, LotId(owner, lot))
+    judge(context, it, Held(owner, lot, day_given(day), reason))
+
+
+def day_given(day: str | None) -> int:
+    """The day that is given, or today; fails if it can't be one."""
+    if day and (fault := DAY.fault(day)):
+        raise Failure(f"DAY: `{day}` {fault}", WRONG_USE)
+    return int(day) if day else day_of(datetime.date.today())
+
+
+def require_another_person(context: Context, desk: making.Desk, lot: LotId) -> None:
+    """Fails if the caller recorded something of a lot, and the settings need a second person."""
+    if context.settings.quality.persons < 2:
+        return
+    who = log.login()
+    if who in recorders(desk.journal, desk.bases, lot, context.settings.quality.test):
+        advice = "another person signs it; persons = 1 below [quality] in the settings lets the same one"
+        raise Failure(f"{who} recorded results or movements of lot {lot}", REFUSED, advice)
+
+
+def judge(context: Context, lot: Lot, note: Judgement) -> None:
+    """Records what quality says of a lot: as the result of the plant's own test, if the lot's material has it, and
+    otherwise as a note alone."""
+    with making.desk(context) as desk:
+        test = context.settings.quality.test
+        words = {"test": test, "owner": lot.id.owner, "material": lot.material}
+        is_tested, members = desk.base.execute(quality.HAS_TEST, words).fetchone() is not None, desk.all_members([note])
+    if is_tested:
+        line = LINES["result"]
+        values = [*lot.id, test, str(RESULTS[type(note)]), str(note.day)]
+        answer = asking.given(context, desk.office, line, values, **members)
+        pass_on(answer)
+        asking.explain(desk.office, line, values, answer)
+        sys.exit(answer.status)
+    reason = ["--reason", note.reason] if note.reason else []
+    word = "sign" if isinstance(note, Signed) else "hold"
+    name = desk.record([word, *lot.id, *reason, "--day", str(note.day)], note)
+    click.echo(f"noted {name}")
+    tell("The lot's material hasn't the plant's own test, so hilpoven alone goes by this, and toll doesn't.")

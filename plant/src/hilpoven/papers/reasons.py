@@ -1,0 +1,41 @@
+"""Why commands were given, as the plant noted it: of what is on a lot's card, and in a batch's record."""
+from collections.abc import Iterable, Sequence
+
+from ..records.days import format_day
+from ..records.rows import BatchId, LotId, Move
+from ..register.notes import Held, Reason
+from ..register.store import Register
+from .sheets import Row, Sheet, columns
+
+COLUMNS = columns("what:text noted_reason=reason:text")
+
+
+def reasons_of_lot(register: Register, lot: LotId, moves: Sequence[Move]) -> Sheet | None:
+    """The reasons of a lot's rejection, of its movements, and of its holds and signatures; `None` if there are none."""
+    keys = {(move.owner, move.key) for move in moves}
+    given = [it for it in register.reasons if LotId(it.owner, it.lot) == lot or (it.owner, it.key) in keys]
+    judged = [it.note for it in register.judged.get(lot, []) if it.note.reason]
+    rows = [(f"{'hold' if isinstance(it, Held) else 'signature'} on {format_day(it.day)}", it.reason) for it in judged]
+    return sheet_of([*rows_of(given), *rows])
+
+
+def reasons_of_batch(register: Register, batch: BatchId, actuals: Sequence[Move]) -> Sheet | None:
+    """The reasons of what was done to a batch, to its order, and to its actuals; `None` if there are none."""
+    keys = {(move.owner, move.key) for move in actuals}
+    return sheet_of(
+        rows_of(
+            it
+            for it in register.reasons
+            if (it.owner, it.key) in keys or (it.owner, it.order) == batch[:2] and it.batch in (0, batch.number)
+        )
+    )
+
+
+def rows_of(reasons: Iterable[Reason]) -> list[Row]:
+    """The rows of reasons, of the same ones once."""
+    return [(it.about, it.reason) for it in dict.fromkeys(reasons)]
+
+
+def sheet_of(rows: Sequence[Row]) -> Sheet | None:
+    """The table of reasons; `None` if it has no row."""
+    return Sheet("reasons", COLUMNS, rows) if rows else None

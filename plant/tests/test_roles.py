@@ -1,0 +1,113 @@
+"""Roles: under sudo the groups of the caller decide which commands it may give, and neither its environment nor other words do."""
+import json
+
+import click
+import pytest
+from click.testing import CliRunner
+from conftest import Told
+from hilpoven.cli import hilpoven, roles
+from hilpoven.core import rights, settings as site
+
+# Users and groups that each Debian has: daemon, 1, is in the group daemon, and man, 6, in the group man.
+DAEMON, MAN = 1, 6
+QUESTIONS = {"orders", "stock", "batch", "trace", "recall", "list", "show", "status", "verify", "papers", "board", "years", "journal", "to-csv", "note list",
+             "party list", "drill paper"}
+OF_EACH_ROLE = {
+    "record": ["ship ACME K9 S-1 BAY1 5 103", "use ACME O-1 1 HOUSE W-101 TANK 5 103", "import -", "note not-linked ACME K1", "link ACME B-1 S-1 --why use", "do ACME O-1 1 hold"],
+    "quality": ["reject W-101", "release W-101", "sign ACME S-1", "hold ACME S-1 --reason wet", "drill start S-1"],
+    "master_data": ["unit-add PRESS", "material new ACME GLUE kg", "material-add ACME GLUE kg", "require ACME BRINE-10 1 consumed ACME SALT 3", "party add ACME N --name N --role customer"],
+    "keys": ["owner key ACME", "owner add NEW", "owner-add NEW NEWKEY12"],
+    "restore": ["restore office.db", "backup", "carry-over", "new", "register rebuild"],
+}
+
+
+def settle(plant, **groups):
+    """Has the settings name these groups."""
+    plant.settle()
+    path = site.load.__defaults__[0]
+    path.write_text(path.read_text() + "[roles]\n" + "".join(f"{role} = {json.dumps(names)}\n" for role, names in groups.items()))
+
+
+def by(plant, user, *words, **environment):
+    """What the plant's command tells a member of the group whose number sudo gives."""
+    with pytest.MonkeyPatch.context() as patch:
+        patch.setattr(rights, "STARTED_AS", 4242)
+        done = CliRunner(mix_stderr=False, env={"SUDO_UID": str(user), "SUDO_USER": "anna", **environment}).invoke(hilpoven, list(words), input="")
+    if done.exception and not isinstance(done.exception, SystemExit):
+        raise done.exception
+    return Told(done.exit_code, done.stdout, done.stderr)
+
+
+def words_of(group, before=()):
+    """The words of each subcommand that is no group of others."""
+    for name, command in group.commands.items():
+        if isinstance(command, click.Group):
+            yield from words_of(command, (*before, name))
+        else:
+            yield " ".join((*before, name))
+
+
+def test_each_subcommand_has_a_role_or_changes_nothing():
+    names = set(words_of(hilpoven))
+    assert set(roles.ROLES) <= names and set(roles.ROLES.values()) == set(site.Roles._fields)
+    assert {name for name in names - set(roles.ROLES) if name not in QUESTIONS and name.split()[0] not in QUESTIONS} == set()
+
+
+@pytest.mark.parametrize("role", OF_EACH_ROLE)
+def test_a_member_of_another_group_gives_no_command_of_a_role(at_work, role):
+    settle(at_work, **{role: ["man"]})
+    before, there, lines = at_work.content(), sorted(at_work.folder.iterdir()), at_work.lines()
+    for text in OF_EACH_ROLE[role]:
+        told = by(at_work, DAEMON, *text.split())
+        assert told.status == 2 and told.out == "" and f" is for the members of man alone, by the role {role} of the settings" in told.err, (text, told)
+    assert at_work.content() == before and sorted(at_work.folder.iterdir()) == there and at_work.lines() == lines
+
+
+def test_a_member_of_the_group_may_and_so_may_root(at_work):
+    settle(at_work, master_data=["mail", "man"], quality=[])
+    assert by(at_work, MAN, "unit-add", "PRESS").out == "accepted\n"
+    assert "for root and the office's user alone" in by(at_work, MAN, "reject", "W-101").err
+    assert by(at_work, DAEMON, "scrap", "ACME", "K9", "S-1", "BAY1", "5", "103").out == "accepted\n"  # of which nothing is told
+    assert at_work.run("unit-add", "MIXER-2").out == at_work.run("reject", "W-101").out == "accepted\n"
+    for words in (["stock", "ACME"], ["list", "lots"], ["show", "lot", "ACME", "S-1"], ["note", "list"], ["party", "list"], ["journal", "--no-site"], ["board"]):
+        assert by(at_work, DAEMON, *words).status == 0
+
+
+@pytest.mark.parametrize("user", [DAEMON, "4294967294", "99999999999999999999", "x", "-1", "", "6 ", "06x"])
+def test_whom_the_system_doesn_t_know_is_in_no_group(at_work, user):
+    settle(at_work, quality=["man"])
+    assert by(at_work, user, "reject", "W-101").status == 2 and at_work.lines() == []
+
+
+@pytest.mark.parametrize("environment", [
+    {"SUDO_USER": "man"}, {"USER": "man", "LOGNAME": "man", "SUDO_GID": "12", "GROUPS": "12"}, {"HILPOVEN_SETTINGS": "/dev/null"},
+    {"_HILPOVEN_COMPLETE": "bash_complete", "COMP_WORDS": "hilpoven reject W-101", "COMP_CWORD": "2"}])
+def test_the_environment_decides_nothing(at_work, environment):
+    settle(at_work, quality=["man"])
+    told = by(at_work, DAEMON, "reject", "W-101", **environment)
+    assert told.out.strip() == "" and at_work.rows("SELECT disposition FROM lots WHERE lot = 'W-101'") == [(1,)]
+
+
+def test_words_before_and_behind_the_subcommand_change_nothing(at_work):
+    settle(at_work, quality=["man"], keys=["man"], record=["man"])
+    for text in ("--wait 0 reject W-101", "--office office reject W-101", "reject --lot W-101", "reject -- W-101", "owner key --random ACME", "owner --help key ACME", "drill start --help",
+                 "result ACME B-1 PH 7 103", "import --what results -", "import --check -"):
+        told = by(at_work, DAEMON, *text.split())
+        assert told.status in (0, 2) and at_work.lines() == [] and "accepted" not in told.out, (text, told)
+
+
+def test_the_caller_of_sudo_is_who_signs(at_work):
+    settle(at_work)
+    assert by(at_work, MAN, "hold", "ACME", "S-1", "--reason", "wet").status == 0
+    line, = at_work.lines()
+    assert line["event"] == "note" and line["login"] in ("anna", line["login"])
+
+
+@pytest.mark.parametrize("text, why", [("roles = 1\n", "roles is to be a table: [roles]"), ("[roles]\nquality = \"qa\"\n", "quality is to be a list of texts"),
+                                       ("[roles]\nqualty = [\"qa\"]\n", "qualty is no line of [roles]"), ("[roles]\nquality = [1]\n", "quality is to be a list of texts")])
+def test_wrong_roles_let_nobody_in(at_work, text, why):
+    at_work.settle()
+    path = site.load.__defaults__[0]
+    path.write_text(path.read_text() + text)
+    told = by(at_work, MAN, "reject", "W-101")
+    assert told.status == 2 and why in told.err and at_work.lines() == []
