@@ -206,7 +206,7 @@ def test_a_held_lot_stays_held_in_the_next_file(office, by):
 
 def test_nothing_of_it_is_shown_as_a_test_with_a_number(office, by):
     shown = office.run("show", "lot", "ACME", "P-8")
-    assert "quality: not signed by the plant" in shown.out and "  the plant's signature: `hilpoven sign ACME P-8`" in shown.out
+    assert "quality: not signed by the plant" in shown.out and "Missing for its release:\n  the plant's signature\n" in shown.out
     assert by(office, "bert", "sign", "ACME", "P-8", "--day", 260103).status == 0
     shown = json.loads(office.run("show", "lot", "ACME", "P-8", "--json").out)
     assert shown["quality"] == "signed by the plant on 2026-01-03" and [test["test"] for test in shown["tests"]] == ["PH"]

@@ -126,7 +126,7 @@ def release_of(owner: str, name: str, disposition: str, tests: list[Row], regist
     if disposition != "quarantined":
         return [f"It is {disposition}{' for good' if disposition == 'rejected' else ''}."]
     missing = [
-        f"  the plant's signature: `hilpoven sign {owner} {name}`"
+        "  the plant's signature"
         if quality.is_plants(register, test, low, high)
         else f"  {test}: no result yet; the limits are {formatted(low)} to {formatted(high)}"
         if limits == "missing"
