@@ -12,10 +12,11 @@ from ..core.grammar import LINES
 from ..core.office import pass_on
 from ..journal import log
 from ..records.days import day_of
-from ..records.rows import Lot, LotId, require_lot, tests_of
+from ..records.rows import Base, Lot, LotId, require_lot, tests_of
 from ..register import making, quality
 from ..register.notes import Held, Judgement, Signed
 from ..register.recorders import recorders
+from ..register.store import Register
 from .words import FILLED_TEXT, WORD, pass_context
 
 RESULTS = {Signed: quality.LIMIT, Held: quality.LIMIT - 1}  # of the plant's own test
@@ -38,20 +39,15 @@ def sign(context: Context, owner: str, lot: str, reason: str | None, day: str | 
     Example: hilpoven sign ACME B-1
     """
     with making.desk(context) as desk:
-        it = require_lot(desk.base, LotId(owner, lot))
+        asked = require_lot(desk.base, LotId(owner, lot))
         register = context.register(desk.base)
-        status = quality.statuses(desk.base, register, it.id).get(it.id)
+        status = quality.statuses(desk.base, register, asked.id).get(asked.id)
         if status and status.state == quality.State.SIGNED:
-            click.echo(f"lot {it.id} is {status.text} already")
+            click.echo(f"lot {asked.id} is {status.text} already")
             return
-        missing = [
-            test.name for test in quality.own_tests(register, tests_of(desk.base, it)) if test.limits != "within"
-        ]
-        if missing:
-            advice = f"`hilpoven show lot {owner} {lot}` has its tests"
-            raise Failure(f"lot {it.id} has no result within the limits of {', '.join(missing)}", REFUSED, advice)
-        require_another_person(context, desk, it.id)
-    judge(context, it, Signed(owner, lot, day_given(day), reason or ""))
+        require_passed(desk.base, register, asked)
+        require_another_person(context, desk, asked.id)
+    judge(context, asked, Signed(owner, lot, day_given(day), reason or ""))
 
 
 @click.command()
@@ -69,8 +65,8 @@ def hold(context: Context, owner: str, lot: str, reason: str, day: str | None) -
     Example: hilpoven hold ACME B-1 --reason 'metal in drum 7'
     """
     with making.desk(context) as desk:
-        it = require_lot(desk.base, LotId(owner, lot))
-    judge(context, it, Held(owner, lot, day_given(day), reason))
+        asked = require_lot(desk.base, LotId(owner, lot))
+    judge(context, asked, Held(owner, lot, day_given(day), reason))
 
 
 def day_given(day: str | None) -> int:
@@ -78,6 +74,14 @@ def day_given(day: str | None) -> int:
     if day and (fault := DAY.fault(day)):
         raise Failure(f"DAY: `{day}` {fault}", WRONG_USE)
     return int(day) if day else day_of(datetime.date.today())
+
+
+def require_passed(base: Base, register: Register, lot: Lot) -> None:
+    """Fails unless each of a lot's own tests has a result within its limits."""
+    tests = quality.own_tests(register, tests_of(base, lot))
+    if missing := [test.name for test in tests if test.limits != "within"]:
+        advice = f"`hilpoven show lot {lot.id.owner} {lot.id.name}` has its tests"
+        raise Failure(f"lot {lot.id} has no result within the limits of {', '.join(missing)}", REFUSED, advice)
 
 
 def require_another_person(context: Context, desk: making.Desk, lot: LotId) -> None:

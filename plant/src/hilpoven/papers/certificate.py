@@ -9,8 +9,8 @@ from .sheets import TESTS, Sheet, test_rows
 
 
 def documents(source: Source, asked: LotId, shipment: str = "") -> list[Document]:
-    """The certificate of a lot, for one of its shipments if that is named by its key. One of a lot that isn't released, or
-    is held, says so across the page."""
+    """The certificate of a lot, for one of its shipments if that is named by its key. One of a lot that isn't released,
+    or is held, says so across the page."""
     lot = require_lot(source.base, asked)
     check_lots(source, [lot])
     origin = lot.origin if lot.origin == "receipts" else f"batch {lot.origin}"

@@ -13,22 +13,28 @@ COLUMNS = columns("what:text noted_reason=reason:text")
 def reasons_of_lot(register: Register, lot: LotId, moves: Sequence[Move]) -> Sheet | None:
     """The reasons of a lot's rejection, of its movements, and of its holds and signatures; `None` if there are none."""
     keys = {(move.owner, move.key) for move in moves}
-    given = [it for it in register.reasons if LotId(it.owner, it.lot) == lot or (it.owner, it.key) in keys]
-    judged = [it.note for it in register.judged.get(lot, []) if it.note.reason]
-    rows = [(f"{'hold' if isinstance(it, Held) else 'signature'} on {format_day(it.day)}", it.reason) for it in judged]
+    given = [
+        reason
+        for reason in register.reasons
+        if LotId(reason.owner, reason.lot) == lot or (reason.owner, reason.key) in keys
+    ]
+    judged = [judged.note for judged in register.judged.get(lot, []) if judged.note.reason]
+    words = ["hold" if isinstance(note, Held) else "signature" for note in judged]
+    rows = [(f"{word} on {format_day(note.day)}", note.reason) for word, note in zip(words, judged)]
     return sheet_of([*rows_of(given), *rows])
 
 
 def reasons_of_batch(register: Register, batch: BatchId, actuals: Sequence[Move]) -> Sheet | None:
     """The reasons of what was done to a batch, to its order, and to its actuals; `None` if there are none."""
     keys = {(move.owner, move.key) for move in actuals}
-    return sheet_of(
-        rows_of(
-            it
-            for it in register.reasons
-            if (it.owner, it.key) in keys or (it.owner, it.order) == batch[:2] and it.batch in (0, batch.number)
-        )
-    )
+    given = [
+        reason
+        for reason in register.reasons
+        if (reason.owner, reason.key) in keys
+        or (reason.owner, reason.order) == batch[:2]
+        and reason.batch in (0, batch.number)
+    ]
+    return sheet_of(rows_of(given))
 
 
 def rows_of(reasons: Iterable[Reason]) -> list[Row]:

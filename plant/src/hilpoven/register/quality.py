@@ -1,5 +1,5 @@
-"""What the plant's quality says of lots: whether each is signed, held or neither. Of a lot whose material has the test of
-the plant's own, that is its latest result, which `toll` enforces; of another one, a note alone."""
+"""What the plant's quality says of lots: whether each is signed, held or neither. Of a lot whose material has the test
+of the plant's own, that is its latest result, which `toll` enforces; of another one, a note alone."""
 from collections.abc import Iterable
 from dataclasses import dataclass
 from enum import Enum
@@ -52,17 +52,17 @@ class Status:
 def statuses(base: Base, register: Register, lot: LotId | None = None) -> dict[LotId, Status]:
     """What the plant's quality says of each lot of which it says anything, or of one lot."""
     owner, name = lot or (None, None)
-    found = {
-        it: noted_status(judged[-1].note)
-        for it, judged in register.judged.items()
-        if judged[-1].is_note_alone and lot in (None, it)
+    by_lot = {
+        of_lot: noted_status(judged[-1].note)
+        for of_lot, judged in register.judged.items()
+        if judged[-1].is_note_alone and lot in (None, of_lot)
     }
     if register.plants_test:
         words = {"test": register.plants_test, "owner": owner, "lot": name}
         for lot_owner, lot_name, value, day in base.execute(LATEST_RESULTS, words):
-            it = LotId(lot_owner, lot_name)
-            found[it] = recorded_status(register, it, value, day)
-    return found
+            tested = LotId(lot_owner, lot_name)
+            by_lot[tested] = recorded_status(register, tested, value, day)
+    return by_lot
 
 
 def noted_status(note: Judgement) -> Status:
@@ -101,7 +101,8 @@ def with_statuses(columns: list[str], rows: list[Row], base: Base, register: Reg
     """A table of lots with what the plant's quality says of each; unchanged if it says nothing of any of them."""
     said = statuses(base, register)
     owner, lot = columns.index("owner"), columns.index("lot")
-    texts = [said[it].text if (it := LotId(str(row[owner]), str(row[lot]))) in said else None for row in rows]
+    lots = [LotId(str(row[owner]), str(row[lot])) for row in rows]
+    texts = [said[named].text if named in said else None for named in lots]
     if not any(texts):
         return columns, rows
     return [*columns, COLUMN], [(*row, text) for row, text in zip(rows, texts)]

@@ -1,5 +1,5 @@
-"""What `hilpoven` itself refuses before `toll` is asked: results of the plant's own test that nobody signs, and shipments
-and uses of lots that are held by a note alone, of which `toll` has nothing."""
+"""What `hilpoven` itself refuses before `toll` is asked: results of the plant's own test that are typed, and shipments
+and consumption of lots that are held by a note alone, of which `toll` has nothing."""
 import functools
 from collections.abc import Callable, Mapping
 from dataclasses import dataclass
