@@ -1,7 +1,6 @@
 """`hilpoven carry-over`: the office goes on in a new file, which begins with what lies in the plant."""
 import os
 import sys
-from datetime import date
 
 import click
 
@@ -9,7 +8,7 @@ from ..core import forms, names
 from ..core.context import Context
 from ..core.failure import REFUSED, WRONG_USE, Failure
 from ..output.table import print_table
-from ..records.days import day_of
+from ..records.days import day_of, today
 from ..years import chain, steps
 from ..years.carrying import COMMAND, Work, hindrances, prepared
 from ..years.carrying import carry_over as carry
@@ -107,7 +106,7 @@ def carry_over(context: Context, new: str | None, day: str, is_plan: bool) -> No
 
     Example: hilpoven carry-over /var/lib/toll/next.db
     """
-    day = day or str(day_of(date.today()))
+    day = day or str(day_of(today(context.settings.time_zone)))
     if fault := forms.DAY.fault(day):
         raise Failure(f"DAY: `{day}` {fault}", WRONG_USE)
     target = target_of(context.file, new)

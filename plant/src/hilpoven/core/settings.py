@@ -25,6 +25,23 @@ BOUNDS = {
     "port": (0, 65_535),
     "wait": (0, MUCH),
 }
+MOST_PREFIX = 8  # letters before the number of a key, which has 16 with it
+
+
+def prefix_fault(prefix: str) -> str:
+    """What is wrong with what keys begin with."""
+    return name_fault(prefix) or ("" if len(prefix) <= MOST_PREFIX else f"has more than {MOST_PREFIX} letters")
+
+
+def zone_fault(name: str) -> str:
+    """What is wrong with the name of a time zone."""
+    from ..records.days import zone_of
+
+    try:
+        zone_of(name)
+    except (OSError, ValueError, LookupError):
+        return "is no time zone of this machine, such as Europe/Berlin"
+    return ""
 
 
 class Require(NamedTuple):
@@ -76,6 +93,8 @@ class Settings(NamedTuple):
     backup_hours: int = 26  # an older newest backup is told by `status`
     port: int = 0  # at which a server is expected to answer owners; 0 asks none
     wait: float = 10.0  # seconds for a lock that somebody has
+    key_prefix: str = "K"  # what the keys of movements begin with that are made by themselves
+    time_zone: str = ""  # in which the plant's day begins; the machine's where it isn't said
     site_logs: list[str] = []  # of the proxy, with all owners' requests
     require: Require = Require()
     plant: PlantFacts = PlantFacts()
@@ -91,7 +110,12 @@ TABLES: dict[str, Require | PlantFacts | Quality | Roles] = {
 }
 DEFAULTS = Settings()._asdict()
 # What is wrong with a text that isn't empty.
-TEXT_FAULTS: dict[str, Callable[[str], str]] = {"test": name_fault, **{name: TEXT.fault for name in PlantFacts._fields}}
+TEXT_FAULTS: dict[str, Callable[[str], str]] = {
+    "test": name_fault,
+    "key_prefix": prefix_fault,
+    "time_zone": zone_fault,
+    **{name: TEXT.fault for name in PlantFacts._fields},
+}
 
 
 def of_environment(name: str) -> str:

@@ -1,5 +1,5 @@
 """Days of movements: numbers that the plant chooses. Six digits that are a date of this century, YYMMDD, are one."""
-from datetime import date
+from datetime import date, datetime, tzinfo
 
 
 def date_of(day: int) -> date | None:
@@ -15,6 +15,18 @@ def date_of(day: int) -> date | None:
 def day_of(when: date) -> int:
     """The day that stands for a date."""
     return int(f"{when:%y%m%d}")
+
+
+def zone_of(name: str) -> tzinfo | None:
+    """The time zone of a name; that of the machine, `None`, if it is empty."""
+    from zoneinfo import ZoneInfo
+
+    return ZoneInfo(name) if name else None
+
+
+def today(zone: str) -> date:
+    """The date that it is in a time zone; in that of the machine if none is named."""
+    return datetime.now(zone_of(zone)).date()
 
 
 def format_day(day: int) -> str:
