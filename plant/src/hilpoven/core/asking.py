@@ -24,10 +24,26 @@ class Beside(NamedTuple):
     hint: str = ""
 
 
-def run(
-    context: Context, line: Line, typed: list[str], beside: Callable[[Context, dict[str, str]], Beside] | None = None
-) -> int:
-    """Gives a line to `toll`; its exit status. What is noted beside it is made of its values, where all can be read."""
+class Given(NamedTuple):
+    """A line as it was given to `toll`: its words, what is wrong with them, what is told once it is accepted, and the
+    answer."""
+
+    words: list[str]
+    wrong: list[str]
+    hint: str
+    answer: Answer
+
+
+MakeBeside = Callable[[Context, dict[str, str]], Beside]
+
+
+def run(context: Context, line: Line, typed: list[str], beside: MakeBeside | None = None) -> int:
+    """Gives a line to `toll`; its exit status."""
+    return report(context, line, give(context, line, typed, beside))
+
+
+def give(context: Context, line: Line, typed: list[str], beside: MakeBeside | None = None) -> Given:
+    """Gives a line to `toll`. What is noted beside it is made of its values, where all can be read."""
     words, notes = written(line, typed)
     wrong = faults(line, words)
     tell("\n".join(notes))
@@ -36,13 +52,18 @@ def run(
         raise Failure(f"{line.name} can't be asked so", WRONG_USE, advice)
     office = context.office()
     noted = Beside() if wrong or beside is None else beside(context, dict(zip(line.values, words)))
-    answer = asked(context, office, line, words, **noted.members)
+    return Given(words, wrong, noted.hint, asked(context, office, line, words, **noted.members))
+
+
+def report(context: Context, line: Line, given: Given) -> int:
+    """Prints what `toll` answered, and explains it; the exit status."""
+    office, words, answer = context.office(), given.words, given.answer
     pass_on(answer)
     if line.name in TRACES and not answer.status:
         print_below(context, office, [line.name, *words], answer)
-    tell("\n".join(wrong))
+    tell("\n".join(given.wrong))
     explain(office, line, words, answer)
-    tell(noted.hint if answer.output == "accepted\n" else "")
+    tell(given.hint if answer.output == "accepted\n" else "")
     return answer.status
 
 

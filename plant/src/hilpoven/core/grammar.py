@@ -34,6 +34,8 @@ FORMS: dict[str, Form] = {
     "COMMAND": forms.COMMAND,
 }
 OWNER_ADD = "owner-add"
+MOVEMENTS = {"receive", "split", "ship", "scrap", "actual"}  # the lines whose KEY is that of a new movement
+NEXT = "next"  # in place of such a KEY: the next free one
 QUESTIONS = {"orders", "stock", "batch", "trace", "recall"}
 
 
@@ -123,6 +125,20 @@ def written(line: Line, words: list[str]) -> tuple[list[str], list[str]]:
         else:
             passed.append(word)
     return passed, notes
+
+
+def in_capitals(line: Line, words: list[str]) -> tuple[list[str], list[str]]:
+    """The words as a hand means them that types names in lower case, and a sentence for each that is read so."""
+    meant, notes = [], []
+    for value, word in zip(line.values, words):
+        capitals = word.upper()
+        is_name = line.form(value) is forms.NAME and word.isascii() and not forms.name_fault(capitals)
+        if is_name and word != capitals and not (value == "KEY" and word == NEXT and line.name in MOVEMENTS):
+            notes.append(f"{value}: {word} is read as {capitals}")
+            meant.append(capitals)
+        else:
+            meant.append(word)
+    return meant, notes
 
 
 def faults(line: Line, words: list[str]) -> list[str]:
