@@ -7,11 +7,15 @@ from typing import TYPE_CHECKING, Any
 import click
 
 from ..core import asking
-from ..core.failure import WRONG_USE, Failure
-from ..core.grammar import Line
+from ..core.context import Context
+from ..core.failure import WRONG_USE, Failure, tell
+from ..core.grammar import MOVEMENTS, NEXT, OWNER_ADD, Line, in_capitals
+from .words import at_terminal
 
 if TYPE_CHECKING:
     from .line_notes import LineNotes
+
+TODAY = "today"  # the flag that stands for DAY
 
 
 class LineCommand(click.Command):
@@ -21,13 +25,14 @@ class LineCommand(click.Command):
         self.line, self.notes = line, notes
         beside = notes.options() if notes else []
         self.names_beside = [str(it.name) for it in beside]
-        options = [*(self.option(it) for it in line.values), *beside]
+        options = [*(self.option(it) for it in line.values), *self.today_option(), *beside]
         words = click.Argument(
             ["words"], nargs=-1, type=click.UNPROCESSED, metavar=" ".join(line.values), shell_complete=self.completions
         )
         examples = [line.example, *([notes.example] if notes else [])]
-        text = f"{line.about[0].upper()}{line.about[1:]}.\n\nExample: hilpoven " + "\n\nExample: hilpoven ".join(
-            examples
+        asks = "" if line.name == OWNER_ADD else " At a terminal it asks for each value that is missing."
+        text = f"{line.about[0].upper()}{line.about[1:]}.{asks}\n\nExample: hilpoven " + (
+            "\n\nExample: hilpoven ".join(examples)
         )
         super().__init__(
             line.name,
@@ -39,20 +44,33 @@ class LineCommand(click.Command):
 
     def option(self, value: str) -> click.Option:
         """The option by which a value is named."""
-        form = self.line.form(value)
+        about = self.line.form(value).about
+        if value == "KEY" and self.line.name in MOVEMENTS:
+            about = f"{about}; `{NEXT}` is the next free one"
         return click.Option(
-            [f"--{value.lower()}", value.lower().replace("-", "_")],
+            [f"--{value.lower()}", parameter(value)],
             metavar=value,
-            help=form.about,
-            shell_complete=lambda _, __, begun: [it for it in form.choices if it.startswith(begun)],
+            help=about,
+            shell_complete=lambda ctx, _, begun: self.names(ctx, value, begun),
         )
 
+    def today_option(self) -> list[click.Option]:
+        """The option that stands for today's DAY, if the line has one."""
+        about = "The day is today, as YYMMDD."
+        return [click.Option([f"--{TODAY}"], is_flag=True, help=about)] if "DAY" in self.line.values else []
+
     def completions(self, ctx: click.Context, _: click.Parameter, begun: str) -> list[str]:
-        """The words of the value that is being typed, where it is one of a list."""
-        missing = [it for it in self.line.values if ctx.params.get(it.lower().replace("-", "_")) is None][
-            len(ctx.params.get("words") or ()) :
-        ]
-        return [it for it in self.line.form(missing[0]).choices if it.startswith(begun)] if missing else []
+        """The words of the value that is being typed."""
+        missing = missing_of(self.line, named_in(self.line, ctx.params))[len(ctx.params.get("words") or ()) :]
+        return self.names(ctx, missing[0], begun) if missing else []
+
+    def names(self, ctx: click.Context, value: str, begun: str) -> list[str]:
+        """The words of a value: those of its list, or names that fit in the office."""
+        from . import completion
+
+        given = filled(named_in(self.line, ctx.params), list(ctx.params.get("words") or ()))
+        before = {name: word for name, word in given.items() if word}
+        return completion.of_line(ctx, self.line, value, before, begun)
 
     def invoke(self, ctx: click.Context) -> Any:
         """Gives the line to `toll`, and ends with its status."""
@@ -60,23 +78,87 @@ class LineCommand(click.Command):
         words = named.pop("words")
         given = {name: named.pop(name) for name in self.names_beside}
         beside = partial(self.notes.beside, given=given) if self.notes else None
-        sys.exit(asking.run(ctx.obj, self.line, arranged(self.line, list(words), named), beside))
+        typed = self.typed(ctx.obj, list(words), named)
+        if is_next_key(self.line, typed):
+            from . import next_key
+
+            sys.exit(next_key.run(ctx.obj, self.line, typed, beside))
+        sys.exit(asking.run(ctx.obj, self.line, typed, beside))
+
+    def typed(self, context: Context, words: list[str], named: dict[str, Any]) -> list[str]:
+        """The values in the line's order. At a terminal those that are missing are asked for, and names that were
+        typed in lower case are read in capitals."""
+        values = named_in(self.line, with_today(context, self.line, named))
+        is_asked = len(words) < len(missing_of(self.line, values)) and self.line.name != OWNER_ADD and at_terminal()
+        if is_asked:
+            require_options(self.line, words)
+            from . import prompting
+
+            return prompting.completed(context, self.line, filled(values, words))
+        typed = arranged(self.line, words, values)
+        if not at_terminal():
+            return typed
+        meant, notes = in_capitals(self.line, typed)
+        tell("\n".join(notes))
+        return meant
 
 
-def arranged(line: Line, words: list[str], named: dict[str, str | None]) -> list[str]:
-    """The values in the line's order: those that were named, and the others as they were typed."""
-    given = {it: named.get(it.lower().replace("-", "_")) for it in line.values}
+def is_next_key(line: Line, words: list[str]) -> bool:
+    """Whether the key of a movement is to be the next free one."""
+    return line.name in MOVEMENTS and words[line.values.index("KEY")] == NEXT
+
+
+def parameter(value: str) -> str:
+    """The name of the parameter in which a value that is named comes."""
+    return value.lower().replace("-", "_")
+
+
+def named_in(line: Line, parameters: dict[str, Any]) -> dict[str, str | None]:
+    """The values that were named, in the line's order; `None` for the others."""
+    return {value: parameters.get(parameter(value)) for value in line.values}
+
+
+def with_today(context: Context, line: Line, named: dict[str, Any]) -> dict[str, Any]:
+    """The values that were named, with the day that --today stands for."""
+    if not named.get(TODAY):
+        return named
+    if named.get("day") is not None:
+        raise Failure(f"{line.name}: --{TODAY} and --day both say the day", WRONG_USE, "leave one of them out")
+    from ..records.days import day_of, today
+
+    day = str(day_of(today(context.settings.time_zone)))
+    tell(f"DAY: --{TODAY} is {day}")
+    return {**named, "day": day}
+
+
+def missing_of(line: Line, values: dict[str, str | None]) -> list[str]:
+    """The values that were not named."""
+    return [value for value in line.values if values[value] is None]
+
+
+def filled(values: dict[str, str | None], words: list[str]) -> dict[str, str | None]:
+    """The values with the words in the places of those that were not named; `None` where the words end."""
+    rest = iter(words)
+    return {value: next(rest, None) if word is None else word for value, word in values.items()}
+
+
+def require_options(line: Line, words: list[str]) -> None:
+    """Fails where a word looks like an option that the line doesn't have."""
     if strange := [it for it in words if it.startswith("--") and "a" <= it[2:3] <= "z"]:
         raise Failure(f"{line.name} has no option {strange[0]}", WRONG_USE, meant_by(line, strange[0]))
-    missing = [name for name, word in given.items() if word is None]
+
+
+def arranged(line: Line, words: list[str], values: dict[str, str | None]) -> list[str]:
+    """The values in the line's order: those that were named, and the others as they were typed."""
+    require_options(line, words)
+    missing = missing_of(line, values)
     if len(words) != len(missing):
         raise Failure(
             miscounted(line, words, missing),
             WRONG_USE,
             f"usage: hilpoven {line.usage()}\nsuch as: hilpoven {line.example}",
         )
-    rest = iter(words)
-    return [next(rest) if word is None else word for word in given.values()]
+    return [word for word in filled(values, words).values() if word is not None]
 
 
 def meant_by(line: Line, option: str) -> str:

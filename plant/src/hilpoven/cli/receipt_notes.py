@@ -1,5 +1,4 @@
 """The notes beside a receipt: of which earlier lot it contains some, and why; and which party sent it."""
-import sys
 from typing import Any
 
 import click
@@ -12,7 +11,7 @@ from ..register.movements import RETURNS, SENDS, Task
 from ..register.notes import Link, NotLinked, Note, Why
 from ..register.standing import HAS_LOT
 from .movement_notes import facts_beside
-from .words import OneOf
+from .words import OneOf, at_terminal
 
 NO = "no"
 WHYS = [it.value for it in Why]
@@ -30,7 +29,7 @@ def beside(context: Context, values: Values, given: dict[str, Any]) -> Beside:
             return Beside(desk.members([link, *facts_beside(desk, values, given, task_of(link))]))
         owner = values["OWNER"]
         like = likeness.looks_like(values["LOT"], values["KEY"], lambda lot: desk.has(HAS_LOT, owner, lot))
-        if like is not None and sys.stdin.isatty() and sys.stderr.isatty():
+        if like is not None and at_terminal():
             note = answered(desk, values, like)
             return Beside(desk.members([note, *facts_beside(desk, values, given, task_of(note))]))
         hint = "" if like is None else hint_of(values, like)

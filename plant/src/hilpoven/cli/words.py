@@ -3,6 +3,7 @@
 A member of the group, who has the rights of the office's user by sudo, names no path: offices and backups are known by
 their names, and output goes to standard output.
 """
+import sys
 from typing import TYPE_CHECKING, Any
 
 import click
@@ -29,6 +30,11 @@ INSTEAD = {
     "file": "the office is that of --office NAME",
     "new": "the new file is named by itself",
 }
+
+
+def at_terminal() -> bool:
+    """Whether somebody types at a terminal, and reads there what is told and asked."""
+    return sys.stdin.isatty() and sys.stderr.isatty()
 
 
 class Operators(click.ParamType):
@@ -67,6 +73,12 @@ class Word(click.ParamType):
         except UnicodeEncodeError:
             self.fail(f"`{printable(str(value))}` is no UTF-8", param, ctx)
         return str(value)
+
+    def shell_complete(self, ctx: click.Context, param: click.Parameter, incomplete: str) -> "list[CompletionItem]":
+        """The names of the office that it may be, by what stands for it in the help."""
+        from . import completion
+
+        return completion.of_word(ctx, param, incomplete)
 
 
 class Name(click.ParamType):
