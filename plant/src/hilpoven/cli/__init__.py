@@ -25,6 +25,7 @@ Example: hilpoven stock ACME
 
 NOTED_LINES = {"receive", "ship", "scrap", "void", "reject", "cancel", "do"}
 NOTING = ["link", "use", "note", "party", "material", "sign", "hold"]
+COMPLETION = "_HILPOVEN_COMPLETE"  # the variable by which a shell asks for completions
 MOST_LETTERS = 4_096  # of a word of a command
 STREAMS = (("stdin", "r", os.O_WRONLY), ("stdout", "w", os.O_RDONLY), ("stderr", "w", os.O_RDONLY))
 
@@ -65,6 +66,7 @@ SUBCOMMANDS: Makers = {
     "register": imported("noting", "register_group"),
     "carry-over": imported("carrying", "carry_over"),
     "years": imported("years", "years_group"),
+    "complete": imported("completion", "complete"),
 }
 
 
@@ -88,6 +90,10 @@ class Commands(Group):
 
     def main(self, *words: Any, **more: Any) -> Any:
         """Runs a command. Words that are told back are shown escaped, those of a wrong use too."""
+        if COMPLETION in os.environ:
+            from . import completion
+
+            completion.register()
         try:
             status = super().main(*words, **{**more, "standalone_mode": False})  # type: ignore[call-overload]
         except click.Abort:

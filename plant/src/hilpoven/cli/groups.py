@@ -76,4 +76,5 @@ class Group(click.Group):
         rest = [it for it in self.commands if all(it not in names for names in sections.values())]
         for title, names in {**sections, self.others: rest}.items():
             with formatter.section(title):
-                formatter.write_dl([(it, self.commands[it].get_short_help_str(160)) for it in names])
+                shown = [it for it in names if not self.commands[it].hidden]
+                formatter.write_dl([(it, self.commands[it].get_short_help_str(160)) for it in shown])
