@@ -14,14 +14,14 @@ from hypothesis import strategies as any_of
 
 STATUSES = {0, 1, 2, 3}
 UNPRINTABLE = re.compile(r"[\x00-\x09\x0b-\x1f\x7f-\x9f\u061c\u200e\u200f\u2028\u2029\u202a-\u202e\u2066-\u2069\ud800-\udfff]")
-LEFT_OUT = {"board", "papers", "carry-over", "years"}  # which take minutes, and have tests of their own
+LEFT_OUT = {"board", "labels", "papers", "carry-over", "years"}  # which take minutes, and have tests of their own
 SOME = hypothesis.settings(max_examples=400, deadline=None, database=None, derandomize=True,
                            suppress_health_check=[hypothesis.HealthCheck.function_scoped_fixture, hypothesis.HealthCheck.too_slow])
 
 # Words of this office, and those that a hand, a clipboard or somebody else's file may bring.
-KNOWN = ["ACME", "BOLT", "HOUSE", "O-1", "1", "B-1", "S-1", "K1", "KETTLE", "TOTE1", "5", "101", "back", "consumed", "start", "DENSITY", "SALT", "sheet.csv"]
+KNOWN = ["ACME", "BOLT", "HOUSE", "O-1", "1", "B-1", "S-1", "K1", "KETTLE", "TOTE1", "ACME/B-1/TOTE1", "HOUSE/W-101/TANK", "5", "101", "back", "consumed", "start", "DENSITY", "SALT", "sheet.csv"]
 HOSTILE = ["", " ", "-", "--", "---", "1x", "1.0", "-1", "+1", "01", "\u0661", "\uff11", "9" * 30, "1e5", "0x1", "\x1b[2J", "a\nb", "a\r", "\t", "\x7f", "\x85", "\u2028", "\u202e",
-           "\udcff", "a\udc80b", "A" * 5_000, "%s", "{OWNER}", "{}", "'", "\"", "'; DROP TABLE lots; --", "*", "?", "$(id)", "`id`", "~", "/", ".", "..", "absent/", "sheet.csv/a", "=1+1",
+           "\udcff", "a\udc80b", "A" * 5_000, "%s", "{OWNER}", "{}", "'", "\"", "'; DROP TABLE lots; --", "*", "?", "$(id)", "`id`", "~", "/", "//", "a/b/c", "-/-/-", "ACME/\x1b[2J/1", ".", "..", "absent/", "sheet.csv/a", "=1+1",
            "help", "NULL", "\u00c4", "\U0001f600", "[/x]", "[red]", "|", "a,b", "1970-01-01", "2026-13-01", "99999-01-01", "0001-01-01", "9999-12-31T23:59:59+23:59", "0 " + "f" * 64, "9" * 4_090 + " " + "f" * 64]
 WORD = any_of.one_of(any_of.sampled_from(KNOWN), any_of.sampled_from(HOSTILE), any_of.text(any_of.characters(blacklist_characters="\0", blacklist_categories=["Cs"]), max_size=6))
 

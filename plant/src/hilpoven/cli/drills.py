@@ -4,7 +4,7 @@ from collections.abc import Iterator
 
 import click
 
-from ..core import paths, rights
+from ..core import paths, rights, scanned
 from ..core.context import Context
 from ..core.failure import REFUSED, WRONG_USE, Failure, tell
 from ..core.forms import listed
@@ -35,6 +35,7 @@ def start(context: Context, names: tuple[str, ...]) -> None:
 
     Example: hilpoven drill start ACME B-1
     """
+    names = tuple(scanned.unfolded("drill start", ["OWNER", "LOT"], names))
     if len(names) > 2:
         raise Failure("drill start: OWNER and LOT are all", WRONG_USE, "such as: hilpoven drill start ACME B-1")
     with making.desk(context) as desk:

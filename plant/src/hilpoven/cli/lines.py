@@ -6,7 +6,7 @@ from typing import TYPE_CHECKING, Any
 
 import click
 
-from ..core import asking
+from ..core import asking, scanned
 from ..core.context import Context
 from ..core.failure import WRONG_USE, Failure, tell
 from ..core.grammar import MOVEMENTS, NEXT, OWNER_ADD, Line, in_capitals
@@ -31,9 +31,8 @@ class LineCommand(click.Command):
         )
         examples = [line.example, *([notes.example] if notes else [])]
         asks = "" if line.name == OWNER_ADD else " At a terminal it asks for each value that is missing."
-        text = f"{line.about[0].upper()}{line.about[1:]}.{asks}\n\nExample: hilpoven " + (
-            "\n\nExample: hilpoven ".join(examples)
-        )
+        about = [f"{line.about[0].upper()}{line.about[1:]}.{asks}", scanned.about(line.values)]
+        text = "\n\n".join([*filter(None, about), *(f"Example: hilpoven {example}" for example in examples)])
         super().__init__(
             line.name,
             params=[*options, words],
@@ -61,7 +60,7 @@ class LineCommand(click.Command):
 
     def completions(self, ctx: click.Context, _: click.Parameter, begun: str) -> list[str]:
         """The words of the value that is being typed."""
-        missing = missing_of(self.line, named_in(self.line, ctx.params))[len(ctx.params.get("words") or ()) :]
+        missing = scanned.missing_of(named_in(self.line, ctx.params))[len(ctx.params.get("words") or ()) :]
         return self.names(ctx, missing[0], begun) if missing else []
 
     def names(self, ctx: click.Context, value: str, begun: str) -> list[str]:
@@ -86,10 +85,11 @@ class LineCommand(click.Command):
         sys.exit(asking.run(ctx.obj, self.line, typed, beside))
 
     def typed(self, context: Context, words: list[str], named: dict[str, Any]) -> list[str]:
-        """The values in the line's order. At a terminal those that are missing are asked for, and names that were
-        typed in lower case are read in capitals."""
-        values = named_in(self.line, with_today(context, self.line, named))
-        is_asked = len(words) < len(missing_of(self.line, values)) and self.line.name != OWNER_ADD and at_terminal()
+        """The values in the line's order. A label's text fills three of them. At a terminal those that are missing are
+        asked for, and names that were typed in lower case are read in capitals."""
+        named = with_today(context, self.line, named)
+        values, words = scanned.filled(self.line.name, named_in(self.line, named), words)
+        is_asked = len(words) < len(scanned.missing_of(values)) and self.line.name != OWNER_ADD and at_terminal()
         if is_asked:
             require_options(self.line, words)
             from . import prompting
@@ -131,11 +131,6 @@ def with_today(context: Context, line: Line, named: dict[str, Any]) -> dict[str,
     return {**named, "day": day}
 
 
-def missing_of(line: Line, values: dict[str, str | None]) -> list[str]:
-    """The values that were not named."""
-    return [value for value in line.values if values[value] is None]
-
-
 def filled(values: dict[str, str | None], words: list[str]) -> dict[str, str | None]:
     """The values with the words in the places of those that were not named; `None` where the words end."""
     rest = iter(words)
@@ -151,7 +146,7 @@ def require_options(line: Line, words: list[str]) -> None:
 def arranged(line: Line, words: list[str], values: dict[str, str | None]) -> list[str]:
     """The values in the line's order: those that were named, and the others as they were typed."""
     require_options(line, words)
-    missing = missing_of(line, values)
+    missing = scanned.missing_of(values)
     if len(words) != len(missing):
         raise Failure(
             miscounted(line, words, missing),

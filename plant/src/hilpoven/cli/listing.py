@@ -4,7 +4,7 @@ from typing import Any
 
 import click
 
-from ..core import snapshot
+from ..core import scanned, snapshot
 from ..core.context import Context
 from ..output.table import Row, print_table
 from ..records.tables import LISTINGS, Listing
@@ -50,9 +50,12 @@ def list_command(name: str, listing: Listing) -> click.Command:
 
 
 def read(context: Context, listing: Listing, asked: dict[str, Any]) -> tuple[list[str], list[Row]]:
-    """The columns and rows of a table, with what is noted of them."""
+    """The columns and rows of a table, with what is noted of them. A scanned text says whose the lot is, too."""
+    if scanned.scanned_sublot(asked.get("lot")):
+        owner = asked.get("owner") if listing.whose_lot == "owner" else None
+        asked["lot_owner"], asked["lot"] = scanned.named_lot("list", owner, asked["lot"])
     with snapshot.opened(context.office_to_read()) as base:
-        parameters = {it: asked.get(it) for it in ("owner", "lot", "key")}
+        parameters = {it: asked.get(it) for it in ("owner", "lot", "key", "lot_owner")}
         columns = list(listing.columns)
         rows: list[Row] = [tuple(it) for it in base.execute(listing.sql(**asked), parameters)]
         if not listing.has_notes:

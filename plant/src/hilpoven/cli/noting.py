@@ -4,7 +4,7 @@ import sys
 
 import click
 
-from ..core import asking
+from ..core import asking, scanned
 from ..core.asking import Beside
 from ..core.context import Context
 from ..core.failure import REFUSED, WRONG_USE, Failure
@@ -18,7 +18,7 @@ from ..register import file, making, quality
 from ..register.movements import facts_of
 from ..register.notes import Judgement, Link, Note, NotLinked, Why, Withdrawal
 from .groups import Group
-from .words import FILLED_TEXT, TEXT, WORD, OneOf, pass_context
+from .words import FILLED_TEXT, TEXT, WORD, LotCommand, OneOf, pass_context
 
 COLUMNS = ["note", "time", "who", "owner", "what", "stands"]
 why_option = click.option(
@@ -42,7 +42,7 @@ def batch_number(word: str) -> int:
 
 @click.command()
 @click.argument("owner", metavar="OWNER", type=WORD)
-@click.argument("lots", metavar="[LOT] OF-LOT", type=WORD, nargs=-1, required=True)
+@click.argument("typed", metavar="[LOT] OF-LOT", type=WORD, nargs=-1, required=True)
 @click.option("--batch", metavar="ORDER N", type=(WORD, WORD), help="All lots of this batch, in place of LOT.")
 @click.option("--of-owner", metavar="OWNER", type=WORD, help="Whose OF-LOT is: OWNER, as by default, or HOUSE.")
 @why_option
@@ -52,7 +52,7 @@ def batch_number(word: str) -> int:
 def link(
     context: Context,
     owner: str,
-    lots: tuple[str, ...],
+    typed: tuple[str, ...],
     batch: tuple[str, str] | None,
     of_owner: str | None,
     why: str,
@@ -67,11 +67,13 @@ def link(
 
     Example: hilpoven link ACME B-2 B-1 --why rework
     """
+    owner, *lots = scanned.unfolded("link", ["OWNER"] if batch else ["OWNER", "LOT"], [owner, *typed])
     if len(lots) != (1 if batch else 2):
         wanted = "OF-LOT alone stands behind OWNER with --batch" if batch else "LOT and OF-LOT stand behind OWNER"
         raise Failure(f"link: {wanted}", WRONG_USE, "such as: hilpoven link ACME B-2 B-1 --why rework")
     order, number = (batch[0], batch_number(batch[1])) if batch else ("", 0)
-    note = Link(owner, "" if batch else lots[0], order, number, of_owner or owner, lots[-1], Why(why), amount, reason)
+    whose, of_lot = scanned.named_lot("link", of_owner, lots[-1], ("OF-OWNER", "OF-LOT"))
+    note = Link(owner, "" if batch else lots[0], order, number, whose or owner, of_lot, Why(why), amount, reason)
     with making.desk(context) as desk:
         desk.require_link(note)
         record(desk, ["link", *words_of(note)], note)
@@ -86,7 +88,7 @@ def words_of(note: Link) -> list[str]:
     return words + (["--reason", note.reason] if note.reason else [])
 
 
-@click.command()
+@click.command(cls=LotCommand)
 @click.argument("owner", metavar="OWNER", type=WORD)
 @click.argument("order", metavar="ORDER", type=WORD)
 @click.argument("batch", metavar="BATCH", type=WORD)

@@ -14,7 +14,7 @@ from ..papers.copies import Source
 from ..papers.printing import Document
 from ..records.rows import BatchId, LotId
 from .groups import Group
-from .words import PATH, pass_context
+from .words import PATH, LotCommand, pass_context
 
 papers_group = Group(
     "papers",
@@ -50,7 +50,7 @@ def give(
     delivery.deliver(office, context.journal(), make, folder, name, not no_pdf)
 
 
-@papers_group.command()
+@papers_group.command(cls=LotCommand)
 @click.argument("owner", metavar="OWNER")
 @click.argument("lot", metavar="LOT")
 @paper
@@ -87,7 +87,7 @@ def batch(context: Context, owner: str, order: str, number: str, **where: Any) -
     )
 
 
-@papers_group.command()
+@papers_group.command(cls=LotCommand)
 @click.argument("owner", metavar="OWNER")
 @click.argument("lot", metavar="LOT")
 @click.option("--shipment", "key", metavar="KEY", default="", help="Names the amount, recipient and document of it.")
@@ -129,7 +129,7 @@ def delivery_note(context: Context, owner: str, key: str, others: tuple[str, ...
     give(context, name, lambda source: shipments.documents(source, owner, [key, *others]), **where)
 
 
-@papers_group.command("lot")
+@papers_group.command("lot", cls=LotCommand)
 @click.argument("owner", metavar="OWNER")
 @click.argument("lot", metavar="LOT")
 @paper

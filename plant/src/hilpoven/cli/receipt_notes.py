@@ -3,6 +3,7 @@ from typing import Any
 
 import click
 
+from ..core import scanned
 from ..core.asking import Beside
 from ..core.context import Context
 from ..records.rows import LotId
@@ -23,8 +24,8 @@ def beside(context: Context, values: Values, given: dict[str, Any]) -> Beside:
     looks as if it were of what was here before."""
     with making.desk(context) as desk:
         if given["of_lot"]:
-            of_owner = given["of_owner"] or values["OWNER"]
-            link = link_of(values, LotId(of_owner, given["of_lot"]), given["why"], given["reason"] or "")
+            of_owner, of_lot = scanned.named_lot("receive", given["of_owner"], given["of_lot"], ("OF-OWNER", "OF-LOT"))
+            link = link_of(values, LotId(of_owner or values["OWNER"], of_lot), given["why"], given["reason"] or "")
             desk.require_link(link, is_new=True)
             return Beside(desk.members([link, *facts_beside(desk, values, given, task_of(link))]))
         owner = values["OWNER"]

@@ -7,7 +7,7 @@ from ..core import snapshot
 from ..core.context import Context
 from ..records import things
 from .groups import Group
-from .words import WORD, pass_context
+from .words import WORD, LotCommand, pass_context
 
 
 WITH_NOTES = ("lot", "batch")
@@ -26,7 +26,7 @@ def show_command(name: str, words: str, make: Callable[..., things.Thing], examp
         click.echo(thing.as_json()) if as_json else thing.print()
 
     option = click.Option(["--json", "as_json"], is_flag=True, help="As JSON, for a program.")
-    return click.Command(
+    return (LotCommand if name == "lot" else click.Command)(
         name,
         params=[*arguments, option],
         callback=show,

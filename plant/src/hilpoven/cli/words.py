@@ -8,6 +8,7 @@ from typing import TYPE_CHECKING, Any
 
 import click
 
+from ..core import scanned
 from ..core.context import Context
 from ..core.failure import printable
 from ..core.forms import TEXT as TEXT_FORM
@@ -107,6 +108,33 @@ class Text(click.ParamType):
         if fault := "is empty" if is_missing else TEXT_FORM.fault(str(value)):
             self.fail(f"`{printable(str(value)[:MOST_TOLD])}` {fault}", param, ctx)
         return str(value)
+
+
+class LotCommand(click.Command):
+    """A command that has a lot, whose values a scanned text in the place of LOT may fill."""
+
+    def parse_args(self, ctx: click.Context, args: list[str]) -> list[str]:
+        """Has a scanned text fill the other values before they are read."""
+        places = self.places_of_words(ctx, args)
+        names = [str(it.name).upper().replace("_", "-") for it in self.params if isinstance(it, click.Argument)]
+        typed = [args[at] for at in places]
+        words = scanned.unfolded(str(ctx.info_name), names, typed)
+        if words != typed:
+            args = [*(word for at, word in enumerate(args) if at not in places and word != "--"), "--", *words]
+        return super().parse_args(ctx, args)
+
+    def places_of_words(self, ctx: click.Context, args: list[str]) -> list[int]:
+        """Where the words are that are neither options nor their values."""
+        options = [it for it in self.get_params(ctx) if isinstance(it, click.Option) and not it.is_flag]
+        counts = {name: it.nargs for it in options for name in it.opts}
+        places, at = [], 0
+        while at < len(args) and args[at] != "--":
+            if args[at].startswith("-") and args[at] != "-":
+                at += counts.get(args[at], 0)
+            else:
+                places.append(at)
+            at += 1
+        return [*places, *range(at + 1, len(args))]
 
 
 class OneOf(click.Choice):

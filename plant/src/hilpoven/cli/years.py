@@ -24,7 +24,7 @@ from ..register.standing import standing_over_all
 from ..years import history
 from ..years.history import History
 from .groups import Group
-from .words import pass_context
+from .words import LotCommand, pass_context
 
 years_group = Group(
     "years",
@@ -71,7 +71,7 @@ def files(context: Context, is_csv: bool) -> None:
     print_rows(["file", "carried over", "movements", "sha256"], rows, is_csv)
 
 
-@years_group.command("recall")
+@years_group.command("recall", cls=LotCommand)
 @click.argument("owner", metavar="OWNER")
 @click.argument("lot", metavar="LOT")
 @in_option
@@ -139,7 +139,7 @@ def check_newest(office: Office, whole: History, lines: list[RecallLine], start:
             )
 
 
-@years_group.command("trace")
+@years_group.command("trace", cls=LotCommand)
 @click.argument("owner", metavar="OWNER")
 @click.argument("lot", metavar="LOT")
 @click.argument("way", metavar="WAY", type=click.Choice(["back", "forward"]))
@@ -160,7 +160,7 @@ def trace(context: Context, owner: str, lot: str, way: str, file: str, is_csv: b
         tell_sources(whole, start)
 
 
-@years_group.command("lot")
+@years_group.command("lot", cls=LotCommand)
 @click.argument("owner", metavar="OWNER")
 @click.argument("lot", metavar="LOT")
 @in_option

@@ -23,13 +23,24 @@ class Listing(NamedTuple):
     lot: str = ""  # SQL: the rows that `--lot` leaves, by the parameter :lot
     has_notes: bool = False  # whether the register may have notes of its rows, which are movements or lots
 
+    @property
+    def whose_lot(self) -> str:
+        """The column that has the owner of a lot."""
+        return "lot_owner" if "lot_owner" in self.columns else "owner"
+
     def sql(
-        self, owner: str | None = None, lot: str | None = None, key: str | None = None, only_open: bool = False
+        self,
+        owner: str | None = None,
+        lot: str | None = None,
+        key: str | None = None,
+        only_open: bool = False,
+        lot_owner: str | None = None,
     ) -> str:
-        """The query, with the parameters :owner, :lot and :key."""
+        """The query, with the parameters :owner, :lot, :key and :lot_owner."""
         filters = [
             (f"{self.columns.get('owner')} = :owner", owner),
             (self.lot, lot),
+            (f"{self.columns.get(self.whose_lot)} = :lot_owner", lot_owner),
             (f"{self.columns.get('key')} = :key", key),
             (self.is_open, only_open),
         ]

@@ -1,0 +1,172 @@
+"""What a scanner types from a label stands for OWNER, LOT and SUBLOT: what `toll` gets is what would be typed without it."""
+import shlex
+import subprocess
+
+import pytest
+from conftest import HILPOVEN, Told, environment
+from hilpoven.core.grammar import LINES
+
+# What is typed, and the words that `toll` gets of it.
+TYPED = [
+    # OWNER and SUBLOT are left out
+    ("ship K9 ACME/S-1/BAY1 5 102", "ship ACME K9 S-1 BAY1 5 102"),
+    ("scrap K9 ACME/S-1/BAY1 5 102", "scrap ACME K9 S-1 BAY1 5 102"),
+    ("split K9 ACME/S-1/BAY1 BAY3 5 102", "split ACME K9 S-1 BAY1 BAY3 5 102"),
+    ("receive K9 PIGMENT BOLT/P-1/BAY2 5 102", "receive BOLT K9 PIGMENT P-1 BAY2 5 102"),
+    ("actual K9 ACME O-1 1 1 consumed SALT ACME/S-1/BAY1 5 102", "actual K9 ACME O-1 1 1 consumed SALT ACME S-1 BAY1 5 102"),
+    ("actual K9 ACME O-1 1 1 consumed WATER HOUSE/W-101/TANK 5 102", "actual K9 ACME O-1 1 1 consumed WATER HOUSE W-101 TANK 5 102"),
+    ("result ACME/B-1/TOTE1 PH -5 102", "result ACME B-1 PH M5 102"),
+    # one of them, or both, are the same
+    ("ship ACME K9 ACME/S-1/BAY1 5 102", "ship ACME K9 S-1 BAY1 5 102"),
+    ("ship K9 ACME/S-1/BAY1 BAY1 5 102", "ship ACME K9 S-1 BAY1 5 102"),
+    ("ship ACME K9 ACME/S-1/BAY1 BAY1 5 102", "ship ACME K9 S-1 BAY1 5 102"),
+    ("actual K9 ACME O-1 1 1 consumed SALT ACME ACME/S-1/BAY1 BAY1 5 102", "actual K9 ACME O-1 1 1 consumed SALT ACME S-1 BAY1 5 102"),
+    ("result ACME ACME/B-1/TOTE2 PH 5 102", "result ACME B-1 PH 5 102"),
+    # values with names
+    ("ship --key K9 --amount 5 --day 102 ACME/S-1/BAY1", "ship ACME K9 S-1 BAY1 5 102"),
+    ("ship --lot ACME/S-1/BAY1 K9 5 102", "ship ACME K9 S-1 BAY1 5 102"),
+    ("ship --owner ACME K9 ACME/S-1/BAY1 5 102", "ship ACME K9 S-1 BAY1 5 102"),
+    ("ship --sublot BAY1 --owner ACME --lot ACME/S-1/BAY1 K9 5 102", "ship ACME K9 S-1 BAY1 5 102"),
+    # a lot of HOUSE has no OWNER
+    ("reject HOUSE/W-101/TANK", "reject W-101"),
+]
+
+# What is typed, and what is told of both owners, both sublots, or what isn't there; `toll` gets nothing.
+REFUSED = [
+    ("ship BOLT K9 ACME/S-1/BAY1 5 102", ["OWNER is BOLT", "ACME/S-1/BAY1 it is ACME"]),
+    ("ship --owner BOLT K9 ACME/S-1/BAY1 5 102", ["OWNER is BOLT", "ACME/S-1/BAY1 it is ACME"]),
+    ("ship --owner BOLT --lot ACME/S-1/BAY1 K9 5 102", ["OWNER is BOLT", "ACME/S-1/BAY1 it is ACME"]),
+    ("ship K9 ACME/S-1/BAY1 BAY2 5 102", ["SUBLOT is BAY2", "ACME/S-1/BAY1 it is BAY1"]),
+    ("actual K9 ACME O-1 1 1 consumed WATER ACME HOUSE/W-101/TANK 5 102", ["LOT-OWNER is ACME", "HOUSE/W-101/TANK it is HOUSE"]),
+    ("recall BOLT ACME/B-1/TOTE1", ["OWNER is BOLT", "ACME/B-1/TOTE1 it is ACME"]),
+    ("release ACME/S-1/BAY1", ["release", "lots of HOUSE", "a lot of ACME"]),
+    ("reject ACME/S-1/BAY1", ["lots of HOUSE", "a lot of ACME"]),
+    ("ship K9 ACME/S-1/BAY1 5", ["DAY is missing"]),
+    ("ship ACME/S-1/BAY1", ["KEY, LOT, SUBLOT, AMOUNT, DAY are missing", "usage: hilpoven ship OWNER KEY LOT"]),
+    ("show lot BOLT ACME/S-1/BAY1", ["OWNER is BOLT", "ACME/S-1/BAY1 it is ACME"]),
+    ("papers lot BOLT ACME/S-1/BAY1 card --no-pdf", ["OWNER is BOLT", "ACME/S-1/BAY1 it is ACME"]),
+    ("list lots --owner BOLT --lot ACME/S-1/BAY1", ["OWNER is BOLT", "ACME/S-1/BAY1 it is ACME"]),
+    ("link ACME/B-1/TOTE1 ACME/S-1/BAY1 --why rework --of-owner HOUSE", ["OF-OWNER is HOUSE", "ACME/S-1/BAY1 it is ACME"]),
+    ("use ACME O-1 1 ACME HOUSE/W-101/TANK 1 102", ["OF-OWNER is ACME", "HOUSE/W-101/TANK it is HOUSE"]),
+    ("drill start BOLT ACME/S-1/BAY1", ["OWNER is BOLT", "ACME/S-1/BAY1 it is ACME"]),
+    ("years recall BOLT ACME/S-1/BAY1", ["OWNER is BOLT", "ACME/S-1/BAY1 it is ACME"]),
+]
+
+# What is no scanned text stays what it was: `toll`'s to refuse, or a folder.
+OTHERS = [
+    ("recall HOUSE W/101", 1, "LOT: `W/101` has `/`"),
+    ("recall HOUSE /tmp/x", 1, "LOT: `/tmp/x` has lower-case letters and `/`"),
+    ("recall HOUSE W-101/TANK/", 1, "LOT: `W-101/TANK/` has `/`"),
+    ("recall A/B/C/D", 2, "LOT is missing"),
+    ("stock ACME/S-1/BAY1", 1, "OWNER: `ACME/S-1/BAY1` has `/`"),
+    ("ship K9 acme/S-1/BAY1 5 102", 1, "OWNER: `acme` has lower-case letters"),
+    ("ship ACME K9 S-1 ACME/S-1/BAY1 5 102", 1, "SUBLOT: `ACME/S-1/BAY1` has `/`"),
+    ("split K9 ACME/S-1/BAY1 ACME/S-1/BAY2 5 102", 1, "TARGET: `ACME/S-1/BAY2` has `/`"),
+]
+
+# Questions and other commands: what is typed, and what says the same without a scanner.
+ALIKE = [
+    ("recall ACME/S-1/BAY1", "recall ACME S-1"),
+    ("trace ACME/B-1/TOTE2 back", "trace ACME B-1 back"),
+    ("trace ACME ACME/B-1/TOTE2 back", "trace ACME B-1 back"),
+    ("show lot HOUSE/W-101/TANK", "show lot HOUSE W-101"),
+    ("show lot --json HOUSE HOUSE/W-101/TANK", "show lot HOUSE W-101 --json"),
+    ("list sublots --lot ACME/B-1/TOTE1", "list sublots --lot B-1 --owner ACME"),
+    ("list moves --lot HOUSE/W-101/TANK", "list moves --lot W-101"),
+    ("years recall --csv ACME/S-1/BAY1", "years recall ACME S-1 --csv"),
+    ("years trace ACME/B-1/TOTE1 forward", "years trace ACME B-1 forward"),
+    ("years lot ACME/B-1/TOTE1", "years lot ACME B-1"),
+]
+
+
+def asked(plant):
+    """The words of the commands in the journal."""
+    return [" ".join(it["words"]) for it in plant.lines() if it["event"] == "asked"]
+
+
+@pytest.mark.parametrize("typed, given", TYPED)
+def test_the_program_gets_the_words_that_the_text_stands_for(at_work, typed, given):
+    at_work.lay("> ACME POST /lots/B-1/reject\n> BOLT POST /lots/P-1/release" if "reject" in typed else "")
+    told = at_work.run(*shlex.split(typed))
+    assert asked(at_work) == [given]
+    assert told.out in ("accepted\n", "refused 42 Rejected\n") and told.status == (told.out != "accepted\n"), told
+
+
+def test_every_line_that_has_a_lot_is_among_them():
+    named = {it.split()[0] for it, _ in [*TYPED, *ALIKE, *REFUSED]}
+    assert {name for name, line in LINES.items() if "LOT" in line.values} <= named
+
+
+@pytest.fixture(scope="module")
+def office(laid):
+    """The office at work, and its rows."""
+    return laid, laid.content()
+
+
+@pytest.mark.parametrize("typed, words", REFUSED)
+def test_what_differs_from_the_text_is_refused(office, typed, words):
+    plant, content = office
+    count = len(plant.lines())
+    told = plant.run(*shlex.split(typed))
+    assert told.status == 2 and told.out == "" and all(it in told.err for it in words), told
+    assert len(plant.lines()) == count and plant.content() == content
+
+
+@pytest.mark.parametrize("typed, status, words", OTHERS)
+def test_what_is_no_such_text_is_told_as_before(office, typed, status, words):
+    plant, content = office
+    told = plant.run(*shlex.split(typed))
+    assert told.status == status and words in told.err and plant.content() == content, told
+
+
+@pytest.mark.parametrize("typed, same", ALIKE)
+def test_questions_take_it(office, typed, same):
+    plant, _ = office
+    told, wanted = (plant.run(*shlex.split(it)) for it in (typed, same))
+    assert (told.status, told.out, told.err) == (0, wanted.out, wanted.err) and told.out
+
+
+def test_notes_take_it(at_work):
+    for words in ("link ACME/B-1/TOTE1 ACME/S-1/BAY1 --why rework", "link ACME B-1 HOUSE/W-101/TANK --why use", "link ACME --batch O-1 1 HOUSE/W-101/TANK --why use",
+                  "receive K9 BRINE ACME/B-1R/BAY9 5 102 --of ACME/B-1/TOTE1 --why return", "use ACME O-1 1 HOUSE/W-101/TANK 1 102", "drill start ACME/S-1/BAY1"):
+        told = at_work.run(*shlex.split(words))
+        assert told.status == 0, (words, told)
+    notes = [line.split(",")[4] for line in at_work.run("note", "list", "--csv").out.splitlines()[1:]]
+    assert notes[:5] == [
+        "lot ACME B-1 contains some of lot ACME S-1 (rework)",
+        "lot ACME B-1 contains some of lot HOUSE W-101 (use)",
+        "batch ACME O-1/1 contains some of lot HOUSE W-101 (use)",
+        "lot ACME B-1R contains some of lot ACME B-1 (return)",
+        "batch ACME O-1/1 contains 1 of lot HOUSE W-101 (use)",
+    ] and "ACME S-1" in notes[5]
+
+
+def test_papers_take_it_beside_their_folder(at_work):
+    for number, words in enumerate((["lot", "ACME/S-1/BAY1", "{}"], ["lot", "--no-pdf", "ACME", "ACME/S-1/BAY1", "{}"], ["recall", "HOUSE/W-101/TANK", "--", "{}"])):
+        folder = at_work.folder / f"a/b/{number}"  # which has the form of one, with capitals or without
+        folder.parent.mkdir(parents=True, exist_ok=True)
+        options = [] if "--no-pdf" in words else ["--no-pdf"]
+        told = at_work.run("papers", words[0], *options, *(it.format(folder) for it in words[1:]))
+        assert told == Told(0, "", "") and folder.is_dir(), told
+    assert [it["words"] for it in at_work.lines()] == [["papers", "lot-ACME-S-1"], ["papers", "lot-ACME-S-1"], ["papers", "recall-HOUSE-W-101"]]
+
+
+def test_a_folder_of_that_form_is_a_folder(at_work):
+    (at_work.folder / "A" / "B").mkdir(parents=True)
+    words = [HILPOVEN, "--db", at_work.db, "papers", "lot", "ACME", "S-1", "A/B/C", "--no-pdf"]
+    subprocess.run(words, cwd=at_work.folder, env=environment(TOLL=at_work.program), check=True)
+    assert (at_work.folder / "A/B/C/lot.html").exists()
+
+
+def test_help_shows_it(at_work):
+    for name, line in LINES.items():
+        assert ("A label's text, such as" in at_work.run(name, "--help").out) == ("LOT" in line.values), name
+
+
+
+def test_a_script_of_a_shell_takes_it(at_work):
+    lines = "ship K8 ACME/S-1/BAY1 5 102\nscrap K9 ACME/S-1/BAY1 5 102\n"
+    done = subprocess.run(["sh", "-c", f"while read -r words; do {HILPOVEN} --db {at_work.db} $words; done"], input=lines, capture_output=True, text=True,
+                          env=environment(TOLL=at_work.program))
+    assert (done.stdout, done.stderr) == ("accepted\n" * 2, "")
+    assert at_work.rows("SELECT mkey, lot, sublot, amount FROM moves WHERE mkey IN ('K8', 'K9')") == [("K8", "S-1", "BAY1", 5), ("K9", "S-1", "BAY1", 5)]
