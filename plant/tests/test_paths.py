@@ -34,6 +34,8 @@ to-csv {folder}/sheet.csv
 to-csv - {folder}/made
 import {folder}/sheet.csv
 board --out {folder}/made
+labels ACME S-1 --out {folder}/made
+labels ACME S-1 --force --out -
 carry-over {folder}/next.db
 papers recall HOUSE W-101 {folder}/made --no-pdf
 papers recall HOUSE W-101 - --no-pdf
@@ -60,7 +62,7 @@ def test_each_word_that_names_a_path_is_an_operators():
     assert not [name for name, it in found.items() if isinstance(it, click.Path)]
     named = {name for name, it in found.items() if isinstance(it, cli_words.Operators)}
     papers = {f"papers {it} folder" for it in ("recall", "batch", "certificate", "delivery-note", "lot", "statement")}
-    assert named == {"db", "new file", "backup folder", "backup keep", "backup days", "to-csv source", "to-csv target", "board target",
+    assert named == {"db", "new file", "backup folder", "backup keep", "backup days", "to-csv source", "to-csv target", "board target", "labels target",
                      "carry-over new", "import path", "journal site_logs", "drill end folder", "drill paper folder", *papers}
 
 

@@ -85,7 +85,7 @@ def plant_tests():
 # The page's pictures are looked at by whoever asks for them.
 PICTURED = 'folder=$(mktemp -d) || exit 3; "$0" tools/try-page "$folder/pictures"; status=$?; rm -rf "$folder"; exit "$status"'
 PLANT_NEEDS = ("python3-pytest", "python3-hypothesis", "python3-click", "python3-jinja2", "weasyprint", "graphviz", "python3-openpyxl",
-               "python3-odf", "poppler-utils", "man-db", "sqlite3")
+               "python3-odf", "python3-segno", "poppler-utils", "zbar-tools", "man-db", "sqlite3")
 # The Build-Depends of debian/control.
 BUILD_NEEDS = ("debhelper", "dh-python", "dpkg-dev", "git", "pybuild-plugin-pyproject", "python3-all", "python3-click", "python3-jinja2",
                "python3-odf", "python3-openpyxl", "python3-setuptools")

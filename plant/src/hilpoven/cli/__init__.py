@@ -61,6 +61,7 @@ SUBCOMMANDS: Makers = {
     "status": imported("status", "status"),
     "journal": imported("journal", "journal_group"),
     "papers": imported("papers", "papers_group"),
+    "labels": imported("labels", "labels"),
     "board": imported("board", "board"),
     **{name: imported("upkeep", name) for name in ("new", "backup", "restore", "verify")},
     "register": imported("noting", "register_group"),

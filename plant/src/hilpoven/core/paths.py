@@ -74,10 +74,10 @@ class Target:
             if file.read(len(SQLITE)) == SQLITE:
                 raise Failure(f"{self.path} is a database", WRONG_USE)
 
-    def give(self, text: str) -> None:
+    def give(self, content: str | bytes) -> None:
         """Writes a file, whole or not at all, with the rights of the one that it replaces."""
-        with self.room() as (room, _), open(f"{open_path(room)}/made", "x", encoding="utf-8", newline="") as file:
-            file.write(text)
+        with self.room() as (room, _), open(f"{open_path(room)}/made", "xb") as file:
+            file.write(content.encode() if isinstance(content, str) else content)
             file.flush()
             with contextlib.suppress(FileNotFoundError):
                 state = os.stat(self.name, dir_fd=self.folder, follow_symlinks=False)

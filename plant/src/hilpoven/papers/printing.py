@@ -55,13 +55,15 @@ class Job:
     target: pathlib.Path
 
 
-def require_printer() -> None:
-    """Fails if WeasyPrint isn't installed."""
-    if importlib.util.find_spec("weasyprint") is None:
-        raise Failure(
-            "WeasyPrint isn't here, which makes the PDF",
-            advice="the package hilpoven-papers brings it; --no-pdf makes pages and tables alone",
-        )
+def require_printer(instead: str = "; --no-pdf makes pages and tables alone") -> None:
+    """Fails if WeasyPrint isn't installed, and says what may be done instead."""
+    require_module("weasyprint", "WeasyPrint isn't here, which makes the PDF", instead)
+
+
+def require_module(name: str, why: str, instead: str = "") -> None:
+    """Fails if a module isn't installed."""
+    if importlib.util.find_spec(name) is None:
+        raise Failure(why, advice=f"the package hilpoven-papers brings it{instead}")
 
 
 def render(
@@ -134,17 +136,22 @@ def work(jobs: list[Job], sender: Any) -> None:
 
 def print_share(jobs: list[Job]) -> None:
     """Prints pages one after the other."""
+    for job in jobs:
+        try:
+            job.target.write_bytes(pdf_of(job.text, job.tables))
+        except OSError as error:
+            raise Failure(f"{job.target.name} can't be written: {error.strerror or error}") from error
+
+
+def pdf_of(text: str, tables: dict[str, LongTable] | None = None) -> bytes:
+    """A page as PDF, with its long tables."""
     import logging
 
     import weasyprint
 
     logging.getLogger("weasyprint").setLevel(logging.CRITICAL)
-    for job in jobs:
-        try:
-            page = weasyprint.HTML(string=job.text, url_fetcher=refuse_address)
-            page.write_pdf(job.target, finisher=finisher(job.tables))
-        except OSError as error:
-            raise Failure(f"{job.target.name} can't be written: {error.strerror or error}") from error
+    page = weasyprint.HTML(string=text, url_fetcher=refuse_address)
+    return bytes(page.write_pdf(finisher=finisher(tables or {})))
 
 
 def refuse_address(address: str) -> dict[str, Any]:
