@@ -170,3 +170,36 @@ def test_a_script_of_a_shell_takes_it(at_work):
                           env=environment(TOLL=at_work.program))
     assert (done.stdout, done.stderr) == ("accepted\n" * 2, "")
     assert at_work.rows("SELECT mkey, lot, sublot, amount FROM moves WHERE mkey IN ('K8', 'K9')") == [("K8", "S-1", "BAY1", 5), ("K9", "S-1", "BAY1", 5)]
+
+
+SHEETS = {
+    "actuals": ("key,owner,order,batch,segment,use,material,lot_owner,lot,sublot,amount,day", [
+        ("K8,ACME,O-1,1,1,consumed,SALT,,ACME/S-1/BAY1,,5,102", "K8 ACME O-1 1 1 consumed SALT ACME S-1 BAY1 5 102"),
+        ("K9,ACME,O-1,1,1,consumed,WATER,HOUSE,HOUSE/W-101/TANK,TANK,5,102", "K9 ACME O-1 1 1 consumed WATER HOUSE W-101 TANK 5 102")]),
+    "receipts": ("owner,key,material,lot,sublot,amount,day", [(",K8,PIGMENT,BOLT/P-1/BAY2,,5,102", "BOLT K8 PIGMENT P-1 BAY2 5 102")]),
+    "shipments": ("owner,key,lot,sublot,amount,day", [(",K8,ACME/S-1/BAY1,,5,102", "ACME K8 S-1 BAY1 5 102")]),
+    "results": ("owner,lot,test,value,day", [(",ACME/B-1/TOTE1,PH,5,102", "ACME B-1 PH 5 102")]),
+}
+
+
+@pytest.mark.parametrize("what", SHEETS)
+def test_the_lots_of_a_sheet_take_it(at_work, what):
+    header, rows = SHEETS[what]
+    sheet = at_work.folder / "sheet.csv"
+    sheet.write_text("\n".join([header, *(row for row, _ in rows)]))
+    assert at_work.run("to-csv", "--what", what, sheet).out.splitlines() == [header, *(wanted.replace(" ", ",") for _, wanted in rows)]
+    told = at_work.run("import", "--what", what, sheet)
+    assert told.status == 0 and f"{len(rows)} accepted" in told.out, told
+
+
+@pytest.mark.parametrize("row, told", [
+    ("BOLT,K8,ACME/S-1/BAY1,,5,102", "row 2, column A (owner): it is BOLT, and in the scanned text ACME/S-1/BAY1 it is ACME"),
+    (",K8,ACME/S-1/BAY1,BAY2,5,102", "row 2, column D (sublot): it is BAY2, and in the scanned text ACME/S-1/BAY1 it is BAY1"),
+    ("ACME,K8,1/2/2026,BAY1,5,102", "row 2, column C (lot): '1/2/2026' is no name"),
+    (",K8,ACME/s-1/BAY1,,5,102", "row 2, column C (lot): 's-1' has lower-case letters"),
+    (",K8,S-1,,5,102", "row 2, column A (owner): it is empty")])
+def test_a_row_that_differs_from_the_text_is_refused(at_work, row, told):
+    sheet, content = at_work.folder / "sheet.csv", at_work.content()
+    sheet.write_text(f"owner,key,lot,sublot,amount,day\n{row}\n")
+    done = at_work.run("import", "--what", "shipments", sheet)
+    assert done.status == 1 and told in done.err and at_work.content() == content, done

@@ -4,6 +4,7 @@ from collections.abc import Iterable, Iterator, Sequence
 from dataclasses import dataclass, field
 from typing import NamedTuple
 
+from ..core import scanned
 from ..core.failure import printable
 from ..output.exports import csv_of
 from .cells import MOST_LETTERS, Cell, Table, shortened
@@ -134,7 +135,8 @@ class Sheet:
 
     def record(self, row: int, cells: list[Cell]) -> None:
         """Notes a row's values, or what is refused of them."""
-        placed, count = dict(enumerate(cells, 1)), len(self.refused)
+        count = len(self.refused)
+        placed = self.with_scanned(row, dict(enumerate(cells, 1)))
         values, noted = (
             {
                 column: self.value(row, column, placed.get(self.places[column], NOTHING))
@@ -150,6 +152,24 @@ class Sheet:
         ]
         if len(self.refused) == count:
             self.records.append(Record(row, values, {column: text for column, text in noted.items() if text}))
+
+    def with_scanned(self, row: int, placed: dict[int, Cell]) -> dict[int, Cell]:
+        """The cells of a row by their places, once a scanned text of a lot has filled those of its owner and its sublot
+        that are empty; those that have something else are refused. Digits alone may be a date."""
+        lot = placed.get(self.places.get("lot", 0), NOTHING)
+        text = scanned.scanned_sublot(lot.text)
+        if text is None or not lot.is_text and "".join(text).isdecimal():
+            return placed
+        owner, filled = "lot_owner" if "lot_owner" in self.places else "owner", dict(placed)
+        for column, part in zip((owner, "lot", "sublot"), text):
+            place = self.places.get(column, 0)
+            cell = placed.get(place, NOTHING)
+            if cell is not lot and not cell.is_empty() and cell.text != part:
+                words = f"it is {shortened(cell.text)}, and in the scanned text {text} it is {part}"
+                self.refused.append(Finding(row, place, words, column))
+            if place:
+                filled[place] = Cell(part, is_text=True)
+        return filled
 
     def value(self, row: int, column: str, cell: Cell) -> str:
         """The value as it is written, where it can be."""
