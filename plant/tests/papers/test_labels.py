@@ -156,6 +156,11 @@ def test_a_lot_without_stock_has_no_labels(at_work):
     assert done.status == 1 and "no sublot of lot BOLT P-1 holds anything" in done.err and "BAY2" in done.err
 
 
+def test_not_too_many_labels_are_made_at_once(at_work):
+    done = at_work.run("labels", "ACME", "S-1", *["BAY1"] * 501, "--out", at_work.folder / "labels.pdf")
+    assert done.status == 1 and "501 labels of lot ACME S-1 are asked for, and at most 500 are made at once" in done.err
+
+
 def test_labels_go_to_standard_output_or_to_a_new_file(at_work):
     words = ["--db", at_work.db, "labels", "ACME", "S-1"]
     done = command(*words, env=environment(TOLL=at_work.program), text=False)

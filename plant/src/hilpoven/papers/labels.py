@@ -19,6 +19,7 @@ QUIET = 4  # modules around a QR code in which nothing is printed
 INSET = 0.02  # dots around what is black, since a printer also prints a dot that is merely touched
 CORRECTION = "m"  # a QR code is read with 15 % of it missing, at least
 WIDTH = 0.602  # ems that each letter of a name takes
+MOST = 500  # labels of one PDF, which takes half a minute of a processor then
 PLAIN = 11.0  # points of letters of what isn't in the QR code
 
 
@@ -108,11 +109,14 @@ def chosen(lot: Lot, amounts: dict[str, int], names: Sequence[str]) -> list[tupl
     if not held:
         advice = f"its sublots: {', '.join(amounts)}; one that is named gets a label all the same"
         raise Failure(f"no sublot of lot {lot.id} holds anything", REFUSED, advice)
+    if len(held) > MOST:
+        why = f"{len(held):,} labels of lot {lot.id} are asked for, and at most {MOST} are made at once"
+        raise Failure(why, REFUSED, "name the sublots that get one now")
     return [(name, amounts[name]) for name in held]
 
 
 def label(lot: Lot, sublot: str, amount: int, stock: Stock, at: int) -> Label:
-    """The label of a sublot at a place of a page. Its QR code is as large as there is room, in modules of whole dots."""
+    """The label of a sublot at a place of a page. Its QR code is as large as there is room for."""
     import segno
 
     text = ScannedSublot(*lot.id, sublot)
