@@ -159,9 +159,16 @@ def test_a_folder_of_that_form_is_a_folder(at_work):
 
 
 def test_help_shows_it(at_work):
+    assert "OWNER/LOT/SUBLOT" in at_work.run("--help").out and "OWNER/LOT/SUBLOT" in at_work.run("labels", "--help").out
     for name, line in LINES.items():
         assert ("A label's text, such as" in at_work.run(name, "--help").out) == ("LOT" in line.values), name
 
+
+
+def test_a_shell_completes_what_comes_behind_it(at_work):
+    words = "hilpoven show lot BOLT ACME/S-1/BAY1 --"
+    done = subprocess.run([HILPOVEN], capture_output=True, text=True, env=environment(_HILPOVEN_COMPLETE="bash_complete", COMP_WORDS=words, COMP_CWORD="5"))
+    assert "plain,--json" in done.stdout and done.stderr == ""
 
 
 def test_a_script_of_a_shell_takes_it(at_work):

@@ -20,6 +20,8 @@ ABOUT = """The plant's command of the order and lot genealogy office.
 It passes each command to `toll`, prints the answer unchanged and explains it below. The journal records each
 command that changes something, with the user.
 
+In the place of a lot, each command takes the text of a label, OWNER/LOT/SUBLOT.
+
 Example: hilpoven stock ACME
 """
 

@@ -118,7 +118,7 @@ class LotCommand(click.Command):
         places = self.places_of_words(ctx, args)
         names = [str(it.name).upper().replace("_", "-") for it in self.params if isinstance(it, click.Argument)]
         typed = [args[at] for at in places]
-        words = scanned.unfolded(str(ctx.info_name), names, typed)
+        words = typed if ctx.resilient_parsing else scanned.unfolded(str(ctx.info_name), names, typed)
         if words != typed:
             args = [*(word for at, word in enumerate(args) if at not in places and word != "--"), "--", *words]
         return super().parse_args(ctx, args)
