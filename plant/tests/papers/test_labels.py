@@ -126,6 +126,7 @@ def test_a_label_has_its_sublot_and_nothing_else(at_work):
     texts = [f"owner ACME lot S-1 sublot BAY1 material SALT amount 4,700 kg ✓ released when printed, {it}" for it in (day, datetime.date.today())]
     assert text_of(made(at_work, "ACME", "S-1")) in texts
     path = made(at_work, "ACME", "B-1", "--size", ROLL)
+    assert path.stat().st_mode & 0o777 == 0o600
     text = text_of(path)
     assert "900 kg ◇ quarantined when printed" in text and "80 kg ◇ quarantined" in text and text.count("BRINE") == 2
     info = subprocess.run(["pdfinfo", path], capture_output=True, text=True, check=True).stdout
@@ -137,8 +138,8 @@ def test_it_makes_labels_of_what_holds_something_or_is_named(at_work):
     at_work.lay("split ACME K30 B-1 TOTE2 TOTE3 80 102")
     (page,) = printed(made(at_work, "ACME", "B-1"))
     assert read(page) == ["ACME/B-1/TOTE1", "ACME/B-1/TOTE3"]
-    for words in (["ACME", "B-1", "TOTE2"], ["ACME/B-1/TOTE2"]):
-        assert "sublot TOTE2 material BRINE amount 0 kg" in text_of(made(at_work, *words))
+    assert "sublot TOTE2 material BRINE amount 0 kg" in text_of(made(at_work, "ACME/B-1/TOTE2"))
+    assert at_work.lines()[-1]["words"] == ["labels", "ACME", "B-1", "TOTE2"]
 
 
 @pytest.mark.parametrize("words, status, told", [
@@ -165,8 +166,7 @@ def test_labels_go_to_standard_output_or_to_a_new_file(at_work):
     words = ["--db", at_work.db, "labels", "ACME", "S-1"]
     done = command(*words, env=environment(TOLL=at_work.program), text=False)
     assert done.returncode == 0 and done.stdout.startswith(b"%PDF-") and done.stderr == b""
-    target = made(at_work, "ACME", "S-1")
-    assert target.stat().st_mode & 0o777 == 0o600
+    target = at_work.folder / "labels.pdf"
     target.write_text("kept")
     told = at_work.run("labels", "ACME", "S-1", "--out", target)
     assert told.status == 2 and "is there already" in told.err and target.read_text() == "kept"
