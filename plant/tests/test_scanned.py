@@ -48,6 +48,8 @@ REFUSED = [
     ("list lots --owner BOLT --lot ACME/S-1/BAY1", ["OWNER is BOLT", "ACME/S-1/BAY1 it is ACME"]),
     ("link ACME/B-1/TOTE1 ACME/S-1/BAY1 --why rework --of-owner HOUSE", ["OF-OWNER is HOUSE", "ACME/S-1/BAY1 it is ACME"]),
     ("use ACME O-1 1 ACME HOUSE/W-101/TANK 1 102", ["OF-OWNER is ACME", "HOUSE/W-101/TANK it is HOUSE"]),
+    ("hold BOLT ACME/S-1/BAY1 --reason wet", ["OWNER is BOLT", "ACME/S-1/BAY1 it is ACME"]),
+    ("sign BOLT ACME/S-1/BAY1", ["OWNER is BOLT", "ACME/S-1/BAY1 it is ACME"]),
     ("drill start BOLT ACME/S-1/BAY1", ["OWNER is BOLT", "ACME/S-1/BAY1 it is ACME"]),
     ("years recall BOLT ACME/S-1/BAY1", ["OWNER is BOLT", "ACME/S-1/BAY1 it is ACME"]),
 ]
@@ -128,7 +130,8 @@ def test_questions_take_it(office, typed, same):
 
 def test_notes_take_it(at_work):
     for words in ("link ACME/B-1/TOTE1 ACME/S-1/BAY1 --why rework", "link ACME B-1 HOUSE/W-101/TANK --why use", "link ACME --batch O-1 1 HOUSE/W-101/TANK --why use",
-                  "receive K9 BRINE ACME/B-1R/BAY9 5 102 --of ACME/B-1/TOTE1 --why return", "use ACME O-1 1 HOUSE/W-101/TANK 1 102", "drill start ACME/S-1/BAY1"):
+                  "receive K9 BRINE ACME/B-1R/BAY9 5 102 --of ACME/B-1/TOTE1 --why return", "use ACME O-1 1 HOUSE/W-101/TANK 1 102", "drill start ACME/S-1/BAY1",
+                  "hold ACME/S-1/BAY1 --reason 'wet bag' --day 102"):
         told = at_work.run(*shlex.split(words))
         assert told.status == 0, (words, told)
     notes = [line.split(",")[4] for line in at_work.run("note", "list", "--csv").out.splitlines()[1:]]
@@ -138,7 +141,7 @@ def test_notes_take_it(at_work):
         "batch ACME O-1/1 contains some of lot HOUSE W-101 (use)",
         "lot ACME B-1R contains some of lot ACME B-1 (return)",
         "batch ACME O-1/1 contains 1 of lot HOUSE W-101 (use)",
-    ] and "ACME S-1" in notes[5]
+    ] and "ACME S-1" in notes[5] and "ACME S-1" in notes[6]
 
 
 def test_papers_take_it_beside_their_folder(at_work):

@@ -76,18 +76,22 @@ def test_the_longest_names_are_read_from_each_label(hostile, labels):
     assert list(map(len, pages)) == PAGES[size] and sorted(itertools.chain(*pages)) == wanted
 
 
-def test_nothing_lies_over_anything_else(labels):
+def look_at_words(path: pathlib.Path, size: str, count: int) -> None:
     """The words of each label end before its code, and before the next label."""
-    size, path = labels
     done = subprocess.run(["pdftotext", "-bbox", path, "-"], capture_output=True, text=True, check=True)
     form = r'<word xMin="([\d.]+)" yMin="([\d.]+)" xMax="([\d.]+)" yMax="([\d.]+)">([^<]*)'
     millimetres = [(*(float(it) * 25.4 / 72 for it in found[:4]), found[4]) for found in re.findall(form, done.stdout)]
-    assert len(millimetres) == COUNT * WORDS
+    assert len(millimetres) == count
     for left, top, right, bottom, word in millimetres:
         column, row = (left - 4.65) // 101.6, (top - 15.15) // 38.1
         label = (4.65 + 101.6 * column, 15.15 + 38.1 * row, 99.1, 38.1) if size == SHEET else (0, 0, 100, 50)
         code = label[0] + label[2] - {SHEET: 232, ROLL: 260}[size] / DOTS * 25.4 - 1
         assert label[0] + 2 < left and right < code and label[1] + 1 < top and bottom < label[1] + label[3] - 1, word
+
+
+def test_nothing_lies_over_anything_else(labels):
+    size, path = labels
+    look_at_words(path, size, COUNT * WORDS)
 
 
 @pytest.mark.parametrize("owner, lot, sublot", [("ACME", "B-1", "TOTE1"), ("A", "LOT-261128-01", "TOTE-000001"), (LONGEST, LONGEST, LONGEST)])
@@ -132,6 +136,16 @@ def test_a_label_has_its_sublot_and_nothing_else(at_work):
     info = subprocess.run(["pdfinfo", path], capture_output=True, text=True, check=True).stdout
     assert not {"BOLT", "PIGMENT", "HOUSE", "WATER"} & set(re.findall(r"\w+", f"{text} {info}")) and "office" not in info
     assert [it["words"] for it in at_work.lines()] == [["labels", "ACME", "S-1"], ["labels", "ACME", "B-1"]]
+
+
+def test_a_label_says_that_its_lot_is_held(at_work):
+    for lot in ("S-1", "B-1"):
+        assert at_work.run("hold", "ACME", lot, "--reason", "metal in drum 7", "--day", 102).status == 0
+    text = text_of(made(at_work, "ACME", "S-1"))
+    assert "✕ held (released) when printed, 20" in text and "metal" not in text
+    path = made(at_work, "ACME", "B-1", "TOTE1", "--size", ROLL)
+    assert "✕ held (quarantined) when printed, 20" in text_of(path)
+    look_at_words(path, ROLL, WORDS + 1)
 
 
 def test_it_makes_labels_of_what_holds_something_or_is_named(at_work):

@@ -17,13 +17,13 @@ from ..register import making, quality
 from ..register.notes import Held, Judgement, Signed
 from ..register.recorders import recorders
 from ..register.store import Register
-from .words import FILLED_TEXT, WORD, pass_context
+from .words import FILLED_TEXT, WORD, LotCommand, pass_context
 
 RESULTS = {Signed: quality.LIMIT, Held: quality.LIMIT - 1}  # of the plant's own test
 day_option = click.option("--day", metavar="DAY", type=WORD, help="The day of it; today, as YYMMDD, by default.")
 
 
-@click.command()
+@click.command(cls=LotCommand)
 @click.argument("owner", metavar="OWNER", type=WORD)
 @click.argument("lot", metavar="LOT", type=WORD)
 @click.option("--reason", metavar="TEXT", type=FILLED_TEXT, help="What else there is to say.")
@@ -50,7 +50,7 @@ def sign(context: Context, owner: str, lot: str, reason: str | None, day: str | 
     judge(context, asked, Signed(owner, lot, day_given(day), reason or ""))
 
 
-@click.command()
+@click.command(cls=LotCommand)
 @click.argument("owner", metavar="OWNER", type=WORD)
 @click.argument("lot", metavar="LOT", type=WORD)
 @click.option("--reason", metavar="TEXT", type=FILLED_TEXT, required=True, help="Why it stays.")

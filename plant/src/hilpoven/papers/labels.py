@@ -8,6 +8,7 @@ from ..core.failure import REFUSED, Failure
 from ..core.nearest import nearest
 from ..core.scanned import ScannedSublot
 from ..records.rows import Lot, LotId, require_lot, sublots_of
+from ..register import quality
 from . import printing
 from .agreement import check_stock
 from .copies import Source
@@ -89,8 +90,7 @@ def page(source: Source, asked: LotId, names: Sequence[str], stock: Stock, day: 
         "lot": lot,
         "pages": [made[at : at + stock.count] for at in range(0, len(made), stock.count)],
         "stock": stock,
-        "sign": SIGNS[lot.disposition.word],
-        "day": day,
+        "status": status(source, lot, day),
         "dots": dots,
         "inches": inches,
         "text": TEXT,
@@ -98,6 +98,15 @@ def page(source: Source, asked: LotId, names: Sequence[str], stock: Stock, day: 
         "plain": PLAIN,
     }
     return printing.render("labels", values)
+
+
+def status(source: Source, lot: Lot, day: datetime.date) -> str:
+    """What a label says of its lot's disposition, and that it is held if the plant's quality says so."""
+    word = lot.disposition.word
+    said = quality.statuses(source.base, source.register, lot.id).get(lot.id)
+    if said and said.state == quality.State.HELD:
+        return f"{SIGNS['rejected']} held ({word}) when printed, {day}"
+    return f"{SIGNS[word]} {word} when printed, {day}"
 
 
 def chosen(lot: Lot, amounts: dict[str, int], names: Sequence[str]) -> list[tuple[str, int]]:
