@@ -1,4 +1,6 @@
 """What is noted of owners, materials, tests, lots and results: which notes count, and what is read of them."""
+import json
+
 import pytest
 from conftest import Plant
 from hilpoven.core import snapshot
@@ -144,6 +146,8 @@ def test_facts_go_on_over_a_carry_over_with_what_they_are_about(settled):
         over_all = standing_over_all(context.journal(), whole)
     assert {lot: (it.made, it.expires) for (_, lot), it in over_all.lots.items()} == {"B-1": (None, 271101), "S-2 (office-1.db)": (260101, 270101)}
     assert over_all.bounds == {("ACME", "B-1", "PH", 5, 103): Bound.BELOW}
+    whole = json.loads(settled.run("years", "lot", "ACME", "B-1", "--json").out)
+    assert [test["noted latest"] for test in whole["tests"]] == ["1180", "<0.05"] and whole["noted expires"] == "2027-11-01"
 
 
 @pytest.mark.parametrize("value", [

@@ -25,8 +25,8 @@ In the place of a lot, each command takes the text of a label, OWNER/LOT/SUBLOT.
 Example: hilpoven stock ACME
 """
 
-NOTED_LINES = {"receive", "ship", "scrap", "void", "reject", "cancel", "do"}
-NOTING = ["link", "use", "note", "party", "material", "sign", "hold"]
+NOTED_LINES = {"receive", "ship", "scrap", "actual", "void", "reject", "cancel", "do", "test-add", "result"}
+NOTING = ["link", "use", "note", "party", "describe", "material", "sign", "hold"]
 COMPLETION = "_HILPOVEN_COMPLETE"  # the variable by which a shell asks for completions
 MOST_LETTERS = 4_096  # of a word of a command
 STREAMS = (("stdin", "r", os.O_WRONLY), ("stdout", "w", os.O_RDONLY), ("stderr", "w", os.O_RDONLY))
@@ -54,6 +54,7 @@ SUBCOMMANDS: Makers = {
     "party": imported("parties", "party_group"),
     "material": imported("materials", "material_group"),
     **{name: imported("judging", name) for name in ("sign", "hold")},
+    "describe": imported("describing", "describe_group"),
     "drill": imported("drills", "drill_group"),
     "import": imported("importing", "import_command"),
     "to-csv": imported("converting", "to_csv"),

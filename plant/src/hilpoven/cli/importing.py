@@ -12,7 +12,8 @@ from ..output.progress import bar
 from ..output.table import counted
 from ..sheets.importing import Import
 from ..sheets.options import read_source
-from ..sheets.noting import notes_beside
+from ..sheets.noting import decimals_of, notes_beside
+from ..sheets.values import RESULTS
 from .sheet_options import with_options
 from .words import SHEET, pass_context
 
@@ -36,8 +37,9 @@ def import_command(context: Context, path: str, check: bool, **given: Any) -> No
     if sys.stderr.isatty():
         click.echo(printable(f"reading {path}"), err=True)
     required = ["to"] if context.settings.require.recipient else []
-    sheet, sha256 = read_source(path, {**given, "required": required})
-    beside = notes_beside(context, sheet) if sheet.kind.noted and not sheet.wrong else {}
+    decimals = decimals_of(context) if given["what"] == RESULTS.name else None
+    sheet, sha256 = read_source(path, {**given, "required": required, "decimals_of": decimals})
+    beside = {} if sheet.wrong else notes_beside(context, sheet)
     for finding in sorted([*sheet.wrong, *sheet.refused, *sheet.let]):
         click.echo(str(finding), err=True)
     if sheet.wrong:

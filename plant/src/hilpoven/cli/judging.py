@@ -1,5 +1,4 @@
 """`hilpoven sign` and `hold`: what the plant's quality says of a lot."""
-import datetime
 import sys
 
 import click
@@ -11,7 +10,7 @@ from ..core.forms import DAY
 from ..core.grammar import LINES
 from ..core.office import pass_on
 from ..journal import log
-from ..records.days import day_of
+from ..records.days import day_of, today
 from ..records.rows import Base, Lot, LotId, require_lot, tests_of
 from ..register import making, quality
 from ..register.notes import Held, Judgement, Signed
@@ -47,7 +46,7 @@ def sign(context: Context, owner: str, lot: str, reason: str | None, day: str | 
             return
         require_passed(desk.base, register, asked)
         require_another_person(context, desk, asked.id)
-    judge(context, asked, Signed(owner, lot, day_given(day), reason or ""))
+    judge(context, asked, Signed(owner, lot, day_given(context, day), reason or ""))
 
 
 @click.command(cls=LotCommand)
@@ -66,14 +65,14 @@ def hold(context: Context, owner: str, lot: str, reason: str, day: str | None) -
     """
     with making.desk(context) as desk:
         asked = require_lot(desk.base, LotId(owner, lot))
-    judge(context, asked, Held(owner, lot, day_given(day), reason))
+    judge(context, asked, Held(owner, lot, day_given(context, day), reason))
 
 
-def day_given(day: str | None) -> int:
+def day_given(context: Context, day: str | None) -> int:
     """The day that is given, or today; fails if it can't be one."""
     if day and (fault := DAY.fault(day)):
         raise Failure(f"DAY: `{day}` {fault}", WRONG_USE)
-    return int(day) if day else day_of(datetime.date.today())
+    return int(day) if day else day_of(today(context.settings.time_zone))
 
 
 def require_passed(base: Base, register: Register, lot: Lot) -> None:

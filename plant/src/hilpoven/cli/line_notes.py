@@ -5,30 +5,45 @@ Most lines have none, so what makes them is imported where it is needed.
 from collections.abc import Callable
 from dataclasses import dataclass
 from functools import partial
-from typing import Any
+from typing import Any, NamedTuple
 
 import click
 
 from ..core.asking import Beside
 from ..core.context import Context
 from ..core.failure import WRONG_USE, Failure
+from ..core.grammar import Line
 from ..register import likeness
 from ..register.kinds import Why
-from .words import FILLED_TEXT, NAME, TEXT, WORD, OneOf
+from .words import FILLED_TEXT, NAME, TEXT, WORD, OneOf, decimals_option
 
 WHYS = [it.value for it in Why]
 Values = dict[str, str]  # of a line, by their names
 Given = dict[str, Any]  # the options of the notes, by their names
 
 
+class Typed(NamedTuple):
+    """The words of a line as they are given to `toll`, and what was given beside them."""
+
+    words: list[str]
+    given: Given
+
+
+def as_typed(_: Context, __: Line, words: list[str], given: Given) -> Typed:
+    """The words of a line as they were typed."""
+    return Typed(words, given)
+
+
 @dataclass(frozen=True)
 class LineNotes:
-    """What may be noted beside a line: its options, an example, and how notes are made of its values and of what was
-    given."""
+    """What may be noted beside a line: its options, an example, how notes are made of its values and of what was
+    given, how its words are read before `toll` gets them, and what its help says of that."""
 
     options: Callable[[], list[click.Option]]
     example: str
     beside: Callable[[Context, Values, Given], Beside]
+    read: Callable[[Context, Line, list[str], Given], Typed] = as_typed
+    about: str = ""
 
 
 def link_options() -> list[click.Option]:
@@ -86,7 +101,7 @@ def beside_shipment(context: Context, values: Values, given: Given) -> Beside:
             WRONG_USE,
             f"`hilpoven party list {values['OWNER']}` has the parties",
         )
-    if not any(given.values()):
+    if not any(given.values()) and not has_days(context):
         return Beside()
     from . import movement_notes
 
@@ -113,6 +128,70 @@ def with_reason(name: str, example: str) -> LineNotes:
     return LineNotes(reason_options, example, partial(beside_reason, name))
 
 
+def beside_actual(context: Context, values: Values, given: Given) -> Beside:
+    """Whether a lot that is consumed is past its day."""
+    if values["USE"] != "consumed" or not has_days(context):
+        return Beside()
+    from . import movement_notes
+
+    return movement_notes.beside_actual(context, values)
+
+
+def has_days(context: Context) -> bool:
+    """Whether the plant noted days of lots."""
+    if not context.may_have_notes:
+        return False
+    from ..register import describing, facts
+
+    return describing.has_noted(context.journal(), facts.LotFacts)
+
+
+def test_options() -> list[click.Option]:
+    """The options of a test: how its values are measured."""
+    return [
+        decimals_option(),
+        click.Option(["--unit"], metavar="TEXT", type=FILLED_TEXT, help="The unit of its values."),
+        click.Option(["--method"], metavar="TEXT", type=FILLED_TEXT, help="The method by which it is measured."),
+    ]
+
+
+def no_options() -> list[click.Option]:
+    """No option besides the values."""
+    return []
+
+
+def read_test(context: Context, line: Line, words: list[str], given: Given) -> Typed:
+    """The limits of a test, which may have decimals."""
+    from . import test_notes
+
+    return test_notes.read_limits(context, line, words, given)
+
+
+def beside_test(context: Context, values: Values, given: Given) -> Beside:
+    """How a test's values are measured."""
+    if not any(given.values()):
+        return Beside()
+    from . import test_notes
+
+    return test_notes.beside_test(context, values, given)
+
+
+def read_result(context: Context, line: Line, words: list[str], given: Given) -> Typed:
+    """The value of a result, which may have decimals or be a bound."""
+    from . import test_notes
+
+    return test_notes.read_result(context, line, words, given)
+
+
+def beside_result(context: Context, values: Values, given: Given) -> Beside:
+    """That the value of a result is a bound."""
+    if not given.get("facts"):
+        return Beside()
+    from . import test_notes
+
+    return test_notes.beside_result(context, given["facts"])
+
+
 LINE_NOTES: dict[str, LineNotes] = {
     "receive": LineNotes(
         receipt_options, "receive ACME K9 BRINE B-1R BAY1 400 261127 --of B-1 --why return", beside_receipt
@@ -125,4 +204,20 @@ LINE_NOTES: dict[str, LineNotes] = {
     "reject": with_reason("reject", "reject W-101 --reason 'wrong supplier'"),
     "cancel": with_reason("cancel", "cancel C-1 --reason 'unit is down'"),
     "do": with_reason("do", "do ACME O-1 1 abort --reason 'stirrer broke'"),
+    "actual": LineNotes(no_options, "", beside_actual),
+    "test-add": LineNotes(
+        test_options,
+        "test-add ACME BRINE PH 6.50 8.50 --decimals 2 --unit pH --method 'ISO 10523'",
+        beside_test,
+        read_test,
+        "With --decimals, LOW and HIGH may have decimals, and so may results: toll has 650 of 6.50.",
+    ),
+    "result": LineNotes(
+        no_options,
+        "result ACME B-1 PH '<5' 261127",
+        beside_result,
+        read_result,
+        "A test with decimals (`describe test`) takes 7.02, and toll gets 702. Of a value below or above what can be "
+        "measured, write <5 or >5: toll gets 5, and the sign is noted.",
+    ),
 }

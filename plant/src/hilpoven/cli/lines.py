@@ -29,9 +29,13 @@ class LineCommand(click.Command):
         words = click.Argument(
             ["words"], nargs=-1, type=click.UNPROCESSED, metavar=" ".join(line.values), shell_complete=self.completions
         )
-        examples = [line.example, *([notes.example] if notes else [])]
+        examples = [line.example, *([notes.example] if notes and notes.example else [])]
         asks = "" if line.name == OWNER_ADD else " At a terminal it asks for each value that is missing."
-        about = [f"{line.about[0].upper()}{line.about[1:]}.{asks}", scanned.about(line.values)]
+        about = [
+            f"{line.about[0].upper()}{line.about[1:]}.{asks}",
+            notes.about if notes else "",
+            scanned.about(line.values),
+        ]
         text = "\n\n".join([*filter(None, about), *(f"Example: hilpoven {example}" for example in examples)])
         super().__init__(
             line.name,
@@ -76,8 +80,10 @@ class LineCommand(click.Command):
         named = dict(ctx.params)
         words = named.pop("words")
         given = {name: named.pop(name) for name in self.names_beside}
-        beside = partial(self.notes.beside, given=given) if self.notes else None
-        typed = self.typed(ctx.obj, list(words), named)
+        typed, beside = self.typed(ctx.obj, list(words), named), None
+        if self.notes:
+            typed, given = self.notes.read(ctx.obj, self.line, typed, given)
+            beside = partial(self.notes.beside, given=given)
         if is_next_key(self.line, typed):
             from . import next_key
 

@@ -12,8 +12,11 @@ from .groups import Group, lazily
 from .words import WORD, pass_context
 
 
-def list_command(name: str, listing: Listing) -> click.Command:
-    """The subcommand of a table."""
+MOST_DAYS = 3_650
+
+
+def options_of(name: str, listing: Listing) -> list[click.Parameter]:
+    """The options of a table: which rows are listed, and how."""
     options: list[click.Parameter] = []
     if "owner" in listing.columns:
         about = "Only this owner; HOUSE is the plant."
@@ -22,21 +25,31 @@ def list_command(name: str, listing: Listing) -> click.Command:
         options.append(click.Option(["--lot"], metavar="LOT", type=WORD, help="Only lots with this name."))
     if "key" in listing.columns:
         options.append(click.Option(["--key"], metavar="KEY", type=WORD, help="Only movements with this key."))
-    options += (
-        [click.Option(["--open", "only_open"], is_flag=True, help=f"Only {listing.open_about}.")]
-        if listing.is_open
-        else []
-    )
-    options += [
+    if listing.is_open:
+        options.append(click.Option(["--open", "only_open"], is_flag=True, help=f"Only {listing.open_about}."))
+    if name == "lots":
+        about = "Only lots on hand that expire, or are to be tested again, within so many days from today."
+        options.append(click.Option(["--expiring"], metavar="DAYS", type=click.IntRange(0, MOST_DAYS), help=about))
+    return [
+        *options,
         click.Option(["--csv", "form"], flag_value="csv", help="As CSV, for a spreadsheet."),
         click.Option(["--json", "form"], flag_value="json", help="As JSON, for a program."),
     ]
+
+
+def list_command(name: str, listing: Listing) -> click.Command:
+    """The subcommand of a table."""
     example = f"hilpoven list {name}{' --owner ACME' if 'owner' in listing.columns else ''}"
     text = f"Lists {listing.about}.\n\nExample: {example}"
 
     @pass_context
-    def show(context: Context, form: str | None = None, **asked: str | None) -> None:
+    def show(context: Context, form: str | None = None, expiring: int | None = None, **asked: str | None) -> None:
         columns, rows = read(context, listing, {it: value for it, value in asked.items() if value})
+        if expiring is not None:
+            from ..records.days import last_day_within
+            from ..records.noted import expiring_lots
+
+            rows = expiring_lots(columns, rows, last_day_within(expiring, context.settings.time_zone))
         if form:
             from ..output.exports import as_csv, as_json
 
@@ -46,7 +59,7 @@ def list_command(name: str, listing: Listing) -> click.Command:
         else:
             click.echo(f"no {name}", err=True)
 
-    return click.Command(name, params=options, callback=show, help=text, short_help=listing.about)
+    return click.Command(name, params=options_of(name, listing), callback=show, help=text, short_help=listing.about)
 
 
 def read(context: Context, listing: Listing, asked: dict[str, Any]) -> tuple[list[str], list[Row]]:
@@ -58,18 +71,11 @@ def read(context: Context, listing: Listing, asked: dict[str, Any]) -> tuple[lis
         parameters = {it: asked.get(it) for it in ("owner", "lot", "key", "lot_owner")}
         columns = list(listing.columns)
         rows: list[Row] = [tuple(it) for it in base.execute(listing.sql(**asked), parameters)]
-        if not listing.has_notes:
+        if not listing.noted or not context.may_have_notes:
             return columns, rows
-        register = context.register(base)
-        if not (register.judged or register.facts or register.plants_test):
-            return columns, rows
-        if "key" not in columns:
-            from ..register.quality import with_statuses
+        from ..records.noted import NOTED
 
-            return with_statuses(columns, rows, base, register)
-        from ..register.movements import with_facts
-
-        return with_facts(columns, rows, register.facts)
+        return NOTED[listing.noted](columns, rows, context.register(base), base)
 
 
 list_group = Group(

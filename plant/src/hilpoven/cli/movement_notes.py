@@ -3,7 +3,8 @@ from typing import Any
 
 from ..core.asking import Beside
 from ..core.context import Context
-from ..register import making
+from ..records.rows import LotId
+from ..register import expiry, making
 from ..register.movements import GETS, Task, facts_of, require_party
 from ..register.facts import MovementFacts
 
@@ -19,6 +20,15 @@ def facts_beside(desk: making.Desk, values: Values, given: dict[str, Any], task:
 
 
 def beside_shipment(context: Context, values: Values, given: dict[str, Any]) -> Beside:
-    """What is noted of a shipment."""
+    """What is noted of a shipment, and whether its lot is past its day."""
+    lot, setting = LotId(values["OWNER"], values["LOT"]), context.settings.expiry.ship
     with making.desk(context) as desk:
-        return Beside(desk.members(facts_beside(desk, values, given, GETS)))
+        warning = expiry.warning(desk, setting, lot, values)
+        return Beside(desk.members(facts_beside(desk, values, given, GETS)), warning)
+
+
+def beside_actual(context: Context, values: Values) -> Beside:
+    """Whether a lot that is consumed is past its day."""
+    lot, setting = LotId(values["LOT-OWNER"], values["LOT"]), context.settings.expiry.actual
+    with making.desk(context) as desk:
+        return Beside(hint=expiry.warning(desk, setting, lot, values))

@@ -14,7 +14,7 @@ from ..core.nearest import nearest
 from ..output.exports import as_csv, as_json
 from ..output.table import Row, counted, print_table
 from ..records.rows import LotId, require_owner
-from ..register import file, making, quality
+from ..register import expiry, file, making, quality
 from ..register.movements import facts_of
 from ..register.notes import Judgement, Link, Note, NotLinked, Why, Withdrawal
 from .groups import Group
@@ -127,12 +127,13 @@ def use(
     values = [owner, order, str(number), of_owner, of_lot, sublot, amount, day]
     key = key or f"USE-{hashlib.sha256(' '.join(values).encode()).hexdigest()[:10].upper()}"
 
-    def beside(context: Context, _: dict[str, str]) -> Beside:
+    def beside(context: Context, scrap: dict[str, str]) -> Beside:
         note = Link(owner, "", order, number, of_owner, of_lot, Why.USE, int(amount), reason)
         with making.desk(context) as desk:
             desk.require_link(note)
             require_not_held(desk, context, note.contained)
-            return Beside(desk.members([note]))
+            warning = expiry.warning(desk, context.settings.expiry.actual, LotId(of_owner, of_lot), scrap)
+            return Beside(desk.members([note]), warning)
 
     sys.exit(asking.run(context, LINES["scrap"], [of_owner, key, of_lot, sublot, amount, day], beside))
 

@@ -110,6 +110,21 @@ class Text(click.ParamType):
         return str(value)
 
 
+class Date(click.ParamType):
+    """A day that is a date."""
+
+    name = "date"
+
+    def convert(self, value: Any, param: click.Parameter | None, ctx: click.Context | None) -> int:
+        """The day; fails if it is no date."""
+        from ..records.days import date_of
+
+        word = str(value)
+        if word.isascii() and word.isdecimal() and len(word) == 6 and date_of(int(word)):
+            return int(word)
+        self.fail(f"`{printable(word[:MOST_TOLD])}` is no date; a date is YYMMDD, such as 271127", param, ctx)
+
+
 class LotCommand(click.Command):
     """A command that has a lot, whose values a scanned text in the place of LOT may fill."""
 
@@ -150,5 +165,15 @@ SHEET = Operators(click.Path(readable=False), is_sheet=True)
 WORD = Word()
 TEXT, FILLED_TEXT = Text(may_be_empty=True), Text(may_be_empty=False)
 NAME = Name()
+DATE = Date()
+
+
+def decimals_option() -> click.Option:
+    """The option that says how many decimals the values of a test have."""
+    from ..records.measures import MOST_DECIMALS
+
+    about = "How many decimals its values have: toll has 702 of 7.02 with two."
+    return click.Option(["--decimals"], metavar="N", type=click.IntRange(1, MOST_DECIMALS), help=about)
+
 
 pass_context = click.make_pass_decorator(Context)

@@ -65,6 +65,11 @@ class Context:
             journals.adopted(site.journal_of(self.settings, self.file), self.file), self.file, self.unnoted
         )
 
+    @property
+    def may_have_notes(self) -> bool:
+        """Whether there is a journal or a register, so that the plant may have noted something."""
+        return any(map(os.path.lexists, (site.journal_of(self.settings, self.file), f"{self.file}.register")))
+
     def register(self, base: "Connection") -> "Register":
         """What the plant noted that stands, of an office of whose file these are the tables."""
         from ..register import file

@@ -14,6 +14,8 @@ OFFICES = "/etc/toll"
 DATA = "/var/lib/toll"
 CHECKOUT = os.path.abspath(f"{__file__}/../../../../..")
 
+WARN, REFUSE = "warn", "refuse"
+
 CALLED = {str: "a text", int: "a whole number", float: "a number", list: "a list of texts", bool: "true or false"}
 MUCH = 1_000_000
 # The least and the most of each number.
@@ -26,6 +28,11 @@ BOUNDS = {
     "wait": (0, MUCH),
 }
 MOST_PREFIX = 8  # letters before the number of a key, which has 16 with it
+
+
+def expiry_fault(word: str) -> str:
+    """What is wrong with what becomes of lots past their day."""
+    return "" if word in (WARN, REFUSE) else f'is to be "{WARN}" or "{REFUSE}"'
 
 
 def prefix_fault(prefix: str) -> str:
@@ -48,6 +55,13 @@ class Require(NamedTuple):
     """What a site requires of commands besides what `toll` does. Each field is a line below [require]."""
 
     recipient: bool = False  # whether each shipment names the party that gets it
+
+
+class Expiry(NamedTuple):
+    """What becomes of commands that take from a lot past its day. Each field is a line below [expiry]."""
+
+    ship: str = WARN
+    actual: str = WARN
 
 
 class PlantFacts(NamedTuple):
@@ -98,13 +112,15 @@ class Settings(NamedTuple):
     site_logs: list[str] = []  # of the proxy, with all owners' requests
     require: Require = Require()
     plant: PlantFacts = PlantFacts()
+    expiry: Expiry = Expiry()
     quality: Quality = Quality()
     roles: Roles = Roles()
 
 
-TABLES: dict[str, Require | PlantFacts | Quality | Roles] = {
+TABLES: dict[str, Require | PlantFacts | Expiry | Quality | Roles] = {
     "require": Require(),
     "plant": PlantFacts(),
+    "expiry": Expiry(),
     "quality": Quality(),
     "roles": Roles(),
 }
@@ -115,6 +131,7 @@ TEXT_FAULTS: dict[str, Callable[[str], str]] = {
     "key_prefix": prefix_fault,
     "time_zone": zone_fault,
     **{name: TEXT.fault for name in PlantFacts._fields},
+    **{name: expiry_fault for name in Expiry._fields},
 }
 
 
@@ -174,7 +191,7 @@ def checked(path: str, name: str, value: Any, default: Any, called: str = "") ->
     least, most = BOUNDS.get(name, (value, value))
     if not least <= value <= most:
         raise Failure(f"{path}: {called or name} is to be from {least:,} to {most:,}", WRONG_USE)
-    if name in TEXT_FAULTS and value and (fault := TEXT_FAULTS[name](value)):
+    if name in TEXT_FAULTS and (value or default) and (fault := TEXT_FAULTS[name](value)):
         raise Failure(f"{path}: {name} {fault}", WRONG_USE)
     return value
 

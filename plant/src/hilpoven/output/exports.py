@@ -6,7 +6,7 @@ import re
 from collections.abc import Iterable, Sequence
 
 from ..core.failure import printable
-from .table import Row, Value
+from .table import Row, Shown, Value
 
 # What a spreadsheet leaves as it is: a text that begins with a letter, a whole number, a time;
 # but for months and truths.
@@ -33,12 +33,26 @@ def csv_of(cells: Iterable[Row], end: str = "\n") -> str:
     return text.getvalue()
 
 
+def with_texts(columns: Sequence[str], rows: Sequence[Row]) -> tuple[list[str], list[Row]]:
+    """A table with the texts of its numbers that people read otherwise, in columns behind it."""
+    places = [at for at in range(len(columns)) if any(isinstance(row[at], Shown) for row in rows)]
+    more = [f"noted_{columns[at]}" for at in places]
+    return [*columns, *more], [[*row, *(plain_text(row[at]) for at in places)] for row in rows]
+
+
+def plain_text(value: Value) -> str:
+    """A value as a text without anything between thousands."""
+    return value.plain if isinstance(value, Shown) else "" if value is None else str(value)
+
+
 def as_csv(columns: Sequence[str], rows: Sequence[Row]) -> str:
     """A table as CSV."""
+    columns, rows = with_texts(columns, rows)
     return csv_of([[it.replace(" ", "_") for it in columns], *(list(map(as_cell, row)) for row in rows)])
 
 
 def as_json(columns: Sequence[str], rows: Sequence[Row]) -> str:
     """A table as JSON: a list of objects."""
+    columns, rows = with_texts(columns, rows)
     names = [it.replace(" ", "_") for it in columns]
     return json.dumps([dict(zip(names, row)) for row in rows], indent=2) + "\n"

@@ -6,16 +6,33 @@ from collections.abc import Iterator, Sequence
 from ..core.failure import printable
 
 Value = str | int | None
+
+
+class Shown(int):
+    """A number that people read as a text, as 7.02 of 702. Programs get the number, and the text beside it."""
+
+    def __new__(cls, number: int, text: str, plain: str) -> "Shown":
+        """The number, its text, and the same without anything between thousands."""
+        shown = super().__new__(cls, number)
+        shown.text, shown.plain = text, plain
+        return shown
+
+    text: str
+    plain: str
+
+
 Row = Sequence[Value]
 WIDEST = 200  # letters
 GAP, INDENT = "  ", "    "
-NUMBERED = {"day", "batch", "segment"}  # columns whose numbers are names and no amounts
+NUMBERED = {"day", "batch", "segment", "noted_made", "noted_expires", "noted_retest"}  # whose numbers are no amounts
 
 
 def formatted(value: Value, column: str = "") -> str:
     """A value as people read it: an amount in groups of three digits."""
     if value is None:
         return ""
+    if isinstance(value, Shown):
+        return value.text
     return f"{value:,}" if isinstance(value, int) and column not in NUMBERED else str(value)
 
 

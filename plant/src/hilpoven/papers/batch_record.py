@@ -16,7 +16,7 @@ from .copies import Source
 from .links import links_sheet
 from .printing import Document
 from .reasons import reasons_of_batch
-from .sheets import TESTS, Row, Sheet, columns, percent, test_rows
+from .sheets import Row, Sheet, columns, percent, test_rows, tests_sheet
 
 REQUIRED = columns("segment:number use:text source=of material required:number actual:number percent=%:text")
 ACTUALS = columns(
@@ -47,12 +47,11 @@ def documents(source: Source, asked: BatchId) -> list[Document]:
     ]
     for name, kind, reader in (("made", Kind.PRODUCED, ""), ("taken", Kind.CONSUMED, owner)):
         amounts = [(lots[lot], amount) for lot, amount in amounts_of(actuals, kind).items()]
-        tests = [
-            (lot.id.name, *row) for lot, _ in amounts if lot.id.owner == owner for row in test_rows(base, lot, register)
-        ]
+        own_lots = [lot for lot, _ in amounts if lot.id.owner == owner]
+        tests = [(lot.id.name, *row) for lot in own_lots for row in test_rows(base, lot, register)]
         sheets += [
             with_quality(Sheet(name, LOTS, [lot_row(lot, amount, reader) for lot, amount in amounts]), source, reader),
-            Sheet(f"{name}_tests", [*columns("lot"), *TESTS], tests),
+            tests_sheet(f"{name}_tests", tests, *columns("lot")),
         ]
     if links := Genealogy(base, register.links).links_in_batch(asked):
         sheets.append(links_sheet(lots_of(base, {link.contained for link in links}), links))

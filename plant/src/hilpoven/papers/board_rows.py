@@ -5,6 +5,7 @@ from dataclasses import astuple, dataclass
 
 from .. import HOUSE
 from ..records import gauge
+from ..records.days import format_day, last_day_within
 from ..records.genealogy import Genealogy
 from ..records.answers import OrderLine, StockLine, batch_of, rows_of
 from ..records.rows import Batch, Lot, LotId, lots_of, owners_of, read_batches, read_lots, requirements_of, tests_of
@@ -12,6 +13,7 @@ from ..records.schema import Disposition
 from ..records.tables import LISTINGS
 from ..register import quality
 from ..register.below import MARK
+from ..register.expiry import last_day
 from ..register.notes import Link
 from .agreement import agree, agree_on_all
 from .copies import Source
@@ -20,6 +22,7 @@ WAITING = f"""
 SELECT owner, [order], recipe, batches, opened FROM ({LISTINGS['orders'].sql()})
 WHERE status = 'open' AND opened < batches ORDER BY 1, 2
 """
+SOON = 30  # days within which a lot expires that is shown
 LINE, EDGE = 48, 20  # pixels of a screen of 1,920 by 1,080: of a line, and around those of a row
 ROOM_OF_UNITS, ROOM, LAST_ROOM = 925, 350, 120  # pixels for the rows of one page of a panel
 
@@ -129,20 +132,25 @@ def orders(source: Source, owners: list[str]) -> Panel:
 
 
 def lots(source: Source, owners: list[str]) -> Panel:
-    """The lots on hand that are held, and then those that wait for tests, a signature or their release."""
-    code, word = Disposition.QUARANTINED, Disposition.QUARANTINED.word
-    waiting = [lot for lot in read_lots(source.base, f"l.disposition = {code:d} ORDER BY 1, 2") if lot.on_hand]
-    answered: Counter[LotId] = Counter()
+    """The lots on hand that are held, those that expire soon, and those that wait for tests, a signature or their
+    release."""
+    code, days = Disposition.QUARANTINED, expiring(source)
+    quarantined = read_lots(source.base, f"l.disposition = {code:d} ORDER BY 1, 2")
+    soon = sorted((lot for lot in lots_of(source.base, days).values() if lot.on_hand), key=lambda lot: days[lot.id])
+    waiting = [lot for lot in quarantined if lot.on_hand and lot.id not in days]
+    answered: Counter[tuple[LotId, str]] = Counter()
     for owner in owners:
         for line in rows_of(StockLine, source.newest.answer("stock", owner)):
-            if line.amount and line.disposition == word:
-                answered[LotId(owner, line.lot)] += line.amount
+            if line.amount and (line.disposition == code.word or LotId(owner, line.lot) in days):
+                answered[LotId(owner, line.lot), line.disposition] += line.amount
     agree_on_all(
-        {lot: (word, amount) for lot, amount in answered.items()}, {lot.id: (word, lot.on_hand) for lot in waiting}
+        {lot: (word, amount) for (lot, word), amount in answered.items()},
+        {lot.id: (lot.disposition.word, lot.on_hand) for lot in (*soon, *waiting)},
     )
     genealogy = Genealogy(source.base, source.register.links)
     held = held_lots(source)
-    rows = [
+    rows = [Row(str(lot.id), until(days[lot.id]), what_of(source, lot)) for lot in soon]
+    rows += [
         Row(str(lot.id), why_linked(genealogy.links_in(lot.id)), waits_for(source, lot))
         for lot in waiting
         if str(lot.id) not in {row.about for row in held}
@@ -159,6 +167,24 @@ def held_lots(source: Source) -> list[Row]:
         Row(str(lot.id), f"held {MARK}", textwrap.shorten(said[lot.id].reason, LETTERS, placeholder=" .."))
         for lot in sorted(lots, key=lambda lot: lot.id)
     ]
+
+
+def expiring(source: Source) -> dict[LotId, int]:
+    """The last days of the lots that are to be used soon, or are past that day."""
+    last = last_day_within(SOON)
+    days = {LotId(*name): last_day(facts) for name, facts in source.register.lots.items()}
+    return {lot: day for lot, day in days.items() if day and day <= last}
+
+
+def until(day: int) -> str:
+    """What is said of a lot's last day."""
+    return f"{'past' if day < last_day_within(0) else 'until'} {format_day(day)} {MARK}"
+
+
+def what_of(source: Source, lot: Lot) -> str:
+    """How much of a lot is on hand, and what it waits for."""
+    waits = f", {waits_for(source, lot)}" if lot.disposition == Disposition.QUARANTINED else ""
+    return f"{lot.on_hand:,} {lot.measure} {lot.disposition.word}{waits}"
 
 
 def why_linked(links: list[Link]) -> str:

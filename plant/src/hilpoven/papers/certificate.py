@@ -5,7 +5,7 @@ from .agreement import check_lots
 from .copies import Source
 from .printing import Document
 from .shipments import of_certificate
-from .sheets import TESTS, Sheet, test_rows
+from .sheets import test_rows, tests_sheet
 
 
 def documents(source: Source, asked: LotId, shipment: str = "") -> list[Document]:
@@ -22,7 +22,7 @@ def documents(source: Source, asked: LotId, shipment: str = "") -> list[Document
     if shipment:
         shipped, is_noted = of_certificate(source, asked, lot.measure, shipment)
         facts |= shipped
-    tests = Sheet("tests", TESTS, test_rows(source.base, lot, source.register))
+    tests = tests_sheet("tests", test_rows(source.base, lot, source.register))
     return [
         Document(
             "certificate",

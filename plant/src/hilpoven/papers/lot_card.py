@@ -3,8 +3,9 @@ from .. import HOUSE
 from ..records import things
 from ..records.answers import recall_of, trace_of
 from ..records.balance import COUNTED, balances, require_closed
+from ..records.descriptions import describe_lot, shown_result
 from ..records.genealogy import BACK, FORWARD, Genealogy
-from ..records.rows import Lot, LotId, lots_of, moves_of, require_lot, results_of, sublots_of, tests_of
+from ..records.rows import Base, Lot, LotId, lots_of, moves_of, require_lot, results_of, sublots_of, tests_of
 from ..records.schema import Kind
 from ..register import quality
 from ..register.below import MARK
@@ -17,7 +18,7 @@ from .pictures import Arrow, Box
 from .printing import Document
 from .reasons import reasons_of_lot
 from .recipients import noted_movements
-from .sheets import TESTS, Column, Row, Sheet, columns, test_rows
+from .sheets import Column, Row, Sheet, columns, test_rows, tests_sheet
 
 MOST_BOXES = 60
 LEDGER = columns(
@@ -40,27 +41,22 @@ def documents(source: Source, asked: LotId) -> list[Document]:
         agree(f"what of {asked} is on hand and was shipped", (first.on_hand, first.shipped), (lot.on_hand, shipped))
     genealogy = Genealogy(source.base, source.register.links)
     beside = neighbours(source, genealogy, asked)
-    thing = things.lot(source.base, *asked, Register(plants_test=source.register.plants_test))
+    register = source.register.of(asked.owner)
+    known = Register(tests=register.tests, bounds=register.bounds, plants_test=register.plants_test)
+    thing = things.lot(source.base, *asked, known)
     sublots, ledger = (
         [tuple(None if cell == "" else cell for cell in row) for row in thing.tables[name][1]]
         for name in ("sublots", "ledger")
     )
     held = [*columns("sublot"), Column("amount", f"on hand, {lot.measure}", "number")]
-    lots_beside: list[Row] = [
-        (WAYS[way], *neighbour, MARK if is_noted else None)
-        for way, lots in beside.items()
-        for neighbour, is_noted in lots.items()
-    ]
     links = genealogy.links_about(asked)
     sheets = [
-        Sheet("tests", TESTS, test_rows(source.base, lot, source.register)),
-        Sheet("results", RESULTS, own_results(source, lot)),
+        tests_sheet("tests", test_rows(source.base, lot, register)),
+        Sheet("results", RESULTS, result_rows(source.base, lot, register)),
         Sheet("sublots", held, sublots),
         Sheet("ledger", LEDGER, ledger),
-        Sheet("beside", BESIDE, lots_beside),
+        beside_sheet(beside),
     ]
-    if not any(is_noted for lots in beside.values() for is_noted in lots.values()):
-        sheets[-1] = sheets[-1].without("noted")
     if links:
         sheets.append(links_sheet(lots_of(source.base, {link.contained for link in links}), links))
     about = {"owner": asked.owner, "material": lot.material, "unit": lot.measure, "comes from": lot.origin}
@@ -69,7 +65,7 @@ def documents(source: Source, asked: LotId) -> list[Document]:
     if reasons := reasons_of_lot(source.register, asked, moves):
         sheets.append(reasons)
     said = quality.text_of(source.base, source.register, asked)
-    if noted := noted_movements(source.register.of(asked.owner), lot, moves):
+    if noted := noted_movements(register, lot, moves):
         sheets.append(noted)
     values = {
         "facts": {
@@ -80,16 +76,32 @@ def documents(source: Source, asked: LotId) -> list[Document]:
         },
         "remarks": thing.remarks,
         "balance": {**sums, "difference": balance.difference},
+        "described": describe_lot(source.base, register, lot).texts,
         "measure": lot.measure,
         "picture": picture(source, lot, beside),
     }
     return [Document("lot", asked.owner == HOUSE, f"Lot {asked.name}", sheets, values)]
 
 
-def own_results(source: Source, lot: Lot) -> list[Row]:
-    """The results of a lot without those of the plant's own test."""
-    names = {test.name for test in quality.own_tests(source.register, tests_of(source.base, lot))}
-    return [row for row in results_of(source.base, lot) if row[0] in names]
+def beside_sheet(beside: dict[str, Beside]) -> Sheet:
+    """The lots one step back and forward; without marks if links add none."""
+    rows: list[Row] = [
+        (WAYS[way], *neighbour, MARK if is_noted else None)
+        for way, lots in beside.items()
+        for neighbour, is_noted in lots.items()
+    ]
+    sheet = Sheet("beside", BESIDE, rows)
+    return sheet if any(row[-1] for row in rows) else sheet.without("noted")
+
+
+def result_rows(base: Base, lot: Lot, register: Register) -> list[Row]:
+    """The results of a lot, as they were measured, without those of the plant's own test."""
+    names = {test.name for test in quality.own_tests(register, tests_of(base, lot))}
+    return [
+        (test, shown_result(register, lot.material, (*lot.id, test, value, day)), day)
+        for test, value, day in results_of(base, lot)
+        if test in names
+    ]
 
 
 def neighbours(source: Source, genealogy: Genealogy, asked: LotId) -> dict[str, Beside]:

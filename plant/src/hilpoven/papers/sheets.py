@@ -5,9 +5,10 @@ from dataclasses import dataclass, replace
 from typing import NamedTuple
 
 from ..output import exports
+from ..output.table import Shown
 from ..records.days import format_day
-from ..records.rows import Base, Lot, tests_of
-from ..register import quality
+from ..records.descriptions import describe_lot
+from ..records.rows import Base, Lot
 from ..register.store import Register
 
 Cell = str | int | None
@@ -44,6 +45,8 @@ class Column:
         """A value as it is on paper."""
         if value is None or isinstance(value, str):
             return value or ""
+        if isinstance(value, Shown):
+            return value.text
         return format_day(value) if self.kind == "day" else f"{value:,}"
 
 
@@ -64,16 +67,24 @@ def percent(part: int, whole: int) -> str:
     return f"{tenths // 10:,}.{tenths % 10}"
 
 
-TESTS = columns("test low=from:number high=to:number value=result:number day:day verdict:text")
+TESTS = columns(
+    "test low=from:number high=to:number value=result:number noted_unit=unit:text@beside day:day verdict:text"
+)
 VERDICTS = {"within": "pass", "out": "does not pass", "missing": "no result"}
 
 
 def test_rows(base: Base, lot: Lot, register: Register) -> list[Row]:
-    """The rows of `TESTS` of a lot, without the plant's own test."""
+    """The rows of `TESTS` of a lot without the plant's own test, limits and results as they were measured."""
     return [
-        (test.name, test.low, test.high, test.value, test.day, VERDICTS[test.limits])
-        for test in quality.own_tests(register, tests_of(base, lot))
+        (*test.numbers, test.facts.unit or None, test.test.day, VERDICTS[test.test.limits])
+        for test in describe_lot(base, register.of(lot.id.owner), lot).tests
     ]
+
+
+def tests_sheet(name: str, rows: Sequence[Row], *before: Column) -> "Sheet":
+    """A table of tests, with columns before theirs; without units if none are noted."""
+    sheet, unit = Sheet(name, [*before, *TESTS], rows), len(before) + 4
+    return sheet if any(row[unit] for row in rows) else sheet.without("noted_unit")
 
 
 class Printed(NamedTuple):
@@ -97,6 +108,11 @@ class Sheet:
         """Whether it has texts that the plant noted, which may be long, and of any letters."""
         return any(column.name.startswith(NOTED) for column in self.columns)
 
+    @property
+    def is_as_measured(self) -> bool:
+        """Whether it has units, or values that the plant's notes say how to read."""
+        return self.has_notes or any(isinstance(cell, Shown) for row in self.rows for cell in row)
+
     def without(self, name: str) -> "Sheet":
         """The same table without a column."""
         kept = [at for at, column in enumerate(self.columns) if column.name != name]
@@ -104,17 +120,18 @@ class Sheet:
         return replace(self, columns=[self.columns[at] for at in kept], rows=rows)
 
     def csv(self) -> str:
-        """The table as CSV (RFC 4180), for a spreadsheet: its names are formulas of texts, which none changes."""
+        """The table as CSV (RFC 4180), for a spreadsheet: its names are formulas of texts, which none changes. Numbers
+        that paper has as texts have these in columns behind."""
+        heads, lines = exports.with_texts([column.name for column in self.columns], self.rows)
+        kinds = [*(column.kind for column in self.columns), *["text"] * (len(heads) - len(self.columns))]
         rows = [
             [
-                exports.as_formula(cell)
-                if cell and isinstance(cell, str) and column.kind == "name"
-                else exports.as_cell(cell)
-                for column, cell in zip(self.columns, row)
+                exports.as_formula(cell) if cell and isinstance(cell, str) and kind == "name" else exports.as_cell(cell)
+                for kind, cell in zip(kinds, row)
             ]
-            for row in self.rows
+            for row in lines
         ]
-        return exports.csv_of([[column.name for column in self.columns], *rows], "\r\n")
+        return exports.csv_of([heads, *rows], "\r\n")
 
     def printed(self, signs: dict[str, str]) -> tuple[list[Printed], list[list[Printed]]]:
         """The heads and the rows as they are on paper; a disposition with its sign."""

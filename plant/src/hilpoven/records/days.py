@@ -1,5 +1,5 @@
 """Days of movements: numbers that the plant chooses. Six digits that are a date of this century, YYMMDD, are one."""
-from datetime import date, datetime, tzinfo
+from datetime import date, datetime, timedelta, tzinfo
 
 
 def date_of(day: int) -> date | None:
@@ -24,7 +24,7 @@ def zone_of(name: str) -> tzinfo | None:
     return ZoneInfo(name) if name else None
 
 
-def today(zone: str) -> date:
+def today(zone: str = "") -> date:
     """The date that it is in a time zone; in that of the machine if none is named."""
     return datetime.now(zone_of(zone)).date()
 
@@ -32,3 +32,8 @@ def today(zone: str) -> date:
 def format_day(day: int) -> str:
     """A day as people read it: a date if it is one, otherwise the number."""
     return str(date_of(day) or day)
+
+
+def last_day_within(days: int, zone: str = "") -> int:
+    """The last of so many days from today."""
+    return day_of(today(zone) + timedelta(days))

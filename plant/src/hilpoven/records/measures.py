@@ -3,9 +3,11 @@ import re
 
 from ..core.failure import WRONG_USE, Failure, printable
 from ..core.forms import MOST_VALUE
+from ..output.table import Shown
 
 MOST_DECIMALS = 9
 MOST_TOLD = 40  # letters of a text that is no value
+GROUP = ","  # between thousands, as people read a number
 MEASURED = re.compile(r"(-|M)?([0-9]+)(?:\.([0-9]+))?")
 WITH_COMMA = re.compile(r"(-|M)?[0-9]+,[0-9]+")
 
@@ -15,6 +17,13 @@ def as_measured(value: int, decimals: int = 0, group: str = "") -> str:
     whole, part = divmod(abs(value), 10**decimals)
     sign, behind = "-" if value < 0 else "", f".{part:0{decimals}}" if decimals else ""
     return f"{sign}{whole:{group}}{behind}"
+
+
+def shown(value: int, decimals: int = 0, sign: str = "") -> int:
+    """A value of a list: the number, which people read as it was measured, `<` or `>` before it where it is a bound."""
+    if not decimals and not sign:
+        return value
+    return Shown(value, sign + as_measured(value, decimals, GROUP), sign + as_measured(value, decimals))
 
 
 def whole_of(text: str, decimals: int = 0) -> int:
@@ -28,7 +37,7 @@ def whole_of(text: str, decimals: int = 0) -> int:
         raise Failure(f"{told} has {counted(len(part))}, and the test has {decimals or 'none'}", WRONG_USE)
     digits = (whole + part.ljust(decimals, "0")).lstrip("0") or "0"
     if len(digits) > len(str(MOST_VALUE)) or int(digits) > MOST_VALUE:
-        least, most = (as_measured(it, decimals, ",") for it in (-MOST_VALUE, MOST_VALUE))
+        least, most = (as_measured(it, decimals, GROUP) for it in (-MOST_VALUE, MOST_VALUE))
         raise Failure(f"{told} is out of what toll takes: {least} to {most}", WRONG_USE)
     return -int(digits) if sign else int(digits)
 

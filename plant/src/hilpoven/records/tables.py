@@ -21,7 +21,7 @@ class Listing(NamedTuple):
     is_open: str = ""  # SQL: the rows that `--open` leaves
     open_about: str = ""
     lot: str = ""  # SQL: the rows that `--lot` leaves, by the parameter :lot
-    has_notes: bool = False  # whether the register may have notes of its rows, which are movements or lots
+    noted: str = ""  # what its rows are, of which the register may have notes
 
     @property
     def whose_lot(self) -> str:
@@ -67,6 +67,7 @@ LISTINGS: dict[str, Listing] = {
         ),
         "(SELECT owner FROM owners UNION SELECT 'HOUSE') AS o",
         "1",
+        noted="owners",
     ),
     "units": Listing(
         "units, with the batch that each runs",
@@ -76,13 +77,16 @@ LISTINGS: dict[str, Listing] = {
         "b.owner IS NOT NULL",
         "units that run a batch",
     ),
-    "materials": Listing("materials with their measures", plain("owner material measure"), "materials", "1, 2"),
+    "materials": Listing(
+        "materials with their measures", plain("owner material measure"), "materials", "1, 2", noted="materials"
+    ),
     "tests": Listing(
         "tests of materials with their limits; of a lot's material with --lot",
         plain("owner material test low high"),
         "tests AS t",
         "1, 2, 3",
         lot="EXISTS (SELECT 1 FROM lots AS l WHERE l.owner = t.owner AND l.material = t.material AND l.lot = :lot)",
+        noted="tests",
     ),
     "recipes": Listing(
         "recipes, with how many requirements and orders each has",
@@ -129,7 +133,7 @@ LISTINGS: dict[str, Listing] = {
         f"l.disposition = {Disposition.QUARANTINED:d}",
         "lots that are quarantined",
         "l.lot = :lot",
-        has_notes=True,
+        noted="lots",
     ),
     "sublots": Listing(
         "sublots with what each holds",
@@ -158,7 +162,7 @@ LISTINGS: dict[str, Listing] = {
         STANDING,
         "movements that are not voided",
         "m.lot = :lot",
-        has_notes=True,
+        noted="movements",
     ),
     "results": Listing(
         "results of tests, in the order in which they were recorded",
@@ -168,6 +172,7 @@ LISTINGS: dict[str, Listing] = {
         LATEST,
         "the latest result of each test",
         "lot = :lot",
+        noted="results",
     ),
     "voids": Listing(
         "voided actuals",

@@ -10,10 +10,14 @@ from ..core.forms import BATCH
 from ..core.nearest import nearest
 from ..output.table import Row, Value, formatted, print_table
 from ..register import quality
-from ..register.movements import with_facts
+from ..register.facts import LotFacts
+from ..register.movements import with_columns, with_facts
 from ..register.notes import Link
 from ..register.store import Register
+from .days import format_day
+from .descriptions import facts_of_test, shown_result
 from .genealogy import Genealogy
+from .measures import shown
 from .rows import BatchId, LotId
 from .schema import BATCH_NAME, CLOSED, IS_ACTUAL, IS_INCOMING, IS_OUTGOING, STANDING, VOID, Kind, Role, State
 from .schema import REQUIREMENTS, TESTS
@@ -62,7 +66,13 @@ class Thing:
 
     def as_json(self) -> str:
         """The same for a program."""
-        tables = {name: [dict(zip(columns, row)) for row in rows] for name, (columns, rows) in self.tables.items()}
+        from ..output.exports import with_texts
+
+        texts = {name: with_texts(*table) for name, table in self.tables.items()}
+        tables = {
+            name: [dict(zip([it.replace("_", " ") for it in columns], row)) for row in rows]
+            for name, (columns, rows) in texts.items()
+        }
         return json.dumps({"title": self.title, **self.facts, **tables, "remarks": self.remarks}, indent=2)
 
 
@@ -105,13 +115,16 @@ def lot(base: Base, owner: str, name: str, register: Register = NOTHING_NOTED) -
     columns = ["owner", "lot", *list(LISTINGS["lots"].columns)[2:]]
     sql = f"SELECT * FROM ({LISTINGS['lots'].sql()}) WHERE owner = ? AND lot = ?"
     facts = dict(zip(columns, row_of(base, sql, (owner, name), "lot", "SELECT lot FROM lots WHERE owner = ?")))
-    thing = Thing(f"lot {name} of {owner}", {column.replace("_", " "): facts[column] for column in columns[2:]})
+    days = days_of(register.lots.get((owner, name)))
+    thing = Thing(f"lot {name} of {owner}", {column.replace("_", " "): facts[column] for column in columns[2:]} | days)
     words = {"owner": owner, "lot": name, "material": facts["material"]}
     if said := quality.text_of(base, register, LotId(owner, name)):
         thing.facts[quality.COLUMN] = said
-    tests = thing.add("tests", base.execute(TESTS, words))
-    own = [row for row in tests if not quality.is_plants(register, *row[:3])]
-    thing.tables["tests"] = thing.tables["tests"][0], own
+    own = [row for row in thing.add("tests", base.execute(TESTS, words)) if not quality.is_plants(register, *row[:3])]
+    columns, tests = tests_as_measured(
+        thing.tables["tests"][0], own, register, LotId(owner, name), str(facts["material"])
+    )
+    thing.tables["tests"] = columns, tests
     thing.add("sublots", base.execute(SUBLOTS, words))
     thing.add("ledger", base.execute(LEDGER, words))
     heads, rows = with_facts(*thing.tables["ledger"], register.facts)
@@ -119,6 +132,27 @@ def lot(base: Base, owner: str, name: str, register: Register = NOTHING_NOTED) -
     thing.add_links(Genealogy(base, register.links).links_about(LotId(owner, name)))
     thing.remarks = release_of(owner, name, str(facts["disposition"]), tests, register)
     return thing
+
+
+def days_of(facts: LotFacts | None) -> dict[str, Value]:
+    """The days that are noted of a lot."""
+    days = {} if facts is None else {"made": facts.made, "expires": facts.expires, "retest": facts.retest}
+    return {f"noted {what}": format_day(day) for what, day in days.items() if day}
+
+
+def tests_as_measured(
+    columns: list[str], rows: list[Row], register: Register, lot: LotId, material: str
+) -> tuple[list[str], list[Row]]:
+    """The tests of a lot with limits and latest results as measured, and the units of these."""
+    measured, units = list[Row](), list[Row]()
+    for test, low, high, latest, day, results, limits in rows:
+        facts = facts_of_test(register, lot.owner, material, str(test))
+        bounds = [shown(limit, facts.decimals) for limit in (low, high) if isinstance(limit, int)]
+        if isinstance(latest, int) and isinstance(day, int):
+            latest = shown_result(register, material, (*lot, str(test), latest, day))
+        measured.append((test, *bounds, latest, day, results, limits))
+        units.append((facts.unit,))
+    return with_columns(columns, measured, ["noted unit"], units)
 
 
 def release_of(owner: str, name: str, disposition: str, tests: list[Row], register: Register) -> list[str]:
@@ -131,7 +165,7 @@ def release_of(owner: str, name: str, disposition: str, tests: list[Row], regist
         else f"  {test}: no result yet; the limits are {formatted(low)} to {formatted(high)}"
         if limits == "missing"
         else f"  {test}: the latest result, {formatted(latest)}, is out of {formatted(low)} to {formatted(high)}"
-        for test, low, high, latest, _, _, limits in tests
+        for test, low, high, latest, _, _, limits, *_ in tests
         if limits != "within"
     ]
     if missing:

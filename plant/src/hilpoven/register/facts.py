@@ -119,7 +119,7 @@ class ResultFacts(Note):
     def sentence(self) -> str:
         """Which result, and what it means."""
         result = f"{as_measured(self.value)} of test {self.test} of lot {LotId(self.owner, self.lot)}"
-        return f"result {result} on day {format_day(self.day)} means {self.bound} it"
+        return f"result {result} on day {format_day(self.day)}: what was measured is {self.bound} it"
 
 
 Facts = TypeVar("Facts", MovementFacts, OwnerFacts, MaterialFacts, TestFacts, LotFacts)

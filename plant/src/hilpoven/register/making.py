@@ -21,7 +21,8 @@ from .folding import AFTER
 from .movements import GETS, RETURNS, SENDS, Parties, Task, require_party
 from .facts import MovementFacts
 from .notes import Link, Note, Party, Why, to_json
-from .standing import HAS_BATCH, HAS_LOT, Status, files_of, statuses
+from .standing import HAS_BATCH, HAS_LOT, Status, files_of, standing as standing_notes, statuses
+from .store import Register
 
 Base = sqlite3.Connection
 HAS_RECEIPT = f"SELECT 1 FROM moves WHERE owner = ? AND mkey = ? AND kind = {Kind.RECEIVE:d}"
@@ -129,6 +130,11 @@ class Desk:
             return []
         with files_of(self.journal, self.base) as files:
             return statuses(folded, self.journal, files)
+
+    @functools.cached_property
+    def register(self) -> Register:
+        """The notes that stand, by what they are about."""
+        return standing_notes(self.journal, self.base)
 
     @functools.cached_property
     def names_of_notes(self) -> dict[Note, str]:

@@ -65,7 +65,13 @@ def cells_of(facts: Facts, owner: str, key: str) -> tuple[str, ...]:
 def with_facts(columns: Sequence[str], rows: list[Row], facts: Facts) -> tuple[list[str], list[Row]]:
     """A table of movements with what is noted of each; unchanged if nothing is noted of any of them."""
     owner, key = columns.index("owner"), columns.index("key")
-    noted = [cells_of(facts, str(row[owner]), str(row[key])) for row in rows]
-    if not any(map(any, noted)):
-        return list(columns), rows
-    return [*columns, *COLUMNS], [(*row, *cells) for row, cells in zip(rows, noted)]
+    return with_columns(columns, rows, COLUMNS, [cells_of(facts, str(row[owner]), str(row[key])) for row in rows])
+
+
+def with_columns(
+    columns: Sequence[str], rows: Sequence[Row], more: Sequence[str], cells: Sequence[Row]
+) -> tuple[list[str], list[Row]]:
+    """A table with more columns behind it; unchanged if nothing stands in them."""
+    if not any(map(any, cells)):
+        return list(columns), list(rows)
+    return [*columns, *more], [(*row, *added) for row, added in zip(rows, cells)]

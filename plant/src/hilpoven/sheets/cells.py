@@ -28,6 +28,7 @@ class Cell(NamedTuple):
     is_text: bool = False  # the sheet holds it as text, so it is as it was typed
     shown: str | None = None  # of a number: how the sheet shows it
     strange: str = ""  # what it is, where it is neither a text nor a number
+    form: str = ""  # of a number of a workbook: the format in which the sheet shows it
 
     def is_empty(self) -> bool:
         """Whether nothing stands in it."""

@@ -23,7 +23,8 @@ def asked_for(kind: Kind, given: dict[str, Any]) -> Asked:
             if column not in kind.trapped(trap):
                 raise Failure(f"--{trap}: {column!r} is none of {', '.join(kind.trapped(trap))}", WRONG_USE)
     required = [column for column in given.get("required", []) if column in kind.noted]
-    return Asked(traps, given["hidden"], given["capitals"], split(given["ignored"]), given["header_row"] or 0, required)
+    ignored, header_row = split(given["ignored"]), given["header_row"] or 0
+    return Asked(traps, given["hidden"], given["capitals"], ignored, header_row, required, given.get("decimals_of"))
 
 
 class Source(NamedTuple):

@@ -1,14 +1,15 @@
 """A sheet: its header, its records, and what is refused of it."""
 import re
 from collections.abc import Iterable, Iterator, Sequence
-from dataclasses import dataclass, field
+from dataclasses import dataclass, field, replace
+from functools import partial
 from typing import NamedTuple
 
 from ..core import scanned
 from ..core.failure import printable
 from ..output.exports import csv_of
 from .cells import MOST_LETTERS, Cell, Table, shortened
-from .values import CAPITALS, Kind, Refused, letters
+from .values import CAPITALS, Kind, Reading, Refused, letters, of_measured, of_values
 
 NOTHING = Cell("")
 
@@ -37,7 +38,8 @@ class Record(NamedTuple):
 @dataclass
 class Asked:
     """What is asked for of a sheet: traps by their columns, hidden rows, capitals, columns that are left out, the
-    header's row, and columns that it may not lack though `toll` takes none of them."""
+    header's row, columns that it may not lack though `toll` takes none of them, and the decimals of tests by owner, lot
+    and test, `None` where values are read as `toll` has them."""
 
     traps: dict[str, list[str]] = field(default_factory=dict)
     hidden: bool = False
@@ -45,6 +47,7 @@ class Asked:
     ignored: list[str] = field(default_factory=list)
     header_row: int = 0  # 0 is the first that isn't empty
     required: list[str] = field(default_factory=list)
+    decimals: dict[tuple[str, ...], int] | None = None
 
     def takes(self, trap: str, column: str) -> bool:
         """Whether a value in a trap is taken."""
@@ -110,6 +113,7 @@ class Sheet:
             self.record(row, cells)
         if len(rows) == 1:
             self.wrong.append(Finding(rows[0][0], 0, "there is no row under the header"))
+        self.asked = replace(asked, decimals=None)  # which may be many, and are read by now
 
     def header(self, row: int, cells: list[Cell]) -> None:
         """Where each column stands, which columns have a header, and what is wrong with it."""
@@ -137,14 +141,12 @@ class Sheet:
         """Notes a row's values, or what is refused of them."""
         count = len(self.refused)
         placed = self.with_scanned(row, dict(enumerate(cells, 1)))
-        values, noted = (
-            {
-                column: self.value(row, column, placed.get(self.places[column], NOTHING))
-                for column in columns
-                if column in self.places
-            }
-            for columns in (self.kind.columns, self.kind.noted)
-        )
+        values, noted = dict[str, str](), dict[str, str]()
+        for columns, texts in ((self.kind.columns, values), (self.kind.noted, noted)):
+            for column in columns:
+                if column in self.places:
+                    cell = placed.get(self.places[column], NOTHING)
+                    texts[column] = self.value(row, column, cell, self.reading_of(column, values))
         self.refused += [
             Finding(row, place, "it has no header above it")
             for place, cell in placed.items()
@@ -171,7 +173,15 @@ class Sheet:
                 filled[place] = Cell(part, is_text=True)
         return filled
 
-    def value(self, row: int, column: str, cell: Cell) -> str:
+    def reading_of(self, column: str, values: dict[str, str]) -> Reading:
+        """How a column's value is read in a row with these values before it: that of a test by its decimals."""
+        reading = self.kind.readings[column]
+        if reading is not of_values or self.asked.decimals is None:
+            return reading
+        test = tuple(values.get(name, "") for name in ("owner", "lot", "test"))
+        return partial(of_measured, decimals=self.asked.decimals.get(test, 0))
+
+    def value(self, row: int, column: str, cell: Cell, reading: Reading) -> str:
         """The value as it is written, where it can be."""
         place = self.places[column]
         try:
@@ -183,7 +193,7 @@ class Sheet:
                 raise Refused(f"it is {shortened(cell.strange, MOST_LETTERS)}")
             if len(cell.text) > MOST_LETTERS or len(cell.shown or "") > MOST_LETTERS:
                 raise Refused(f"it has more than {MOST_LETTERS:,} letters")
-            value = self.kind.readings[column](cell)
+            value = reading(cell)
         except Refused as why:
             self.refused.append(Finding(row, place, str(why), column))
             return ""

@@ -3,11 +3,15 @@ import re
 import string
 from collections.abc import Callable
 from dataclasses import dataclass, field
+from decimal import Decimal
 from typing import NamedTuple
 
 from ..core import forms
+from ..core.failure import Failure
 from ..output.exports import as_cell
 from ..output.table import Value
+from ..records.measures import whole_of
+from ..register.kinds import Bound
 from .cells import Cell
 
 NAME = re.compile(r"[A-Z0-9][A-Z0-9-]{0,15}")
@@ -19,6 +23,8 @@ EXPONENT = re.compile(r"[+-]?[0-9]+([.,][0-9]+)?E[+-]?[0-9]+", re.I)
 SIGNS = re.compile(r"[.,' \u00a0\u202f]")  # what stands between thousands
 THOUSANDS = re.compile(rf"[0-9]{{1,3}}({SIGNS.pattern}[0-9]{{3}})+")
 DECIMALS = re.compile(r"([0-9]+)[.,]0+")
+PLAIN_FORM = re.compile(r"(?:0{1,20}|#,##0)(?:\.(0{1,20}))?")
+SIGNS_OF_BOUNDS = tuple(bound.sign for bound in Bound)
 MINUS = re.compile(r"[-\u2212](?=[0-9])")  # as a keyboard and as a spreadsheet write it
 
 
@@ -133,6 +139,41 @@ def of_values(cell: Cell) -> Taken:
         return Taken(cell.text)
     taken = of_numbers(cell._replace(text=text, shown=shown) if is_negative else cell)
     return taken._replace(text=f"M{taken.text}") if is_negative else taken
+
+
+def of_measured(cell: Cell, decimals: int) -> Taken:
+    """A value of a test with so many decimals, as it was measured: 7.02, or <5 where it is a bound."""
+    sign = cell.text[:1] if cell.text[:1] in SIGNS_OF_BOUNDS else ""
+    bare = cell._replace(text=cell.text[1:].lstrip()) if sign else cell
+    if not decimals:
+        taken = of_values(bare)
+        return taken._replace(text=sign + taken.text)
+    text = MINUS.sub("-", bare.text, 1)
+    if cell.shown is not None and not (shows_all(text, cell.form) or is_shown(text, MINUS.sub("-", cell.shown, 1))):
+        raise Refused(f"it is the number {cell.text}, shown as {cell.shown}")
+    try:
+        whole_of(text, decimals)
+    except Failure as failure:
+        raise Refused(failure.message) from None
+    return Taken(sign + text)
+
+
+def shows_all(text: str, form: str) -> bool:
+    """Whether a plain format shows all decimals of a number."""
+    match = PLAIN_FORM.fullmatch(form)
+    return match is not None and len(text.partition(".")[2]) <= len(match[1] or "")
+
+
+def is_shown(text: str, shown: str) -> bool:
+    """Whether a number is shown as it is, with a point or a comma before its decimals, and anything between thousands
+    of a whole one."""
+    whole, _, part = SIGNS.sub(".", shown).rpartition(".")
+    with_point = f"{whole.replace('.', '')}.{part}" if whole else shown
+    as_numbers = [it for it in (with_point, SIGNS.sub("", shown)) if re.fullmatch(r"-?[0-9]+(\.[0-9]+)?", it)]
+    return any(Decimal(it) == Decimal(text) for it in as_numbers)
+
+
+Reading = Callable[[Cell], Taken]
 
 
 @dataclass(frozen=True)

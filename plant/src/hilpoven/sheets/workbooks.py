@@ -103,7 +103,8 @@ def xlsx_cell(cell: Element, formula: Element) -> Cell:
     if isinstance(value, bool):
         return Cell("", strange=f"the truth value {str(value).upper()}")
     if isinstance(value, (int, float)):
-        return number(value, lambda text: shown_by_format(text, cell.number_format))
+        form = cell.number_format
+        return number(value, lambda text: shown_by_format(text, form))._replace(form=form)
     if isinstance(value, str):
         return Cell("", strange=f"the error {value}") if cell.data_type == "e" else Cell(value, is_text=True)
     return Cell("", strange=f"the date or time {value}")

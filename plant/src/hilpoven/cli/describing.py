@@ -1,0 +1,138 @@
+"""`hilpoven describe`: what certificates say of owners, materials, tests and lots, which `toll` doesn't have."""
+from typing import Any
+
+import click
+
+from ..core.context import Context
+from ..core.failure import tell
+from ..output.table import Value
+from ..records.days import format_day
+from ..records.descriptions import facts_of_test
+from ..records.rows import LotId, require_owner
+from ..records.things import Thing
+from ..register import describing, making
+from ..register.facts import LotFacts, MaterialFacts, OwnerFacts, TestFacts, joined
+from ..register.note import Note
+from .groups import Group
+from .noting import record
+from .words import DATE, FILLED_TEXT, WORD, decimals_option, pass_context
+
+describe_group = Group(
+    "describe",
+    short_help="notes full names, units, decimals, methods and expiry days",
+    help="Notes what certificates say and toll doesn't have: full names, addresses, units, decimals, methods, and the "
+    "days on which a lot was made and expires. Without options it shows what is noted.\n\n"
+    "Example: hilpoven describe test ACME BRINE PH",
+)
+name_option = click.option("--name", metavar="TEXT", type=FILLED_TEXT, help="Its full name.")
+
+
+def give(desk: making.Desk, words: tuple[str, ...], note: Note, given: dict[str, Any], thing: Thing) -> None:
+    """Notes what is given; shows what is noted if nothing is."""
+    options = [word for name, value in given.items() if value is not None for word in (f"--{name}", str(value))]
+    if options:
+        record(desk, ["describe", *words, *options], note)
+    else:
+        thing.print()
+
+
+def said(given: dict[str, Any]) -> dict[str, Any]:
+    """The members of a note that are given."""
+    return {name: value for name, value in given.items() if value is not None}
+
+
+def shown(title: str, **facts: Value) -> Thing:
+    """What is noted of a thing, as far as it is."""
+    known: dict[str, Value] = {name: value for name, value in facts.items() if value}
+    return Thing(title, known, remarks=[] if known else ["Nothing is noted of it."])
+
+
+@describe_group.command()
+@click.argument("owner", metavar="OWNER", type=WORD)
+@name_option
+@click.option("--address", metavar="TEXT", type=FILLED_TEXT, help="Where it is, in one line.")
+@pass_context
+def owner(context: Context, owner: str, **given: str | None) -> None:
+    """Notes the full name and the address of an owner. HOUSE is the plant.
+
+    Example: hilpoven describe owner ACME --name 'Acme Foods Ltd' --address '1 Dock Road, Hull'
+    """
+    with making.desk(context) as desk:
+        require_owner(desk.base, owner)
+        facts = desk.register.owners.get(owner) or OwnerFacts(owner)
+        thing = shown(f"owner {owner}", name=facts.name, address=facts.address)
+        give(desk, ("owner", owner), OwnerFacts(owner, **said(given)), given, thing)
+
+
+@describe_group.command()
+@click.argument("owner", metavar="OWNER", type=WORD)
+@click.argument("material", metavar="MATERIAL", type=WORD)
+@name_option
+@pass_context
+def material(context: Context, owner: str, material: str, **given: str | None) -> None:
+    """Notes the full name of a material.
+
+    Example: hilpoven describe material ACME BRINE --name 'Brine, 10 %'
+    """
+    with making.desk(context) as desk:
+        describing.require_material(desk.base, owner, material)
+        facts = desk.register.materials.get((owner, material)) or MaterialFacts(owner, material)
+        thing = shown(f"material {material} of {owner}", name=facts.name)
+        give(desk, ("material", owner, material), MaterialFacts(owner, material, **said(given)), given, thing)
+
+
+@describe_group.command()
+@click.argument("owner", metavar="OWNER", type=WORD)
+@click.argument("material", metavar="MATERIAL", type=WORD)
+@click.argument("test", metavar="TEST", type=WORD)
+@name_option
+@click.option("--unit", metavar="TEXT", type=FILLED_TEXT, help="The unit of its values.")
+@click.option("--method", metavar="TEXT", type=FILLED_TEXT, help="The method by which it is measured.")
+@pass_context
+def test(context: Context, owner: str, material: str, test: str, **given: Any) -> None:
+    """Notes the full name of a test of a material, its unit, its method, and how many decimals its values have.
+
+    With decimals, `result` takes 7.02, and limits and results are shown so. toll has whole numbers: it gets 702. Once
+    decimals are noted they stay, as values would be read differently.
+
+    Example: hilpoven describe test ACME BRINE PH --unit pH --decimals 2 --method 'ISO 10523'
+    """
+    thing = owner, material, test
+    with making.desk(context) as desk:
+        limits = describing.limits_of(desk.base, *thing)
+        note, there = TestFacts(*thing, **said(given)), facts_of_test(desk.register, *thing)
+        describing.require_decimals(desk.base, desk.register, note)
+        facts = joined(there, note)
+        text = describing.limits_text(limits, facts.decimals)
+        title, decimals = f"test {test} of {owner} {material}", facts.decimals
+        shows = shown(title, name=facts.name, unit=facts.unit, decimals=decimals, method=facts.method, limits=text)
+        give(desk, ("test", *thing), note, given, shows)
+    if facts.decimals != there.decimals:
+        tell(f"The limits are read as {text}; toll has {describing.limits_text(limits, 0)}.")
+
+
+test.params.append(decimals_option())
+
+
+@describe_group.command()
+@click.argument("owner", metavar="OWNER", type=WORD)
+@click.argument("lot", metavar="LOT", type=WORD)
+@click.option("--made", metavar="DAY", type=DATE, help="The day on which it was made, YYMMDD.")
+@click.option("--expires", metavar="DAY", type=DATE, help="The last day on which it may be used.")
+@click.option("--retest", metavar="DAY", type=DATE, help="The last day on which it may be used without another test.")
+@pass_context
+def lot(context: Context, owner: str, lot: str, **given: int | None) -> None:
+    """Notes the days on which a lot was made, expires, and is to be tested again.
+
+    `ship` and `actual` warn of a lot that is past its day; by the settings they refuse it.
+
+    Example: hilpoven describe lot ACME B-1 --made 261127 --expires 271127
+    """
+    with making.desk(context) as desk:
+        desk.require_lot(LotId(owner, lot))
+        note = LotFacts(owner, lot, **said(given))
+        describing.require_days(desk.register, note)
+        facts = desk.register.lots.get((owner, lot)) or LotFacts(owner, lot)
+        days = {"made": facts.made, "expires": facts.expires, "retest": facts.retest}
+        thing = shown(f"lot {lot} of {owner}", **{name: day and format_day(day) for name, day in days.items()})
+        give(desk, ("lot", owner, lot), note, given, thing)

@@ -1,0 +1,75 @@
+"""The notes beside a test and a result: how values are measured, and which results are a bound."""
+from typing import Any
+
+from ..core import snapshot
+from ..core.asking import Beside
+from ..core.context import Context
+from ..core.failure import tell
+from ..core.forms import DAY, NAME
+from ..core.grammar import Line
+from ..records.measures import value_word, whole_of
+from ..register import describing, making
+from ..register.facts import ResultFacts, TestFacts
+from .line_notes import Typed
+
+Values = dict[str, str]  # of a line, by their names
+LIMITS = ("LOW", "HIGH")
+NO_DAY = -1  # which no result has
+
+
+def measured(line: Line, words: list[str], read: Values) -> list[str]:
+    """The words of a line with these words for some, which is told where they were typed otherwise."""
+    given = [read.get(name, word) for name, word in zip(line.values, words)]
+    tell(
+        "\n".join(
+            f"{name}: {word} is given as {new}" for name, word, new in zip(line.values, words, given) if word != new
+        )
+    )
+    return given
+
+
+def read_limits(context: Context, line: Line, words: list[str], given: dict[str, Any]) -> Typed:
+    """The limits of a test with the decimals that are given, or that stand."""
+    typed = dict(zip(line.values, words))
+    decimals = given["decimals"] or standing_decimals(context, typed)
+    if not decimals:
+        return Typed(words, given)
+    return Typed(measured(line, words, {name: value_word(whole_of(typed[name], decimals)) for name in LIMITS}), given)
+
+
+def standing_decimals(context: Context, typed: Values) -> int:
+    """The decimals that are noted of a test; 0 if none are."""
+    office = context.office()
+    if not describing.has_measures(context.journal()):
+        return 0
+    with snapshot.opened(office) as base:
+        facts = context.register(base).tests.get((typed["OWNER"], typed["MATERIAL"], typed["TEST"]))
+    return facts.decimals if facts else 0
+
+
+def beside_test(context: Context, values: Values, given: dict[str, Any]) -> Beside:
+    """What is noted of a test that is added."""
+    said = {name: given[name] for name in ("unit", "decimals", "method") if given[name]}
+    with making.desk(context) as desk:
+        return Beside(desk.members([TestFacts(values["OWNER"], values["MATERIAL"], values["TEST"], **said)]))
+
+
+def read_result(context: Context, line: Line, words: list[str], given: dict[str, Any]) -> Typed:
+    """The value of a result with the decimals of its test, and what is noted of one that is a bound."""
+    typed = dict(zip(line.values, words))
+    office, (bound, _) = context.office(), describing.split_sign(typed["VALUE"])
+    if not bound and not describing.has_measures(context.journal()):
+        return Typed(words, given)
+    day = NO_DAY if DAY.fault(typed["DAY"]) else int(typed["DAY"])
+    names = typed["OWNER"], typed["LOT"], typed["TEST"]
+    if any(map(NAME.fault, names)):
+        return Typed(words, given)
+    with snapshot.opened(office) as base:
+        word, facts = describing.result_of(base, context.register(base), *names, typed["VALUE"], day)
+    return Typed(measured(line, words, {"VALUE": word}), {**given, "facts": facts})
+
+
+def beside_result(context: Context, facts: ResultFacts) -> Beside:
+    """That the value of a result is a bound."""
+    with making.desk(context) as desk:
+        return Beside(desk.members([facts]))

@@ -1,0 +1,165 @@
+"""What is looked at before the plant describes something, or reads a value of a test as it was measured."""
+import sqlite3
+from collections.abc import Iterable
+
+from ..core.failure import REFUSED, Failure
+from ..core.forms import MOST_VALUE, VALUE
+from ..journal.log import Journal
+from ..records.descriptions import facts_of_test
+from ..records.measures import GROUP, as_measured, value_word, whole_of
+from ..records.rows import LotId, require_lot, require_owner
+from ..records.things import row_of
+from . import file
+from .facts import LotFacts, ResultFacts, ResultId, TestFacts, joined
+from .kinds import Bound
+from .note import Note
+from .standing import HAS_RESULT
+from .store import Register
+
+Base = sqlite3.Connection
+MATERIAL = "SELECT measure FROM materials WHERE owner = ? AND material = ?"
+MATERIALS = "SELECT material FROM materials WHERE owner = ?"
+LIMITS = "SELECT low, high FROM tests WHERE owner = ? AND material = ? AND test = ?"
+TESTS = "SELECT test FROM tests WHERE owner = ? AND material = ?"
+MATERIAL_OF = "SELECT material FROM lots WHERE owner = ? AND lot = ?"
+VALUES = """
+SELECT r.value FROM results AS r JOIN lots AS l USING (owner, lot)
+WHERE r.owner = ? AND l.material = ? AND r.test = ? ORDER BY r.rowid
+"""
+BOUNDS = {bound.sign: bound for bound in Bound}
+
+
+def has_noted(journal: Journal, *kinds: type[Note]) -> bool:
+    """Whether a journal has a note of one of these kinds, whether it stands or not."""
+    if not file.has_notes(journal):
+        return False
+    names = {kind.KIND for kind in kinds}
+    values = [noted.value for noted in file.notes_of(journal).notes.values()]
+    return any(isinstance(value, dict) and str(value.get("kind")) in names for value in values)
+
+
+def has_measures(journal: Journal) -> bool:
+    """Whether something is noted of the values of tests or results."""
+    return has_noted(journal, TestFacts, ResultFacts)
+
+
+def require_material(base: Base, owner: str, material: str) -> None:
+    """Fails if there is no such material."""
+    require_owner(base, owner)
+    row_of(base, MATERIAL, (owner, material), "material", MATERIALS)
+
+
+def limits_of(base: Base, owner: str, material: str, test: str) -> tuple[int, int]:
+    """The limits of a test; fails if there is none."""
+    require_material(base, owner, material)
+    low, high = row_of(base, LIMITS, (owner, material, test), "test", TESTS)
+    assert isinstance(low, int) and isinstance(high, int)
+    return low, high
+
+
+def limits_text(limits: Iterable[int], decimals: int) -> str:
+    """Limits as people read them."""
+    return " to ".join(as_measured(limit, decimals, GROUP) for limit in limits)
+
+
+def require_decimals(base: Base, register: Register, note: TestFacts) -> None:
+    """Fails if a test has other decimals already, so that a limit or a result of it would be read differently."""
+    thing = note.owner, note.material, note.test
+    there = facts_of_test(register, *thing).decimals
+    if not there or note.decimals in (0, there):
+        return
+    values = [*limits_of(base, *thing), *(value for value, in base.execute(VALUES, thing))]
+    if value := next(filter(None, values), 0):
+        one, other = (as_measured(value, decimals, GROUP) for decimals in (there, note.decimals))
+        raise Failure(
+            f"test {note.test} of {note.owner} {note.material} has values with {there} decimals: {one} would be read "
+            f"as {other}",
+            REFUSED,
+            "if they were noted wrongly: `hilpoven note withdraw` takes them back, and all values are whole numbers "
+            "until others are noted",
+        )
+
+
+def require_days(register: Register, note: LotFacts) -> None:
+    """Fails if a lot would expire, or be tested again, before it was made."""
+    facts = joined(register.lots.get((note.owner, note.lot)), note)
+    for day, what in ((facts.expires, "expires"), (facts.retest, "is to be tested again")):
+        if facts.made and day and day < facts.made:
+            raise Failure(f"lot {LotId(note.owner, note.lot)} {what} on {day}, and was made on {facts.made}", REFUSED)
+
+
+def split_sign(text: str) -> tuple[Bound | None, str]:
+    """What a text says beside its number: `<5` is below 5."""
+    return BOUNDS.get(text[:1]), text[1:].lstrip() if text[:1] in BOUNDS else text
+
+
+def test_of_lot(base: Base, register: Register, owner: str, lot: str, test: str) -> TestFacts | None:
+    """What is noted of a test of a lot; `None` if there is no such lot or no such test."""
+    row = base.execute(MATERIAL_OF, (owner, lot)).fetchone()
+    if row is None or not base.execute(LIMITS, (owner, row[0], test)).fetchone():
+        return None
+    return facts_of_test(register, owner, row[0], test)
+
+
+def require_test_of_lot(base: Base, register: Register, owner: str, lot: str, test: str) -> TestFacts:
+    """What is noted of a test of a lot; fails if there is no such lot or no such test."""
+    material = require_lot(base, LotId(owner, lot)).material
+    limits_of(base, owner, material, test)
+    return facts_of_test(register, owner, material, test)
+
+
+def require_result(base: Base, register: Register, result: ResultId, bound: Bound | None, facts: TestFacts) -> None:
+    """Fails if a result can't be told from another one, or if its bound doesn't say whether it is within the limits."""
+    owner, lot, test, value, day = result
+    noted = register.bounds.get(result)
+    text = as_measured(value, facts.decimals, GROUP)
+    if noted != bound and base.execute(HAS_RESULT, result).fetchone():
+        there, new = (f"{it.sign if it else ''}{text}" for it in (noted, bound))
+        raise Failure(
+            f"lot {LotId(owner, lot)} has the result {there} of {test} on day {day}: {new} couldn't be told from it",
+            REFUSED,
+            "if that is wrong: `hilpoven note list` has the note of it, and `hilpoven note withdraw` takes it back"
+            if noted
+            else "record what was measured again, on its own day",
+        )
+    if bound is None:
+        return
+    limits = limits_of(base, owner, facts.material, test)
+    if is_doubtful(bound, value, *limits):
+        raise Failure(
+            f"toll would take {bound.sign}{text} of {test} for {text}, which is within its limits "
+            f"{limits_text(limits, facts.decimals)}; what is {bound} {text} may be outside",
+            REFUSED,
+            "measure it with a method that reaches the limit, or record a value outside the limits",
+        )
+
+
+def is_doubtful(bound: Bound, value: int, low: int, high: int) -> bool:
+    """Whether a bound is within limits that the measured value may be outside of. Below a limit of 0 nothing is
+    measured of what has a value above it, and no value is beyond the least and the greatest."""
+    if not low <= value <= high:
+        return False
+    if bound is Bound.BELOW:
+        return low != -MOST_VALUE and not low == 0 < value
+    return high != MOST_VALUE
+
+
+def result_of(
+    base: Base, register: Register, owner: str, lot: str, test: str, text: str, day: int
+) -> tuple[str, ResultFacts | None]:
+    """The word that `toll` gets of a value of a result, and what is noted beside it. Fails if the value was measured
+    and can't be read, or can't be told from another result; what `toll` can be asked as it is, stays."""
+    facts, (bound, number) = test_of_lot(base, register, owner, lot, test), split_sign(text)
+    is_plain = bound is None and not (facts and facts.decimals)
+    if is_plain and is_whole(text) == (facts is None):
+        return text, None
+    facts = facts or require_test_of_lot(base, register, owner, lot, test)
+    value = whole_of(number, facts.decimals)
+    require_result(base, register, (owner, lot, test, value, day), bound, facts)
+    noted = ResultFacts(owner, lot, test, value, day, bound) if bound else None
+    return text if is_plain else value_word(value), noted
+
+
+def is_whole(text: str) -> bool:
+    """Whether a text is a value as `toll` has it; people write -5 of M5."""
+    return not VALUE.fault(f"M{text[1:]}" if text[:1] == "-" else text)
