@@ -10,9 +10,9 @@ from hypothesis import strategies as any_of
 from hilpoven.core.failure import Failure
 from hilpoven.sheets.reading import read
 from hilpoven.sheets.sheet import Asked, Sheet, likeness, text_of
-from hilpoven.sheets.values import ACTUALS, TRAPS, of_numbers
+from hilpoven.sheets.values import ACTUALS, TRAPS, of_days, of_numbers
 
-COLUMNS, NUMBERS = list(ACTUALS.columns), ACTUALS.of(of_numbers)
+COLUMNS, NUMBERS = list(ACTUALS.columns), ACTUALS.of(of_numbers, of_days)
 FEW = hypothesis.settings(max_examples=60, deadline=None, database=None, suppress_health_check=[hypothesis.HealthCheck.function_scoped_fixture])
 NAME = any_of.text(string.ascii_uppercase + string.digits + "-", min_size=1, max_size=16).filter(lambda it: not it.startswith("-"))
 NUMBER = any_of.integers(0, 9_999_999_999)

@@ -111,7 +111,14 @@ MISTAKES = [
     (f"{ACTUAL} 9999 101", 1, ["refused 33 NotEnough", "the sublot holds less than the amount"]),
     ("ship ACME K9 B-1 TOTE1 5 102", 1, ["refused 31 NotReleased", "what is missing for its release"]),
     ("open ACME O-1 KETTLE", 1, ["refused 7 UnitBusy", "`hilpoven show unit KETTLE` tells which batch holds it"]),
-    ("close ACME O-1 1", 1, ["refused 23 BadState", "`hilpoven batch ACME O-1 1` tells its state"]),
+    ("close ACME O-1 1", 1, ["refused 23 BadState", "`hilpoven batch ACME O-1 1` tells its state", "O-1/1 of ACME is running; what can be done now: hold, pause, stop, abort, done."]),
+    ("do ACME O-1 1 reset", 1, ["refused 23 BadState", "O-1/1 of ACME is running; what can be done now: hold, pause, stop, abort, done."]),
+    ("do ACME O-1 01 resume", 1, ["refused", "01"]),
+    # what only an owner can do
+    ("reject S-1", 1, ["refused 27 UnknownLot", "Only ACME can reject it: `hilpoven for ACME reject S-1 --by TEXT`"]),
+    ("release P-1", 1, ["refused 27 UnknownLot", "BOLT has a lot P-1. Only BOLT can release it: `hilpoven for BOLT release P-1 --by TEXT`"]),
+    ("cancel O-1", 1, ["refused 18 UnknownOrder", "ACME has an order O-1. Only ACME can cancel it: `hilpoven for ACME cancel O-1 --by TEXT`"]),
+    ("order O-5 BRINE-10 2", 1, ["refused 13 UnknownRecipe", "ACME has a recipe BRINE-10. Only ACME can order by it: `hilpoven for ACME order O-5 BRINE-10 2 --by TEXT`"]),
     ("split ACME K9 S-1 BAY1 BAY1 5 101", 1, ["refused 34 SameSublot", "TARGET is the sublot to which the amount goes"]),
     ("void ACME K1", 1, ["refused 40 UnknownKey", "Only an actual is taken back"]),
     # sheets and files

@@ -5,7 +5,7 @@ import hilpoven
 import pytest
 from conftest import ROOT
 from hilpoven.core import forms, grammar, meanings
-from hilpoven.records import gauge
+from hilpoven.records import gauge, schema
 from hilpoven.records.tables import LISTINGS
 
 COMMANDS = (ROOT / "docs" / "commands.md").read_text()
@@ -42,6 +42,17 @@ def test_numbers_stand_for_the_words_of_the_page(column, listing, shown):
     row = re.search(rf"^\| {column} \| (.*) \|$", TABLES, re.M)[1]
     words = re.findall(r"WHEN (\d+) THEN '(\w+)'", LISTINGS[listing].columns[shown])
     assert re.findall(r"(\d+) (\w+)", row) == words and words
+
+
+def test_what_can_be_done_in_a_state_is_what_the_page_says():
+    table = COMMANDS.split("| state | done |")[1].split("\n\n")[0].splitlines()
+    heads = ["done", *re.findall(r"\w+", table[0])]
+    page = {cells[0]: {head for head, cell in zip(heads, cells[1:]) if cell} for cells in ([it.strip() for it in row.split("|")[1:-1]] for row in table[2:])}
+    assert len(page) == 12 and page == {state.word: set(commands) for state, commands in schema.FOLLOWING.items()}
+    closable = re.search(r"23 BadState unless it is (.*)\.", COMMANDS)[1]
+    assert re.findall(r"idle|complete|stopped|aborted|\w+ed\b", closable) == ["idle", "complete", "stopped", "aborted"] == [
+        state.word for state in (schema.State.IDLE, schema.State.COMPLETE, schema.State.STOPPED, schema.State.ABORTED) if state in schema.CLOSABLE]
+    assert len(schema.CLOSABLE) == 4
 
 
 def test_each_advice_names_commands_that_are_there():

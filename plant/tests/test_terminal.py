@@ -48,7 +48,7 @@ split ACME {LONG}2 {LONG} {LONG} {LONG}2 999999999 9999999
 
 @pytest.mark.parametrize("width, words", [
     *((width, ["list", it]) for it in LISTINGS for width in (40, WIDTH)), *((WIDTH, it.split()) for it in (
-        f"show lot ACME {LONG}", "show lot ACME B-1", "show batch ACME O-1 1", "journal", "status --all", "--help", "import --help", "years files"))])
+        f"show lot ACME {LONG}", "show lot ACME B-1", "show batch ACME O-1 1", f"show key ACME {LONG}", "show owner ACME", "show recipe ACME BRINE-10", f"show material ACME {LONG}", "journal", "status --all", "--help", "import --help", "years files"))])
 def test_no_line_is_wider_than_the_terminal(wide, words, width):
     wide.run("receive", "ACME", LONG[:-1] + "3", LONG, LONG, LONG, 1, 102)
     status, lines = on_terminal(wide, *words, width=width)

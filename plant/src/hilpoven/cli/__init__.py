@@ -56,6 +56,7 @@ SUBCOMMANDS: Makers = {
     **{name: imported("judging", name) for name in ("sign", "hold")},
     "describe": imported("describing", "describe_group"),
     "drill": imported("drills", "drill_group"),
+    "for": imported("on_behalf", "for_command"),
     "import": imported("importing", "import_command"),
     "to-csv": imported("converting", "to_csv"),
     "list": imported("listing", "list_group"),
@@ -82,7 +83,7 @@ class Commands(Group):
     def sections(self) -> dict[str, list[str]]:
         """What records and what asks."""
         return {
-            "Record": [name for name, it in LINES.items() if not it.is_question] + NOTING + ["import", "to-csv"],
+            "Record": [name for name, it in LINES.items() if not it.is_question] + ["for", *NOTING, "import", "to-csv"],
             "Ask": [name for name, it in LINES.items() if it.is_question] + ["list", "show"],
         }
 

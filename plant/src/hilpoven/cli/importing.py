@@ -7,7 +7,7 @@ from typing import Any
 import click
 
 from ..core.context import Context
-from ..core.failure import REFUSED, WRONG_USE, Failure, printable
+from ..core.failure import REFUSED, WRONG_USE, Failure, printable, tell_line
 from ..output.progress import bar
 from ..output.table import counted
 from ..sheets.importing import Import
@@ -45,6 +45,8 @@ def import_command(context: Context, path: str, check: bool, **given: Any) -> No
     if sheet.wrong:
         status = REFUSED if sheet.records else WRONG_USE
         raise Failure(f"{path}: nothing of it was given", status, "the sheet as a whole is told above")
+    if not sheet.records:
+        tell_line(printable(f"hilpoven: {path}: nothing of it was given: no row can be read"))
     if check:
         click.echo(
             f"{counted(len(sheet.records), 'rows')} can be given, "

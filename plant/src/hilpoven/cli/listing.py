@@ -1,15 +1,46 @@
 """`hilpoven list`: what is there, read from a copy of the file."""
 from functools import partial
-from typing import Any
+from typing import Any, NamedTuple
 
 import click
 
 from ..core import scanned, snapshot
 from ..core.context import Context
+from ..core.failure import WRONG_USE, Failure, tell
+from ..core.forms import listed
 from ..output.table import Row, print_table
-from ..records.tables import LISTINGS, Listing
+from ..records.schema import Kind
+from ..records.tables import FILTERS, LISTINGS, Listing
 from .groups import Group, lazily
-from .words import WORD, pass_context
+from .words import DAY, WORD, OneOf, pass_context
+
+TYPES = {"kind": OneOf([it.word for it in Kind]), "since": DAY}  # of options whose values are no names
+
+
+class Listed(NamedTuple):
+    """What a list shows: its columns and rows, and why there are none."""
+
+    columns: list[str]
+    rows: list[Row]
+    reasons: list[str]
+
+
+class ListCommand(click.Command):
+    """The subcommand of a table, which says of an option of another table where that is."""
+
+    def parse_args(self, ctx: click.Context, args: list[str]) -> list[str]:
+        """Reads the options."""
+        try:
+            return super().parse_args(ctx, args)
+        except click.NoSuchOption as error:
+            name = error.option_name.removeprefix("--")
+            lists = [it for it, listing in LISTINGS.items() if name in listing.filters]
+            if not lists:
+                raise
+            why = f"list {self.name} has no option --{name}"
+            others = [f"--{it}" for it in FILTERS if it in LISTINGS[str(self.name)].filters]
+            has = f"it has {listed(others)}; " if others else ""
+            raise Failure(why, WRONG_USE, f"{has}--{name} is of list {listed(lists)}") from None
 
 
 MOST_DAYS = 3_650
@@ -17,14 +48,11 @@ MOST_DAYS = 3_650
 
 def options_of(name: str, listing: Listing) -> list[click.Parameter]:
     """The options of a table: which rows are listed, and how."""
-    options: list[click.Parameter] = []
-    if "owner" in listing.columns:
-        about = "Only this owner; HOUSE is the plant."
-        options.append(click.Option(["--owner"], metavar="OWNER", type=WORD, help=about))
-    if listing.lot:
-        options.append(click.Option(["--lot"], metavar="LOT", type=WORD, help="Only lots with this name."))
-    if "key" in listing.columns:
-        options.append(click.Option(["--key"], metavar="KEY", type=WORD, help="Only movements with this key."))
+    options: list[click.Parameter] = [
+        click.Option([f"--{it}"], metavar=it.upper(), type=TYPES.get(it, WORD), help=FILTERS[it].about)
+        for it in FILTERS
+        if it in listing.filters
+    ]
     if listing.is_open:
         options.append(click.Option(["--open", "only_open"], is_flag=True, help=f"Only {listing.open_about}."))
     if name == "lots":
@@ -43,8 +71,15 @@ def list_command(name: str, listing: Listing) -> click.Command:
     text = f"Lists {listing.about}.\n\nExample: {example}"
 
     @pass_context
-    def show(context: Context, form: str | None = None, expiring: int | None = None, **asked: str | None) -> None:
-        columns, rows = read(context, listing, {it: value for it, value in asked.items() if value})
+    def show(
+        context: Context,
+        form: str | None = None,
+        only_open: bool = False,
+        expiring: int | None = None,
+        **given: str | int | None,
+    ) -> None:
+        asked = {it: value for it, value in given.items() if value is not None}
+        columns, rows, reasons = read(context, name, asked, only_open)
         if expiring is not None:
             from ..records.days import last_day_within
             from ..records.noted import expiring_lots
@@ -58,24 +93,29 @@ def list_command(name: str, listing: Listing) -> click.Command:
             print_table(columns, rows)
         else:
             click.echo(f"no {name}", err=True)
+            tell("\n".join(reasons))
 
-    return click.Command(name, params=options_of(name, listing), callback=show, help=text, short_help=listing.about)
+    return ListCommand(name, params=options_of(name, listing), callback=show, help=text, short_help=listing.about)
 
 
-def read(context: Context, listing: Listing, asked: dict[str, Any]) -> tuple[list[str], list[Row]]:
+def read(context: Context, name: str, asked: dict[str, Any], only_open: bool) -> Listed:
     """The columns and rows of a table, with what is noted of them. A scanned text says whose the lot is, too."""
+    listing = LISTINGS[name]
     if scanned.scanned_sublot(asked.get("lot")):
         owner = asked.get("owner") if listing.whose_lot == "owner" else None
         asked["lot_owner"], asked["lot"] = scanned.named_lot("list", owner, asked["lot"])
     with snapshot.opened(context.office_to_read()) as base:
-        parameters = {it: asked.get(it) for it in ("owner", "lot", "key", "lot_owner")}
         columns = list(listing.columns)
-        rows: list[Row] = [tuple(it) for it in base.execute(listing.sql(**asked), parameters)]
+        rows: list[Row] = [tuple(it) for it in base.execute(listing.sql(asked, only_open), asked)]
+        if not rows and (asked or only_open):
+            from ..records import absence
+
+            return Listed(columns, rows, absence.reasons(base, name, asked, only_open))
         if not listing.noted or not context.may_have_notes:
-            return columns, rows
+            return Listed(columns, rows, [])
         from ..records.noted import NOTED
 
-        return NOTED[listing.noted](columns, rows, context.register(base), base)
+        return Listed(*NOTED[listing.noted](columns, rows, context.register(base), base), [])
 
 
 list_group = Group(

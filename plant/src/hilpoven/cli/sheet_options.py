@@ -17,14 +17,26 @@ OPTIONS = [
         help="Accepts names of only digits: 100000 may have been 1E5, 7 may have been 007.",
     ),
     click.option(
-        "--dates", metavar="COLUMN,..", multiple=True, help="Accepts names that look like a date, such as 2026-01-02."
+        "--dates",
+        metavar="COLUMN,..",
+        multiple=True,
+        help="Accepts names that look like a date, such as 2026-01-02; a date in the column day becomes YYMMDD.",
     ),
     click.option(
         "--decimals", metavar="COLUMN,..", multiple=True, help="Accepts whole numbers with decimals, such as 300.00."
     ),
     click.option("--capitals", is_flag=True, help="Accepts lower-case names as capitals."),
+    click.option("--trim", is_flag=True, help="Accepts values with blanks around them, without these."),
     click.option("--hidden", is_flag=True, help="Imports hidden rows and columns, such as those that a filter hides."),
     click.option("--ignore", "ignored", metavar="COLUMN,..", multiple=True, help="Ignores these columns."),
+    click.option(
+        "--column",
+        "headers",
+        metavar="COLUMN=HEADER",
+        multiple=True,
+        help="The header of a column that has another one: --column amount='Amount (kg)'.",
+    ),
+    click.option("--rows", metavar="N-M,..", help="Only these rows of the sheet: 5-8, or 5-8,11,20-."),
     click.option(
         "--header-row",
         type=click.IntRange(1),

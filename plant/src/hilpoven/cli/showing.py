@@ -5,23 +5,22 @@ import click
 
 from ..core import snapshot
 from ..core.context import Context
-from ..records import things
+from ..records import master_data, things
 from .groups import Group
 from .words import WORD, LotCommand, pass_context
 
 
-WITH_NOTES = ("lot", "batch")
-
-
-def show_command(name: str, words: str, make: Callable[..., things.Thing], example: str) -> click.Command:
-    """The subcommand of a kind of thing."""
+def show_command(
+    name: str, words: str, make: Callable[..., things.Thing], example: str, has_notes: bool = False
+) -> click.Command:
+    """The subcommand of a kind of thing, of which the register may have notes."""
     arguments = [click.Argument([it.lower()], metavar=it, type=WORD) for it in words.split()]
     about = (make.__doc__ or "").strip().rstrip(".")
 
     @pass_context
     def show(context: Context, as_json: bool, **given: str) -> None:
         with snapshot.opened(context.office_to_read()) as base:
-            register = {"register": context.register(base)} if name in WITH_NOTES else {}
+            register = {"register": context.register(base)} if has_notes else {}
             thing = make(base, *given.values(), **register)
         click.echo(thing.as_json()) if as_json else thing.print()
 
@@ -35,14 +34,20 @@ def show_command(name: str, words: str, make: Callable[..., things.Thing], examp
     )
 
 
+ABOUT = "everything about one lot, batch, order, movement, unit, owner, recipe or material"
+
 show_group = Group(
     "show",
-    short_help="shows everything about one lot, batch, order or unit",
-    help="Shows everything about one lot, batch, order or unit.\n\nExample: hilpoven show lot ACME B-1",
+    short_help=f"shows {ABOUT}",
+    help=f"Shows {ABOUT}.\n\nExample: hilpoven show lot ACME B-1",
     commands={
-        "lot": show_command("lot", "OWNER LOT", things.lot, "ACME B-1"),
-        "batch": show_command("batch", "OWNER ORDER BATCH", things.batch, "ACME O-1 1"),
+        "lot": show_command("lot", "OWNER LOT", things.lot, "ACME B-1", has_notes=True),
+        "batch": show_command("batch", "OWNER ORDER BATCH", things.batch, "ACME O-1 1", has_notes=True),
         "order": show_command("order", "OWNER ORDER", things.order, "ACME O-1"),
+        "key": show_command("key", "OWNER KEY", things.movement, "ACME K7", has_notes=True),
         "unit": show_command("unit", "UNIT", things.unit, "KETTLE"),
+        "owner": show_command("owner", "OWNER", master_data.owner, "ACME", has_notes=True),
+        "recipe": show_command("recipe", "OWNER RECIPE", master_data.recipe, "ACME BRINE-10"),
+        "material": show_command("material", "OWNER MATERIAL", master_data.material, "ACME BRINE"),
     },
 )

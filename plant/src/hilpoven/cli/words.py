@@ -11,6 +11,7 @@ import click
 from ..core import scanned
 from ..core.context import Context
 from ..core.failure import printable
+from ..core.forms import DAY as DAY_FORM
 from ..core.forms import TEXT as TEXT_FORM
 from ..core.forms import name_fault
 from ..core.rights import require_operator
@@ -152,6 +153,24 @@ class LotCommand(click.Command):
         return [*places, *range(at + 1, len(args))]
 
 
+class Day(click.ParamType):
+    """A day of movements, which may also be written as a date."""
+
+    name = "day"
+
+    def convert(self, value: Any, param: click.Parameter | None, ctx: click.Context | None) -> int:
+        """The day; fails if the text is neither a day nor a date that stands for one."""
+        from ..records.days import day_in
+
+        text = str(value)
+        if (day := day_in(text)) is not None:
+            return day
+        if DAY_FORM.fault(text):
+            told = printable(text[:MOST_TOLD])
+            self.fail(f"`{told}` is no day, which is a number such as 261127 or a date such as 2026-11-27", param, ctx)
+        return int(text)
+
+
 class OneOf(click.Choice):
     """A word of a list, which is told in one line where it is missing."""
 
@@ -175,5 +194,7 @@ def decimals_option() -> click.Option:
     about = "How many decimals its values have: toll has 702 of 7.02 with two."
     return click.Option(["--decimals"], metavar="N", type=click.IntRange(1, MOST_DECIMALS), help=about)
 
+
+DAY = Day()
 
 pass_context = click.make_pass_decorator(Context)

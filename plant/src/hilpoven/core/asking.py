@@ -2,6 +2,7 @@
 from collections.abc import Callable
 from typing import TYPE_CHECKING, Any, NamedTuple
 
+from .. import HOUSE
 from . import meanings
 from .context import Context
 from .failure import WRONG_USE, Failure, printable, tell
@@ -140,10 +141,10 @@ def explain(office: Office, line: Line, words: list[str], answer: Answer) -> Non
     refusal, fault = meanings.refusal_in(answer.output), meanings.fault_in(answer.error)
     values = dict(zip(line.values, map(printable, words)))
     if refusal:
-        from . import nearest
+        from . import hints
 
-        tell(meanings.explained("refusals", refusal, values))
-        tell(nearest.names_near(office, refusal, values))
+        tell(meanings.explained("refusals", refusal, {"OWNER": HOUSE, **values}))
+        tell(hints.of_refusal(office, line, refusal, values))
     elif fault:
         tell(meanings.explained("faults", fault, values))
         if fault == "Locked":
@@ -155,6 +156,10 @@ def explain(office: Office, line: Line, words: list[str], answer: Answer) -> Non
             "Its key stood on a command line, where others may have seen it: "
             f"`hilpoven owner key {words[0]}` gives it another one."
         )
+    if line.name == "open" and answer.output == "accepted\n":
+        from . import hints
+
+        tell(hints.opened(office, *words))
     if earlier_files(office.file):
         from ..years import earlier
 

@@ -1,10 +1,11 @@
 """How servers of `toll` are asked: the plant's words at FILE.sock, as `toll` itself hands them over, and HTTP at a
 port."""
 import contextlib
+import json
 import os
 import socket
 from collections.abc import Callable, Iterator
-from typing import TYPE_CHECKING
+from typing import TYPE_CHECKING, Any
 
 from .. import OFFICE_VERSION, VERSION
 from . import lock
@@ -107,6 +108,28 @@ def answer_of(content: bytes) -> Answer:
     )
 
 
+def request_of(owner: str, key: str, path: str, body: Any = None) -> bytes:
+    """The bytes of an owner's request: a `GET`, or with a body or `()` a `POST`."""
+    text = b"" if not body else json.dumps(body).encode()
+    head = (
+        f"{'GET' if body is None else 'POST'} {path} HTTP/1.1",
+        "host: toll",
+        f"toll-owner: {owner}",
+        f"toll-key: {key}",
+        f"content-length: {len(text)}",
+        "",
+        "",
+    )
+    return "\r\n".join(head).encode() + text
+
+
+def reply_at(peer: socket.socket) -> tuple[int, dict[str, Any]]:
+    """The status and the body of the reply to a request; fails with ValueError if none comes whole."""
+    with peer.makefile("rb") as reader:
+        front, _, rest = reader.read().partition(b"\r\n\r\n")
+        return int(front[9:12]), json.loads(rest)
+
+
 def status_at(port: int, path: str = "/orders") -> int:
     """The status of a request without a key: 403 is well, 0 is no answer."""
     try:
@@ -126,7 +149,10 @@ def asker(office: Office, count: int) -> Iterator[Callable[[list[str]], Answer]]
         yield office.ask
         return
     with contextlib.closing(PlantSocket(office.file)) as plant, contextlib.ExitStack() as stack:
-        begun = not plant.greeting() and stack.enter_context(server(office, plant))
+        begun = 0
+        if not plant.greeting():
+            with contextlib.suppress(Failure):
+                begun = stack.enter_context(server(office, plant))
 
         def ask(words: list[str]) -> Answer:
             answer = plant.ask(words)
@@ -138,13 +164,12 @@ def asker(office: Office, count: int) -> Iterator[Callable[[list[str]], Answer]]
 
 
 @contextlib.contextmanager
-def server(office: Office, plant: PlantSocket) -> Iterator[bool]:
-    """A server of the office for this process alone; whether it began."""
+def server(office: Office, plant: PlantSocket) -> Iterator[int]:
+    """A server of the office for this process alone, by its port; fails if it doesn't begin."""
     process: "subprocess.Popen[bytes] | None" = None
     try:
-        with contextlib.suppress(Failure):
-            process, _ = begin_server(office.program, plant, BEGINS)
-        yield process is not None
+        process, port = begin_server(office.program, plant, BEGINS)
+        yield port
     finally:
         if process:
             end_server(process)

@@ -3,6 +3,7 @@ import contextlib
 import os
 import socket
 from dataclasses import dataclass
+from typing import NamedTuple
 
 from .client import PATIENCE, PlantSocket
 
@@ -33,6 +34,41 @@ def listens(port: int) -> bool:
         return True
     except OSError:
         return False
+
+
+class Listener(NamedTuple):
+    """A socket that listens, by its number in the system, and the user whose it is."""
+
+    inode: int
+    user: int
+
+
+def listener_at(port: int) -> Listener | None:
+    """Who listens at a port of 127.0.0.1; `None` if nobody does, or more than one."""
+    address, listening = f"0100007F:{port:04X}", "0A"
+    try:
+        with open("/proc/net/tcp") as sockets:
+            rows = [row.split() for row in sockets]
+    except OSError:
+        return None
+    listeners = [Listener(int(row[9]), int(row[7])) for row in rows if row[1] == address and row[3] == listening]
+    return listeners[0] if len(listeners) == 1 else None
+
+
+def connected(port: int, user: int) -> socket.socket | None:
+    """A connection to the server at a port of 127.0.0.1 that is a user's; `None` if there is none. Another user may
+    listen there whenever the server doesn't, so the same socket listens before and after."""
+    listener = listener_at(port)
+    if listener is None or listener.user != user:
+        return None
+    try:
+        peer = socket.create_connection(("127.0.0.1", port), PATIENCE)
+    except OSError:
+        return None
+    if listener_at(port) == listener:
+        return peer
+    peer.close()
+    return None
 
 
 def users_of(file: str) -> list[int]:

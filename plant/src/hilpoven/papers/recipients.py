@@ -1,57 +1,21 @@
 """Who has what was shipped, and whom what was received came from, as the plant noted it."""
 from collections import Counter, defaultdict
 from collections.abc import Sequence
-from dataclasses import dataclass, field
 
 from ..records.rows import Lot, Move
 from ..register.movements import UNKNOWN
-from ..register.facts import MovementFacts
 from ..register.notes import Party
+from ..register.recipients import Received, facts_of, party_of
 from ..register.store import Register
 from .sheets import Cell, Row, Sheet, columns
 
-MOST_DOCUMENTS = 8  # of a recipient that are named; of more the number is told
 Shipment = tuple[Move, Lot]
 CONTACT = "noted_contact:text noted_phone:text@beneath noted_address:text@beneath"
-
-
-def facts_of(register: Register, move: Move) -> MovementFacts:
-    """What is noted of a movement."""
-    return register.facts.get((move.owner, move.key), UNKNOWN)
-
-
-def party_of(register: Register, move: Move) -> Party:
-    """The party of a movement; one without a name if none is noted, or it was withdrawn."""
-    name = facts_of(register, move).party
-    return register.parties.get((move.owner, name), Party(move.owner, name, ""))
 
 
 def has_notes(register: Register) -> bool:
     """Whether a reader has notes of parties or movements; otherwise its papers say nothing of them."""
     return bool(register.parties or register.facts)
-
-
-@dataclass
-class Received:
-    """What a recipient got of a material."""
-
-    amount: int = 0
-    shipments: int = 0
-    documents: dict[str, None] = field(default_factory=dict)  # each once, in the order of the shipments
-
-    def add(self, amount: int, document: str) -> None:
-        """Adds a shipment."""
-        self.amount += amount
-        self.shipments += 1
-        if document:
-            self.documents[document] = None
-
-    @property
-    def named(self) -> str:
-        """The documents, as far as they are named."""
-        names = list(self.documents)
-        more = len(names) - MOST_DOCUMENTS
-        return "; ".join([*names[:MOST_DOCUMENTS], *([f"{more:,} more"] if more > 0 else [])])
 
 
 def sheets_of(register: Register, shipments: Sequence[Shipment], to_do: str) -> list[Sheet]:

@@ -6,11 +6,11 @@ from ..core.nearest import nearest
 from ..records.days import format_day
 from ..records.rows import LotId, Move, lots_of, read_moves, require_owner
 from ..records.schema import Kind
+from ..register.recipients import facts_of, party_of
 from ..register.store import Register
 from .agreement import check_lots
 from .copies import Source
 from .printing import Document
-from .recipients import facts_of, party_of
 from .sheets import Row, Sheet, columns
 
 SHIPMENTS = f"m.owner = ? AND m.kind = {Kind.SHIP:d}"

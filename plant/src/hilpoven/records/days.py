@@ -1,5 +1,9 @@
 """Days of movements: numbers that the plant chooses. Six digits that are a date of this century, YYMMDD, are one."""
+import re
 from datetime import date, datetime, timedelta, tzinfo
+
+DATE = re.compile(r"([0-9]{4})-([0-9]{2})-([0-9]{2})")
+DATED_YEARS = range(2010, 2100)  # as YYMMDD an earlier day would have fewer digits
 
 
 def date_of(day: int) -> date | None:
@@ -37,3 +41,18 @@ def format_day(day: int) -> str:
 def last_day_within(days: int, zone: str = "") -> int:
     """The last of so many days from today."""
     return day_of(today(zone) + timedelta(days))
+
+
+def date_in(text: str) -> date | None:
+    """The date that a text is, such as 2026-11-27; `None` if it is none."""
+    match = DATE.fullmatch(text)
+    try:
+        return date(*map(int, match.groups())) if match else None
+    except ValueError:
+        return None
+
+
+def day_in(text: str) -> int | None:
+    """The day that stands for a date, such as 2026-11-27; `None` if the text is none, or its year has no such days."""
+    when = date_in(text)
+    return day_of(when) if when and when.year in DATED_YEARS else None

@@ -75,6 +75,22 @@ class Disposition(Code):
     REJECTED = 2
 
 
+# The commands that lead from each state to another one.
+FOLLOWING: dict[State, tuple[str, ...]] = {
+    State.IDLE: ("start",),
+    State.RUNNING: ("hold", "pause", "stop", "abort", "done"),
+    State.PAUSING: ("hold", "stop", "abort", "done"),
+    State.PAUSED: ("hold", "resume", "stop", "abort"),
+    State.HOLDING: ("stop", "abort", "done"),
+    State.HELD: ("restart", "stop", "abort"),
+    State.RESTARTING: ("hold", "stop", "abort", "done"),
+    State.STOPPING: ("abort", "done"),
+    State.STOPPED: ("reset", "abort"),
+    State.ABORTING: ("done",),
+    State.ABORTED: ("reset",),
+    State.COMPLETE: ("reset",),
+}
+CLOSABLE = (State.IDLE, State.COMPLETE, State.STOPPED, State.ABORTED)  # the states in which a batch may be closed
 INCOMING, OUTGOING = (Kind.RECEIVE, Kind.PRODUCED), (Kind.SHIP, Kind.SCRAP, Kind.CONSUMED)
 ACTUAL_OF = {Role.CONSUMED: Kind.CONSUMED, Role.PRODUCED: Kind.PRODUCED}
 

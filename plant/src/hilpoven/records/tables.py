@@ -1,4 +1,5 @@
-"""The office's tables, as `list` shows them: what is asked of the copy, and which rows `--open` leaves."""
+"""The office's tables, as `list` shows them: what is asked of the copy, and which rows each option leaves."""
+from collections.abc import Iterable
 from typing import NamedTuple
 
 from .schema import CLOSED, LATEST, ON_HAND, ORIGIN, STANDING, VOID, Disposition, Kind, Role, State
@@ -11,6 +12,27 @@ FROM orders AS o LEFT JOIN batches AS b USING (owner, ord) GROUP BY o.owner, o.o
 """
 
 
+class Filter(NamedTuple):
+    """An option that leaves those rows of a list in which a column compares so with a value."""
+
+    column: str
+    about: str
+    operator: str = "="
+
+
+# The options by their names, which are also those of the parameters of a query.
+FILTERS: dict[str, Filter] = {
+    "owner": Filter("owner", "Only this owner; HOUSE is the plant."),
+    "lot": Filter("lot", "Only lots with this name."),
+    "key": Filter("key", "Only movements with this key."),
+    "material": Filter("material", "Only this material."),
+    "order": Filter("order", "Only this order."),
+    "kind": Filter("kind", "Only movements of this kind."),
+    "unit": Filter("unit", "Only this unit."),
+    "since": Filter("day", "From this day on, as a number or a date: 261127 or 2026-11-27.", ">="),
+}
+
+
 class Listing(NamedTuple):
     """A table as it is listed: its columns with the SQL of each, where they come from, and in which order."""
 
@@ -20,31 +42,31 @@ class Listing(NamedTuple):
     order: str
     is_open: str = ""  # SQL: the rows that `--open` leaves
     open_about: str = ""
-    lot: str = ""  # SQL: the rows that `--lot` leaves, by the parameter :lot
+    tests: dict[str, str] = {}  # SQL: the rows that options leave which aren't of a column alone
     noted: str = ""  # what its rows are, of which the register may have notes
+    status: str = ""  # the column that tells why `--open` leaves a row out
 
     @property
     def whose_lot(self) -> str:
         """The column that has the owner of a lot."""
         return "lot_owner" if "lot_owner" in self.columns else "owner"
 
-    def sql(
-        self,
-        owner: str | None = None,
-        lot: str | None = None,
-        key: str | None = None,
-        only_open: bool = False,
-        lot_owner: str | None = None,
-    ) -> str:
-        """The query, with the parameters :owner, :lot, :key and :lot_owner."""
-        filters = [
-            (f"{self.columns.get('owner')} = :owner", owner),
-            (self.lot, lot),
-            (f"{self.columns.get(self.whose_lot)} = :lot_owner", lot_owner),
-            (f"{self.columns.get('key')} = :key", key),
-            (self.is_open, only_open),
-        ]
-        where = " AND ".join(f"({test})" for test, asked in filters if asked)
+    @property
+    def filters(self) -> dict[str, str]:
+        """The options with a value that this list has, and the owner of a scanned lot, each with the SQL of the rows
+        that it leaves."""
+        of_columns = {
+            name: f"{self.columns[it.column]} {it.operator} :{name}"
+            for name, it in FILTERS.items()
+            if it.column in self.columns
+        }
+        of_scanned = {"lot_owner": f"{self.columns.get(self.whose_lot)} = :lot_owner"}
+        return {**of_columns, **self.tests, **of_scanned}
+
+    def sql(self, asked: Iterable[str] = (), only_open: bool = False) -> str:
+        """The query with these of its filters, whose names are parameters."""
+        tests = [*(self.filters[name] for name in asked), *([self.is_open] if only_open else [])]
+        where = " AND ".join(f"({test})" for test in tests)
         columns = ", ".join(f'{sql} AS "{name}"' for name, sql in self.columns.items())
         return f"SELECT {columns} FROM {self.source} {f'WHERE {where} ' if where else ''}ORDER BY {self.order}"
 
@@ -85,7 +107,7 @@ LISTINGS: dict[str, Listing] = {
         plain("owner material test low high"),
         "tests AS t",
         "1, 2, 3",
-        lot="EXISTS (SELECT 1 FROM lots AS l WHERE l.owner = t.owner AND l.material = t.material AND l.lot = :lot)",
+        tests={"lot": "(t.owner, t.material) IN (SELECT owner, material FROM lots WHERE lot = :lot)"},
         noted="tests",
     ),
     "recipes": Listing(
@@ -111,6 +133,7 @@ LISTINGS: dict[str, Listing] = {
         "1, 2",
         "status = 'open'",
         "orders that are neither cancelled nor done",
+        status="status",
     ),
     "batches": Listing(
         "batches with their units and states",
@@ -119,6 +142,7 @@ LISTINGS: dict[str, Listing] = {
         "1, 2, 3",
         "closed = 0",
         "batches that aren't closed",
+        status="closed",
     ),
     "lots": Listing(
         "lots with their material, disposition and what of each is on hand",
@@ -132,7 +156,7 @@ LISTINGS: dict[str, Listing] = {
         "1, 2",
         f"l.disposition = {Disposition.QUARANTINED:d}",
         "lots that are quarantined",
-        "l.lot = :lot",
+        status="disposition",
         noted="lots",
     ),
     "sublots": Listing(
@@ -145,7 +169,6 @@ LISTINGS: dict[str, Listing] = {
         "1, 2, 3",
         "s.amount > 0",
         "sublots that hold something",
-        "s.lot = :lot",
     ),
     "moves": Listing(
         "movements with their keys, in the order in which they were recorded",
@@ -161,7 +184,7 @@ LISTINGS: dict[str, Listing] = {
         "m.rowid",
         STANDING,
         "movements that are not voided",
-        "m.lot = :lot",
+        tests={"material": "(m.lot_owner, m.lot) IN (SELECT owner, lot FROM lots WHERE material = :material)"},
         noted="movements",
     ),
     "results": Listing(
@@ -171,7 +194,6 @@ LISTINGS: dict[str, Listing] = {
         "rowid",
         LATEST,
         "the latest result of each test",
-        "lot = :lot",
         noted="results",
     ),
     "voids": Listing(
@@ -182,6 +204,5 @@ LISTINGS: dict[str, Listing] = {
         ),
         "voids AS v JOIN moves AS m USING (owner, mkey)",
         "v.rowid",
-        lot="m.lot = :lot",
     ),
 }

@@ -1,6 +1,7 @@
 """One thing with all about it, as `hilpoven show` prints it."""
 import json
 import sqlite3
+from collections import defaultdict
 from collections.abc import Iterable
 from dataclasses import dataclass, field
 
@@ -11,14 +12,15 @@ from ..core.nearest import nearest
 from ..output.table import Row, Value, formatted, print_table
 from ..register import quality
 from ..register.facts import LotFacts
-from ..register.movements import with_columns, with_facts
-from ..register.notes import Link
+from ..register.movements import COLUMNS, cells_of, with_columns, with_facts
+from ..register.notes import Link, Party
+from ..register.recipients import Received, facts_of, party_of
 from ..register.store import Register
 from .days import format_day
 from .descriptions import facts_of_test, shown_result
 from .genealogy import Genealogy
 from .measures import shown
-from .rows import BatchId, LotId
+from .rows import BatchId, LotId, read_batches, read_moves
 from .schema import BATCH_NAME, CLOSED, IS_ACTUAL, IS_INCOMING, IS_OUTGOING, STANDING, VOID, Kind, Role, State
 from .schema import REQUIREMENTS, TESTS
 from .tables import LISTINGS
@@ -32,10 +34,12 @@ LINK_COLUMNS = ["owner", "lot", "batch", "contains", "of owner", "of lot", "why"
 
 @dataclass
 class Thing:
-    """What is shown of a thing: a title, facts, tables, and remarks at the end."""
+    """What is shown of a thing: a title, facts, tables, and remarks at the end; of a fact for which people read
+    another word than programs, that word."""
 
     title: str
     facts: dict[str, Value] = field(default_factory=dict)
+    words: dict[str, str] = field(default_factory=dict)
     tables: dict[str, tuple[list[str], list[Row]]] = field(default_factory=dict)
     remarks: list[str] = field(default_factory=list)
 
@@ -45,16 +49,20 @@ class Thing:
         self.tables[name] = ([column[0].replace("_", " ") for column in cursor.description], rows)
         return rows
 
+    def add_filled(self, name: str, columns: list[str], rows: list[Row]) -> None:
+        """Adds a table, if it has rows."""
+        if rows:
+            self.tables[name] = (columns, rows)
+
     def add_links(self, links: Iterable[Link]) -> None:
         """Adds a table of links, if there are some."""
-        if rows := [link_row(link) for link in links]:
-            self.tables[NOTED] = (LINK_COLUMNS, rows)
+        self.add_filled(NOTED, LINK_COLUMNS, [link_row(link) for link in links])
 
     def print(self) -> None:
         """Prints it for people."""
         print(printable(self.title))
         for name, value in self.facts.items():
-            print(printable(f"  {name}: {formatted(value)}"))
+            print(printable(f"  {name}: {self.words.get(name) or formatted(value, name)}"))
         for name, (columns, rows) in self.tables.items():
             print()
             if rows:
@@ -109,26 +117,29 @@ FROM moves AS m WHERE m.lot_owner = :owner AND m.lot = :lot ORDER BY m.rowid
 """
 
 
+RESULTS = "SELECT test, value, day FROM results WHERE owner = :owner AND lot = :lot ORDER BY test, number"
+RECIPIENT_COLUMNS = ["party", "name", "contact", "phone", "shipments", "amount", "documents"]
+
+
 def lot(base: Base, owner: str, name: str, register: Register = NOTHING_NOTED) -> Thing:
-    """A lot: its tests with limits and latest results, what is missing for its release, its sublots and its ledger."""
+    """A lot: its batch, its tests with limits and results, what is missing for its release, its sublots, its ledger
+    and who has what was shipped."""
     require_owner(base, owner)
-    columns = ["owner", "lot", *list(LISTINGS["lots"].columns)[2:]]
+    columns = list(LISTINGS["lots"].columns)
     sql = f"SELECT * FROM ({LISTINGS['lots'].sql()}) WHERE owner = ? AND lot = ?"
     facts = dict(zip(columns, row_of(base, sql, (owner, name), "lot", "SELECT lot FROM lots WHERE owner = ?")))
     days = days_of(register.lots.get((owner, name)))
     thing = Thing(f"lot {name} of {owner}", {column.replace("_", " "): facts[column] for column in columns[2:]} | days)
+    add_origin(thing, base, LotId(owner, name))
     words = {"owner": owner, "lot": name, "material": facts["material"]}
     if said := quality.text_of(base, register, LotId(owner, name)):
         thing.facts[quality.COLUMN] = said
-    own = [row for row in thing.add("tests", base.execute(TESTS, words)) if not quality.is_plants(register, *row[:3])]
-    columns, tests = tests_as_measured(
-        thing.tables["tests"][0], own, register, LotId(owner, name), str(facts["material"])
-    )
-    thing.tables["tests"] = columns, tests
+    tests = add_tests(thing, base, register, LotId(owner, name), str(facts["material"]))
     thing.add("sublots", base.execute(SUBLOTS, words))
     thing.add("ledger", base.execute(LEDGER, words))
     heads, rows = with_facts(*thing.tables["ledger"], register.facts)
     thing.tables["ledger"] = [head.replace("_", " ") for head in heads], rows
+    thing.add_filled("who has it", RECIPIENT_COLUMNS, recipients(base, LotId(owner, name), register))
     thing.add_links(Genealogy(base, register.links).links_about(LotId(owner, name)))
     thing.remarks = release_of(owner, name, str(facts["disposition"]), tests, register)
     return thing
@@ -138,6 +149,23 @@ def days_of(facts: LotFacts | None) -> dict[str, Value]:
     """The days that are noted of a lot."""
     days = {} if facts is None else {"made": facts.made, "expires": facts.expires, "retest": facts.retest}
     return {f"noted {what}": format_day(day) for what, day in days.items() if day}
+
+
+def add_tests(thing: Thing, base: Base, register: Register, lot: LotId, material: str) -> list[Row]:
+    """Adds the tests of a lot, and all results if it has several of one, both as measured and without the plant's own
+    test; all tests."""
+    words = {"owner": lot.owner, "lot": lot.name, "material": material}
+    thing.add("tests", base.execute(TESTS, words))
+    columns, tests = tests_as_measured(*thing.tables["tests"], register, lot, material)
+    own = {row[0]: row for row in tests if not quality.is_plants(register, *row[:3])}
+    thing.tables["tests"] = columns, list(own.values())
+    results: list[Row] = [
+        (test, shown_result(register, material, (*lot, test, value, day)), day)
+        for test, value, day in base.execute(RESULTS, words)
+        if test in own
+    ]
+    thing.add_filled("results", ["test", "value", "day"], results if len(results) > len(own) else [])
+    return tests
 
 
 def tests_as_measured(
@@ -153,6 +181,26 @@ def tests_as_measured(
         measured.append((test, *bounds, latest, day, results, limits))
         units.append((facts.unit,))
     return with_columns(columns, measured, ["noted unit"], units)
+
+
+def add_origin(thing: Thing, base: Base, name: LotId) -> None:
+    """Adds the batch that made a lot, if one did."""
+    sql = "(b.owner, b.ord, b.number) IN (SELECT owner, ord, number FROM lots WHERE owner = ? AND lot = ?)"
+    for made in read_batches(base, sql, name):
+        unit, state, closed = made.status
+        thing.facts["batch"] = f"{made.id.name}, recipe {made.recipe}, unit {unit}, {state}, {closed}"
+
+
+def recipients(base: Base, name: LotId, register: Register) -> list[Row]:
+    """Who has what was shipped of a lot, as the plant noted it; a row without a party is of what nobody is known to
+    have."""
+    received: dict[Party, Received] = defaultdict(Received)
+    for move in read_moves(base, f"m.lot_owner = ? AND m.lot = ? AND m.kind = {Kind.SHIP:d}", name):
+        received[party_of(register, move)].add(move.amount, facts_of(register, move).document)
+    return [
+        (party.party, party.name, party.contact, party.phone, account.shipments, account.amount, account.named)
+        for party, account in sorted(received.items(), key=lambda item: item[0].party)
+    ]
 
 
 def release_of(owner: str, name: str, disposition: str, tests: list[Row], register: Register) -> list[str]:
@@ -206,7 +254,7 @@ def batch(base: Base, owner: str, order: str, number: str, register: Register = 
         base, sql, (owner, order, number), "batch", "SELECT number FROM batches WHERE owner = ? AND ord = ?"
     )
     facts = {"recipe": recipe, "unit": unit, "state": state, "closed": closed}
-    thing = Thing(f"batch {order}/{number} of {owner}", facts)
+    thing = Thing(f"batch {order}/{number} of {owner}", facts, {"closed": "yes" if closed == "closed" else "no"})
     words = {"owner": owner, "order": order, "batch": int(number), "recipe": recipe}
     rows = thing.add("requirements", base.execute(REQUIREMENTS, words))
     thing.add("actuals", base.execute(ACTUALS, words))
@@ -240,4 +288,32 @@ def unit(base: Base, name: str) -> Thing:
     rows = thing.add("batches", base.execute(RUN_BY_UNIT, (name,)))
     running = [row for row in rows if row[4] == "open"]
     thing.facts["runs"] = f"{running[0][0]} {running[0][1]}/{running[0][2]}, {running[0][3]}" if running else "nothing"
+    return thing
+
+
+MOVEMENT = f"""
+SELECT {Kind.sql('m.kind')} AS kind, m.lot_owner, m.lot, m.sublot, m.target, l.material, m.amount, k.measure, m.day,
+  {BATCH_NAME} AS batch, nullif(m.segment, 0) AS segment, {VOID} AS void
+FROM moves AS m JOIN lots AS l ON l.owner = m.lot_owner AND l.lot = m.lot
+JOIN materials AS k ON k.owner = l.owner AND k.material = l.material WHERE m.owner = :owner AND m.mkey = :key
+"""
+
+
+def movement(base: Base, owner: str, key: str, register: Register = NOTHING_NOTED) -> Thing:
+    """What was recorded with a key: the movement, with what the plant noted of it."""
+    require_owner(base, owner)
+    cursor = base.execute(MOVEMENT, {"owner": owner, "key": key})
+    columns, row = [column[0] for column in cursor.description], cursor.fetchone()
+    if row is None:
+        names = [str(name) for name, in base.execute("SELECT mkey FROM moves WHERE owner = ?", (owner,))]
+        raise Failure(f"there is no movement {key} of {owner}", REFUSED, nearest(key, names, f"movements of {owner}"))
+    facts = dict(zip([*columns, *COLUMNS], [*row, *cells_of(register.facts, owner, key)]))
+    thing = Thing(
+        f"movement {key} of {owner}",
+        {name.replace("_", " "): value for name, value in facts.items() if value not in (None, "")},
+    )
+    thing.remarks = [
+        f"`hilpoven journal --word {key}` shows who recorded it and when.",
+        f"`hilpoven show lot {facts['lot_owner']} {facts['lot']}` shows its lot.",
+    ]
     return thing

@@ -4,6 +4,7 @@ import io
 import itertools
 import re
 from collections.abc import Callable, Iterable, Iterator
+from datetime import date
 from typing import NamedTuple
 
 from ..core.failure import Failure, printable
@@ -29,10 +30,15 @@ class Cell(NamedTuple):
     shown: str | None = None  # of a number: how the sheet shows it
     strange: str = ""  # what it is, where it is neither a text nor a number
     form: str = ""  # of a number of a workbook: the format in which the sheet shows it
+    day: date | None = None  # the date that the sheet holds, if it is one without a time
 
     def is_empty(self) -> bool:
         """Whether nothing stands in it."""
         return not self.text.strip() and not self.strange
+
+    def trimmed(self) -> "Cell":
+        """The same without the blanks around its text, of which a number has none."""
+        return self._replace(text=self.text.strip())
 
 
 class Table(NamedTuple):

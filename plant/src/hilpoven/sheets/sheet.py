@@ -1,17 +1,19 @@
 """A sheet: its header, its records, and what is refused of it."""
 import re
-from collections.abc import Iterable, Iterator, Sequence
+from collections.abc import Callable, Iterable, Iterator, Sequence
 from dataclasses import dataclass, field, replace
 from functools import partial
 from typing import NamedTuple
 
 from ..core import scanned
 from ..core.failure import printable
+from ..core.forms import listed
 from ..output.exports import csv_of
 from .cells import MOST_LETTERS, Cell, Table, shortened
-from .values import CAPITALS, Kind, Reading, Refused, letters, of_measured, of_values
+from .values import CAPITALS, Kind, Reading, Refused, Taken, can_be_read, letters, of_days, of_measured, of_values
 
 NOTHING = Cell("")
+Rows = Sequence[tuple[int, list[Cell]]]
 
 
 class Finding(NamedTuple):
@@ -38,8 +40,9 @@ class Record(NamedTuple):
 @dataclass
 class Asked:
     """What is asked for of a sheet: traps by their columns, hidden rows, capitals, columns that are left out, the
-    header's row, columns that it may not lack though `toll` takes none of them, and the decimals of tests by owner, lot
-    and test, `None` where values are read as `toll` has them."""
+    header's row, columns that it may not lack though `toll` takes none of them, the decimals of tests by owner, lot and
+    test, `None` where values are read as `toll` has them, the headers of columns that have other ones, values without
+    the blanks around them, and which rows."""
 
     traps: dict[str, list[str]] = field(default_factory=dict)
     hidden: bool = False
@@ -48,6 +51,18 @@ class Asked:
     header_row: int = 0  # 0 is the first that isn't empty
     required: list[str] = field(default_factory=list)
     decimals: dict[tuple[str, ...], int] | None = None
+    headers: dict[str, str] = field(default_factory=dict)  # by their columns, as they were typed
+    trim: bool = False
+    rows: list[range] = field(default_factory=list)  # all where there is none
+
+    def column_under(self, header: str) -> str:
+        """The column whose header this is."""
+        named = {column_of(text): column for column, text in self.headers.items()}
+        return named.get(column_of(header), column_of(header))
+
+    def has_row(self, row: int) -> bool:
+        """Whether a row is asked for."""
+        return not self.rows or any(row in rows for rows in self.rows)
 
     def takes(self, trap: str, column: str) -> bool:
         """Whether a value in a trap is taken."""
@@ -59,9 +74,9 @@ def column_of(text: str) -> str:
     return re.sub(r"[\s_-]+", "_", text.replace("\ufeff", "").strip().lower())
 
 
-def likeness(kind: Kind, cells: Iterable[Cell]) -> int:
+def likeness(kind: Kind, cells: Iterable[Cell], column_under: Callable[[str], str] = column_of) -> int:
     """How many of a kind's columns a row names."""
-    return len(set(kind.columns) & {column_of(it.text) for it in cells})
+    return len(set(kind.columns) & {column_under(it.text) for it in cells})
 
 
 def runs(numbers: Iterable[int]) -> list[list[int]]:
@@ -100,19 +115,23 @@ class Sheet:
         self.wrong: list[Finding] = []
         self.refused: list[Finding] = []
         self.let: list[Finding] = []
-        for finding in hidden_of(table):
+        rows = [it for it in table.rows if it[0] >= asked.header_row]
+        chosen = [*rows[:1], *(it for it in rows[1:] if asked.has_row(it[0]))]
+        left_out = {row for row, _ in rows} - {row for row, _ in chosen}
+        for finding in hidden_of(table._replace(rows=[it for it in table.rows if it[0] not in left_out])):
             words = f"{finding.words}; " + ("taken all the same" if asked.hidden else "--hidden takes it")
             (self.let if asked.hidden else self.wrong).append(finding._replace(words=words))
-        rows = [it for it in table.rows if it[0] >= asked.header_row]
-        if not rows or not likeness(kind, rows[0][1]) or asked.header_row not in (0, rows[0][0]):
+        is_header = bool(rows) and likeness(kind, rows[0][1], asked.column_under) > 0
+        if not is_header or asked.header_row not in (0, rows[0][0]):
             row = asked.header_row or (rows[0][0] if rows else 1)
             self.wrong.append(Finding(row, 0, f"there is no header, which is {','.join(kind.columns)}"))
             return
-        self.header(*rows[0])
-        for row, cells in rows[1:]:
-            self.record(row, cells)
-        if len(rows) == 1:
-            self.wrong.append(Finding(rows[0][0], 0, "there is no row under the header"))
+        self.header(*chosen[0])
+        for row, cells in chosen[1:]:
+            self.record(row, cells, chosen)
+        if len(chosen) == 1:
+            words = "no row of --rows holds anything" if len(rows) > 1 else "there is no row under the header"
+            self.wrong.append(Finding(rows[0][0], 0, words))
         self.asked = replace(asked, decimals=None)  # which may be many, and are read by now
 
     def header(self, row: int, cells: list[Cell]) -> None:
@@ -120,10 +139,10 @@ class Sheet:
         self.places: dict[str, int] = {}
         self.headed: set[int] = set()
         for place, cell in enumerate(cells, 1):
-            column = column_of(cell.text)
+            column = self.asked.column_under(cell.text)
             if not cell.is_empty():
                 self.headed.add(place)
-            if column in self.asked.ignored:
+            if column_of(cell.text) in self.asked.ignored:
                 continue
             if column in self.places:
                 self.wrong.append(Finding(row, place, f"{column} stands there twice"))
@@ -134,13 +153,37 @@ class Sheet:
                 text = shortened(cell.text.strip())
                 self.wrong.append(Finding(row, place, f"{text!r} is none of the {count} columns"))
         missing = [it for it in [*self.kind.columns, *self.asked.required] if it not in self.places]
+        texts = {column_of(cell.text) for cell in cells}
+        for column, header in self.asked.headers.items():
+            if column_of(header) in texts:
+                continue
+            self.wrong.append(Finding(row, 0, f"no header is {header!r}, which --column {column} names"))
         if missing:
             self.wrong.append(Finding(row, 0, f"the header lacks {', '.join(missing)}"))
 
-    def record(self, row: int, cells: list[Cell]) -> None:
+    def lacking(self, placed: dict[int, Cell]) -> list[str]:
+        """The columns that a row lacks, if it lacks most of them, as one of totals does."""
+        places = {column: self.places[column] for column in self.kind.columns if column in self.places}
+        empty = [column for column, place in places.items() if placed.get(place, NOTHING).is_empty()]
+        return empty if 2 * len(empty) > len(self.kind.columns) else []
+
+    def no_record(self, row: int, placed: dict[int, Cell], lacking: list[str], chosen: Rows) -> Finding:
+        """What is said of a row that lacks most columns, and how it is left out."""
+        first, last = chosen[1][0], chosen[-1][0]
+        is_last = row == last > first and not self.asked.rows
+        rows = f"--rows {first}-{row - 1} leaves it out" if is_last else "--rows says which rows are taken"
+        begin = next(cell.shown or cell.text.strip() or cell.strange for cell in placed.values() if not cell.is_empty())
+        why = f"it begins with '{shortened(begin)}' and lacks {listed(lacking)}, so it is no record, as a row of totals"
+        return Finding(row, 0, f"{why}; {rows}")
+
+    def record(self, row: int, cells: list[Cell], chosen: Rows) -> None:
         """Notes a row's values, or what is refused of them."""
         count = len(self.refused)
-        placed = self.with_scanned(row, dict(enumerate(cells, 1)))
+        placed = dict(enumerate(cells, 1))
+        if lacking := self.lacking(placed):
+            self.refused.append(self.no_record(row, placed, lacking, chosen))
+            return
+        placed = self.with_scanned(row, placed)
         values, noted = dict[str, str](), dict[str, str]()
         for columns, texts in ((self.kind.columns, values), (self.kind.noted, noted)):
             for column in columns:
@@ -187,13 +230,7 @@ class Sheet:
         try:
             if cell.is_empty() and column in self.kind.noted and column not in self.asked.required:
                 return ""
-            if cell.is_empty():
-                raise Refused("it is empty")
-            if cell.strange:
-                raise Refused(f"it is {shortened(cell.strange, MOST_LETTERS)}")
-            if len(cell.text) > MOST_LETTERS or len(cell.shown or "") > MOST_LETTERS:
-                raise Refused(f"it has more than {MOST_LETTERS:,} letters")
-            value = reading(cell)
+            value = self.read(row, column, cell, reading)
         except Refused as why:
             self.refused.append(Finding(row, place, str(why), column))
             return ""
@@ -203,6 +240,24 @@ class Sheet:
             words = f"{value.words}; " + ("taken" if is_asked else f"{option} takes it") + value.how()
             (self.let if is_asked else self.refused).append(Finding(row, place, words, column))
         return value.text
+
+    def read(self, row: int, column: str, cell: Cell, reading: Reading) -> Taken:
+        """The value of a cell; that blanks around it are taken off is reported, or that it can be read without them."""
+        trimmed = cell.trimmed()
+        if cell.is_empty():
+            raise Refused("it is empty")
+        if cell.strange and not (cell.day and reading is of_days):
+            raise Refused(f"it is {shortened(cell.strange, MOST_LETTERS)}")
+        if len(cell.text) > MOST_LETTERS or len(cell.shown or "") > MOST_LETTERS:
+            raise Refused(f"it has more than {MOST_LETTERS:,} letters")
+        is_better = trimmed != cell and not can_be_read(reading, cell) and can_be_read(reading, trimmed)
+        if trimmed == cell or not (self.asked.trim or is_better):
+            return reading(cell)
+        value = reading(trimmed)
+        words = "taken without them" if self.asked.trim else "--trim takes it without them"
+        finding = Finding(row, self.places[column], f"{cell.text!r} has blanks around it; {words}", column)
+        (self.let if self.asked.trim else self.refused).append(finding)
+        return value
 
 
 def text_of(kind: Kind, records: Sequence[Record]) -> str:

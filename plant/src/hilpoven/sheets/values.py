@@ -3,6 +3,7 @@ import re
 import string
 from collections.abc import Callable
 from dataclasses import dataclass, field
+from datetime import date
 from decimal import Decimal
 from typing import NamedTuple
 
@@ -10,6 +11,7 @@ from ..core import forms
 from ..core.failure import Failure
 from ..output.exports import as_cell
 from ..output.table import Value
+from ..records.days import DATED_YEARS, date_in, day_of
 from ..records.measures import whole_of
 from ..register.kinds import Bound
 from .cells import Cell
@@ -25,23 +27,36 @@ THOUSANDS = re.compile(rf"[0-9]{{1,3}}({SIGNS.pattern}[0-9]{{3}})+")
 DECIMALS = re.compile(r"([0-9]+)[.,]0+")
 PLAIN_FORM = re.compile(r"(?:0{1,20}|#,##0)(?:\.(0{1,20}))?")
 SIGNS_OF_BOUNDS = tuple(bound.sign for bound in Bound)
+DOTTED = re.compile(r"([0-9]{1,2})\.([0-9]{1,2})\.([0-9]{4})")  # a date, the day before the month
+UNCLEAR = re.compile(r"[0-9]{1,4}([./-])[0-9]{1,2}\1[0-9]{1,4}")  # a date in which the parts may be others
 MINUS = re.compile(r"[-\u2212](?=[0-9])")  # as a keyboard and as a spreadsheet write it
 
 
 class Taken(NamedTuple):
-    """A value as it is written, and the trap that it may be in, with the words on it."""
+    """A value as it is written, and the trap that it may be in, with the words on it; and whether it is written in
+    another way than the sheet has it."""
 
     text: str
     trap: str | None = None
     words: str = ""
+    is_other: bool = False
 
     def how(self) -> str:
         """How it is taken."""
-        return f" as {self.text}" if self.trap in ("decimals", "capitals") else " as it stands"
+        return f" as {self.text}" if self.is_other else " as it stands"
 
 
 class Refused(Exception):
     """Why a value can't be taken, whatever is asked for."""
+
+
+def can_be_read(reading: "Callable[[Cell], Taken]", cell: Cell) -> bool:
+    """Whether a reading takes a cell, perhaps if that is asked for."""
+    try:
+        reading(cell)
+    except Refused:
+        return False
+    return True
 
 
 def letters(column: int) -> str:
@@ -65,7 +80,7 @@ def of_names(cell: Cell) -> Taken:
         raise Refused(f"it is the number {text}, shown as {cell.shown}")
     if not NAME.fullmatch(text):
         if NAME.fullmatch(text.upper()) and text.isascii() and not EXPONENT.fullmatch(text):
-            return Taken(text.upper(), "capitals", f"{text!r} has lower-case letters")
+            return Taken(text.upper(), "capitals", f"{text!r} has lower-case letters", is_other=True)
         raise Refused(f"{text!r} is {no_name(text)}")
     return as_typed(cell, text)
 
@@ -128,7 +143,24 @@ def of_held_number(text: str, shown: str) -> Taken:
 
 def with_decimals(whole: str, shown: str) -> Taken:
     """A whole number that is shown with decimals."""
-    return Taken(whole, "decimals", f"{shown} has decimals, and the column has whole numbers")
+    return Taken(whole, "decimals", f"{shown} has decimals, and the column has whole numbers", is_other=True)
+
+
+def of_days(cell: Cell) -> Taken:
+    """A day: a whole number, or a date, which is written as YYMMDD."""
+    if not (when := cell.day or date_written(cell.text)):
+        if cell.shown is None and UNCLEAR.fullmatch(cell.text):
+            raise Refused(f"{cell.text!r} is no date of a form that is read: write 2026-11-27, or 261127")
+        return of_numbers(cell)
+    if when.year not in DATED_YEARS:
+        raise Refused(f"{when} has no day YYMMDD: its year is none from {DATED_YEARS[0]} to {DATED_YEARS[-1]}")
+    return Taken(str(day_of(when)), "dates", f"{when} is a date, and a day is a number", is_other=True)
+
+
+def date_written(text: str) -> date | None:
+    """The date that a text is, as 2026-11-27 or 27.11.2026; `None` if it is none."""
+    match = DOTTED.fullmatch(text)
+    return date_in(f"{match[3]}-{match[2]:0>2}-{match[1]:0>2}" if match else text)
 
 
 def of_values(cell: Cell) -> Taken:
@@ -200,10 +232,15 @@ class Kind:
 
     def trapped(self, trap: str) -> list[str]:
         """The columns in which a trap is laid."""
-        return self.of(of_numbers, of_values) if trap == "decimals" else self.of(of_names, of_texts)
+        return self.of(*TRAPS[trap])
 
 
-TRAPS = ("digits", "dates", "decimals")  # each asked for by column
+# The traps that are asked for by column, each with how the values are read among which it is laid.
+TRAPS: dict[str, tuple[Callable[[Cell], Taken], ...]] = {
+    "digits": (of_names, of_texts),
+    "dates": (of_names, of_texts, of_days),
+    "decimals": (of_numbers, of_values, of_days),
+}
 CAPITALS = "capitals"  # asked for as a whole
 
 ACTUALS = Kind(
@@ -220,7 +257,7 @@ ACTUALS = Kind(
         "lot": of_names,
         "sublot": of_names,
         "amount": of_numbers,
-        "day": of_numbers,
+        "day": of_days,
     },
 )
 RECEIPTS = Kind(
@@ -232,14 +269,14 @@ RECEIPTS = Kind(
         "lot": of_names,
         "sublot": of_names,
         "amount": of_numbers,
-        "day": of_numbers,
+        "day": of_days,
     },
     {"from": of_names, "supplier_lot": of_texts, "document": of_texts},
 )
 SHIPMENTS = Kind(
     "shipments",
-    {"owner": of_names, "key": of_names, "lot": of_names, "sublot": of_names, "amount": of_numbers, "day": of_numbers},
+    {"owner": of_names, "key": of_names, "lot": of_names, "sublot": of_names, "amount": of_numbers, "day": of_days},
     {"to": of_names, "document": of_texts},
 )
-RESULTS = Kind("results", {"owner": of_names, "lot": of_names, "test": of_names, "value": of_values, "day": of_numbers})
+RESULTS = Kind("results", {"owner": of_names, "lot": of_names, "test": of_names, "value": of_values, "day": of_days})
 KINDS = {it.name: it for it in (ACTUALS, RECEIPTS, SHIPMENTS, RESULTS)}

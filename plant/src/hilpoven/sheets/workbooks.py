@@ -4,9 +4,11 @@ import re
 import warnings
 import zipfile
 from collections.abc import Callable, Iterator
+from datetime import date, datetime, time
 from typing import Any, TypeVar
 
 from ..core.failure import Failure
+from ..records.days import date_in
 from . import archives, xlsx_parts
 from .cells import LAST_COLUMN, LAST_ROW, MOST_COLUMNS, MOST_LETTERS, MOST_ROWS
 from .cells import Cell, Table, check_size, kept, number, shortened
@@ -107,7 +109,14 @@ def xlsx_cell(cell: Element, formula: Element) -> Cell:
         return number(value, lambda text: shown_by_format(text, form))._replace(form=form)
     if isinstance(value, str):
         return Cell("", strange=f"the error {value}") if cell.data_type == "e" else Cell(value, is_text=True)
-    return Cell("", strange=f"the date or time {value}")
+    return Cell("", strange=f"the date or time {value}", day=date_of(value))
+
+
+def date_of(value: object) -> date | None:
+    """The date that a cell holds; `None` if it holds a time besides, or alone."""
+    if isinstance(value, datetime):
+        return value.date() if value.time() == time() else None
+    return value if isinstance(value, date) else None
 
 
 def shown_by_format(text: str, form: str) -> str:
@@ -234,4 +243,6 @@ def ods_cell(node: Element) -> Cell:
         return number(float(node.attributes[(OFFICENS, "value")]), lambda _: shown)
     if kind in (None, "string"):
         return Cell(shown, is_text=True)
-    return Cell("", strange=f"the {'truth value' if kind == 'boolean' else kind} {shown}")
+    strange = f"the {'truth value' if kind == 'boolean' else kind} {shown}"
+    value = str(node.attributes.get((OFFICENS, "date-value"), "")) if kind == "date" else ""
+    return Cell("", strange=strange, day=date_in(value.removesuffix("T00:00:00")))

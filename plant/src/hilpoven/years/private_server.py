@@ -4,7 +4,6 @@ The plant's words go to its FILE.sock, so that an owner's key is on no command l
 however that ends.
 """
 import contextlib
-import json
 import socket
 from collections.abc import Iterator
 from typing import Any
@@ -48,17 +47,8 @@ class PrivateServer:
 
     def send(self, owner: str, key: str, path: str, body: Any = None) -> socket.socket:
         """Sends an owner's request."""
-        text = b"" if not body else json.dumps(body).encode()
-        head = (
-            f"{'GET' if body is None else 'POST'} {path} HTTP/1.1",
-            "host: toll",
-            f"toll-owner: {owner}",
-            f"toll-key: {key}",
-            f"content-length: {len(text)}",
-            "",
-            "",
-        )
-        peer = self.connected(socket.socket(), ("127.0.0.1", self.port), "\r\n".join(head).encode() + text)
+        content = client.request_of(owner, key, path, body)
+        peer = self.connected(socket.socket(), ("127.0.0.1", self.port), content)
         self.requests += 1
         return peer
 
@@ -85,10 +75,9 @@ class PrivateServer:
 
     def reply(self, peer: socket.socket) -> tuple[int, dict[str, Any]]:
         """The status and the body of the reply to a request that was sent."""
-        with peer, peer.makefile("rb") as reader:
+        with peer:
             try:
-                front, _, rest = reader.read().partition(b"\r\n\r\n")
-                return int(front[9:12]), json.loads(rest)
+                return client.reply_at(peer)
             except (OSError, ValueError) as error:
                 raise self.failure(str(error)) from error
 
