@@ -11,7 +11,7 @@ from hilpoven.core import rights, settings as site
 # Users and groups that each Debian has: daemon, 1, is in the group daemon, and man, 6, in the group man.
 DAEMON, MAN = 1, 6
 QUESTIONS = {"orders", "stock", "batch", "trace", "recall", "list", "show", "status", "verify", "papers", "labels", "board", "years", "journal", "to-csv", "note list",
-             "party list", "drill paper"}
+             "party list", "drill paper", "complete"}
 OF_EACH_ROLE = {
     "record": ["ship ACME K9 S-1 BAY1 5 103", "use ACME O-1 1 HOUSE W-101 TANK 5 103", "import -", "note not-linked ACME K1", "link ACME B-1 S-1 --why use", "do ACME O-1 1 hold"],
     "quality": ["reject W-101", "release W-101", "sign ACME S-1", "hold ACME S-1 --reason wet", "drill start S-1"],

@@ -7,7 +7,7 @@ from typing import Any, NoReturn, TextIO
 import click
 
 from .. import VERSION
-from ..core import scratch, settings as site
+from ..core import rights, scratch, settings as site
 from ..core.context import Context
 from ..core.failure import FAULT, REFUSED, WRONG_USE, Failure, printable
 from ..core.grammar import LINES
@@ -95,7 +95,9 @@ class Commands(Group):
 
     def main(self, *words: Any, **more: Any) -> Any:
         """Runs a command. Words that are told back are shown escaped, those of a wrong use too."""
-        if COMPLETION in os.environ:
+        if COMPLETION in os.environ and rights.is_member():
+            del os.environ[COMPLETION]  # behind sudo the words come as words, and the environment decides nothing
+        elif COMPLETION in os.environ:
             from . import completion
 
             completion.register()
