@@ -233,6 +233,14 @@ def test_limits_of_a_test_are_shown_and_a_value_below_zero_is_read(at_work):
     assert status == 0 and "VALUE: -3 is given as M3" in text and asked_of(at_work) == ["result ACME B-1 PH M3 103"]
 
 
+def test_values_are_shown_and_taken_as_they_are_measured(at_work):
+    assert at_work.run("describe", "test", "ACME", "BRINE", "DENSITY", "--decimals", "3", "--unit", "kg/l").status == 0
+    status, text = typed(at_work, "result ACME B-1", ["DENSITY  limits 1.100 to 1.250", ("TEST: ", "1"), ("VALUE (limits 1.100 to 1.250): ", "1.18045"), "has 5 decimals",
+                                                        ("1.250): ", "1180"), "VALUE: 1180 is out of the limits", ("DAY (", "103"), (CONFIRM, "value"), ("1.250): ", "1.18"),
+                                                        (CONFIRM, "")])
+    assert status == 0 and at_work.rows("SELECT value FROM results WHERE day = 103") == [(1180,)], text
+
+
 def test_a_question_is_shown_and_not_confirmed(at_work):
     status, text = typed(at_work, "trace", [("OWNER: ", "1"), ("LOT: ", "1"), ("WAY: ", "1")])
     assert status == 0 and text.endswith("hilpoven trace ACME B-1 back\n" + at_work.toll("trace", "ACME", "B-1", "back").out)

@@ -12,7 +12,9 @@ from ..core.office import Office
 from ..output.table import formatted
 from ..records.choices import Choice, Place
 from ..records.days import date_of, day_of, today
-from . import terminal
+from ..records.measures import value_of
+from . import prompted_values, terminal
+from .test_notes import LIMITS
 from .words import MOST_TOLD
 
 MOST_SHOWN = 9  # choices, each of which is one digit
@@ -96,6 +98,8 @@ class Dialogue:
             return Question(place, listed)
         hidden = {self.context.settings.quality.test} if value == "TEST" else set()
         choices = [it for it in place.fitting(self.tables.base) if it.name not in hidden] or listed
+        if self.is_result and value == "TEST":
+            choices = [Choice(it.name, self.limits(self.tables.base, it.name)) for it in choices]
         is_only = len(choices) == 1 and not place.may_be_new
         return Question(place, choices, choices[0].name if is_only else "", self.limit(self.tables.base, place))
 
@@ -108,14 +112,34 @@ class Dialogue:
         """Between which numbers a value is to be, if the office says so."""
         if (most := place.most(base)) is not None:
             return f"1 to {most:,}, which {self.values['SUBLOT']} holds"
-        limits = place.limits(base)
-        return f"limits {limits[0]:,} to {limits[1]:,}" if limits else ""
+        return self.limits(base, self.values["TEST"]) if self.is_result and place.value == "VALUE" else ""
+
+    @property
+    def is_result(self) -> bool:
+        """Whether the line records a result, whose value is as it is measured."""
+        return self.line.name == "result"
+
+    def limits(self, base: sqlite3.Connection, test: str) -> str:
+        """The limits of a test of the lot, in words."""
+        return prompted_values.limits_text(self.context, base, Place(self.line, "VALUE", {**self.values, "TEST": test}))
+
+    def word_of(self, value: str, word: str) -> str:
+        """A word as `toll` reads it; fails if it is no value as it is measured."""
+        if self.is_result and value == "VALUE" and self.tables.base is not None:
+            word = prompted_values.word_of(self.context, self.tables.base, self.values, word)
+        return written(self.line._replace(values=(value,)), [word])[0][0]
 
     def fault(self, value: str, word: str) -> str:
         """What is wrong with a word; what isn't there is looked for once more in the tables as they are now."""
         if value == "KEY" and word == NEXT and self.line.name in MOVEMENTS:
             return ""
-        if fault := self.line.form(value).fault(written_value(self.line, value, word)):
+        if value in LIMITS and "." in word:
+            return ""  # which is read with the decimals of the test, once it is known
+        try:
+            fault = self.line.form(value).fault(self.word_of(value, word))
+        except Failure as failure:
+            fault = failure.message.removeprefix(f"`{word}` ")
+        if fault:
             return fault
         if self.not_in_tables(value, word):
             self.tables.read()
@@ -149,8 +173,8 @@ class Dialogue:
             return ""
         if place.is_unheard(base, word):
             return f"{value}: {word} is new"
-        limits, number = place.limits(base), written_value(self.line, value, word).replace("M", "-")
-        is_out = limits is not None and not limits[0] <= int(number) <= limits[1]
+        limits = place.limits(base)
+        is_out = limits is not None and not limits[0] <= value_of(self.word_of(value, word)) <= limits[1]
         return f"{value}: {word} is out of the limits" if is_out else ""
 
     def ask(self, value: str) -> None:
@@ -176,11 +200,6 @@ class Dialogue:
                 raise terminal.Declined
             if answer in self.line.values:
                 self.ask(answer)
-
-
-def written_value(line: Line, value: str, word: str) -> str:
-    """A word as `toll` reads it: a value below zero with `M`."""
-    return written(line._replace(values=(value,)), [word])[0][0]
 
 
 def in_order(line: Line) -> list[str]:

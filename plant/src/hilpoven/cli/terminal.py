@@ -41,8 +41,8 @@ def edited(prompt: str, names: Sequence[str]) -> str:
 
 
 def complete_from(names: Sequence[str]) -> None:
-    """Has Tab complete these names, in whatever letters they are typed. A file of settings of the terminal's library is read
-    for nobody: behind sudo its lines would be read with the office's rights."""
+    """Has Tab complete these names, in whatever letters they are typed. The terminal's library reads no file of
+    settings: behind sudo it would read the caller's with the office's rights."""
     os.environ["INPUTRC"] = os.devnull
     import readline
 
