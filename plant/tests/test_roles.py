@@ -6,15 +6,17 @@ import pytest
 from click.testing import CliRunner
 from conftest import Told
 from hilpoven.cli import hilpoven, roles
-from hilpoven.core import rights, settings as site
+from hilpoven.core import on_behalf, rights, settings as site
 
 # Users and groups that each Debian has: daemon, 1, is in the group daemon, and man, 6, in the group man.
 DAEMON, MAN = 1, 6
 QUESTIONS = {"orders", "stock", "batch", "trace", "recall", "list", "show", "status", "verify", "papers", "labels", "board", "years", "journal", "to-csv", "note list",
              "party list", "drill paper", "complete"}
 OF_EACH_ROLE = {
-    "record": ["ship ACME K9 S-1 BAY1 5 103", "use ACME O-1 1 HOUSE W-101 TANK 5 103", "import -", "note not-linked ACME K1", "link ACME B-1 S-1 --why use", "do ACME O-1 1 hold"],
-    "quality": ["reject W-101", "release W-101", "sign ACME S-1", "hold ACME S-1 --reason wet", "drill start S-1"],
+    "record": ["ship ACME K9 S-1 BAY1 5 103", "use ACME O-1 1 HOUSE W-101 TANK 5 103", "import -", "note not-linked ACME K1", "link ACME B-1 S-1 --why use", "do ACME O-1 1 hold",
+               "for ACME order O-9 BRINE-10 1 --by mail"],
+    "quality": ["reject W-101", "release W-101", "sign ACME S-1", "hold ACME S-1 --reason wet", "drill start S-1",
+                "for ACME release S-1 --by mail", "for ACME reject S-1 --by mail"],
     "master_data": ["unit-add PRESS", "material new ACME GLUE kg", "material-add ACME GLUE kg", "require ACME BRINE-10 1 consumed ACME SALT 3", "party add ACME N --name N --role customer"],
     "keys": ["owner key ACME", "owner add NEW", "owner-add NEW NEWKEY12"],
     "restore": ["restore office.db", "backup", "carry-over", "new", "register rebuild"],
@@ -50,7 +52,8 @@ def words_of(group, before=()):
 def test_each_subcommand_has_a_role_or_changes_nothing():
     names = set(words_of(hilpoven))
     assert set(roles.ROLES) <= names and set(roles.ROLES.values()) == set(site.Roles._fields)
-    assert {name for name in names - set(roles.ROLES) if name not in QUESTIONS and name.split()[0] not in QUESTIONS} == set()
+    assert set(on_behalf.PATHS) <= set(roles.ROLES)  # whose roles `for` asks for
+    assert {name for name in names - set(roles.ROLES) - {"for"} if name not in QUESTIONS and name.split()[0] not in QUESTIONS} == set()
 
 
 @pytest.mark.parametrize("role", OF_EACH_ROLE)

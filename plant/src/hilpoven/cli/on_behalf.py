@@ -9,6 +9,7 @@ from ..core.context import Context
 from ..core.failure import WRONG_USE, Failure, tell
 from ..core.grammar import LINES, faults
 from ..core.office import pass_on
+from . import roles
 from .lines import miscounted
 from .words import FILLED_TEXT, WORD, OneOf, pass_context
 
@@ -22,12 +23,13 @@ from .words import FILLED_TEXT, WORD, OneOf, pass_context
 def for_command(context: Context, owner: str, name: str, values: tuple[str, ...], said_by: str) -> None:
     """Does what an owner asked for by mail or telephone: places or cancels an order, releases or rejects a lot.
 
-    The values are those of `order`, `cancel`, `release` and `reject`. It asks the office's server over HTTP with the
-    owner's key, which it reads from the file and shows to nobody; without a server it begins one for this alone. toll
-    can't tell it from the owner, so the journal records it with TEXT.
+    The values and the roles are those of `order`, `cancel`, `release` and `reject`. It asks the office's server over
+    HTTP with the owner's key, which it reads from the file and shows to nobody; without a server it begins one for this
+    alone. toll can't tell it from the owner, so the journal records it with TEXT.
 
     Example: hilpoven for ACME release B-1 --by 'Jane Doe, mail of 27 November'
     """
+    roles.require(context, name)
     line = LINES[name]
     if owner == HOUSE:
         raise Failure(f"HOUSE is the plant itself: `hilpoven {line.usage()}`", WRONG_USE)
