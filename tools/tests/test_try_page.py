@@ -8,8 +8,8 @@ import pytest
 from conftest import tool
 from try_page.slow import RESTS, Slowness
 
-# Asks in a document that has the script: for a path twice and for another once, and once with a signal that comes meanwhile.
-# Writes how long each step rested, in the order in which they were asked for, and what was sent.
+# Asks in a document that has the script: for a path twice and for another once, and once with a signal that comes
+# meanwhile. Writes how long each step rested, in the order in which they were asked for, and what was sent.
 DOCUMENT = """
 const rested = [], sent = [];
 globalThis.window = globalThis;
@@ -35,11 +35,25 @@ class Window:
         self.commands[command] = words
 
 
-@pytest.mark.parametrize("words", [["--slow"], ["--slow", "folder"], ["--slow", "-1", "folder"], ["--slow", "1"], ["--fast", "folder"], ["folder", "nowhere"], []])
+@pytest.mark.parametrize(
+    "words",
+    [
+        ["--slow"],
+        ["--slow", "folder"],
+        ["--slow", "-1", "folder"],
+        ["--slow", "1"],
+        ["--fast", "folder"],
+        ["folder", "nowhere"],
+        [],
+    ],
+)
 def test_wrong_words_are_told_and_nothing_is_made(words: list[str], tmp_path: pathlib.Path) -> None:
     done = tool("try-page", *words, cwd=tmp_path)
     assert (done.returncode, done.stdout) == (2, "")
-    assert done.stderr.startswith("usage: tools/try-page [--slow SEED] FOLDER [entering | ") and done.stderr.count("\n") == 1
+    assert (
+        done.stderr.startswith("usage: tools/try-page [--slow SEED] FOLDER [entering | ")
+        and done.stderr.count("\n") == 1
+    )
     assert list(tmp_path.iterdir()) == []
 
 

@@ -8,6 +8,7 @@ from .trial import TOLL
 
 # a person waits about so long for something to come up, in milliseconds
 FIRST_DRAW, LONGEST_TASK = 1000, 200
+ORDERS = 2000
 
 
 def many(t):
@@ -17,7 +18,7 @@ def many(t):
     t.serve(large)
     fillings.fill_large(large)
     t.entered()
-    for name, path, rows, view in (("orders", "#/orders", 2000, "35-many-orders"), ("lots", "#/stock", fillings.LARGE_LOTS, "36-many-lots")):
+    for name, path, rows, view in (("orders", "#/orders", ORDERS, "35-many-orders"), ("lots", "#/stock", fillings.LARGE_LOTS, "36-many-lots")):
         told = in_time(t, f"{rows} {name}", lambda: drawn(b, path, rows), first=FIRST_DRAW, longest=LONGEST_TASK)
         print(f"{rows} {name}: first rows after {told['first']} ms, all after {told['all']} ms, longest task {told['longest']} ms", flush=True)
         t.shot(view, f"{rows} {name}", whole=False)
@@ -29,15 +30,29 @@ def many(t):
 
 
 def in_time(t, what, measured, **bounds):
-    """Measures until all is within its bounds: the machine may be busy with something else, and what takes long by itself
-    takes long each time. In a browser that is slowed down times have no bounds."""
+    """Measures until all is within its bounds, as a moment may be a bad one; what takes long by itself takes long each time.
+    The bounds are as much longer as the machine is slower now than one with nothing else to do. A slowed browser has none."""
     ends = time.monotonic() + PATIENCE
     while True:
+        before = slower_now(t.browser)
         found = measured()
-        is_in_time = all(found[name] < bound for name, bound in bounds.items())
+        times = (before + slower_now(t.browser)) / 2
+        is_in_time = all(found[name] < bound * times for name, bound in bounds.items())
         if is_in_time or t.browser.slowness or time.monotonic() > ends:
-            t.expect(is_in_time or t.browser.slowness, f"{what} take long: {found}")
+            t.expect(is_in_time or t.browser.slowness, f"{what} take long, on a machine that is {times:.1f} times slower: {found}")
             return found
+
+
+def slower_now(b):
+    """How many times as long as IDLE the sum takes now, and never less than once."""
+    return max(1, b.js(SUM) / IDLE)
+
+
+# A sum that the page's script takes so many milliseconds for, where nothing else has the processor.
+IDLE = 55
+SUM = """const begun = performance.now(); let sum = 0;
+for (let at = 0; at < 1e7; at++) sum = (sum * 31 + at) % 1000003;
+return sum < 0 ? 0 : performance.now() - begun"""
 
 
 def drawn(b, path, rows):
@@ -77,21 +92,22 @@ next();"""
 def far(t):
     """A list that is scrolled far down is there again after going back."""
     b = t.browser
-    scroll_far(b)
+    at = scroll_far(b, fillings.LARGE_LOTS)
     b.js("[...document.querySelectorAll('tbody a')].find(it => it.getBoundingClientRect().top > 200).click()")
     until(lambda: b.text("h1").startswith("Lot "), "a lot")
     b.back()
     b.heading("Stock")
-    until(lambda: b.js("return scrollY") > 39000, "the list is where it was left")
+    until(lambda: abs(b.js("return scrollY") - at) < 100, "the list is where it was left")
     b.click("#nav a", "Orders")
     b.heading("Orders")
     b.click("button.sort", "Recipe")
-    scroll_far(b)
+    at = scroll_far(b, ORDERS)
     name = until(lambda: b.js(IN_SIGHT), "buttons are in sight")
     b.click(f"[data-key={name}]")
     b.click("dialog button", "Cancel the order")
-    b.wait("is cancelled.")
-    until(lambda: abs(b.js("return scrollY") - 40000) < 100, "the list stays where it was when an order is cancelled")
+    # the text of all of a long list takes long
+    b.wait("is cancelled.", "#told")
+    until(lambda: abs(b.js("return scrollY") - at) < 100, "the list stays where it was when an order is cancelled")
     t.shot("36-far-down", "an order far down the list was cancelled: the list stays where it was, and what was done is seen", whole=False)
 
 
@@ -100,10 +116,13 @@ IN_SIGHT = """const inSight = ({top, bottom}) => top > 200 && bottom < innerHeig
 return [...document.querySelectorAll('[data-key^=cancel]')].find(it => inSight(it.getBoundingClientRect()))?.dataset.key"""
 
 
-def scroll_far(b):
-    """Scrolls down as soon as so many rows are drawn, and waits until the window's history has it."""
-    until(lambda: b.js("scrollTo(0, 40000); return scrollY") == 40000, "the list is long")
-    until(lambda: b.js("return history.state?.scroll") == 40000, "the history has where the list stands")
+def scroll_far(b, rows):
+    """Scrolls far down when all rows are drawn. Gives where the list stands as soon as the window's history has that."""
+    until(lambda: b.js("return document.querySelectorAll('tbody tr').length") == rows, "all rows are drawn")
+    b.js("scrollTo(0, 40000)")
+    # rows that come into sight are laid out, and may move the list by some pixels
+    return until(lambda: b.js("return history.state?.scroll === scrollY && scrollY"),
+                 lambda: f"the history has where the list stands: {b.js('return [history.state?.scroll, scrollY]')}")
 
 
 def folds(t):

@@ -6,11 +6,12 @@ import random
 import time
 from typing import Any, Protocol, Self
 
-# Runs in each document before the page's own scripts. How long a request rests depends on the seed, its path and how often
-# the document asked for that, so it is the same in each run. Of a long genealogy the first requests rest alone.
+# Runs in each document before the page's own scripts. How long a request rests depends on the seed, its path and how
+# often the document asked for that, so it is the same in each run. Of a long genealogy the first requests rest alone.
 RESTS = """(() => {
     const [seed, longest] = %s, resting = 60, asked = new Map(), send = window.fetch;
-    const part = text => [...text].reduce((sum, it) => Math.imul(sum ^ it.charCodeAt(0), 16777619) >>> 0, 2166136261) %% 1009 / 1009;
+    const mixed = (sum, letter) => Math.imul(sum ^ letter.charCodeAt(0), 16777619) >>> 0;
+    const part = text => [...text].reduce(mixed, 2166136261) %% 1009 / 1009;
     const rest = async (signal, text) => {
         await new Promise(go => setTimeout(go, part(text) * longest));
         signal?.throwIfAborted();
@@ -52,15 +53,27 @@ class Slowness:
     @classmethod
     def of(cls, seed: int) -> Self:
         """One of four kinds, by the seed: late replies, a slow processor, both, or a slow trial."""
-        return [cls(seed, longest_rest=750, longest_pause=3), cls(seed, longest_rest=750), cls(seed, times=10, latency=300),
-                cls(seed, times=6, latency=300, longest_rest=400)][seed % 4]
+        return [
+            cls(seed, longest_rest=750, longest_pause=3),
+            cls(seed, longest_rest=750),
+            cls(seed, times=10, latency=300),
+            cls(seed, times=6, latency=300, longest_rest=400),
+        ][seed % 4]
 
     def slow_down(self, window: Devtools) -> None:
         """Slows down a window, and all documents that are loaded in it from now on."""
         window.devtools("Emulation.setCPUThrottlingRate", rate=self.times)
         window.devtools("Network.enable")
-        window.devtools("Network.emulateNetworkConditions", offline=False, latency=self.latency, downloadThroughput=-1, uploadThroughput=-1)
-        window.devtools("Page.addScriptToEvaluateOnNewDocument", source=RESTS % json.dumps([self.seed, self.longest_rest]))
+        window.devtools(
+            "Network.emulateNetworkConditions",
+            offline=False,
+            latency=self.latency,
+            downloadThroughput=-1,
+            uploadThroughput=-1,
+        )
+        window.devtools(
+            "Page.addScriptToEvaluateOnNewDocument", source=RESTS % json.dumps([self.seed, self.longest_rest])
+        )
 
     def pause(self, nth: int) -> None:
         """The trial's pause before its nth command."""
