@@ -9,6 +9,5 @@ pub mod RememberedLemmas
 pub mod DrawnStay
 pub mod Learning
 pub mod Around
-mod FromOwners
 pub mod Calls
 pub mod StagedLemmas

@@ -22,13 +22,6 @@ pub cached_known_slice : (known : Bool) (rows s : Slice) → cond known (Some ro
 cached_known_slice true rows s e = (refl, cc)
 cached_known_slice false rows s e = absurd (cc e)
 
-pub edges_there : (c : Content) (o : Bytes) (s : Slice) (edges : List Edge) → slice_of c o ≡ Some s → AreEdges (IsEdge s) edges → AreEdges (IsEdge (c.rows o)) edges
-edges_there c o s edges there = subst (λ t. AreEdges (IsEdge t) edges) (sym (cached_known_slice (knows c o) (c.rows o) s there).1)
-
-pub edges_given : {E : Type 0} (c : Content) (o : Bytes) (s : Slice) (reported : Result (Vec Edge Global) E) → slice_of c o ≡ Some s → IfOk reported (λ edges. AreEdges (IsEdge s) edges.items) → IfOk reported (λ edges. AreEdges (IsEdge (c.rows o)) edges.items)
-edges_given c o s (Ok edges) there shown = edges_there c o s edges.items there shown
-edges_given c o s (Err e) there shown = tt
-
 -- ---- added
 
 -- One more slice of the content was added, if there was room.
@@ -88,14 +81,6 @@ only_known_after (Put o row ∷ changes) c fits only = only_known_after changes 
 pub unknown_if_none : (known : Bool) (rows : Slice) → cond known (Some rows) None ≡ None → known ≡ false
 unknown_if_none true rows e = absurd (cc e)
 unknown_if_none false rows e = refl
-
--- An owner that isn't known has no edges.
-pub no_edges_there : (c : Content) (o : Bytes) (edges : List Edge) → OnlyKnownHaveRows c → slice_of c o ≡ None → edges ≡ [] → AreEdges (IsEdge (c.rows o)) edges
-unfolding IsStrictlySortedBy
-no_edges_there c o edges only none is =
-    subst (AreEdges (IsEdge (c.rows o))) (sym is)
-    (subst (λ s. AreEdges (IsEdge s) []) (sym (only o (unknown_if_none (knows c o) (c.rows o) none)))
-    (record { only = λ e i. absurd (Contains-none e i); every = λ e edge. absurd (no_edges o e edge); ordered = tt }))
 
 -- ---- owners and units
 

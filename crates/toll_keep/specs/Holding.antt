@@ -40,20 +40,10 @@ pub record IsEdgeOfSome (c : Content) (e : Edge) : Type 0 where
   pub owner : Bytes
   pub edge : IsEdge (c.rows owner) e
 
--- If edges are returned, they are those of all owners of the content.
-abbrev pub GivesAllEdges : {E : Type 0} → Content → Result (Vec Edge Global) E → Type 0
-GivesAllEdges c reported = IfOk reported (λ edges. AreEdges (IsEdgeOfSome c) edges.items)
-
 -- The edges are exactly those of the slices.
 pub record AreGathered (slices : List Slice) (edges : List Edge) : Type 0 where
   pub only : (e : Edge) → Contains edges e → Any (λ s. IsEdge s e) slices
   pub every : (s : Slice) (e : Edge) → Contains slices s → IsEdge s e → Contains edges e
-
--- The edges are those from before and those of the slice.
-pub record AreExtendedBy (s : Slice) (old new : List Edge) : Type 0 where
-  pub only : (e : Edge) → Contains new e → Contains old e ⊎ IsEdge s e
-  pub before : (e : Edge) → Contains old e → Contains new e
-  pub own : (e : Edge) → IsEdge s e → Contains new e
 
 -- ---- traces
 

@@ -4,17 +4,16 @@ ghost use Rattle.toll_keep.specs.Common.{list_any};
 ghost use Rattle.toll_keep.specs.Content.{Content, content_after};
 ghost use Rattle.toll_keep.specs.Remembered.{IsNothing, IsCacheOf, is_addition};
 
-use crate::cached_slice::CachedSlice;
 use crate::drawing::forget_drawn;
 use crate::known_graph::KnownGraph;
 use crate::remembered::follow_all;
 use std::alloc::{AllocError, Global};
-use toll_base::{Change, OwnerRow, Row, UnitRow};
+use toll_base::{Change, OwnerRow, Row, Slice, UnitRow};
 
 /// Rows that were read of a keep: slices, the owners and the units after a request for them, and the graphs
 /// of owners after a trace over their batches.
 pub struct Cache {
-    pub slices: Vec<CachedSlice>,
+    pub slices: Vec<Slice>,
     pub owners: Option<Vec<OwnerRow>>,
     pub units: Option<Vec<UnitRow>>,
     pub graphs: Vec<KnownGraph>,

@@ -4,9 +4,8 @@ ghost use Rattle.toll_keep.specs.Content.{Content};
 ghost use Rattle.toll_keep.specs.Remembered.{IsNothing, IsCacheOf, OnlyKnownHaveRows};
 
 use crate::cache::Cache;
-use crate::cached_reading::{read_edges, read_rows, read_slice};
+use crate::cached_reading::{read_rows, read_slice};
 use crate::fault::KeepFault;
-use crate::gathering::read_all_edges;
 use crate::holder::Holder;
 use crate::keep::Keep;
 use crate::tracing::read_trace;
@@ -109,13 +108,13 @@ impl<K: Keep> Keep for CachedKeep<K> {
 
     fn edges(&mut self, alloc: Global, owner: &Name) -> Result<Vec<Edge>, KeepFault> {
         let CachedKeep { keep, cache } = self;
-        let answer = read_edges(alloc, keep, &mut cache.slices, owner);
+        let answer = keep.edges(alloc, owner);
         or_forget(alloc, cache, answer)
     }
 
     fn all_edges(&mut self, alloc: Global) -> Result<Vec<Edge>, KeepFault> {
         let CachedKeep { keep, cache } = self;
-        let answer = read_all_edges(alloc, keep, cache);
+        let answer = keep.all_edges(alloc);
         or_forget(alloc, cache, answer)
     }
 

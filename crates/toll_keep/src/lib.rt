@@ -4,11 +4,9 @@
 mod cache;
 mod cached_keep;
 mod cached_reading;
-mod cached_slice;
 mod drawing;
 mod everyone;
 mod fault;
-mod gathering;
 mod ghosts;
 mod holder;
 mod keep;

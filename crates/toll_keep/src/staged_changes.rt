@@ -6,7 +6,6 @@ ghost use Rattle.toll_keep.specs.StagedChanges.{IsOver, OverLaid, ReadsThrough};
 
 use crate::cache::has_addition;
 use crate::cached_reading::read_slice;
-use crate::cached_slice::CachedSlice;
 use crate::fault::KeepFault;
 use crate::keep::Keep;
 use crate::remembered::follow_all;
@@ -18,7 +17,7 @@ use toll_base::{Change, Name, Row, Slice};
 /// They belong to one keep. The caller passes it to each call that reads, and the calls don't change it.
 /// A stop loses the pending changes.
 pub struct StagedChanges {
-    slices: Vec<CachedSlice>,
+    slices: Vec<Slice>,
     changes: Vec<Change>,
 }
 

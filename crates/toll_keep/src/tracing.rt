@@ -12,7 +12,6 @@ ghost use Rattle.toll_keep.specs.Remembered.{IfOf, IsNothing, IsCacheOf, OnlyKno
 
 use crate::cache::Cache;
 use crate::cached_reading::read_rows;
-use crate::cached_slice::CachedSlice;
 use crate::fault::KeepFault;
 use crate::keep::Keep;
 use crate::known_graph::KnownGraph;
@@ -57,7 +56,7 @@ pub fn read_trace<K: Keep>(
 fn trace_read<K: Keep>(
     alloc: Global,
     keep: &mut K,
-    slices: &[CachedSlice],
+    slices: &[Slice],
     graphs: &mut Vec<KnownGraph>,
     owners: &[Name],
     from: &LotId,
@@ -117,7 +116,7 @@ fn is_among(owners: &[Name], owner: &Name) -> bool
 fn read_graphs<K: Keep>(
     alloc: Global,
     keep: &mut K,
-    slices: &[CachedSlice],
+    slices: &[Slice],
     graphs: &mut Vec<KnownGraph>,
     owners: &[Name],
 ) -> Result<(), KeepFault>
@@ -136,7 +135,7 @@ fn read_graphs<K: Keep>(
 fn read_graph<K: Keep>(
     alloc: Global,
     keep: &mut K,
-    slices: &[CachedSlice],
+    slices: &[Slice],
     graphs: &mut Vec<KnownGraph>,
     owner: &Name,
 ) -> Result<(), KeepFault>
@@ -171,7 +170,7 @@ fn is_known(graphs: &[KnownGraph], owner: &Name) -> bool
 fn own_graph<K: Keep>(
     alloc: Global,
     keep: &mut K,
-    slices: &[CachedSlice],
+    slices: &[Slice],
     owner: &Name,
 ) -> Result<KnownGraph, KeepFault>
     ensures reads { (first : K) → HaveRead K.meaning first keep.old → IsReading K.meaning first keep.new result }
@@ -180,7 +179,7 @@ fn own_graph<K: Keep>(
     ensures reported { OverContent K.meaning keep.old keep.new (λ c. IfOf c slices.now (IfOk result (IsKnownGraph c))) }
 {
     match remembered(slices, owner) {
-        Some(slice) => Ok(slice.graph(alloc, owner)?),
+        Some(slice) => Ok(KnownGraph::of(alloc, owner, slice)?),
         None => graph_once(alloc, keep, owner),
     }
 }

@@ -6,9 +6,8 @@ use Rattle.toll_keep.proofs.remembered.remember.Goals as goal
 pub returns-clause-own : goal.returns-clause-own
 returns-clause-own c = λ content there all.
     let before = c.args.slices.now.items in
-    let changes = c.args.changes.now in
-    let laid = c.into_slice-slice.result in
-    let is : laid ≡ after_changes changes c.args.read = c.into_slice-slice.ensures ∙ c.in_ok-follow.ensures ∙ ap (after_changes changes) c.of-known.ensures in
+    let laid = c.follow.new.slice in
+    let is : laid ≡ after_changes c.args.changes.now c.args.read = c.in_ok-follow.ensures in
     let own : laid.owner ≡ c.args.owner.now = sym c.owner.ensures.owner ∙ same_bytes-exact c.owner.result.now c.args.owner.now (not-false (same_bytes c.owner.result.now c.args.owner.now) (sym c.ne.ensures ∙ c.if-ne.false)) in
     perhaps_more content before c.push.new.self.items laid c.args.owner.now (is_ok c.push.result) own (there ∙ ap (λ s. Some s) (sym is))
-    (c.push.ensures.items ∙ ap (λ s. cond (is_ok c.push.result) (before ++ s ∷ []) before) (c.of.ensures ∙ c.in-Ok.ensures.copied)) all
+    (c.push.ensures.items ∙ ap (λ s. cond (is_ok c.push.result) (before ++ s ∷ []) before) c.in-Ok.ensures.copied) all

@@ -4,4 +4,4 @@ use Rattle.toll_keep.proofs.remembered.remembered.Goals as goal
 
 pub returns-clause-own : goal.returns-clause-own
 returns-clause-own c = λ content all.
-    remembered_there content c.args.slices.now c.args.owner.now c.in_ok-index_of_cached.field-0 c.index-slices-branch.result (sym c.in_ok-index_of_cached.ensures) all ∙ ap (λ s. Some s) (sym c.index-slices-branch.is)
+    remembered_there content c.args.slices.now c.args.owner.now c.in_ok-index_of_slice.field-0 c.index-slices-branch.result (sym c.in_ok-index_of_slice.ensures) all ∙ ap (λ s. Some s) (sym c.index-slices-branch.is)

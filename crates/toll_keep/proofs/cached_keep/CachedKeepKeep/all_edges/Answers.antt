@@ -8,15 +8,15 @@ use Rattle.toll_keep.proofs.cached_keep.CachedKeepKeep.all_edges.Goals as goal
 pub invariant_of-self : goal.invariant_of-self
 invariant_of-self g c =
     let met = g.met.K.Keep in
-    telling_stands g.K.Keep met.settled met.lives_once c.args.self.now _ c.read_all_edges-answer.result _ c.or_forget.ensures.forgotten (λ rested. c.read_all_edges-answer.ensures.reading rested)
+    telling_stands g.K.Keep met.settled met.lives_once c.args.self.now _ c.all_edges-answer.result _ c.or_forget.ensures.forgotten (λ rested. c.all_edges-answer.ensures.reading)
 
 pub returns-clause-reading : goal.returns-clause-reading
 returns-clause-reading g c =
-    let met = g.met.K.Keep in let answer = c.read_all_edges-answer.ensures in let after = c.or_forget.ensures in
-    tells_around g.K.Keep met.settled met.lives_once c.args.self.now _ _ c.read_all_edges-answer.result _ after.same after.kept after.forgotten
-    (λ honest content held of only. answer.own honest content held of)
-    (λ rested. c.read_all_edges-answer.ensures.reading rested)
+    let met = g.met.K.Keep in let answer = c.all_edges-answer.ensures in let after = c.or_forget.ensures in
+    tells_around g.K.Keep met.settled met.lives_once c.args.self.now _ _ c.all_edges-answer.result _ after.same after.kept after.forgotten
+    (λ honest content held of only. of)
+    (λ rested. answer.reading)
 
 pub returns-clause-reads : goal.returns-clause-reads
 returns-clause-reads g c = λ honest content held.
-    subst (λ answer. IfOk answer (λ edges. AreEdges (IsEdgeOfSome content) edges.items)) (sym c.or_forget.ensures.same) (c.read_all_edges-answer.ensures.reads honest content held.0 held.1 held.2)
+    subst (λ answer. IfOk answer (λ edges. AreEdges (IsEdgeOfSome content) edges.items)) (sym c.or_forget.ensures.same) (c.all_edges-answer.ensures.reads honest content held.0)
