@@ -1,6 +1,6 @@
 -- The batch that holds a unit and the edges of all owners, in a content.
-use Rattle.std.specs.Prelude.{◌≡◌, ◌↔◌, ◌⊎◌, ℕ, Bool, true, not, ◌&&◌, Option, Some, None, List, Contains, All, Any, Result, Vec, IfOk}
-use Rattle.toll_keep.specs.Common.{Global, Bytes, same_bytes, Slice, batch_at, AreEdges, IsEdge}
+use Rattle.std.specs.Prelude.{◌≡◌, ◌↔◌, ℕ, Bool, true, not, ◌&&◌, Option, Some, None, List, Contains, All, Any, Result, Vec, IfOk}
+use Rattle.toll_keep.specs.Common.{Global, Bytes, same_bytes, Slice, batch_at, IsEdge}
 use Rattle.toll_base.specs.Words.{is_some_where, none_or}
 use Rattle.toll_base.specs.declared.lot.Edge.{Edge}
 use Rattle.toll_base.specs.declared.lot.LotId.{LotId}
