@@ -1,5 +1,5 @@
 -- What the plant's program and a server send each other.
-use Rattle.std.specs.Prelude.{◌≡◌, ◌⊎◌, ◌<◌, ℕ, Option, [], IsNone, IsSomeAnd, codes, length, take}
+use Rattle.std.specs.Prelude.{◌≡◌, ◌⊎◌, ◌++◌, ◌<◌, ℕ, Bool, false, true, Option, List, [], ◌∷◌, IsNone, IsSomeAnd, codes, length, option_map, take}
 use Rattle.std.specs.Io.KnownBytes.{Appends, Consumes, IsAtEnd}
 use Rattle.toll_base.specs.Bytes.{Bytes}
 use Rattle.toll_protocol.specs.Streams.{HasFailed}
@@ -10,9 +10,9 @@ use Rattle.toll_programs.specs.declared.calling.CallOutcome.TheVariants.{NotTake
 use Rattle.toll_protocol.specs.PlantMessages.{IsResponse, handshake_text}
 use Rattle.toll_protocol.specs.Frames.{IsEnough, frame}
 use Rattle.toll_protocol.specs.declared.frames.response.TheConstants.{MOST_RESPONSE_BYTES}
-use Rattle.toll_programs.specs.Outputs.{Printout}
-use Rattle.toll_programs.specs.StreamOutput.{IsFailing, IsPrinted, IsSomePrinted, IsNothingWritten, Streams}
+use Rattle.toll_programs.specs.StreamOutput.{IsFailing, IsSomePrinted, IsNothingWritten, Streams}
 use Rattle.toll_programs.specs.declared.status.Status.TheVariants.{Failed}
+use Rattle.toll_programs.specs.declared.version.TheConstants.{VERSION}
 
 -- what a server will send, and what it received before and after
 pub record Exchange : Type 0 where
@@ -99,6 +99,41 @@ pub record IsRunOnServer {S : Type 0} (from : source.Ghosts S) (to : sink.Ghosts
   pub exchanged : IsExchange from to version requested old new reply
   pub written : IsReplyWritten s reply status
 
--- A server's response was printed, or that it was lost.
-abbrev pub IsServerAnswerPrinted : Streams → ℕ → Type 0
-IsServerAnswerPrinted s status = ((p : Printout) × IsPrinted s p status) ⊎ IsFailing s lost_line Failed status
+-- ---- a server that may be there
+
+-- how a server is reached: what holds of a new connection, what goes over it, and whether each try so far, before and after, gave one
+pub record Connections (S : Type 0) : Type 1 where
+  pub is_new : S → Type 0
+  pub from : source.Ghosts S
+  pub to : sink.Ghosts S
+  pub tries : Option (List Bool)
+  pub now_tries : Option (List Bool)
+
+-- a connector before and after
+abbrev pub connections_of : {S C : Type 0} → (S → Type 0) → source.Ghosts S → sink.Ghosts S → (C → Option (List Bool)) → C → C → Connections S
+connections_of is_new from to tries old new = record { is_new = is_new; from = from; to = to; tries = tries old; now_tries = tries new }
+
+-- the tries after one more, which gave a connection or didn't
+abbrev pub after_try : (is_made : Bool) → List Bool → List Bool
+after_try is_made tries = tries ++ is_made ∷ []
+
+module _ {S : Type 0} (c : Connections S) where
+  -- No connection was tried.
+  abbrev pub IsUntried : Type 0
+  IsUntried = c.now_tries ≡ c.tries
+
+  -- One was tried.
+  abbrev pub IsTriedOnce : (is_made : Bool) → Type 0
+  IsTriedOnce is_made = c.now_tries ≡ option_map (after_try is_made) c.tries
+
+  -- The request was sent over a new connection, and the outcome is printed.
+  pub record IsSentOver (requested : Bytes) (s : Streams) (status : Option ℕ) : Type 0 where
+    pub first : S
+    pub last : S
+    pub is : c.is_new first
+    pub once : IsTriedOnce true
+    pub ran : IsRunOnServer c.from c.to VERSION.now requested first last s status
+
+  -- The same, or there was no connection.
+  abbrev pub IsServerAsked : Bytes → Streams → Option ℕ → Type 0
+  IsServerAsked requested s status = (IsNone status × IsTriedOnce false) ⊎ IsSentOver requested s status

@@ -1,6 +1,7 @@
 //! What the plant's words ask for. The server of the office does it, or else the program itself.
-ghost use Rattle.std.specs.Prelude.{map};
+ghost use Rattle.std.specs.Prelude.{map, option_map};
 ghost use Rattle.toll_programs.specs.Outputs.{printout_of};
+ghost use Rattle.toll_programs.specs.ServerCalls.{connections_of};
 ghost use Rattle.toll_programs.specs.StreamOutput.{streams_of};
 ghost use Rattle.toll_service.specs.Doing.{AreWordsOver, IsDoneByServerOrHere, IsFileOver, IsOperationDone};
 
@@ -31,7 +32,8 @@ pub fn do_words<
     output: &mut W,
     error: &mut E,
 ) -> u64
-    ensures { AreWordsOver K.meaning O.is_opened (O.openings office_path.old.opener) (O.openings office_path.new.opener) (map (λ w. w.now) words.now)
+    ensures { AreWordsOver K.meaning O.is_opened (O.openings office_path.old.opener) (O.openings office_path.new.opener)
+        (connections_of C.is_new S.Source S.Sink C.tries connector.old connector.new) (map (λ w. w.now) words.now)
         (streams_of W.Sink E.Sink output.old output.new error.old error.new) result }
 {
     match command_of(office_path.rt.alloc(), words) {
@@ -63,7 +65,8 @@ pub fn do_file<K: Keep, O: KeepOpener<K>, S: TracksReads + Drop, C: Connector<S>
     output: &mut W,
     error: &mut E,
 ) -> u64
-    ensures { IsFileOver K.meaning O.is_opened (O.openings office_path.old.opener) (O.openings office_path.new.opener) actuals.now
+    ensures { IsFileOver K.meaning O.is_opened (O.openings office_path.old.opener) (O.openings office_path.new.opener)
+        (connections_of C.is_new S.Source S.Sink C.tries connector.old connector.new) actuals.now
         (streams_of W.Sink E.Sink output.old output.new error.old error.new) result }
 {
     let operation = Operation::Import(actuals);
@@ -89,6 +92,7 @@ fn serve_or_do<K: Keep, O: KeepOpener<K>, S: TracksReads + Drop, C: Connector<S>
     error: &mut E,
 ) -> u64
     ensures { IsDoneByServerOrHere O.is_opened (O.openings office_path.old.opener) (O.openings office_path.new.opener)
+        (connections_of C.is_new S.Source S.Sink C.tries connector.old connector.new) (map (λ w. w.now) words.now) (option_map (λ f. f.now) file.entry)
         (IsOperationDone K.meaning operation.entry) (streams_of W.Sink E.Sink output.old output.new error.old error.new) result }
 {
     if let Some(status) = try_server(
