@@ -36,12 +36,12 @@ def give(desk: making.Desk, words: tuple[str, ...], note: Note, given: dict[str,
         thing.print()
 
 
-def said(given: dict[str, Any]) -> dict[str, Any]:
+def members_of(given: dict[str, Any]) -> dict[str, Any]:
     """The members of a note that are given."""
     return {name: value for name, value in given.items() if value is not None}
 
 
-def shown(title: str, **facts: Value) -> Thing:
+def noted_thing(title: str, **facts: Value) -> Thing:
     """What is noted of a thing, as far as it is."""
     known: dict[str, Value] = {name: value for name, value in facts.items() if value}
     return Thing(title, known, remarks=[] if known else ["Nothing is noted of it."])
@@ -60,8 +60,8 @@ def owner(context: Context, owner: str, **given: str | None) -> None:
     with making.desk(context) as desk:
         require_owner(desk.base, owner)
         facts = desk.register.owners.get(owner) or OwnerFacts(owner)
-        thing = shown(f"owner {owner}", name=facts.name, address=facts.address)
-        give(desk, ("owner", owner), OwnerFacts(owner, **said(given)), given, thing)
+        thing = noted_thing(f"owner {owner}", name=facts.name, address=facts.address)
+        give(desk, ("owner", owner), OwnerFacts(owner, **members_of(given)), given, thing)
 
 
 @describe_group.command()
@@ -77,8 +77,8 @@ def material(context: Context, owner: str, material: str, **given: str | None) -
     with making.desk(context) as desk:
         describing.require_material(desk.base, owner, material)
         facts = desk.register.materials.get((owner, material)) or MaterialFacts(owner, material)
-        thing = shown(f"material {material} of {owner}", name=facts.name)
-        give(desk, ("material", owner, material), MaterialFacts(owner, material, **said(given)), given, thing)
+        thing = noted_thing(f"material {material} of {owner}", name=facts.name)
+        give(desk, ("material", owner, material), MaterialFacts(owner, material, **members_of(given)), given, thing)
 
 
 @describe_group.command()
@@ -100,13 +100,15 @@ def test(context: Context, owner: str, material: str, test: str, **given: Any) -
     thing = owner, material, test
     with making.desk(context) as desk:
         limits = describing.limits_of(desk.base, *thing)
-        note, there = TestFacts(*thing, **said(given)), facts_of_test(desk.register, *thing)
+        note, there = TestFacts(*thing, **members_of(given)), facts_of_test(desk.register, *thing)
         describing.require_decimals(desk.base, desk.register, note)
         facts = joined(there, note)
         text = describing.limits_text(limits, facts.decimals)
         title, decimals = f"test {test} of {owner} {material}", facts.decimals
-        shows = shown(title, name=facts.name, unit=facts.unit, decimals=decimals, method=facts.method, limits=text)
-        give(desk, ("test", *thing), note, given, shows)
+        known = noted_thing(
+            title, name=facts.name, unit=facts.unit, decimals=decimals, method=facts.method, limits=text
+        )
+        give(desk, ("test", *thing), note, given, known)
     if facts.decimals != there.decimals:
         tell(f"The limits are read as {text}; toll has {describing.limits_text(limits, 0)}.")
 
@@ -130,9 +132,9 @@ def lot(context: Context, owner: str, lot: str, **given: int | None) -> None:
     """
     with making.desk(context) as desk:
         desk.require_lot(LotId(owner, lot))
-        note = LotFacts(owner, lot, **said(given))
+        note = LotFacts(owner, lot, **members_of(given))
         describing.require_days(desk.register, note)
         facts = desk.register.lots.get((owner, lot)) or LotFacts(owner, lot)
         days = {"made": facts.made, "expires": facts.expires, "retest": facts.retest}
-        thing = shown(f"lot {lot} of {owner}", **{name: day and format_day(day) for name, day in days.items()})
+        thing = noted_thing(f"lot {lot} of {owner}", **{name: day and format_day(day) for name, day in days.items()})
         give(desk, ("lot", owner, lot), note, given, thing)

@@ -11,14 +11,14 @@ Value = str | int | None
 class Shown(int):
     """A number that people read as a text, as 7.02 of 702. Programs get the number, and the text beside it."""
 
+    text: str
+    plain: str  # the same without anything between thousands
+
     def __new__(cls, number: int, text: str, plain: str) -> "Shown":
-        """The number, its text, and the same without anything between thousands."""
+        """The number with its text."""
         shown = super().__new__(cls, number)
         shown.text, shown.plain = text, plain
         return shown
-
-    text: str
-    plain: str
 
 
 Row = Sequence[Value]

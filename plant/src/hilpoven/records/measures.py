@@ -6,7 +6,7 @@ from ..core.forms import MOST_VALUE
 from ..output.table import Shown
 
 MOST_DECIMALS = 9
-MOST_TOLD = 40  # letters of a text that is no value
+MOST_QUOTED = 40  # letters of a text that is no value
 GROUP = ","  # between thousands, as people read a number
 MEASURED = re.compile(r"(-|M)?([0-9]+)(?:\.([0-9]+))?")
 WITH_COMMA = re.compile(r"(-|M)?[0-9]+,[0-9]+")
@@ -28,17 +28,17 @@ def shown(value: int, decimals: int = 0, sign: str = "") -> int:
 
 def whole_of(text: str, decimals: int = 0) -> int:
     """The value that `toll` has of a measured one: of 7.02 with two decimals it is 702. Fails if a text is none."""
-    match, told = MEASURED.fullmatch(text), f"`{printable(text[:MOST_TOLD])}`"
+    match, quoted = MEASURED.fullmatch(text), f"`{printable(text[:MOST_QUOTED])}`"
     if match is None:
         why = "has a comma; decimals stand behind a point" if WITH_COMMA.fullmatch(text) else "is no number"
-        raise Failure(f"{told} {why}, such as {as_measured(702, decimals)}", WRONG_USE)
+        raise Failure(f"{quoted} {why}, such as {as_measured(702, decimals)}", WRONG_USE)
     sign, whole, part = match[1], match[2], match[3] or ""
     if len(part) > decimals:
-        raise Failure(f"{told} has {counted(len(part))}, and the test has {decimals or 'none'}", WRONG_USE)
+        raise Failure(f"{quoted} has {counted(len(part))}, and the test has {decimals or 'none'}", WRONG_USE)
     digits = (whole + part.ljust(decimals, "0")).lstrip("0") or "0"
     if len(digits) > len(str(MOST_VALUE)) or int(digits) > MOST_VALUE:
         least, most = (as_measured(it, decimals, GROUP) for it in (-MOST_VALUE, MOST_VALUE))
-        raise Failure(f"{told} is out of what toll takes: {least} to {most}", WRONG_USE)
+        raise Failure(f"{quoted} is out of what toll takes: {least} to {most}", WRONG_USE)
     return -int(digits) if sign else int(digits)
 
 

@@ -36,11 +36,11 @@ def decimals_of(context: Context) -> dict[tuple[str, ...], int]:
 
 def notes_beside(context: Context, sheet: Sheet) -> Beside:
     """What stands in the journal beside each row of which something is noted. Rows are refused of which it can't be."""
-    look_at_days(context, sheet)
+    check_days(context, sheet)
     return beside_results(context, sheet) if sheet.kind == RESULTS else beside_movements(context, sheet)
 
 
-def look_at_days(context: Context, sheet: Sheet) -> None:
+def check_days(context: Context, sheet: Sheet) -> None:
     """Warns of rows that ship or consume a lot past its day, or refuses them, as the settings say."""
     settings = {SHIPMENTS.name: context.settings.expiry.ship, ACTUALS.name: context.settings.expiry.actual}
     setting = settings.get(sheet.kind.name)
