@@ -82,6 +82,8 @@ def test_decimals_stay_once_they_are_noted(described):
         assert described.run("note", "withdraw", note, "--reason", "it has three").status == 0
     told = described.run(*PH, "--decimals", 3)
     assert told.status == 0 and told.err == "  The limits are read as -0.005 to 0.009; toll has -5 to 9.\n"
+    told = described.run("describe", "test", "ACME", "BRINE", "DENSITY", "--decimals", 1)
+    assert told.err == "  The limits are read as 110.0 to 125.0, and 1 result so too; toll has 1,100 to 1,250.\n"
 
 
 def test_decimals_may_change_while_all_values_are_zero(settled):

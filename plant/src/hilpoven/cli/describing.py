@@ -5,7 +5,7 @@ import click
 
 from ..core.context import Context
 from ..core.failure import tell
-from ..output.table import Value
+from ..output.table import Value, counted
 from ..records.days import format_day
 from ..records.descriptions import facts_of_test
 from ..records.rows import LotId, require_owner
@@ -109,8 +109,10 @@ def test(context: Context, owner: str, material: str, test: str, **given: Any) -
             title, name=facts.name, unit=facts.unit, decimals=decimals, method=facts.method, limits=text
         )
         give(desk, ("test", *thing), note, given, known)
+        count = len(describing.values_of(desk.base, *thing))
     if facts.decimals != there.decimals:
-        tell(f"The limits are read as {text}; toll has {describing.limits_text(limits, 0)}.")
+        also = f", and {counted(count, 'results')} so too" if count else ""
+        tell(f"The limits are read as {text}{also}; toll has {describing.limits_text(limits, 0)}.")
 
 
 test.params.append(decimals_option())

@@ -62,13 +62,18 @@ def limits_text(limits: Iterable[int], decimals: int) -> str:
     return " to ".join(as_measured(limit, decimals, GROUP) for limit in limits)
 
 
+def values_of(base: Base, owner: str, material: str, test: str) -> list[int]:
+    """The values of all results of a test."""
+    return [value for value, in base.execute(VALUES, (owner, material, test))]
+
+
 def require_decimals(base: Base, register: Register, note: TestFacts) -> None:
     """Fails if a test has other decimals already, so that a limit or a result of it would be read differently."""
     thing = note.owner, note.material, note.test
     there = facts_of_test(register, *thing).decimals
     if not there or note.decimals in (0, there):
         return
-    values = [*limits_of(base, *thing), *(value for value, in base.execute(VALUES, thing))]
+    values = [*limits_of(base, *thing), *values_of(base, *thing)]
     if value := next(filter(None, values), 0):
         one, other = (as_measured(value, decimals, GROUP) for decimals in (there, note.decimals))
         raise Failure(
