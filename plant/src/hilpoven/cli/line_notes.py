@@ -162,34 +162,34 @@ def no_options() -> list[click.Option]:
 
 def read_test(context: Context, line: Line, words: list[str], given: Given) -> Typed:
     """The limits of a test, which may have decimals."""
-    from . import test_notes
+    from . import value_notes
 
-    return test_notes.read_limits(context, line, words, given)
+    return value_notes.read_limits(context, line, words, given)
 
 
 def beside_test(context: Context, values: Values, given: Given) -> Beside:
     """How a test's values are measured."""
     if not any(given.values()):
         return Beside()
-    from . import test_notes
+    from . import value_notes
 
-    return test_notes.beside_test(context, values, given)
+    return value_notes.beside_test(context, values, given)
 
 
 def read_result(context: Context, line: Line, words: list[str], given: Given) -> Typed:
     """The value of a result, which may have decimals or be a bound."""
-    from . import test_notes
+    from . import value_notes
 
-    return test_notes.read_result(context, line, words, given)
+    return value_notes.read_result(context, line, words, given)
 
 
 def beside_result(context: Context, values: Values, given: Given) -> Beside:
     """That the value of a result is a bound."""
     if not given.get("facts"):
         return Beside()
-    from . import test_notes
+    from . import value_notes
 
-    return test_notes.beside_result(context, given["facts"])
+    return value_notes.beside_result(context, given["facts"])
 
 
 LINE_NOTES: dict[str, LineNotes] = {
