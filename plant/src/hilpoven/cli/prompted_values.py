@@ -5,7 +5,7 @@ from ..core.context import Context
 from ..records.choices import Place
 from ..records.measures import GROUP, as_measured
 from ..register import describing
-from .test_notes import NO_DAY
+from .value_notes import NO_DAY
 
 Base = sqlite3.Connection
 Values = dict[str, str]  # of the result, by their names

@@ -14,7 +14,7 @@ from ..records.choices import Choice, Place
 from ..records.days import date_of, day_of, today
 from ..records.measures import value_of
 from . import prompted_values, terminal
-from .test_notes import LIMITS
+from .value_notes import LIMITS
 from .words import MOST_TOLD
 
 MOST_SHOWN = 9  # choices, each of which is one digit
