@@ -10,14 +10,16 @@ from hilpoven.core import on_behalf, rights, settings as site
 
 # Users and groups that each Debian has: daemon, 1, is in the group daemon, and man, 6, in the group man.
 DAEMON, MAN = 1, 6
-QUESTIONS = {"orders", "stock", "batch", "trace", "recall", "list", "show", "status", "verify", "papers", "labels", "board", "years", "journal", "to-csv", "note list",
-             "party list", "drill paper", "complete"}
+QUESTIONS = {"orders", "stock", "batch", "trace", "recall", "status", "verify", "labels", "board", "to-csv", "complete", "note list", "party list", "drill paper", "journal verify",
+             "journal head", "years files", "years recall", "years trace", "years lot", "years statement"}
+GROUPS_OF_QUESTIONS = {"list", "show", "papers"}  # of which no subcommand records anything
 OF_EACH_ROLE = {
     "record": ["ship ACME K9 S-1 BAY1 5 103", "use ACME O-1 1 HOUSE W-101 TANK 5 103", "import -", "note not-linked ACME K1", "link ACME B-1 S-1 --why use", "do ACME O-1 1 hold",
                "for ACME order O-9 BRINE-10 1 --by mail"],
-    "quality": ["reject W-101", "release W-101", "sign ACME S-1", "hold ACME S-1 --reason wet", "drill start S-1",
+    "quality": ["reject W-101", "release W-101", "sign ACME S-1", "hold ACME S-1 --reason wet", "describe lot ACME S-1 --expires 271127", "drill start S-1",
                 "for ACME release S-1 --by mail", "for ACME reject S-1 --by mail"],
-    "master_data": ["unit-add PRESS", "material new ACME GLUE kg", "material-add ACME GLUE kg", "require ACME BRINE-10 1 consumed ACME SALT 3", "party add ACME N --name N --role customer"],
+    "master_data": ["unit-add PRESS", "material new ACME GLUE kg", "material-add ACME GLUE kg", "require ACME BRINE-10 1 consumed ACME SALT 3", "party add ACME N --name N --role customer",
+                    "describe owner ACME --name Acme", "describe material ACME BRINE --name Brine", "describe test ACME BRINE PH --decimals 2"],
     "keys": ["owner key ACME", "owner add NEW", "owner-add NEW NEWKEY12"],
     "restore": ["restore office.db", "backup", "carry-over", "new", "register rebuild"],
 }
@@ -53,7 +55,7 @@ def test_each_subcommand_has_a_role_or_changes_nothing():
     names = set(words_of(hilpoven))
     assert set(roles.ROLES) <= names and set(roles.ROLES.values()) == set(site.Roles._fields)
     assert set(on_behalf.PATHS) <= set(roles.ROLES)  # whose roles `for` asks for
-    assert {name for name in names - set(roles.ROLES) - {"for"} if name not in QUESTIONS and name.split()[0] not in QUESTIONS} == set()
+    assert {name for name in names - set(roles.ROLES) - {"for"} if name.split()[0] not in GROUPS_OF_QUESTIONS} == QUESTIONS
 
 
 @pytest.mark.parametrize("role", OF_EACH_ROLE)
@@ -74,6 +76,21 @@ def test_a_member_of_the_group_may_and_so_may_root(at_work):
     assert at_work.run("unit-add", "MIXER-2").out == at_work.run("reject", "W-101").out == "accepted\n"
     for words in (["stock", "ACME"], ["list", "lots"], ["show", "lot", "ACME", "S-1"], ["note", "list"], ["party", "list"], ["journal", "--no-site"], ["board"]):
         assert by(at_work, DAEMON, *words).status == 0
+
+
+WITHDRAWN = {"master_data": ["describe test ACME BRINE PH --decimals 2", "describe owner ACME --name Acme", "party add ACME N --name N --role customer"],
+             "quality": ["describe lot ACME S-1 --expires 271127", "drill start S-1"], "record": ["link ACME B-1 S-1 --why rework", "note not-linked ACME K1"]}
+
+
+@pytest.mark.parametrize("role", WITHDRAWN)
+def test_a_note_is_withdrawn_by_whoever_may_make_it(at_work, role):
+    settle(at_work, **{role: ["man"]})
+    for text in WITHDRAWN[role]:
+        assert by(at_work, MAN, *text.split()).status == 0
+        name = at_work.lines()[-1]["id"]
+        told = by(at_work, DAEMON, "note", "withdraw", name, "--reason", "wrong")
+        assert told.status == 2 and f"is for the members of man alone, by the role {role} of the settings" in told.err and at_work.lines()[-1]["id"] == name
+        assert by(at_work, MAN, "note", "withdraw", name, "--reason", "wrong").out.startswith("noted ")
 
 
 @pytest.mark.parametrize("user", [DAEMON, "4294967294", "99999999999999999999", "x", "-1", "", "6 ", "06x"])

@@ -1,9 +1,12 @@
 """What a scanner types from a label stands for OWNER, LOT and SUBLOT: what `toll` gets is what would be typed without it."""
+import re
 import shlex
 import subprocess
 
+import click
 import pytest
 from conftest import HILPOVEN, Told, environment
+from hilpoven.cli import hilpoven
 from hilpoven.core.grammar import LINES
 
 # What is typed, and the words that `toll` gets of it.
@@ -51,6 +54,14 @@ REFUSED = [
     ("hold BOLT ACME/S-1/BAY1 --reason wet", ["OWNER is BOLT", "ACME/S-1/BAY1 it is ACME"]),
     ("sign BOLT ACME/S-1/BAY1", ["OWNER is BOLT", "ACME/S-1/BAY1 it is ACME"]),
     ("drill start BOLT ACME/S-1/BAY1", ["OWNER is BOLT", "ACME/S-1/BAY1 it is ACME"]),
+    ("describe lot BOLT ACME/S-1/BAY1 --expires 271127", ["OWNER is BOLT", "ACME/S-1/BAY1 it is ACME"]),
+    ("for BOLT release ACME/S-1/BAY1 --by mail", ["OWNER is BOLT", "ACME/S-1/BAY1 it is ACME"]),
+    ("for ACME release ACME/S-1 --by mail", ["LOT: `ACME/S-1` has `/`"]),
+    ("labels BOLT ACME/S-1/BAY1", ["OWNER is BOLT", "ACME/S-1/BAY1 it is ACME"]),
+    ("papers recall BOLT ACME/S-1/BAY1 card --no-pdf", ["OWNER is BOLT", "ACME/S-1/BAY1 it is ACME"]),
+    ("papers certificate BOLT ACME/S-1/BAY1 card --no-pdf", ["OWNER is BOLT", "ACME/S-1/BAY1 it is ACME"]),
+    ("years trace BOLT ACME/S-1/BAY1 back", ["OWNER is BOLT", "ACME/S-1/BAY1 it is ACME"]),
+    ("years lot BOLT ACME/S-1/BAY1", ["OWNER is BOLT", "ACME/S-1/BAY1 it is ACME"]),
     ("years recall BOLT ACME/S-1/BAY1", ["OWNER is BOLT", "ACME/S-1/BAY1 it is ACME"]),
 ]
 
@@ -72,6 +83,7 @@ ALIKE = [
     ("trace ACME/B-1/TOTE2 back", "trace ACME B-1 back"),
     ("trace ACME ACME/B-1/TOTE2 back", "trace ACME B-1 back"),
     ("show lot HOUSE/W-101/TANK", "show lot HOUSE W-101"),
+    ("describe lot HOUSE/W-101/TANK", "describe lot HOUSE W-101"),
     ("show lot --json HOUSE HOUSE/W-101/TANK", "show lot HOUSE W-101 --json"),
     ("list sublots --lot ACME/B-1/TOTE1", "list sublots --lot B-1 --owner ACME"),
     ("list moves --lot HOUSE/W-101/TANK", "list moves --lot W-101"),
@@ -94,9 +106,16 @@ def test_the_program_gets_the_words_that_the_text_stands_for(at_work, typed, giv
     assert told.out in ("accepted\n", "refused 42 Rejected\n") and told.status == (told.out != "accepted\n"), told
 
 
-def test_every_line_that_has_a_lot_is_among_them():
-    named = {it.split()[0] for it, _ in [*TYPED, *ALIKE, *REFUSED]}
-    assert {name for name, line in LINES.items() if "LOT" in line.values} <= named
+def commands(group, before=""):
+    """Each subcommand that is no group of others, by its words."""
+    for name, command in group.commands.items():
+        yield from commands(command, f"{before}{name} ") if isinstance(command, click.Group) else [(before + name, command)]
+
+
+def test_every_command_that_has_a_lot_is_among_them():
+    with_lot = [name for name, command in commands(hilpoven) if any(re.search(r"\bLOT\b", it.make_metavar()) for it in command.params if isinstance(it, click.Argument))]
+    typed = [it for it, _ in [*TYPED, *ALIKE, *REFUSED]]
+    assert len(with_lot) > 20 and [name for name in with_lot if not any(it.startswith(f"{name} ") for it in typed)] == []
 
 
 @pytest.fixture(scope="module")

@@ -15,9 +15,9 @@ from concurrent.futures import ThreadPoolExecutor
 import pytest
 from conftest import HILPOVEN, PATIENCE, Plant, command, copied, environment, script
 from hilpoven.cli.prompting import Dialogue
+from hilpoven.core import settings as site
 from hilpoven.core.context import Context
 from hilpoven.core.grammar import LINES
-from hilpoven.core.settings import Settings
 
 END, INTERRUPT, TAB = "\x04", "\x03", "\t"  # what Ctrl-D, Ctrl-C and Tab type
 PASTE = re.compile(r"\x1b\[\?2004[hl]\r?")  # by which a terminal is told that it may paste
@@ -261,8 +261,94 @@ def test_no_prompt_is_wider_than_the_terminal(at_work):
         base = None
 
     for line in LINES.values():
-        dialogue = Dialogue(Context(Settings()), line, NoTables())
+        dialogue = Dialogue(Context(site.Settings()), line, NoTables())
         assert all(len(dialogue.question(value).prompt) <= 79 for value in line.values)
+
+
+# Values as they were measured
+
+MEASURES = ("describe", "test", "ACME", "BRINE", "PH", "--decimals", 2)  # its limits are -5 and 9, which are -0.05 and 0.09
+
+
+def test_a_value_is_asked_as_it_was_measured(at_work):
+    assert at_work.run(*MEASURES).status == 0
+    status, text = typed(at_work, "result ACME B-1", [
+        "  1  DENSITY  limits 1,100 to 1,250\n  2  PH       limits -0.05 to 0.09\n", ("TEST: ", "2"), ("VALUE (limits -0.05 to 0.09): ", "0,07"),
+        "VALUE: `0,07` has a comma; decimals stand behind a point, such as 7.02\n", ("): ", "0.071"), "VALUE: `0.071` has 3 decimals, and the test has 2\n",
+        ("): ", "7.02"), "VALUE: 7.02 is out of the limits\n", ("DAY (", "103"), "hilpoven result ACME B-1 PH 7.02 103\n", (CONFIRM, "")])
+    assert status == 0 and text.endswith("  VALUE: 7.02 is given as 702\naccepted\n") and asked_of(at_work)[-1] == "result ACME B-1 PH 702 103"
+
+
+def test_a_bound_is_asked_for_and_shown_in_quotes(at_work):
+    status, text = typed(at_work, "result ACME B-1 DENSITY", [
+        ("VALUE (limits 1,100 to 1,250): ", "<"), "VALUE: `<` is empty; ", ("): ", "<1200"), "what is below 1,200 may be outside\n", ("): ", "<7.5"), "VALUE: `<7.5` has decimals",
+        ("): ", "<900"), "VALUE: <900 is out of the limits\n", ("DAY (", "103"), "hilpoven result ACME B-1 DENSITY '<900' 103\n", (CONFIRM, "")])
+    assert status == 0 and asked_of(at_work) == ["result ACME B-1 DENSITY 900 103"]
+    assert [it["notes"][0]["bound"] for it in at_work.lines() if "notes" in it] == ["below"]
+    status, text = typed(at_work, "result ACME B-1 DENSITY 900", [("DAY (", "103"), "DAY: lot ACME B-1 has the result <900 of DENSITY on day 103: 900 couldn't be told from it\n", ("DAY (", "104"), (CONFIRM, "")])
+    assert status == 0 and at_work.rows("SELECT value, day FROM results WHERE test = 'DENSITY' AND value = 900") == [(900, 103), (900, 104)]
+
+
+def test_a_value_is_asked_again_where_another_test_has_other_decimals(at_work):
+    assert at_work.run(*MEASURES).status == 0
+    status, text = typed(at_work, "result ACME B-1 PH 0.07", [("DAY (", "103"), (CONFIRM, "test"), ("TEST: ", "1"), "VALUE: `0.07` has decimals", ("VALUE (limits 1,100 to 1,250): ", "1180"), (CONFIRM, "")])
+    assert status == 0 and text.count("DAY (") == 1 and asked_of(at_work)[-1] == "result ACME B-1 DENSITY 1180 103"
+
+
+def test_limits_with_decimals_are_asked_as_they_are_measured(at_work):
+    at_work.lay("material-add ACME SUGAR kg")
+    status, text = typed(at_work, "test-add ACME SUGAR PH --decimals 2", [
+        ("LOW (-10,000,000.00 to 10,000,000.00): ", "6.505"), "LOW: `6.505` has 3 decimals, and the test has 2\n", ("LOW (", "-0.5"), ("HIGH (-10,000,000.00 to 10,000,000.00): ", "8.50"), (CONFIRM, "")])
+    assert status == 0 and "LOW: -0.5 is given as M50\n" in text and at_work.rows("SELECT low, high FROM tests WHERE material = 'SUGAR'") == [(-50, 850)]
+    status, text = typed(at_work, "test-add ACME SUGAR X", [("LOW (-1,000,000,000 to 1,000,000,000): ", "6.50"), "LOW: `6.50` has decimals", ("LOW (", END)])
+    assert status == 1
+
+
+def test_the_test_by_which_the_plant_signs_is_neither_offered_nor_taken(at_work):
+    at_work.lay("material-add ACME PASTE kg\ntest-add ACME PASTE PH M5 9\ntest-add ACME PASTE QA 1 1\nreceive ACME K20 PASTE P-1 BAY1 5 101")
+    at_work.settle()
+    path = site.load.__defaults__[0]
+    path.write_text(path.read_text() + '[quality]\ntest = "QA"\n')
+    env = {"HILPOVEN_SETTINGS": str(path)}
+    status, text = typed(at_work, "result ACME P-1", [("TEST [PH]: ", "qa"), "TEST: QA is the test by which the plant signs and holds", ("TEST [PH]: ", ""), ("): ", "5"), ("DAY (", "103"), (CONFIRM, "")], env=env)
+    assert status == 0 and asked_of(at_work) == ["result ACME P-1 PH 5 103"]
+
+
+# A label's text
+
+SHIPPED: list[Step] = [("holds): ", "5"), ("DAY (", "103"), ("[next]: ", ""), "hilpoven ship ACME next S-1 BAY1 5 103\n", (CONFIRM, "")]
+
+
+@pytest.mark.parametrize("line, first", [("ship", ("OWNER: ", "ACME/S-1/BAY1")), ("ship ACME", ("LOT [S-1]: ", "ACME/S-1/BAY1")), ("ship --lot s-1 --sublot bay1", ("OWNER: ", "ACME/S-1/BAY1"))])
+def test_a_label_fills_what_it_says(at_work, line, first):
+    status, text = typed(at_work, line, [first, *SHIPPED])
+    assert status == 0 and "SUBLOT [" not in text and asked_of(at_work) == ["ship ACME K7 S-1 BAY1 5 103"]
+
+
+def test_a_label_that_differs_is_refused_and_asked_again(at_work):
+    status, text = typed(at_work, "ship ACME", [
+        ("LOT [S-1]: ", "BOLT/P-1/BAY2"), "ship: OWNER is ACME, and in the scanned text BOLT/P-1/BAY2 it is BOLT\n", ("LOT [S-1]: ", "ACME/S-2/BAY1"), "LOT: `S-2` isn't there.",
+        ("LOT [S-1]: ", "ACME/S-1/BAY9"), "SUBLOT: `BAY9` isn't there.", ("LOT [S-1]: ", "ACME/S-1/BAY1"), *SHIPPED])
+    assert status == 0 and asked_of(at_work) == ["ship ACME K7 S-1 BAY1 5 103"]
+    status, text = typed(at_work, "ship ACME --sublot BAY2", [("LOT [S-1]: ", "ACME/S-1/BAY1"), "ship: SUBLOT is BAY2, and in the scanned text ACME/S-1/BAY1 it is BAY1\n", ("LOT [S-1]: ", END)])
+    assert status == 1
+    status, text = typed(at_work, "ship --lot B-1", [("OWNER: ", "ACME/S-1/BAY1"), "ship: LOT is B-1, and in the scanned text ACME/S-1/BAY1 it is S-1\n", ("OWNER: ", END)])
+    assert status == 1
+
+
+def test_another_label_takes_the_place_of_the_first(at_work):
+    assert at_work.toll("receive", "HOUSE", "K2", "WATER", "W-102", "TANK2", 5, 101).status == 0
+    status, text = typed(at_work, "scrap", [("OWNER: ", "HOUSE/W-101/TANK"), ("AMOUNT (1 to 9,300, which TANK holds): ", "7"), ("DAY (", "103"), ("[next]: ", ""), (CONFIRM, "lot"), ("LOT: ", "HOUSE/W-102/TANK2"),
+                                            "AMOUNT: `7` is more than TANK2 holds: 5\n", ("AMOUNT (1 to 5, which TANK2 holds): ", "3"), (CONFIRM, "")])
+    assert status == 0 and asked_of(at_work) == ["scrap HOUSE K3 W-102 TANK2 3 103"]
+
+
+def test_a_label_is_of_the_lot_and_not_of_the_order(at_work):
+    steps: list[Step] = [(prompt, "HOUSE/W-101/TANK") if "OWNER [" in prompt else (prompt, answer) for prompt, answer in ACTUAL if not prompt.startswith(("LOT [", "SUBLOT"))]
+    status, text = typed(at_work, "actual", [*steps, (CONFIRM, "")])
+    assert status == 0 and asked_of(at_work) == ["actual K7 ACME O-1 1 1 consumed WATER HOUSE W-101 TANK 40 103"]
+    assert typed(at_work, "actual", [("OWNER: ", "HOUSE/W-101/TANK"), "OWNER: `HOUSE/W-101/TANK` has `/`", ("OWNER: ", END)])[0] == 1
+    assert typed(at_work, "reject", [("LOT [W-101]: ", "ACME/S-1/BAY1"), "reject: it is for lots of HOUSE, and ACME/S-1/BAY1 is a lot of ACME\n", ("LOT [W-101]: ", "HOUSE/W-101/TANK"), (CONFIRM, "n")])[0] == 1
 
 
 # Names in lower case

@@ -108,6 +108,32 @@ def test_a_test_is_added_with_limits_as_they_are_measured(settled):
     assert "its command was refused" in settled.run("note", "list").out
 
 
+NEW = ("material", "new", "ACME", "SUGAR", "kg", "--test", "PH", "6.50", "8.50", "--test", "PURITY", 98, 100)
+
+
+def test_a_material_is_added_with_limits_as_they_are_measured(settled):
+    assert settled.run(*NEW, "--decimals", "PH", 2).out == "material-add ACME SUGAR kg: accepted\ntest-add ACME SUGAR PH 650 850: accepted\ntest-add ACME SUGAR PURITY 98 100: accepted\n"
+    assert settled.rows("SELECT test, low, high FROM tests WHERE material = 'SUGAR' ORDER BY test") == [("PH", 650, 850), ("PURITY", 98, 100)]
+    assert [line["notes"] for line in settled.lines() if "notes" in line] == [[{"kind": "test", "owner": "ACME", "material": "SUGAR", "test": "PH", "decimals": 2}]]
+    before = settled.lines()
+    for words in (NEW, (*NEW, "--decimals", "PH", 2)):
+        told = settled.run(*words)
+        assert told.status == 0 and [line.rsplit(": ")[1] for line in told.out.splitlines()] == ["there already"] * 3
+    for test, there, other in ((("PH", 650, 850), "6.50 to 8.50", "650.00 to 850.00"), (("PURITY", "9.8", "10.0", "--decimals", "PURITY", 1), "98 to 100", "9.8 to 10.0"),
+                               (("PH", "0.650", "0.850", "--decimals", "PH", 3), "6.50 to 8.50", "0.650 to 0.850")):
+        told = settled.run(*NEW[:5], "--test", *test)
+        assert told.status == 1 and told.out == "" and f"ACME SUGAR {test[0]} is there already with {there}, and not with {other}" in told.err
+    assert settled.lines() == before
+
+
+@pytest.mark.parametrize("more, why", [
+    ((), "LOW: `6.50` has decimals"), (("--decimals", "PH", 1), "`6.50` has 2 decimals, and the test has 1"), (("--decimals", "PHH", 2), "--decimals PHH: there is no --test PHH beside it"),
+    *((("--decimals", "PH", it), "--decimals") for it in (0, 10, "x", "2.0"))])
+def test_limits_that_cannot_be_read_add_no_material(settled, more, why):
+    told = settled.run(*NEW, *more)
+    assert told.status == 2 and why in told.err and told.out == "" and settled.lines() == [] and settled.rows("SELECT * FROM materials WHERE material = 'SUGAR'") == []
+
+
 @pytest.mark.parametrize("typed, value, listed", [("0.07", 7, "0.07"), ("-0.05", -5, "-0.05"), ("M0.05", -5, "-0.05"), ("0", 0, "0.00"), ("7.02", 702, "7.02"), ("1000", 100_000, "1000.00")])
 def test_a_result_is_recorded_as_it_was_measured(described, typed, value, listed):
     told = described.run(*RESULT, typed, 103)

@@ -3,6 +3,7 @@
 Behind sudo the environment doesn't come along, so the shell's function gives the words to `complete` there.
 """
 import sqlite3
+from dataclasses import replace
 from typing import Any
 
 import click
@@ -102,9 +103,9 @@ def names(ctx: click.Context, place: Place, begun: str) -> list[str]:
     """The names of the office that begin so, in whatever letters; none where they can't be read at once."""
     try:
         context = context_of(ctx.find_root().params)
-        hidden = {context.settings.quality.test} if place.value == "TEST" else set()
+        offered = replace(place, plants_test=context.settings.quality.test)
         with snapshot.opened(context.office_to_read()) as base:
-            return [it for it in place.suggested(base) if it.startswith(begun.upper()) and it not in hidden]
+            return [it for it in offered.suggested(base) if it.startswith(begun.upper())]
     except (Failure, OSError, ValueError, sqlite3.Error):
         return []
 

@@ -6,8 +6,8 @@ import click
 from ..core.context import Context
 from ..core.failure import tell
 from ..output.table import Value, counted
-from ..records.days import format_day
 from ..records.descriptions import facts_of_test
+from ..records.measures import limits_text
 from ..records.rows import LotId, require_owner
 from ..records.things import Thing
 from ..register import describing, making
@@ -15,7 +15,7 @@ from ..register.facts import LotFacts, MaterialFacts, OwnerFacts, TestFacts, joi
 from ..register.note import Note
 from .groups import Group
 from .noting import record
-from .words import DATE, FILLED_TEXT, WORD, decimals_option, pass_context
+from .words import DATE, FILLED_TEXT, WORD, LotCommand, decimals_option, pass_context
 
 describe_group = Group(
     "describe",
@@ -103,7 +103,7 @@ def test(context: Context, owner: str, material: str, test: str, **given: Any) -
         note, there = TestFacts(*thing, **members_of(given)), facts_of_test(desk.register, *thing)
         describing.require_decimals(desk.base, desk.register, note)
         facts = joined(there, note)
-        text = describing.limits_text(limits, facts.decimals)
+        text = limits_text(limits, facts.decimals)
         title, decimals = f"test {test} of {owner} {material}", facts.decimals
         known = noted_thing(
             title, name=facts.name, unit=facts.unit, decimals=decimals, method=facts.method, limits=text
@@ -112,13 +112,13 @@ def test(context: Context, owner: str, material: str, test: str, **given: Any) -
         count = len(describing.values_of(desk.base, *thing))
     if facts.decimals != there.decimals:
         also = f", and {counted(count, 'results')} so too" if count else ""
-        tell(f"The limits are read as {text}{also}; toll has {describing.limits_text(limits, 0)}.")
+        tell(f"The limits are read as {text}{also}; toll has {limits_text(limits)}.")
 
 
 test.params.append(decimals_option())
 
 
-@describe_group.command()
+@describe_group.command(cls=LotCommand)
 @click.argument("owner", metavar="OWNER", type=WORD)
 @click.argument("lot", metavar="LOT", type=WORD)
 @click.option("--made", metavar="DAY", type=DATE, help="The day on which it was made, YYMMDD.")
@@ -137,6 +137,5 @@ def lot(context: Context, owner: str, lot: str, **given: int | None) -> None:
         note = LotFacts(owner, lot, **members_of(given))
         describing.require_days(desk.register, note)
         facts = desk.register.lots.get((owner, lot)) or LotFacts(owner, lot)
-        days = {"made": facts.made, "expires": facts.expires, "retest": facts.retest}
-        thing = noted_thing(f"lot {lot} of {owner}", **{name: day and format_day(day) for name, day in days.items()})
+        thing = noted_thing(f"lot {lot} of {owner}", **facts.days)
         give(desk, ("lot", owner, lot), note, given, thing)

@@ -80,7 +80,7 @@ class LineCommand(click.Command):
         named = dict(ctx.params)
         words = named.pop("words")
         given = {name: named.pop(name) for name in self.names_beside}
-        typed, beside = self.typed(ctx.obj, list(words), named), None
+        typed, beside = self.typed(ctx.obj, list(words), named, given), None
         if self.notes:
             typed, given = self.notes.read(ctx.obj, self.line, typed, given)
             beside = partial(self.notes.beside, given=given)
@@ -90,7 +90,7 @@ class LineCommand(click.Command):
             sys.exit(next_key.run(ctx.obj, self.line, typed, beside))
         sys.exit(asking.run(ctx.obj, self.line, typed, beside))
 
-    def typed(self, context: Context, words: list[str], named: dict[str, Any]) -> list[str]:
+    def typed(self, context: Context, words: list[str], named: dict[str, Any], given: dict[str, Any]) -> list[str]:
         """The values in the line's order. A label's text fills three of them. At a terminal those that are missing are
         asked for, and names that were typed in lower case are read in capitals."""
         named = with_today(context, self.line, named)
@@ -100,7 +100,7 @@ class LineCommand(click.Command):
             require_options(self.line, words)
             from . import prompting
 
-            return prompting.completed(context, self.line, filled(values, words))
+            return prompting.completed(context, self.line, filled(values, words), given.get("decimals"))
         typed = arranged(self.line, words, values)
         if not at_terminal():
             return typed

@@ -1,5 +1,6 @@
 """`hilpoven material new`: a material with all its tests, in one step."""
 import sys
+from typing import NamedTuple
 
 import click
 
@@ -8,14 +9,26 @@ from ..core.context import Context
 from ..core.failure import REFUSED, WRONG_USE, Failure, tell
 from ..core.grammar import LINES, Line, faults, written
 from ..core.office import pass_on
+from ..records.descriptions import facts_of_test
+from ..records.measures import limits_text, value_of
 from ..records.rows import Base, require_owner
+from ..register.describing import LIMITS, MATERIAL
 from ..register.quality import LIMIT
+from ..register.store import Register
+from . import value_notes
 from .groups import Group
-from .words import WORD, pass_context
+from .words import WORD, decimals_type, pass_context
 
-MEASURE = "SELECT measure FROM materials WHERE owner = ? AND material = ?"
-LIMITS = "SELECT low, high FROM tests WHERE owner = ? AND material = ? AND test = ?"
-Step = tuple[Line, list[str]]
+Test = tuple[str, str, str]  # its name and its limits, as they are typed
+
+
+class Step(NamedTuple):
+    """A command with its values, and the decimals that are given beside those of a test."""
+
+    line: Line
+    words: list[str]
+    decimals: int | None
+
 
 material_group = Group(
     "material",
@@ -32,66 +45,104 @@ material_group = Group(
 @click.option(
     "--test", "tests", metavar="NAME LOW HIGH", type=(WORD, WORD, WORD), multiple=True, help="A test with its limits."
 )
+@click.option(
+    "--decimals",
+    metavar="NAME N",
+    type=(WORD, decimals_type()),
+    multiple=True,
+    help="How many decimals the values and the limits of a test have.",
+)
 @pass_context
-def new(context: Context, owner: str, material: str, measure: str, tests: tuple[tuple[str, str, str], ...]) -> None:
+def new(
+    context: Context,
+    owner: str,
+    material: str,
+    measure: str,
+    tests: tuple[Test, ...],
+    decimals: tuple[tuple[str, int], ...],
+) -> None:
     """Adds a material, its tests, and the test by which the plant signs and holds its lots, if the settings name one.
 
     Each is a command of toll. What is there already with the same values is passed over, so the same words again finish
     what was interrupted. No test is added to a material that has a lot.
 
-    Example: hilpoven material new ACME BRINE kg --test DENSITY 1100 1250 --test PH -5 9
+    Example: hilpoven material new ACME BRINE kg --test DENSITY 1100 1250 --test PH 6.50 8.50 --decimals PH 2
     """
     plants_test = context.settings.quality.test
-    if plants_test in [name for name, _, _ in tests]:
-        raise Failure(f"--test {plants_test}: it is the test of the plant's own, which is added by itself", WRONG_USE)
+    require_tests([name for name, _, _ in tests], [name for name, _ in decimals], plants_test)
     own = [(plants_test, str(LIMIT), str(LIMIT))] if plants_test else []
-    steps = [
-        step_of("material-add", owner, material, measure),
-        *(step_of("test-add", owner, material, *test) for test in [*tests, *own]),
-    ]
     office = context.office()
     with snapshot.opened(office) as base:
+        register = context.register(base)
+        steps = [step_of("material-add", [owner, material, measure])]
+        steps += [step_of_test(register, owner, material, test, dict(decimals)) for test in [*tests, *own]]
         require_owner(base, owner)
-        left = [step for step in steps if is_missing(base, step)]
-    for line, words in steps:
-        said = " ".join([line.name, *words])
-        if (line, words) not in left:
-            click.echo(f"{said}: there already")
-            continue
-        answer = asking.asked(context, office, line, words)
-        click.echo(f"{said}: ", nl=not answer.output)
-        pass_on(answer)
-        asking.explain(office, line, words, answer)
-        if answer.status:
-            sys.exit(answer.status)
+        left = [step for step in steps if is_missing(base, register, step)]
+    for step in steps:
+        if step in left:
+            give(context, step)
+        else:
+            click.echo(f"{told(step)}: there already")
     if not plants_test:
         tell("The settings name no test of the plant's own below [quality], so a hold of its lots is a note alone.")
 
 
-def step_of(name: str, *typed: str) -> Step:
-    """A command with its values; fails if one can't be read."""
+def require_tests(names: list[str], measured: list[str], plants_test: str) -> None:
+    """Fails if the plant's own test is among the tests, or if decimals are given of what is no test among them."""
+    if plants_test in names:
+        raise Failure(f"--test {plants_test}: it is the test of the plant's own, which is added by itself", WRONG_USE)
+    if strange := [name for name in measured if name not in names]:
+        why = f"--decimals {strange[0]}: there is no --test {strange[0]} beside it"
+        raise Failure(why, WRONG_USE, "a test that is there already gets decimals by `hilpoven describe test`")
+
+
+def step_of(name: str, typed: list[str], decimals: int | None = None, noted: int = 0) -> Step:
+    """A command with its values, of which limits have the decimals that are given, or that are noted; fails if one
+    can't be read."""
     line = LINES[name]
-    words, notes = written(line, list(typed))
+    words, notes = written(line, value_notes.with_limits(line, typed, decimals or noted))
     tell("\n".join(notes))
     if wrong := faults(line, words):
         raise Failure(f"{name} can't be asked so", WRONG_USE, "\n".join(wrong))
-    return line, words
+    return Step(line, words, decimals)
 
 
-def is_missing(base: Base, step: Step) -> bool:
+def step_of_test(register: Register, owner: str, material: str, test: Test, decimals: dict[str, int]) -> Step:
+    """The command that adds a test."""
+    noted = facts_of_test(register, owner, material, test[0]).decimals
+    return step_of("test-add", [owner, material, *test], decimals.get(test[0]), noted)
+
+
+def told(step: Step) -> str:
+    """A command as it is told."""
+    return " ".join([step.line.name, *step.words])
+
+
+def give(context: Context, step: Step) -> None:
+    """Gives a command to `toll`, with what is noted beside it; ends unless it is accepted."""
+    (line, words, decimals), office = step, context.office()
+    given, values = {"decimals": decimals, "unit": None, "method": None}, dict(zip(line.values, words))
+    noted = value_notes.beside_test(context, values, given).members if decimals else {}
+    answer = asking.asked(context, office, line, words, **noted)
+    click.echo(f"{told(step)}: ", nl=not answer.output)
+    pass_on(answer)
+    asking.explain(office, line, words, answer)
+    if answer.status:
+        sys.exit(answer.status)
+
+
+def is_missing(base: Base, register: Register, step: Step) -> bool:
     """Whether a step is still to be done; fails if what it adds is there with other values."""
-    line, words = step
-    *names, value = words if line.name == "material-add" else (*words[:3], limits_of(words))
-    row = base.execute(MEASURE if line.name == "material-add" else LIMITS, names).fetchone()
-    if row is None:
-        return True
-    there = str(row[0]) if len(row) == 1 else f"{row[0]} to {row[1]}"
-    if there != value:
+    line, words, decimals = step
+    owner, material, *rest = words
+    if line.name == "material-add":
+        row, names, value = base.execute(MATERIAL, (owner, material)).fetchone(), words[:2], rest[0]
+        there = row and str(row[0])
+    else:
+        row, names = base.execute(LIMITS, words[:3]).fetchone(), words[:3]
+        noted = facts_of_test(register, owner, material, rest[0]).decimals
+        there = row and limits_text(row, noted)
+        value = limits_text(map(value_of, rest[1:]), decimals or noted)
+    if there and there != value:
         raise Failure(f"{' '.join(names)} is there already with {there}, and not with {value}", REFUSED)
-    return False
-
-
-def limits_of(words: list[str]) -> str:
-    """The limits of a test, as they are told."""
-    low, high = (int(word.replace("M", "-")) for word in words[3:])
-    return f"{low} to {high}"
+    return not there

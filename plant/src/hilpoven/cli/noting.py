@@ -17,6 +17,7 @@ from ..records.rows import LotId, require_owner
 from ..register import expiry, file, making, quality
 from ..register.movements import facts_of
 from ..register.notes import Judgement, Link, Note, NotLinked, Why, Withdrawal
+from . import roles
 from .groups import Group
 from .words import FILLED_TEXT, TEXT, WORD, LotCommand, OneOf, pass_context
 
@@ -170,6 +171,7 @@ def withdraw(context: Context, name: str, reason: str) -> None:
             raise Failure(f"there is no note {name}", REFUSED, nearest(name, names, "notes"))
         if status.fault:
             raise Failure(f"note {name} doesn't stand: {status.fault}", REFUSED)
+        roles.require_to_withdraw(context, status.note.KIND)
         if isinstance(status.note, Judgement):
             advice = "`hilpoven sign` or `hilpoven hold` says what holds now"
             raise Failure(f"note {name} is a signature or a hold, which nobody withdraws", REFUSED, advice)

@@ -1,10 +1,11 @@
 """`hilpoven for`: what an owner asked the plant for, such as by mail, done with the owner's key."""
 import sys
+from collections.abc import Sequence
 
 import click
 
 from .. import HOUSE
-from ..core import asking, on_behalf
+from ..core import asking, on_behalf, scanned
 from ..core.context import Context
 from ..core.failure import WRONG_USE, Failure, tell
 from ..core.grammar import LINES, faults
@@ -20,7 +21,7 @@ from .words import FILLED_TEXT, WORD, OneOf, pass_context
 @click.argument("values", metavar="VALUE..", nargs=-1, type=WORD)
 @click.option("--by", "said_by", metavar="TEXT", type=FILLED_TEXT, required=True, help="Who asked for it, and how.")
 @pass_context
-def for_command(context: Context, owner: str, name: str, values: tuple[str, ...], said_by: str) -> None:
+def for_command(context: Context, owner: str, name: str, values: Sequence[str], said_by: str) -> None:
     """Does what an owner asked for by mail or telephone: places or cancels an order, releases or rejects a lot.
 
     The values and the roles are those of `order`, `cancel`, `release` and `reject`. It asks the office's server over
@@ -31,6 +32,7 @@ def for_command(context: Context, owner: str, name: str, values: tuple[str, ...]
     """
     roles.require(context, name)
     line = LINES[name]
+    owner, *values = scanned.unfolded(f"for OWNER {name}", ["OWNER", *line.values], [owner, *values])
     if owner == HOUSE:
         raise Failure(f"HOUSE is the plant itself: `hilpoven {line.usage()}`", WRONG_USE)
     if len(values) != len(line.values):
@@ -40,7 +42,7 @@ def for_command(context: Context, owner: str, name: str, values: tuple[str, ...]
     if wrong := faults(whole, words):
         raise Failure(f"{name} can't be asked so", WRONG_USE, "\n".join(wrong))
     office = context.office()
-    done = on_behalf.ask(context, office, on_behalf.Request(owner, line, values), said_by)
+    done = on_behalf.ask(context, office, on_behalf.Request(owner, line, tuple(values)), said_by)
     pass_on(done.answer)
     asking.explain(office, whole, words, done.answer)
     tell(done.remark if name == "order" else "")

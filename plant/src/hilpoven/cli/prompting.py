@@ -2,23 +2,28 @@
 end."""
 import sqlite3
 from contextlib import ExitStack
-from dataclasses import dataclass, field
+from dataclasses import dataclass, field, replace
 
-from ..core import snapshot
+from ..core import scanned, snapshot
 from ..core.context import Context
-from ..core.failure import Failure, printable, tell, tell_line
+from ..core.failure import WRONG_USE, Failure, printable, tell, tell_line
+from ..core.forms import Form
 from ..core.grammar import MOVEMENTS, NEXT, Line, in_capitals, written
-from ..core.office import Office
 from ..output.table import formatted
 from ..records.choices import Choice, Place
 from ..records.days import date_of, day_of, today
-from ..records.measures import value_of
-from . import prompted_values, terminal
-from .value_notes import LIMITS
+from ..records.measures import form_of, limits_text, whole_of
+from ..register import describing
+from ..register.kinds import split_sign
+from ..register.store import Register
+from . import terminal
+from .lines import quoted
+from .value_notes import NO_DAY, decimals_of
 from .words import MOST_TOLD
 
 MOST_SHOWN = 9  # choices, each of which is one digit
 LATEST_DAY = "SELECT day FROM moves ORDER BY rowid DESC LIMIT 1"
+MEASURED = {"VALUE", "LOW", "HIGH"}  # values of a test
 CONFIRM = "Enter gives it, n drops it, the name of a value asks it again: "
 Values = dict[str, str]
 
@@ -26,18 +31,25 @@ Values = dict[str, str]
 class Tables:
     """The office's tables as they were read last; none if they can't be read: `toll` checks what isn't checked here."""
 
-    def __init__(self, office: Office, stack: ExitStack) -> None:
-        self.office, self.stack = office, stack
+    def __init__(self, context: Context, stack: ExitStack) -> None:
+        self.context, self.office, self.stack = context, context.office(), stack
         self.base: sqlite3.Connection | None = None
+        self.noted: Register | None = None
         self.read()
 
     def read(self) -> None:
         """Reads them as they are now."""
         self.stack.close()
+        self.noted = None
         try:
             self.base = self.stack.enter_context(snapshot.opened(self.office))
         except (Failure, sqlite3.Error):
             self.base = None
+
+    def register(self, base: sqlite3.Connection) -> Register:
+        """What the plant noted, which is read when it is needed."""
+        self.noted = self.noted or self.context.register(base)
+        return self.noted
 
 
 @dataclass(frozen=True)
@@ -45,6 +57,7 @@ class Question:
     """What is asked: a value, the names that are shown, and what Enter alone stands for."""
 
     place: Place
+    form: Form
     choices: list[Choice] = field(default_factory=list)
     default: str = ""
     limit: str = ""  # of an amount or a test, in words
@@ -61,7 +74,7 @@ class Question:
         count = len(self.choices)
         about = self.limit or (f"{count} there; Tab completes" if count > MOST_SHOWN else "")
         if not about and not (self.choices and not self.place.may_be_new):
-            about = self.place.line.form(self.place.value).about.split(", with ")[0]
+            about = self.form.about.split(", with ")[0]
         allowed = f" ({about})" if about else ""
         return f"{self.place.value}{allowed}{f' [{self.default}]' if self.default else ''}: "
 
@@ -82,26 +95,45 @@ class Question:
 class Dialogue:
     """A line that is being asked, with the values that are known."""
 
-    def __init__(self, context: Context, line: Line, tables: Tables) -> None:
+    def __init__(self, context: Context, line: Line, tables: Tables, decimals: int | None = None) -> None:
         self.context, self.line, self.tables = context, line, tables
+        self.given_decimals = decimals
         self.values: Values = {}
+        self.given: dict[str, str | None] = {}  # values that are still to be taken
+
+    def place(self, value: str) -> Place:
+        """A value with those that are known."""
+        return Place(self.line, value, self.values, self.context.settings.quality.test)
 
     def question(self, value: str) -> Question:
         """What is asked for a value."""
-        place = Place(self.line, value, self.values)
-        listed = [Choice(it) for it in self.line.form(value).choices]
+        place, form, base = self.place(value), self.form(value), self.tables.base
+        listed = [Choice(it) for it in form.choices]
         if value == "DAY":
-            return Question(place, default=self.today())
+            return Question(place, form, default=self.today())
         if value == "KEY" and self.line.name in MOVEMENTS:
-            return Question(place, default=NEXT)
-        if self.tables.base is None:
-            return Question(place, listed)
-        hidden = {self.context.settings.quality.test} if value == "TEST" else set()
-        choices = [it for it in place.fitting(self.tables.base) if it.name not in hidden] or listed
-        if self.is_result and value == "TEST":
-            choices = [Choice(it.name, self.limits(self.tables.base, it.name)) for it in choices]
+            return Question(place, form, default=NEXT)
+        if base is None:
+            return Question(place, form, listed)
+        choices = place.fitting(base) or listed
+        if (self.line.name, value) == ("result", "TEST"):
+            choices = [replace(it, about=self.limits_of(base, it.name)) for it in choices]
         is_only = len(choices) == 1 and not place.may_be_new
-        return Question(place, choices, choices[0].name if is_only else "", self.limit(self.tables.base, place))
+        return Question(place, form, choices, choices[0].name if is_only else "", self.limit(base, place))
+
+    def form(self, value: str) -> Form:
+        """The form of a value; where its test has decimals, that of what was measured."""
+        decimals = self.decimals(value)
+        return form_of(decimals) if decimals else self.line.form(value)
+
+    def decimals(self, value: str) -> int:
+        """How many decimals a value of a test has; 0 of any other value."""
+        base = self.tables.base
+        if value not in MEASURED:
+            return 0
+        if self.given_decimals or base is None:
+            return self.given_decimals or 0
+        return decimals_of(base, self.tables.register(base), self.values)
 
     def today(self) -> str:
         """Today as a day, if the days of the office's movements are dates."""
@@ -112,69 +144,103 @@ class Dialogue:
         """Between which numbers a value is to be, if the office says so."""
         if (most := place.most(base)) is not None:
             return f"1 to {most:,}, which {self.values['SUBLOT']} holds"
-        return self.limits(base, self.values["TEST"]) if self.is_result and place.value == "VALUE" else ""
+        return self.limits_of(base, self.values["TEST"]) if place.value == "VALUE" else ""
 
-    @property
-    def is_result(self) -> bool:
-        """Whether the line records a result, whose value is as it is measured."""
-        return self.line.name == "result"
-
-    def limits(self, base: sqlite3.Connection, test: str) -> str:
-        """The limits of a test of the lot, in words."""
-        return prompted_values.limits_text(self.context, base, Place(self.line, "VALUE", {**self.values, "TEST": test}))
-
-    def word_of(self, value: str, word: str) -> str:
-        """A word as `toll` reads it; fails if it is no value as it is measured."""
-        if self.is_result and value == "VALUE" and self.tables.base is not None:
-            word = prompted_values.word_of(self.context, self.tables.base, self.values, word)
-        return written(self.line._replace(values=(value,)), [word])[0][0]
+    def limits_of(self, base: sqlite3.Connection, test: str) -> str:
+        """The limits of a test of the lot as they are measured; empty if they aren't known."""
+        values = {**self.values, "TEST": test}
+        limits = Place(self.line, "VALUE", values).limits(base)
+        decimals = decimals_of(base, self.tables.register(base), values)
+        return f"limits {limits_text(limits, decimals)}" if limits else ""
 
     def fault(self, value: str, word: str) -> str:
-        """What is wrong with a word; what isn't there is looked for once more in the tables as they are now."""
+        """What is told against a word; what isn't there is looked for once more in the tables as they are now."""
         if value == "KEY" and word == NEXT and self.line.name in MOVEMENTS:
             return ""
-        if value in LIMITS and "." in word:
-            return ""  # which is read with the decimals of the test, once it is known
-        try:
-            fault = self.line.form(value).fault(self.word_of(value, word))
-        except Failure as failure:
-            fault = failure.message.removeprefix(f"`{word}` ")
-        if fault:
-            return fault
+        number = split_sign(word)[1] if value == "VALUE" else word
+        typed = number if self.decimals(value) else written_value(self.line, value, number)
+        if fault := self.form(value).fault(typed) if word else "is empty":
+            return called(word, fault)
         if self.not_in_tables(value, word):
             self.tables.read()
         return self.not_in_tables(value, word)
 
     def not_in_tables(self, value: str, word: str) -> str:
         """What the tables say against a word."""
-        place = Place(self.line, value, self.values)
-        if self.tables.base is None:
+        place, base = self.place(value), self.tables.base
+        if base is None:
             return ""
-        most = place.most(self.tables.base)
+        most = place.most(base)
         if most is not None and int(word) > most:
-            return f"is more than {self.values['SUBLOT']} holds: {formatted(most)}"
-        return place.unknown(self.tables.base, word) or place.taken(self.tables.base, word)
+            return called(word, f"is more than {self.values['SUBLOT']} holds: {formatted(most)}")
+        if fault := place.unknown(base, word) or place.taken(base, word):
+            return called(word, fault)
+        return self.not_of_result(base, {**self.values, value: word}) if self.line.name == "result" else ""
+
+    def not_of_result(self, base: sqlite3.Connection, values: Values) -> str:
+        """What is told against the test of a result that is the plant's own, against a bound that doesn't say whether
+        the value is within the limits, and against a value that couldn't be told from another one of its day."""
+        if values.get("TEST") == self.context.settings.quality.test:
+            return self.context.stops.why_no_result(values)
+        if "VALUE" not in values:
+            return ""
+        names, day = (values["OWNER"], values["LOT"], values["TEST"]), int(values.get("DAY", NO_DAY))
+        try:
+            describing.result_of(base, self.tables.register(base), *names, values["VALUE"], day)
+        except Failure as failure:
+            return failure.message
+        return ""
 
     def take(self, value: str, word: str) -> bool:
+        """Whether a word is taken for a value, or for the values that a scanned text fills; otherwise what is wrong
+        with it is told."""
+        before = dict(self.values)
+        try:
+            meant = self.filled(value, word)
+        except Failure as failure:
+            tell(failure.message)
+            return False
+        if all(self.take_one(name, it) for name, it in meant.items()):
+            return True
+        self.values = before
+        return False
+
+    def filled(self, value: str, word: str) -> Values:
+        """The values that a word stands for: a scanned text in the place of the lot or of its owner fills those of the
+        three that aren't there yet. Fails if another one is."""
+        owner, lot = scanned.fillable(self.line.values)
+        text = scanned.scanned_sublot(word)
+        if value not in (owner, lot) or not text:
+            return {value: word}
+        known = {
+            name: self.values.get(name) or (self.given.get(name) or "").upper() or None for name in self.line.values
+        }
+        if known[lot] not in (None, text.lot):
+            why = f"{self.line.name}: {lot} is {known[lot]}, and in the scanned text {text} it is {text.lot}"
+            raise Failure(why, WRONG_USE)
+        full, _ = scanned.filled(self.line.name, {**known, lot: word}, [])
+        left = [name for name in (owner, lot, "SUBLOT") if name and name not in self.values]
+        return {name: named for name in left if (named := full.get(name))}
+
+    def take_one(self, value: str, word: str) -> bool:
         """Whether a word is taken for a value; otherwise what is wrong with it is told."""
         line = self.line._replace(values=(value,))
         (word,), notes = in_capitals(line, [word])
-        fault = self.fault(value, word) if word else "is empty"
-        called = f"`{printable(word[:MOST_TOLD])}` " if word else ""
-        tell(f"{value}: {called}{fault}" if fault else "\n".join([*notes, self.remark(value, word)]))
+        fault = self.fault(value, word)
+        tell(f"{value}: {fault}" if fault else "\n".join([*notes, self.remark(value, word)]))
         if not fault:
             self.values[value] = word
         return not fault
 
     def remark(self, value: str, word: str) -> str:
         """What is told of a value that is taken, and may be mistyped: a new name, or one out of a test's limits."""
-        place, base = Place(self.line, value, self.values), self.tables.base
+        place, base = self.place(value), self.tables.base
         if base is None:
             return ""
         if place.is_unheard(base, word):
             return f"{value}: {word} is new"
         limits = place.limits(base)
-        is_out = limits is not None and not limits[0] <= value_of(self.word_of(value, word)) <= limits[1]
+        is_out = limits and not limits[0] <= whole_of(split_sign(word)[1], self.decimals(value)) <= limits[1]
         return f"{value}: {word} is out of the limits" if is_out else ""
 
     def ask(self, value: str) -> None:
@@ -187,10 +253,25 @@ class Dialogue:
         while not self.take(value, question.meant(terminal.ask(question.prompt, names))):
             pass
 
+    def complete(self, given: dict[str, str | None]) -> None:
+        """Takes the values that are given, and asks for those that are missing or wrong."""
+        self.given = dict(given)
+        for value in in_order(self.line):
+            word = self.given.pop(value, None)
+            if value not in self.values and (word is None or not self.take(value, word)):
+                self.ask(value)
+
+    def change(self, value: str) -> None:
+        """Asks for a value once more, and for those behind it that don't fit the new one."""
+        order = in_order(self.line)
+        behind: dict[str, str | None] = {name: self.values.pop(name) for name in order[order.index(value) + 1 :]}
+        self.ask(value)
+        self.complete(behind)
+
     def confirm(self) -> None:
         """Shows the line, and asks until it is to be given; Enter alone gives it. A question is shown alone."""
         while True:
-            tell_line(f"hilpoven {self.line.name} {' '.join(self.values[it] for it in self.line.values)}")
+            tell_line(f"hilpoven {self.line.name} {' '.join(quoted(self.values[it]) for it in self.line.values)}")
             if self.line.is_question:
                 return
             answer = terminal.ask(CONFIRM, self.line.values).upper()
@@ -199,7 +280,17 @@ class Dialogue:
             if answer in ("N", "NO"):
                 raise terminal.Declined
             if answer in self.line.values:
-                self.ask(answer)
+                self.change(answer)
+
+
+def called(word: str, fault: str) -> str:
+    """What is told of a word that isn't taken; an empty one isn't told back."""
+    return f"`{printable(word[:MOST_TOLD])}` {fault}" if word else fault
+
+
+def written_value(line: Line, value: str, word: str) -> str:
+    """A word as `toll` reads it: a value below zero with `M`."""
+    return written(line._replace(values=(value,)), [word])[0][0]
 
 
 def in_order(line: Line) -> list[str]:
@@ -207,14 +298,11 @@ def in_order(line: Line) -> list[str]:
     return sorted(line.values, key=lambda value: (value == "KEY", value != "OWNER"))
 
 
-def completed(context: Context, line: Line, given: dict[str, str | None]) -> list[str]:
-    """The values of a line in its order, of which those that are missing or wrong are asked for."""
-    office = context.office()
+def completed(context: Context, line: Line, given: dict[str, str | None], decimals: int | None = None) -> list[str]:
+    """The values of a line in its order, of which those that are missing or wrong are asked for. A test that is added
+    may have decimals."""
     with ExitStack() as stack, terminal.asking():
-        dialogue = Dialogue(context, line, Tables(office, stack))
-        for value in in_order(line):
-            word = given[value]
-            if word is None or not dialogue.take(value, word):
-                dialogue.ask(value)
+        dialogue = Dialogue(context, line, Tables(context, stack), decimals)
+        dialogue.complete(given)
         dialogue.confirm()
     return [dialogue.values[it] for it in line.values]

@@ -7,15 +7,31 @@ COMMANDS = {
         "order, cancel, open, do, close, receive, split, ship, scrap, result, actual, void, import, use, link, "
         "note withdraw, note not-linked, note movement"
     ),
-    "quality": "release, reject, sign, hold, drill start, drill end",
-    "master_data": "unit-add, material-add, material new, test-add, recipe-add, require, party add",
+    "quality": "release, reject, sign, hold, describe lot, drill start, drill end",
+    "master_data": (
+        "unit-add, material-add, material new, test-add, recipe-add, require, party add, "
+        "describe owner, describe material, describe test"
+    ),
     "keys": "owner-add, owner add, owner key",
     "restore": "new, backup, restore, register rebuild, carry-over",
 }
 ROLES = {command: role for role, commands in COMMANDS.items() for command in commands.split(", ")}
+NOTED_BY = {  # by which command the notes of a kind are made, where it isn't of the role of `note withdraw`
+    **{kind: f"describe {kind}" for kind in ("owner", "material", "test", "lot")},
+    "party": "party add",
+    "drill-start": "drill start",
+    "drill-end": "drill end",
+}
 
 
 def require(context: Context, command: str) -> None:
     """Fails for a member whose groups have not the role of a command."""
     if role := ROLES.get(command):
         require_role(command, role, getattr(context.settings.roles, role))
+
+
+def require_to_withdraw(context: Context, kind: str) -> None:
+    """Fails for a member whose groups have not the role of the command that makes the notes of a kind."""
+    if command := NOTED_BY.get(kind):
+        role = ROLES[command]
+        require_role(f"note withdraw of what `{command}` notes", role, getattr(context.settings.roles, role))

@@ -1,4 +1,5 @@
 """The notes beside a test and a result: how values are measured, and which results are a bound."""
+import sqlite3
 from typing import Any
 
 from ..core import snapshot
@@ -7,9 +8,12 @@ from ..core.context import Context
 from ..core.failure import tell
 from ..core.forms import DAY, NAME
 from ..core.grammar import Line
+from ..records.descriptions import facts_of_test
 from ..records.measures import value_word, whole_of
 from ..register import describing, making
 from ..register.facts import ResultFacts, TestFacts
+from ..register.kinds import split_sign
+from ..register.store import Register
 from .line_notes import Typed
 
 Values = dict[str, str]  # of a line, by their names
@@ -30,21 +34,27 @@ def measured(line: Line, words: list[str], read: Values) -> list[str]:
 
 def read_limits(context: Context, line: Line, words: list[str], given: dict[str, Any]) -> Typed:
     """The limits of a test with the decimals that are given, or that stand."""
-    typed = dict(zip(line.values, words))
-    decimals = given["decimals"] or standing_decimals(context, typed)
+    office, decimals = context.office(), given["decimals"]
+    if not decimals and describing.has_measures(context.journal()):
+        with snapshot.opened(office) as base:
+            decimals = decimals_of(base, context.register(base), dict(zip(line.values, words)))
+    return Typed(with_limits(line, words, decimals or 0), given)
+
+
+def with_limits(line: Line, words: list[str], decimals: int) -> list[str]:
+    """The words of a test with its limits as `toll` has them."""
     if not decimals:
-        return Typed(words, given)
-    return Typed(measured(line, words, {name: value_word(whole_of(typed[name], decimals)) for name in LIMITS}), given)
+        return words
+    typed = dict(zip(line.values, words))
+    return measured(line, words, {name: value_word(whole_of(typed[name], decimals)) for name in LIMITS})
 
 
-def standing_decimals(context: Context, typed: Values) -> int:
-    """The decimals that are noted of a test; 0 if none are."""
-    office = context.office()
-    if not describing.has_measures(context.journal()):
-        return 0
-    with snapshot.opened(office) as base:
-        facts = context.register(base).tests.get((typed["OWNER"], typed["MATERIAL"], typed["TEST"]))
-    return facts.decimals if facts else 0
+def decimals_of(base: sqlite3.Connection, register: Register, values: Values) -> int:
+    """How many decimals are noted of a test, which is that of a lot or of a material; 0 if none are."""
+    if "LOT" in values:
+        facts = describing.test_of_lot(base, register, values["OWNER"], values["LOT"], values["TEST"])
+        return facts.decimals if facts else 0
+    return facts_of_test(register, values["OWNER"], values["MATERIAL"], values["TEST"]).decimals
 
 
 def beside_test(context: Context, values: Values, given: dict[str, Any]) -> Beside:
@@ -57,7 +67,7 @@ def beside_test(context: Context, values: Values, given: dict[str, Any]) -> Besi
 def read_result(context: Context, line: Line, words: list[str], given: dict[str, Any]) -> Typed:
     """The value of a result with the decimals of its test, and what is noted of one that is a bound."""
     typed = dict(zip(line.values, words))
-    office, (bound, _) = context.office(), describing.split_sign(typed["VALUE"])
+    office, (bound, _) = context.office(), split_sign(typed["VALUE"])
     if not bound and not describing.has_measures(context.journal()):
         return Typed(words, given)
     day = NO_DAY if DAY.fault(typed["DAY"]) else int(typed["DAY"])

@@ -187,12 +187,17 @@ NAME = Name()
 DATE = Date()
 
 
-def decimals_option() -> click.Option:
-    """The option that says how many decimals the values of a test have."""
+def decimals_type() -> click.IntRange:
+    """How many decimals the values of a test may have."""
     from ..records.measures import MOST_DECIMALS
 
+    return click.IntRange(1, MOST_DECIMALS)
+
+
+def decimals_option() -> click.Option:
+    """The option that says how many decimals the values of a test have."""
     about = "How many decimals its values have: toll has 702 of 7.02 with two."
-    return click.Option(["--decimals"], metavar="N", type=click.IntRange(1, MOST_DECIMALS), help=about)
+    return click.Option(["--decimals"], metavar="N", type=decimals_type(), help=about)
 
 
 DAY = Day()

@@ -70,7 +70,7 @@ LIMITS = """
 SELECT t.test, t.low, t.high
 FROM tests AS t JOIN lots AS l USING (owner, material) WHERE l.owner = :whose AND l.lot = :lot
 """
-TESTS = f"SELECT test, 'limits ' || low || ' to ' || high FROM ({LIMITS})"
+TESTS = f"SELECT test, '' FROM ({LIMITS})"
 OPEN_ACTUALS = f"""
 SELECT m.mkey, m.ord || '/' || m.number || ', ' || m.lot || ', ' || m.amount
 FROM moves AS m JOIN batches AS b USING (owner, ord, number) WHERE m.owner = :whose AND b.closed = 0 AND {STANDING}
@@ -123,11 +123,12 @@ class Choice:
 
 @dataclass(frozen=True)
 class Place:
-    """A value of a line, with the values that stand before it."""
+    """A value of a line, with the values that stand before it. The plant's own test isn't suggested."""
 
     line: Line
     value: str
     before: dict[str, str] = field(default_factory=dict)
+    plants_test: str = ""
 
     @property
     def kind(self) -> str:
@@ -160,6 +161,10 @@ class Place:
 
     def fitting(self, base: Base) -> list[Choice]:
         """The names that fit, in their order; none if the line gives a new one."""
+        return [it for it in self.known(base) if self.kind != "TEST" or it.name != self.plants_test]
+
+    def known(self, base: Base) -> list[Choice]:
+        """The names that fit, and the plant's own test where it does."""
         sql = FITTING.get((self.line.name, self.value))
         if sql is None:
             return [] if self.is_new else [Choice(name) for name in self.names(base)]

@@ -4,9 +4,11 @@ from dataclasses import dataclass
 from ..register import quality
 from ..register.facts import LotFacts, MaterialFacts, OwnerFacts, ResultId, TestFacts
 from ..register.store import Register
-from .days import format_day
 from .measures import GROUP, as_measured, shown
 from .rows import Base, Lot, LotId, Test, tests_of
+
+
+RETEST = "to be tested again"  # as papers call the day
 
 
 @dataclass(frozen=True)
@@ -46,11 +48,10 @@ class DescribedLot:
     @property
     def texts(self) -> dict[str, str]:
         """Full names and days, by what each is; what isn't noted is left out."""
-        days = {"made": self.lot.made, "expires": self.lot.expires, "to be tested again": self.lot.retest}
         names = {"owner": self.owner.name, "address": self.owner.address, "material": self.material.name}
         return {
             **{what: text for what, text in names.items() if text},
-            **{what: format_day(day) for what, day in days.items() if day},
+            **{RETEST if what == "retest" else what: day for what, day in self.lot.days.items()},
         }
 
 

@@ -1,9 +1,10 @@
 """Values of tests as they are measured, with decimals, and as `toll` has them, which are whole numbers."""
 import re
+from collections.abc import Iterable
 
 from ..core.failure import WRONG_USE, Failure, printable
-from ..core.forms import MOST_VALUE
-from ..output.table import Shown
+from ..core.forms import MOST_VALUE, Form
+from ..output.table import Shown, counted
 
 MOST_DECIMALS = 9
 MOST_QUOTED = 40  # letters of a text that is no value
@@ -26,25 +27,43 @@ def shown(value: int, decimals: int = 0, sign: str = "") -> int:
     return Shown(value, sign + as_measured(value, decimals, GROUP), sign + as_measured(value, decimals))
 
 
-def whole_of(text: str, decimals: int = 0) -> int:
-    """The value that `toll` has of a measured one: of 7.02 with two decimals it is 702. Fails if a text is none."""
-    match, quoted = MEASURED.fullmatch(text), f"`{printable(text[:MOST_QUOTED])}`"
+def form_of(decimals: int) -> Form:
+    """The form of a measured value with so many decimals."""
+    return Form(limits_text((-MOST_VALUE, MOST_VALUE), decimals), lambda text: fault(text, decimals))
+
+
+def fault(text: str, decimals: int) -> str:
+    """What is wrong with a text as a measured value with so many decimals."""
+    match = MEASURED.fullmatch(text)
     if match is None:
         why = "has a comma; decimals stand behind a point" if WITH_COMMA.fullmatch(text) else "is no number"
-        raise Failure(f"{quoted} {why}, such as {as_measured(702, decimals)}", WRONG_USE)
-    sign, whole, part = match[1], match[2], match[3] or ""
+        return f"{why}, such as {as_measured(702, decimals)}"
+    part = match[3] or ""
     if len(part) > decimals:
-        raise Failure(f"{quoted} has {counted(len(part))}, and the test has {decimals or 'none'}", WRONG_USE)
-    digits = (whole + part.ljust(decimals, "0")).lstrip("0") or "0"
+        return f"has {counted(len(part), 'decimals')}, and the test has {decimals or 'none'}"
+    digits = digits_of(match, decimals)
     if len(digits) > len(str(MOST_VALUE)) or int(digits) > MOST_VALUE:
-        least, most = (as_measured(it, decimals, GROUP) for it in (-MOST_VALUE, MOST_VALUE))
-        raise Failure(f"{quoted} is out of what toll takes: {least} to {most}", WRONG_USE)
-    return -int(digits) if sign else int(digits)
+        return f"is out of what toll takes: {form_of(decimals).about}"
+    return ""
 
 
-def counted(decimals: int) -> str:
-    """A count of decimals."""
-    return "1 decimal" if decimals == 1 else f"{decimals} decimals"
+def digits_of(match: re.Match[str], decimals: int) -> str:
+    """The digits of the number that `toll` has of a measured one, without its sign."""
+    return (match[2] + (match[3] or "").ljust(decimals, "0")).lstrip("0") or "0"
+
+
+def whole_of(text: str, decimals: int = 0) -> int:
+    """The value that `toll` has of a measured one: of 7.02 with two decimals it is 702. Fails if a text is none."""
+    match, why = MEASURED.fullmatch(text), fault(text, decimals)
+    if match is None or why:
+        raise Failure(f"`{printable(text[:MOST_QUOTED])}` {why}", WRONG_USE)
+    number = int(digits_of(match, decimals))
+    return -number if match[1] else number
+
+
+def limits_text(limits: Iterable[int], decimals: int = 0) -> str:
+    """Limits as people read them."""
+    return " to ".join(as_measured(limit, decimals, GROUP) for limit in limits)
 
 
 def value_word(value: int) -> str:

@@ -16,7 +16,6 @@ from ..register.movements import COLUMNS, cells_of, with_columns, with_facts
 from ..register.notes import Link, Party
 from ..register.recipients import Received, facts_of, party_of
 from ..register.store import Register
-from .days import format_day
 from .descriptions import facts_of_test, shown_result
 from .genealogy import Genealogy
 from .measures import shown
@@ -147,8 +146,7 @@ def lot(base: Base, owner: str, name: str, register: Register = NOTHING_NOTED) -
 
 def days_of(facts: LotFacts | None) -> dict[str, Value]:
     """The days that are noted of a lot."""
-    days = {} if facts is None else {"made": facts.made, "expires": facts.expires, "retest": facts.retest}
-    return {f"noted {what}": format_day(day) for what, day in days.items() if day}
+    return {f"noted {what}": day for what, day in facts.days.items()} if facts else {}
 
 
 def add_tests(thing: Thing, base: Base, register: Register, lot: LotId, material: str) -> list[Row]:

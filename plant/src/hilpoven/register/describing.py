@@ -1,17 +1,16 @@
 """What is looked at before the plant describes something, or reads a value of a test as it was measured."""
 import sqlite3
-from collections.abc import Iterable
 
 from ..core.failure import REFUSED, Failure
 from ..core.forms import MOST_VALUE, VALUE
 from ..journal.log import Journal
 from ..records.descriptions import facts_of_test
-from ..records.measures import GROUP, as_measured, value_word, whole_of
+from ..records.measures import GROUP, as_measured, limits_text, value_word, whole_of
 from ..records.rows import LotId, require_lot, require_owner
 from ..records.things import row_of
 from . import file
 from .facts import LotFacts, ResultFacts, ResultId, TestFacts, joined
-from .kinds import Bound
+from .kinds import Bound, split_sign
 from .note import Note
 from .standing import HAS_RESULT
 from .store import Register
@@ -26,7 +25,6 @@ VALUES = """
 SELECT r.value FROM results AS r JOIN lots AS l USING (owner, lot)
 WHERE r.owner = ? AND l.material = ? AND r.test = ? ORDER BY r.rowid
 """
-BOUNDS = {bound.sign: bound for bound in Bound}
 
 
 def has_noted(journal: Journal, *kinds: type[Note]) -> bool:
@@ -55,11 +53,6 @@ def limits_of(base: Base, owner: str, material: str, test: str) -> tuple[int, in
     low, high = row_of(base, LIMITS, (owner, material, test), "test", TESTS)
     assert isinstance(low, int) and isinstance(high, int)
     return low, high
-
-
-def limits_text(limits: Iterable[int], decimals: int) -> str:
-    """Limits as people read them."""
-    return " to ".join(as_measured(limit, decimals, GROUP) for limit in limits)
 
 
 def values_of(base: Base, owner: str, material: str, test: str) -> list[int]:
@@ -91,11 +84,6 @@ def require_days(register: Register, note: LotFacts) -> None:
     for day, what in ((facts.expires, "expires"), (facts.retest, "is to be tested again")):
         if facts.made and day and day < facts.made:
             raise Failure(f"lot {LotId(note.owner, note.lot)} {what} on {day}, and was made on {facts.made}", REFUSED)
-
-
-def split_sign(text: str) -> tuple[Bound | None, str]:
-    """What a text says beside its number: `<5` is below 5."""
-    return BOUNDS.get(text[:1]), text[1:].lstrip() if text[:1] in BOUNDS else text
 
 
 def test_of_lot(base: Base, register: Register, owner: str, lot: str, test: str) -> TestFacts | None:

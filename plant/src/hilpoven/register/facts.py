@@ -90,12 +90,15 @@ class LotFacts(Note):
     retest: int | None = None
 
     @property
+    def days(self) -> dict[str, str]:
+        """The days that are noted, as people read them, by what each is."""
+        days = {"made": self.made, "expires": self.expires, "retest": self.retest}
+        return {what: format_day(day) for what, day in days.items() if day}
+
+    @property
     def sentence(self) -> str:
         """Which lot, and its days."""
-        days = {"made": self.made, "expires": self.expires, "retest": self.retest}
-        return (
-            f"lot {LotId(self.owner, self.lot)}: {in_words({it: day and format_day(day) for it, day in days.items()})}"
-        )
+        return f"lot {LotId(self.owner, self.lot)}: {in_words(self.days)}"
 
 
 @dataclass(frozen=True)

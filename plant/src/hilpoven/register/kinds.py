@@ -29,3 +29,11 @@ class Bound(StrEnum):
     def sign(self) -> str:
         """How it is written before the value."""
         return "<" if self is Bound.BELOW else ">"
+
+
+BOUNDS = {bound.sign: bound for bound in Bound}
+
+
+def split_sign(text: str) -> tuple[Bound | None, str]:
+    """What a text says beside its number: `<5` is below 5."""
+    return BOUNDS.get(text[:1]), text[1:].lstrip() if text[:1] in BOUNDS else text

@@ -10,7 +10,7 @@ from ..records.rows import LotId
 from ..records.schema import Role
 from ..register import describing, expiry, making
 from ..register.facts import LotFacts, MovementFacts, ResultFacts, ResultId
-from ..register.kinds import Bound
+from ..register.kinds import Bound, split_sign
 from ..register.movements import GETS, SENDS, Parties, party_fault
 from .sheet import Finding, Record, Sheet
 from .values import ACTUALS, RESULTS, SHIPMENTS
@@ -71,7 +71,7 @@ def warning_of(desk: making.Desk, setting: str, record: Record) -> str:
 def beside_results(context: Context, sheet: Sheet) -> Beside:
     """The notes of results whose value is a bound. Values with decimals become those that `toll` has; rows are refused
     whose results can't be told from others."""
-    has_bounds = any(describing.split_sign(record.values["value"])[0] for record in sheet.records)
+    has_bounds = any(split_sign(record.values["value"])[0] for record in sheet.records)
     if not has_bounds and not describing.has_measures(context.journal()):
         return {}
     read: list[tuple[Record, str, ResultFacts | None]] = []

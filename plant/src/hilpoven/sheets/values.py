@@ -13,7 +13,7 @@ from ..output.exports import as_cell
 from ..output.table import Value
 from ..records.days import DATED_YEARS, date_in, day_of
 from ..records.measures import whole_of
-from ..register.kinds import Bound
+from ..register.kinds import split_sign
 from .cells import Cell
 
 NAME = re.compile(r"[A-Z0-9][A-Z0-9-]{0,15}")
@@ -26,7 +26,6 @@ SIGNS = re.compile(r"[.,' \u00a0\u202f]")  # what stands between thousands
 THOUSANDS = re.compile(rf"[0-9]{{1,3}}({SIGNS.pattern}[0-9]{{3}})+")
 DECIMALS = re.compile(r"([0-9]+)[.,]0+")
 PLAIN_FORM = re.compile(r"(?:0{1,20}|#,##0)(?:\.(0{1,20}))?")
-SIGNS_OF_BOUNDS = tuple(bound.sign for bound in Bound)
 DOTTED = re.compile(r"([0-9]{1,2})\.([0-9]{1,2})\.([0-9]{4})")  # a date, the day before the month
 UNCLEAR = re.compile(r"[0-9]{1,4}([./-])[0-9]{1,2}\1[0-9]{1,4}")  # a date in which the parts may be others
 MINUS = re.compile(r"[-\u2212](?=[0-9])")  # as a keyboard and as a spreadsheet write it
@@ -175,8 +174,8 @@ def of_values(cell: Cell) -> Taken:
 
 def of_measured(cell: Cell, decimals: int) -> Taken:
     """A value of a test with so many decimals, as it was measured: 7.02, or <5 where it is a bound."""
-    sign = cell.text[:1] if cell.text[:1] in SIGNS_OF_BOUNDS else ""
-    bare = cell._replace(text=cell.text[1:].lstrip()) if sign else cell
+    bound, number = split_sign(cell.text)
+    sign, bare = bound.sign if bound else "", cell._replace(text=number)
     if not decimals:
         taken = of_values(bare)
         return taken._replace(text=sign + taken.text)
