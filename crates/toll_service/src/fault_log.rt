@@ -1,25 +1,73 @@
 //! What an operator sees of a server's faults.
-ghost use Rattle.std.specs.Prelude.{◌≡◌, None};
+ghost use Rattle.std.specs.Prelude.{◌≡◌, None, option_map};
+ghost use Rattle.toll_service.specs.Faults.{serving_fault_name};
+ghost use Rattle.toll_service.specs.declared.fault_log.FaultNote.TheVariants as note;
 
 use crate::notes::Notes;
 use crate::office_fault::OfficeFault;
-use thiserror::Error;
+use std::fmt;
 
 /// A fault that a server meets.
-#[derive(Clone, Copy, Debug, PartialEq, Eq, Drop, Error)]
+#[derive(Clone, Copy, Debug, PartialEq, Eq)]
 pub enum ServingFault {
     /// The office was not opened.
-    #[error("{0}")]
     Office(OfficeFault),
     /// A request or call met a fault.
-    #[error("Unavailable")]
     Unavailable,
     /// The socket file of the plant could not be made.
-    #[error("Door")]
     PlantSocket,
     /// There was no descriptor, or no memory, to take a connection.
-    #[error("Room")]
     NoResources,
+}
+
+impl ServingFault {
+    /// Its word.
+    pub fn name(self) -> &'static str
+        ensures { result.now ≡ serving_fault_name self }
+    {
+        match self {
+            ServingFault::Office(fault) => fault.name(),
+            ServingFault::Unavailable => "Unavailable",
+            ServingFault::PlantSocket => "Door",
+            ServingFault::NoResources => "Room",
+        }
+    }
+}
+
+/// What an operator reads of a fault.
+#[derive(Clone, Copy, Debug, PartialEq, Eq)]
+pub enum FaultNote {
+    Ended(ServingFault),
+    Began(ServingFault),
+}
+
+impl FaultNote {
+    /// That the fault before ended, and that the new one began.
+    pub fn of_change(
+        was: Option<ServingFault>,
+        found: Option<ServingFault>,
+    ) -> (Option<FaultNote>, Option<FaultNote>)
+        ensures { result ≡ (option_map note.Ended was, option_map note.Began found) }
+    {
+        (was.map(FaultNote::Ended), found.map(FaultNote::Began))
+    }
+}
+
+impl fmt::Display for FaultNote {
+    ghost use Rattle.std.specs.Prelude.{Some};
+    ghost use Rattle.toll_service.specs.Faults.{fault_note_text};
+
+    ghost output = { λ note. Some (fault_note_text note) };
+
+    fn fmt<W: fmt::Write>(&self, f: &mut fmt::Formatter<W>) -> fmt::Result {
+        let (fault, event) = match self {
+            FaultNote::Ended(fault) => (fault, " ended"),
+            FaultNote::Began(fault) => (fault, " began"),
+        };
+        f.write_str("fault ")?;
+        f.write_str(fault.name())?;
+        f.write_str(event)
+    }
 }
 
 /// The fault that a server has now, if it has one.
@@ -48,11 +96,12 @@ impl FaultLog {
         if self.fault == found {
             return;
         }
-        if let Some(ended) = self.fault {
-            self.notes.write(rt, format_args!("fault {ended} ended"));
+        let (ended, began) = FaultNote::of_change(self.fault, found);
+        if let Some(note) = ended {
+            self.notes.write(rt, note);
         }
-        if let Some(began) = found {
-            self.notes.write(rt, format_args!("fault {began} began"));
+        if let Some(note) = began {
+            self.notes.write(rt, note);
         }
         self.fault = found;
     }

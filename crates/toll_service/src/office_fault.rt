@@ -1,30 +1,39 @@
 //! Why an office on a file was not opened.
 ghost use Rattle.std.specs.Prelude.{◌≡◌};
-ghost use Rattle.toll_service.specs.Faults.{fault_text};
+ghost use Rattle.toll_service.specs.Faults.{fault_text, office_fault_name};
 
+use std::fmt;
 use thiserror::Error;
 
 /// Why an office on a file was not opened. Nothing changed, except that the file may have been made.
 #[derive(Clone, Copy, Debug, PartialEq, Eq, Error)]
 pub enum OfficeFault {
     /// Another program has the lock, or the lock's file can't be opened.
-    #[error("Locked")]
     Locked,
     /// There was no memory.
-    #[error("Memory")]
     Memory,
     /// The disk failed, or refused access.
-    #[error("Disk")]
     Disk,
     /// The file has the office's version, but its content is not as the office leaves it.
-    #[error("Damaged")]
     Damaged,
     /// The file belongs to no office, or to one of another version. Nothing was written.
-    #[error("NotOurs")]
     NotOurs,
 }
 
 impl OfficeFault {
+    /// Its word.
+    pub fn name(self) -> &'static str
+        ensures { result.now ≡ office_fault_name self }
+    {
+        match self {
+            OfficeFault::Locked => "Locked",
+            OfficeFault::Memory => "Memory",
+            OfficeFault::Disk => "Disk",
+            OfficeFault::Damaged => "Damaged",
+            OfficeFault::NotOurs => "NotOurs",
+        }
+    }
+
     /// The line that reports it. It takes no memory.
     pub fn line(self) -> &'static [u8]
         ensures { result.now ≡ fault_text self }
@@ -36,5 +45,17 @@ impl OfficeFault {
             OfficeFault::Damaged => b"fault Damaged\n",
             OfficeFault::NotOurs => b"fault NotOurs\n",
         }
+    }
+}
+
+/// Its word.
+impl fmt::Display for OfficeFault {
+    ghost use Rattle.std.specs.Prelude.{Some};
+    ghost use Rattle.toll_service.specs.Faults.{office_fault_name};
+
+    ghost output = { λ fault. Some (office_fault_name fault) };
+
+    fn fmt<W: fmt::Write>(&self, f: &mut fmt::Formatter<W>) -> fmt::Result {
+        f.write_str(self.name())
     }
 }

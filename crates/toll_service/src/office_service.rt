@@ -1,5 +1,5 @@
 //! The office in a file, as the clients of a server ask it.
-ghost use Rattle.std.specs.Prelude.{◌≡◌};
+ghost use Rattle.std.specs.Prelude.{◌≡◌, None, Some, if◌then◌else◌};
 ghost use Rattle.toll_service.specs.Parties.{IsBy};
 ghost use Rattle.toll_service.specs.FileServing.{Answers, IsFresh, Resumes};
 ghost use Rattle.toll_service.specs.Sessions.{IsNewSession, IsTurnedAway};
@@ -84,6 +84,7 @@ impl<K: Drop, O: Drop> OfficeService<'_, K, O> {
         ensures poll { result ≡ reply.poll }
         ensures session { self.new.session ≡ self.old.session }
         ensures office_path { self.new.office_path ≡ self.old.office_path }
+        ensures fault { self.new.faults.fault ≡ (if reply.keep_usable then None else Some ServingFault.Unavailable) }
     {
         let fault = (!reply.keep_usable).then_some(ServingFault::Unavailable);
         self.faults.update(self.office_path.rt, fault);
@@ -94,6 +95,7 @@ impl<K: Drop, O: Drop> OfficeService<'_, K, O> {
     fn log_closed(&mut self, fault: OfficeFault)
         ensures session { self.new.session ≡ self.old.session }
         ensures office_path { self.new.office_path ≡ self.old.office_path }
+        ensures fault { self.new.faults.fault ≡ Some (ServingFault.Office fault) }
     {
         self.faults
             .update(self.office_path.rt, Some(ServingFault::Office(fault)));
