@@ -8,7 +8,7 @@ import click
 from ..core import forms
 from ..core.context import Context
 from ..core.failure import WRONG_USE, Failure
-from ..papers import batch_record, certificate as certificate_of_analysis, delivery
+from ..papers import batch_record, certificate as lot_certificate, delivery
 from ..papers import lot_card, recall_paper, shipments, statement as owners_statement
 from ..papers.copies import Source
 from ..papers.printing import Document
@@ -75,16 +75,17 @@ def recall(context: Context, owner: str, lot: str, **where: Any) -> None:
 @paper
 @pass_context
 def batch(context: Context, owner: str, order: str, number: str, **where: Any) -> None:
-    """Makes a batch record for the owner: requirements, actual amounts, and the lots consumed and produced with their
-    tests.
+    """Makes a batch record for the owner: requirements, actual amounts, the lots consumed and produced with their
+    tests, and who did each step when, as the journal has it.
+
+    The record of an open batch is provisional.
 
     Example: hilpoven papers batch ACME O-1 1 record
     """
     check(owner=owner, order=order)
     asked = BatchId(owner, order, number_of("BATCH", number, forms.BATCH))
-    give(
-        context, f"batch-{owner}-{order}-{asked.number}", lambda source: batch_record.documents(source, asked), **where
-    )
+    name = f"batch-{owner}-{order}-{asked.number}"
+    give(context, name, lambda source: batch_record.documents(source, asked, context.journal()), **where)
 
 
 @papers_group.command(cls=LotCommand)
@@ -96,8 +97,8 @@ def batch(context: Context, owner: str, order: str, number: str, **where: Any) -
 def certificate(context: Context, owner: str, lot: str, key: str, **where: Any) -> None:
     """Makes a certificate of analysis: each test with its limits, its latest result and whether it passes.
 
-    If the lot isn't released, the page says so across its whole width. With --shipment it is for the one who gets that
-    shipment.
+    A lot without a result gets a certificate of release. If the lot isn't released, the page says so across its whole
+    width. With --shipment it is for the one who gets that shipment.
 
     Example: hilpoven papers certificate ACME B-1 certificate
     """
@@ -105,7 +106,7 @@ def certificate(context: Context, owner: str, lot: str, key: str, **where: Any) 
     give(
         context,
         f"certificate-{owner}-{lot}{f'-{key}' if key else ''}",
-        lambda source: certificate_of_analysis.documents(source, LotId(owner, lot), key),
+        lambda source: lot_certificate.documents(source, LotId(owner, lot), context.settings.plant, key),
         **where,
     )
 

@@ -4,6 +4,7 @@ from dataclasses import astuple
 
 from .. import HOUSE
 from ..core.failure import REFUSED, Failure
+from ..journal.log import Journal
 from ..records.answers import OrderLine, batch_of, rows_of
 from ..records.balance import balances, require_closed
 from ..records.genealogy import Genealogy
@@ -17,8 +18,9 @@ from .links import links_sheet
 from .printing import Document
 from .reasons import reasons_of_batch
 from .sheets import Row, Sheet, columns, percent, test_rows, tests_sheet
+from .steps import Steps, steps_of
 
-REQUIRED = columns("segment:number use:text source=of material required:number actual:number percent=%:text")
+REQUIRED = columns("segment:number use:text source=of material required:number actual:number percent=%:number")
 ACTUALS = columns(
     "key segment:number use:text lot_owner=of material lot sublot amount:number measure=unit:text@beside "
     "day:day void:text"
@@ -26,8 +28,8 @@ ACTUALS = columns(
 LOTS = columns("owner=of lot material disposition:word amount:number measure=unit:text@beside")
 
 
-def documents(source: Source, asked: BatchId) -> list[Document]:
-    """The record of a batch, for its owner."""
+def documents(source: Source, asked: BatchId, journal: Journal) -> list[Document]:
+    """The record of a batch, for its owner. That of one that isn't closed is provisional."""
     base, owner, register = source.base, asked.owner, source.register
     require_owner(base, owner)
     batch = batches_of(base, [asked]).get(asked)
@@ -41,9 +43,11 @@ def documents(source: Source, asked: BatchId) -> list[Document]:
     ordered, status = check_batch(source, batch)
     check_lots(source, lots.values())
     required = requirements_of(base, batch)
+    keys = {move.key for move in actuals}
+    steps = steps_of(journal, source.newest.base, asked, keys) if source.newest_has(asked) else Steps(asked)
     sheets = [
         Sheet("requirements", REQUIRED, [(*row, percent(row[5], row[4])) for row in required]),
-        Sheet("actuals", ACTUALS, [actual_row(move, lots[move.lot]) for move in actuals]),
+        steps.with_times(Sheet("actuals", ACTUALS, [actual_row(move, lots[move.lot]) for move in actuals])),
     ]
     for name, kind, reader in (("made", Kind.PRODUCED, ""), ("taken", Kind.CONSUMED, owner)):
         amounts = [(lots[lot], amount) for lot, amount in amounts_of(actuals, kind).items()]
@@ -57,12 +61,15 @@ def documents(source: Source, asked: BatchId) -> list[Document]:
         sheets.append(links_sheet(lots_of(base, {link.contained for link in links}), links))
     if reasons := reasons_of_batch(register, asked, actuals):
         sheets.append(reasons)
+    if done := steps.sheet():
+        sheets.append(done)
     unit, state, _ = batch.status
     order = {"owner": owner, "order": asked.order, "batch": f"{asked.number} of {ordered}", "recipe": batch.recipe}
     run = {"unit": unit, "state": state, "closed": "yes" if batch.is_closed else "no", "order is": status}
     takes_of_plant = any(move.lot.owner != owner for move in actuals if not move.is_void)
     values = {"owner": owner, "facts": {**order, **run}, "takes_of_plant": takes_of_plant}
-    return [Document("batch", owner == HOUSE, f"Batch record {asked.name}", sheets, values)]
+    title = f"Batch record {asked.name}" if batch.is_closed else f"Provisional batch record {asked.name}"
+    return [Document("batch", owner == HOUSE, title, sheets, {**values, "is_closed": batch.is_closed})]
 
 
 def check_batch(source: Source, batch: Batch) -> tuple[int, str]:

@@ -1,20 +1,31 @@
-"""The certificate of analysis of a lot, for its owner's customers."""
-from ..records.rows import LotId, require_lot
+"""The certificate of a lot, for its owner's customers: of analysis if it was tested, else of release."""
+from typing import Any
+
+from ..core.settings import PlantFacts
+from ..records.descriptions import DescribedLot, describe_lot
+from ..records.rows import Lot, LotId, require_lot
 from ..register import quality
 from .agreement import check_lots
 from .copies import Source
+from .letterhead import letterhead_of, number_of
 from .printing import Document
+from .sheets import VERDICTS, Row, Sheet, columns
 from .shipments import of_certificate
-from .sheets import test_rows, tests_sheet
+
+TESTS = columns(
+    "test noted_name=full_name:text@beneath noted_method=method:text low=from:number high=to:number "
+    "value=result:number noted_unit=unit:text@beside day:day verdict:text"
+)
+OF_NOTES = [column.name for column in TESTS if column.name.startswith("noted_")]
 
 
-def documents(source: Source, asked: LotId, shipment: str = "") -> list[Document]:
+def documents(source: Source, asked: LotId, plant: PlantFacts, shipment: str = "") -> list[Document]:
     """The certificate of a lot, for one of its shipments if that is named by its key. One of a lot that isn't released,
-    or is held, says so across the page."""
+    or is held, says so across the page. It has a letterhead and a number if the settings say who the plant is."""
     lot = require_lot(source.base, asked)
     check_lots(source, [lot])
-    origin = lot.origin if lot.origin == "receipts" else f"batch {lot.origin}"
-    facts = {"material": lot.material, "lot": asked.name, "owner": asked.owner, "comes from": origin}
+    described = describe_lot(source.base, source.register.of(asked.owner), lot)
+    facts = facts_of(lot, described)
     status = quality.statuses(source.base, source.register, asked).get(asked)
     if status:
         facts[quality.COLUMN] = status.text
@@ -22,19 +33,59 @@ def documents(source: Source, asked: LotId, shipment: str = "") -> list[Document
     if shipment:
         shipped, is_noted = of_certificate(source, asked, lot.measure, shipment)
         facts |= shipped
-    tests = tests_sheet("tests", test_rows(source.base, lot, source.register))
-    return [
-        Document(
-            "certificate",
-            False,
-            f"Certificate of analysis: {asked.name}",
-            [tests],
-            {
-                "facts": facts,
-                "disposition": lot.disposition.word,
-                "is_held": status is not None and status.state == quality.State.HELD,
-                "is_noted": is_noted,
-            },
-            is_across=False,
-        )
-    ]
+    tests, letterhead = tests_sheet(described), letterhead_of(plant)
+    title = f"{kind_of(described)}: {asked.name}"
+    says: dict[str, Any] = {
+        "facts": facts,
+        "disposition": lot.disposition.word,
+        "is_held": status is not None and status.state == quality.State.HELD,
+        "letterhead": letterhead,
+        "approver": plant.approver,
+    }
+    number = number_of(f"{asked.owner}-{asked.name}", [title, says, printed(tests)]) if letterhead else ""
+    is_described = bool(described.texts) or tests.is_as_measured
+    values = {**says, "number": number, "is_noted": is_noted, "is_described": is_described}
+    return [Document("certificate", False, title, [tests], values, is_across=False)]
+
+
+def kind_of(described: DescribedLot) -> str:
+    """What a certificate is: one without a result is no analysis."""
+    return "Certificate of analysis" if any(test.value for test in described.tests) else "Certificate of release"
+
+
+def facts_of(lot: Lot, described: DescribedLot) -> dict[str, str]:
+    """What the certificate begins with: names, in full if they are noted, and days."""
+    origin = lot.origin if lot.origin == "receipts" else f"batch {lot.origin}"
+    address = {"owner's address": described.owner.address} if described.owner.address else {}
+    return {
+        "material": in_full(described.material.name, lot.material),
+        "lot": lot.id.name,
+        "owner": in_full(described.owner.name, lot.id.owner),
+        **address,
+        "comes from": origin,
+        **described.days,
+    }
+
+
+def in_full(full_name: str, name: str) -> str:
+    """A full name with the short one behind it, by which everything else names it."""
+    return f"{full_name} ({name})" if full_name else name
+
+
+def tests_sheet(described: DescribedLot) -> Sheet:
+    """The tests, with limits and results as they were measured; without columns of what isn't noted of any of them."""
+    rows: list[Row] = []
+    for test in described.tests:
+        name, *numbers = test.numbers
+        noted = test.facts.name or None, test.facts.method or None
+        rows.append((name, *noted, *numbers, test.facts.unit or None, test.test.day, VERDICTS[test.test.limits]))
+    sheet = Sheet("tests", TESTS, rows)
+    for column in OF_NOTES:
+        if not sheet.has(column):
+            sheet = sheet.without(column)
+    return sheet
+
+
+def printed(sheet: Sheet) -> list[list[str]]:
+    """What a table says on paper."""
+    return [sheet.texts(row) for row in sheet.rows]

@@ -68,7 +68,7 @@ def found(view: View) -> Sheet:
         lot = balance.lot
         about = view.recall.steps[lot.id], lot.disposition.word, *lot.id, mark(view, lot.id), lot.material
         rows.append((*about, lot.on_hand, balance.amounts[Kind.SHIP], lot.measure))
-    return Sheet("found", heads, rows)
+    return Sheet("found", heads, rows, ["on_hand", "shipped"])
 
 
 @dataclass(frozen=True)
@@ -121,7 +121,8 @@ def masses(view: View) -> Sheet:
         rows.append((*about, mass.came_in, *shares, mass.accounted, told_onward(onward[lot.id])))
     shares_heads = " ".join(f"{name}:number {name}_share=%:number@beneath" for name in PARTS)
     heads = f"owner lot noted:text@beside material measure=unit:text@beneath came_in:number {shares_heads}"
-    sheet = Sheet("masses", columns(f"{heads} accounted=accounted_for_%:number noted_onward=goes_on_in:text"), rows)
+    heads += " accounted=accounted_for_%:number noted_onward=goes_on_in:text"
+    sheet = Sheet("masses", columns(heads), rows, ["came_in", *PARTS])
     return sheet if view.links and len(rows) <= LONG else sheet.without("noted_onward")
 
 

@@ -1,4 +1,5 @@
 """Papers as HTML, as PDF and as CSV: each is one template, which a browser shows and WeasyPrint prints."""
+import functools
 import importlib.util
 import os
 import pathlib
@@ -11,7 +12,8 @@ from ..core.failure import Failure
 from ..core.scratch import ENDING, held_back
 from .longtables import LongTable, finisher
 from .pictures import SIGNS
-from .sheets import Sheet
+from .ranges import on_paper
+from .sheets import ACROSS, UPRIGHT, Sheet
 
 TEMPLATES = pathlib.Path(__file__).resolve().parent / "templates"
 LONG = 60  # rows; a table with more is set in lines on paper
@@ -32,10 +34,17 @@ class Document:
     texts: dict[str, str] = field(default_factory=dict)
     is_across: bool = True  # whether its pages are wider than high, so that there is room for long tables
 
+    @functools.cached_property
+    def on_paper(self) -> list[Sheet]:
+        """Its tables as its page has them, long ones with ranges of names."""
+        return [on_paper(sheet, LONG) for sheet in self.sheets]
+
     def page(self, footer: str, tables: dict[str, LongTable] | None = None) -> str:
         """Its page. On paper its long tables have places, but for those that don't fit, which are set as others are."""
-        sheets = {sheet.name: sheet for sheet in self.sheets}
-        values = {"title": self.title, "is_plants": self.for_plant, "made": footer, "sheets": sheets, **self.values}
+        sheets = {sheet.name: sheet for sheet in self.on_paper}
+        width = ACROSS if self.is_across else UPRIGHT
+        values = {"title": self.title, "is_plants": self.for_plant, "made": footer, "sheets": sheets, "width": width}
+        values |= self.values
         set_in_lines = {name: table for name, table in (tables or {}).items() if table.fits}
         return render(self.name, values, set_in_lines, [name for name in tables or {} if name not in set_in_lines])
 
@@ -43,7 +52,7 @@ class Document:
         """Its tables that are long."""
         if not self.is_across:
             return {}
-        return {sheet.name: LongTable(sheet) for sheet in self.sheets if len(sheet.rows) > LONG}
+        return {sheet.name: LongTable(sheet) for sheet in self.on_paper if len(sheet.rows) > LONG}
 
 
 @dataclass
@@ -150,10 +159,15 @@ def pdf_of(text: str, tables: dict[str, LongTable] | None = None) -> bytes:
     import weasyprint
 
     logging.getLogger("weasyprint").setLevel(logging.CRITICAL)
-    page = weasyprint.HTML(string=text, url_fetcher=refuse_address)
+    page = weasyprint.HTML(string=text, url_fetcher=picture_within)
     return bytes(page.write_pdf(finisher=finisher(tables or {})))
 
 
-def refuse_address(address: str) -> dict[str, Any]:
-    """A paper is complete in itself: nothing is fetched for it."""
-    raise ValueError(f"{address} isn't fetched")
+def picture_within(address: str) -> dict[str, Any]:
+    """A paper is complete in itself: nothing is fetched for it but the picture of a letterhead, which it has."""
+    if not address.startswith("data:image/"):
+        raise ValueError(f"{address} isn't fetched")
+    import weasyprint
+
+    picture: dict[str, Any] = weasyprint.default_url_fetcher(address)
+    return picture

@@ -105,7 +105,7 @@ def sublots(view: View) -> Sheet:
         if amount and view.has(name.owner):
             place = lot.disposition.word, *name, mark(view, name), sublot
             rows.append((*place, lot.material, amount, lot.measure))
-    return Sheet("sublots", heads, rows)
+    return Sheet("sublots", heads, rows, ["amount"])
 
 
 def shipments(view: View) -> Sheet:
@@ -118,7 +118,7 @@ def shipments(view: View) -> Sheet:
         lot = view.lot(move.lot)
         place = move.owner, move.key, lot.id.name, mark(view, lot.id), move.sublot
         rows.append((move.day, *place, lot.material, move.amount, lot.measure))
-    sheet = Sheet("shipments", heads, rows)
+    sheet = Sheet("shipments", heads, rows, ["amount"])
     return with_recipients(sheet, view.register, view.shipments) if has_notes(view.register) else sheet
 
 
@@ -187,7 +187,7 @@ def lots(view: View) -> Sheet:
         lot, amounts = balance.lot, [balance.amounts[kind] for kind in COUNTED]
         cells = *lot.id, mark(view, lot.id), lot.origin, lot.disposition.word, lot.material, lot.measure
         rows.append((view.recall.steps[lot.id], *cells, *amounts, lot.on_hand, balance.difference))
-    return Sheet("lots", heads, rows)
+    return Sheet("lots", heads, rows, [*(kind.total for kind in COUNTED), "on_hand", "difference"])
 
 
 def flows(view: View) -> Sheet:

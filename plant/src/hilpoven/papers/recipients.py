@@ -1,6 +1,7 @@
 """Who has what was shipped, and whom what was received came from, as the plant noted it."""
 from collections import Counter, defaultdict
 from collections.abc import Sequence
+from dataclasses import replace
 
 from ..records.rows import Lot, Move
 from ..register.movements import UNKNOWN
@@ -73,7 +74,7 @@ def with_recipients(sheet: Sheet, register: Register, moves: Sequence[Move]) -> 
     """A table of these movements with the party and the document of each."""
     noted = [(facts_of(register, move).party, facts_of(register, move).document) for move in moves]
     rows = [(*row, *cells) for row, cells in zip(sheet.rows, noted, strict=True)]
-    return Sheet(sheet.name, [*sheet.columns, *columns("noted_party noted_document:text")], rows)
+    return replace(sheet, columns=[*sheet.columns, *columns("noted_party noted_document:text")], rows=rows)
 
 
 def noted_movements(register: Register, lot: Lot, moves: Sequence[Move]) -> Sheet | None:

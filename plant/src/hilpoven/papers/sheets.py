@@ -14,7 +14,7 @@ from ..register.store import Register
 Cell = str | int | None
 Row = tuple[Cell, ...]
 
-ACROSS = 757.0  # points: how wide a sheet of A4 is within its margins, across
+ACROSS, UPRIGHT = 757.0, 510.0  # points: how wide a sheet of A4 is within its margins, across and upright
 SIZE, SMALLER, PADDING = 9.0, 0.85, 0.85  # points of letters; of those beside or beneath; ems between columns
 FORM = re.compile(r"(\w+)(?:=([\w%]+))?(?::(\w+))?(?:@(\w+))?")
 LONGEST = 18  # letters of a word that isn't broken
@@ -83,8 +83,8 @@ def test_rows(base: Base, lot: Lot, register: Register) -> list[Row]:
 
 def tests_sheet(name: str, rows: Sequence[Row], *before: Column) -> "Sheet":
     """A table of tests, with columns before theirs; without units if none are noted."""
-    sheet, unit = Sheet(name, [*before, *TESTS], rows), len(before) + 4
-    return sheet if any(row[unit] for row in rows) else sheet.without("noted_unit")
+    sheet = Sheet(name, [*before, *TESTS], rows)
+    return sheet if sheet.has("noted_unit") else sheet.without("noted_unit")
 
 
 class Printed(NamedTuple):
@@ -97,11 +97,14 @@ class Printed(NamedTuple):
 
 @dataclass
 class Sheet:
-    """A table of a paper."""
+    """A table of a paper. Where it is long, paper joins rows that are alike but for their names, and sums the numbers
+    of some columns; without such columns it joins none."""
 
     name: str
     columns: list[Column]
     rows: Sequence[Row]
+    sums: Sequence[str] = ()
+    joined: int = 0  # how many rows were joined into these
 
     @property
     def has_notes(self) -> bool:
@@ -112,6 +115,11 @@ class Sheet:
     def is_as_measured(self) -> bool:
         """Whether it has units, or values that the plant's notes say how to read."""
         return self.has_notes or any(isinstance(cell, Shown) for row in self.rows for cell in row)
+
+    def has(self, name: str) -> bool:
+        """Whether something stands in a column."""
+        place = [column.name for column in self.columns].index(name)
+        return any(row[place] for row in self.rows)
 
     def without(self, name: str) -> "Sheet":
         """The same table without a column."""
@@ -160,8 +168,8 @@ class Sheet:
         longest = max((len(word) for text in texts for word in text.split()), default=0)
         return f"{kind} broken" if self.has_notes and longest > LONGEST else kind
 
-    def size(self) -> float:
-        """The size of letters in points by which the table fits on a sheet across."""
+    def size(self, width: float) -> float:
+        """The size of letters in points by which the table fits into a width in points."""
         lines = [[column.title for column in self.columns], *(self.texts(row, {}) for row in self.rows)]
         widths = [
             max(width_of(line[at], column.kind == "text") for line in lines) * (SMALLER if column.place else 1)
@@ -171,7 +179,7 @@ class Sheet:
         for at, column in enumerate(self.columns):
             before = widths[at - 1] if column.place else 0
             ems += max(0, widths[at] - before) if column.place == "beneath" else widths[at] + PADDING
-        return min(SIZE, ACROSS / ems) if ems else SIZE
+        return min(SIZE, width / ems) if ems else SIZE
 
     def texts(self, row: Row, signs: dict[str, str] | None = None) -> list[str]:
         """What is in the columns of a row, a disposition with its sign if there are signs."""

@@ -30,9 +30,9 @@ def documents(source: Source, owner: str, first: int, last: int) -> list[Documen
     house = [(lot.material, lot.id.name, batch.name, amount, lot.measure) for lot, batch, amount in read.of_house]
     sheets = [
         Sheet("sums", [*MATERIAL, *COLUMNS], sums),
-        Sheet("lots", [*MATERIAL, *columns("lot"), *COLUMNS], lots),
+        Sheet("lots", [*MATERIAL, *columns("lot"), *COLUMNS], lots, AMOUNTS),
         Sheet("plants_material", OF_HOUSE, house),
-        Sheet("movements", MOVED, [move_row(move, read.lots[move.lot]) for move in between]),
+        Sheet("movements", MOVED, [move_row(move, read.lots[move.lot]) for move in between], ["amount"]),
     ]
     if links := links_in(source.base, read, source.register.links):
         sheets.append(links_sheet(lots_of(source.base, {link.contained for link in links}), links))
