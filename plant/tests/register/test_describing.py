@@ -258,7 +258,8 @@ def test_values_of_a_sheet_without_signs_and_decimals_are_read_as_before(lead, c
     sheet = lead.folder / "results.csv"
     sheet.write_text(f"owner,lot,test,value,day\nACME,G-1,LEAD,{cell},103\n")
     converted, told = lead.run("to-csv", "--what", "results", sheet), lead.run("import", "--what", "results", sheet)
-    assert (converted.status == 0) == (told.status == 0) and told.err == converted.err.replace("1 refused, nothing is written\n", "")
+    reasons, none_left = converted.err.replace("1 refused, nothing is written\n", ""), f"hilpoven: {sheet}: nothing of it was given: no row can be read\n"
+    assert (converted.status == 0) == (told.status == 0) and told.err == reasons + (none_left if told.status else "")
 
 
 def test_to_csv_knows_no_decimals(described):
