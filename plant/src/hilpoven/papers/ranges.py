@@ -1,4 +1,4 @@
-"""Long tables on paper: rows that are alike but for names that count on are one row, from the first name to the last."""
+"""Long tables on paper: rows that differ by names that count on alone are one row, from the first to the last."""
 import re
 from collections import defaultdict
 from collections.abc import Iterator, Sequence
