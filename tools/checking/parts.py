@@ -118,7 +118,7 @@ UNPROVED = Part("unproved-build", [PYTHON, "tools/build-program", "--unproved"],
 
 # Those that take longest come first, so that none runs alone at the end.
 BEHIND = [
-    Part("plant-tests", ["env", f"TOLL={PROGRAM}", *PYTEST, "plant/tests"], PLANT_NEEDS, memory=GB),
+    Part("plant-tests", ["env", f"TOLL={PROGRAM}", *PYTEST, "-n", "2", "plant/tests"], (*PLANT_NEEDS, "python3-pytest-xdist"), 30, 2, memory=2 * GB),
     Part("check-package", [PYTHON, "tools/check-package", "--program", PROGRAM],
          (*BUILD_NEEDS, "debootstrap", "iproute2", "lintian", "mandoc", "systemd-container"), 30, memory=GB),
     Part("try-page", ["env", f"TOLL={PROGRAM}", "sh", "-c", PICTURED, PYTHON], ("chromium", "chromium-driver", "curl", "nginx-light", "nodejs", "openssl"), 25,
