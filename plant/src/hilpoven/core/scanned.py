@@ -7,6 +7,7 @@ from .failure import WRONG_USE, Failure
 from .forms import listed
 
 MARK = "/"  # no name has it, and QR codes have it beside capitals and digits
+MOST_SCANNED = 200  # letters; a label has 50 at most, and a cell of a sheet may have millions
 OWNERS, LOTS = ("OF-OWNER", "LOT-OWNER", "OWNER"), ("OF-LOT", "LOT")  # the first that a command has is meant
 Values = dict[str, str | None]  # of a command, by their names in their order; `None` if they are typed without a name
 
@@ -24,7 +25,9 @@ class ScannedSublot(NamedTuple):
 
 def scanned_sublot(word: str | None) -> ScannedSublot | None:
     """The sublot that a word names which a scanner typed; `None` of any other word."""
-    parts = (word or "").split(MARK)
+    if not word or len(word) > MOST_SCANNED:
+        return None
+    parts = word.split(MARK)
     return ScannedSublot(*parts) if len(parts) == 3 and all(parts) else None
 
 
