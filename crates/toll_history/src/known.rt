@@ -13,7 +13,8 @@ use toll_base::{Decision, Move, MoveRow, Refusal, Slice};
 /// An equal movement is [`Refusal::Voided`] if it was voided, otherwise repeated; any other is a
 /// [`Refusal::KeyConflict`].
 pub fn decide_known(slice: &Slice, row: &MoveRow) -> Option<Decision>
-    ensures known { IfSome result (λ d. (rest : Checks) (changes : List change.Change) → IsDecided (key_checks (facts_of slice.now) row.now ++ rest) changes d) }
+    ensures known { IfSome result (λ d. (rest : Checks) (changes : List change.Change)
+        → IsDecided (key_checks (facts_of slice.now) row.now ++ rest) changes d) }
     ensures unknown { result ≡ None → move_at slice.now row.now.key ≡ None }
 {
     // The lookup of movements needs their type named.

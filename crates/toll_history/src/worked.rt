@@ -28,7 +28,8 @@ pub fn a_held_unit_is_busy()
 
 /// A batch goes through its states by the commands to it, is closed once, and is its order's last.
 pub fn batches_go_through_their_states()
-    ensures states { batch_states (acts acme one_batch) (codes "O") 1 (Pause ∷ Done ∷ Hold ∷ []) ≡ Running ∷ Pausing ∷ Paused ∷ Holding ∷ [] }
+    ensures states { batch_states (acts acme one_batch) (codes "O") 1 (Pause ∷ Done ∷ Hold ∷ [])
+        ≡ Running ∷ Pausing ∷ Paused ∷ Holding ∷ [] }
     ensures verdicts { HaveVerdicts one_batch states_gone_through }
 {}
 
@@ -50,7 +51,8 @@ pub fn dispositions_follow_the_results()
     ensures before { disposition_of (acts acme one_batch) (codes "P") (codes "P1") ≡ Quarantined }
     ensures passed { disposition_of (acts acme tested_lot) (codes "M") (codes "A") ≡ Released }
     ensures failed { disposition_of (acts acme failed_lot) (codes "M") (codes "A") ≡ Quarantined }
-    ensures rejected { disposition_of (acts acme (history_after failed_lot (by acme (Reject (codes "A")) ∷ []))) (codes "M") (codes "A") ≡ Rejected }
+    ensures rejected { disposition_of (acts acme (history_after failed_lot
+        (by acme (Reject (codes "A")) ∷ []))) (codes "M") (codes "A") ≡ Rejected }
 {}
 
 /// A lot is consumed when it is known and released, and no sooner.
@@ -66,7 +68,8 @@ pub fn sublots_are_split_scrapped_and_shipped()
 /// An order is cancelled once, before its first batch, and answers a repeated order all the same.
 pub fn orders_are_cancelled_before_they_start()
     ensures cancelled { HaveVerdicts [] order_cancelled }
-    ensures started { verdicts one_batch (by acme (CancelOrder (codes "O")) ∷ []) ≡ Refused OrderStarted ∷ [] }
+    ensures started { verdicts one_batch (by acme (CancelOrder (codes "O")) ∷ [])
+        ≡ Refused OrderStarted ∷ [] }
 {}
 
 /// Refusals of recipes, requirements, owners and units.
@@ -77,7 +80,9 @@ pub fn refusals_of_the_plants_commands()
 /// A void gives a consumption's amount back, keeps its key, and needs the batch to be open.
 pub fn actuals_are_voided()
     ensures verdicts { HaveVerdicts with_two_actuals actuals_voided }
-    ensures given_back { stock (history_after with_two_actuals (by acme (Void (codes "K2")) ∷ [])) (lot_id acme (codes "A")) (codes "S1") ≡ 100 }
+    ensures given_back { stock (history_after with_two_actuals
+        (by acme (Void (codes "K2")) ∷ [])) (lot_id acme (codes "A")) (codes "S1") ≡ 100 }
     ensures produced { stock with_two_actuals (lot_id acme (codes "P1")) (codes "S1") ≡ 30 }
-    ensures house { stock (history_after one_product (by acme (Void (codes "K4")) ∷ [])) (lot_id house_name (codes "H-1")) (codes "S") ≡ 10 }
+    ensures house { stock (history_after one_product
+        (by acme (Void (codes "K4")) ∷ [])) (lot_id house_name (codes "H-1")) (codes "S") ≡ 10 }
 {}

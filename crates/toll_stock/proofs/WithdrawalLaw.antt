@@ -1,6 +1,6 @@
 -- What the decision owes on a movement that takes from one of the owner's sublots: a shipment, or scrapping.
 use Rattle.std.proofs.Common.{◌≡◌, ℕ, ◌-◌, true, false, nat_le, is_none, [], ◌∷◌, ◌++◌, refl, sym, ap, ◌∙◌}
-use Rattle.toll_stock.proofs.Common.{Bytes, Record, by, History, Slice, KeepsRules, batch_has_room, OwnerFacts, facts_of, facts_given, IsDecided, Decides, DecisionKeepsRules, Accepted, Checks, verdict_of_checks, key_checks, movement_checks, ship_checks, scrap_checks, amount_in, verdict, Put, Decision, MoveRow, Ship, Scrap, Sublot, Move, none_applies, rest_accept, verdict_is, decides, keeps_rules, checks_accept, went_fit}
+use Rattle.toll_stock.proofs.Common.{Bytes, Record, by, History, Slice, KeepsRules, batch_has_room, OwnerFacts, facts_of, facts_given, IsDecided, Decides, DecisionKeepsRules, Accepted, Checks, verdict_of_checks, key_checks, movement_checks, ship_checks, scrap_checks, verdict, Put, Decision, MoveRow, Ship, Scrap, Sublot, Move, none_applies, rest_accept, verdict_is, decides, keeps_rules, checks_accept, went_fit}
 use Rattle.toll_history.specs.Puts.{less_in_sublot}
 use Rattle.toll_base.specs.Values.{house_name}
 use Rattle.toll_stock.proofs.Withdrawn.{Withdraws, sublot_left, withdrawal_rows, leaves, withdrawal_grows}

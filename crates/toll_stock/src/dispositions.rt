@@ -35,7 +35,8 @@ pub fn reject(alloc: Global, slice: &Slice, lot: Name) -> Result<Decision, Alloc
 }
 
 fn plan_release(alloc: Global, slice: &Slice, lot: &Name) -> Result<Decision, AllocError>
-    ensures plan { IfOk result (IsDispositionPlan (release_checks (facts_of slice.now) lot.now) slice.now lot.now Disposition.Released) }
+    ensures plan { IfOk result (IsDispositionPlan
+        (release_checks (facts_of slice.now) lot.now) slice.now lot.now Disposition.Released) }
     ensures kept { KeepsRules slice.now }
 {
     let owner = *slice.owner();
@@ -52,7 +53,8 @@ fn plan_release(alloc: Global, slice: &Slice, lot: &Name) -> Result<Decision, Al
 }
 
 fn plan_rejection(alloc: Global, slice: &Slice, lot: &Name) -> Result<Decision, AllocError>
-    ensures plan { IfOk result (IsDispositionPlan (reject_checks (facts_of slice.now) lot.now) slice.now lot.now Disposition.Rejected) }
+    ensures plan { IfOk result (IsDispositionPlan
+        (reject_checks (facts_of slice.now) lot.now) slice.now lot.now Disposition.Rejected) }
     ensures kept { KeepsRules slice.now }
 {
     let owner = *slice.owner();
@@ -72,7 +74,8 @@ fn put_lot(
     known: LotRow,
     disposition: Disposition,
 ) -> Result<Decision, AllocError>
-    ensures { IfOk result (IsDecided [] (map (Change.Put owner) (given_disposition (λ row. disposition) (Some known)))) }
+    ensures { IfOk result (IsDecided []
+        (map (Change.Put owner) (given_disposition (λ row. disposition) (Some known)))) }
 {
     let row = LotRow {
         disposition,
@@ -100,7 +103,8 @@ fn is_one_open(slice: &Slice, lot: &Name, material: &Name) -> bool
 
 // Whether the latest result of the lot's test is there, and within its limits.
 fn is_passed(slice: &Slice, lot: &Name, test: &TestRow) -> bool
-    ensures { result ≡ is_some_where (λ value. not (is_outside test.now.limits value)) (latest_in slice.now lot.now test.now.test) }
+    ensures { result ≡ is_some_where (λ value. not
+        (is_outside test.now.limits value)) (latest_in slice.now lot.now test.now.test) }
 {
     let number = count_results(slice, lot, &test.test);
     match slice.result(lot, &test.test, number) {

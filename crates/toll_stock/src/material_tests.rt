@@ -19,7 +19,8 @@ pub fn add_test(
     test: Name,
     limits: Limits,
 ) -> Result<Decision, AllocError>
-    ensures decides { IfOk result (Decides (by slice.now.owner (AddTest (record { material = material; test = test; limits = limits }))) slice.now) }
+    ensures decides { IfOk result (Decides (by slice.now.owner
+        (AddTest (record { material = material; test = test; limits = limits }))) slice.now) }
     ensures rules { IfOk result (DecisionKeepsRules slice.now) }
     ensures own { IfOk result (λ d. PutsOnly slice.now.owner (changes_of d)) }
 {
@@ -32,7 +33,8 @@ pub fn add_test(
 }
 
 fn plan_test(alloc: Global, slice: &Slice, row: &TestRow) -> Result<Decision, AllocError>
-    ensures plan { IfOk result (IsDecided (test_checks (facts_of slice.now) row.now) (Change.Put slice.now.owner (Row.Test row.now) ∷ [])) }
+    ensures plan { IfOk result (IsDecided (test_checks (facts_of slice.now) row.now)
+        (Change.Put slice.now.owner (Row.Test row.now) ∷ [])) }
     ensures kept { KeepsRules slice.now }
 {
     let owner = *slice.owner();

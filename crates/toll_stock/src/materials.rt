@@ -19,7 +19,8 @@ pub fn add_material(
     material: Name,
     measure: Measure,
 ) -> Result<Decision, AllocError>
-    ensures decides { IfOk result (Decides (by slice.now.owner (AddMaterial (record { material = material; measure = measure }))) slice.now) }
+    ensures decides { IfOk result (Decides (by slice.now.owner
+        (AddMaterial (record { material = material; measure = measure }))) slice.now) }
     ensures rules { IfOk result (DecisionKeepsRules slice.now) }
     ensures own { IfOk result (λ d. PutsOnly slice.now.owner (changes_of d)) }
 {
@@ -27,7 +28,8 @@ pub fn add_material(
 }
 
 fn plan_material(alloc: Global, slice: &Slice, row: &MaterialRow) -> Result<Decision, AllocError>
-    ensures plan { IfOk result (IsDecided (material_checks (facts_of slice.now) row.now) (Change.Put slice.now.owner (Row.Material row.now) ∷ [])) }
+    ensures plan { IfOk result (IsDecided (material_checks (facts_of slice.now) row.now)
+        (Change.Put slice.now.owner (Row.Material row.now) ∷ [])) }
     ensures kept { KeepsRules slice.now }
 {
     let owner = *slice.owner();

@@ -16,7 +16,8 @@ pub fn decide_movement(
     checked: Result<(), Refusal>,
     changes: &[Change],
 ) -> Result<Decision, AllocError>
-    ensures { (checks : Checks) → verdict_of_result checked ≡ verdict_of_checks checks → IfOk result (IsDecided (key_checks (facts_of slice.now) row.now ++ checks) changes.now) }
+    ensures { (checks : Checks) → verdict_of_result checked ≡ verdict_of_checks checks
+        → IfOk result (IsDecided (key_checks (facts_of slice.now) row.now ++ checks) changes.now) }
 {
     if let Some(known) = decide_known(slice, row) {
         return Ok(known);
@@ -29,7 +30,8 @@ pub fn decide_movement(
 
 /// Whether the sublot is there with enough in it, and there is room for a movement.
 pub fn check_taking(slice: &Slice, lot: &Name, sublot: &Name, amount: Amount) -> Result<(), Refusal>
-    ensures { verdict_of_result result ≡ verdict_of_checks (scrap_checks (facts_of slice.now) lot.now sublot.now amount) }
+    ensures { verdict_of_result result
+        ≡ verdict_of_checks (scrap_checks (facts_of slice.now) lot.now sublot.now amount) }
 {
     if slice.lot(lot).is_none() {
         return Err(Refusal::UnknownLot);
@@ -42,7 +44,8 @@ pub fn check_taking(slice: &Slice, lot: &Name, sublot: &Name, amount: Amount) ->
 
 /// Whether there is enough in the sublot, and room for a movement.
 pub fn check_enough(slice: &Slice, lot: &Name, sublot: &Name, amount: Amount) -> Result<(), Refusal>
-    ensures { verdict_of_result result ≡ verdict_of_checks (enough_checks (facts_of slice.now) lot.now sublot.now amount) }
+    ensures { verdict_of_result result
+        ≡ verdict_of_checks (enough_checks (facts_of slice.now) lot.now sublot.now amount) }
 {
     if slice.amount_in(lot, sublot) < amount.get() {
         return Err(Refusal::NotEnough);

@@ -29,7 +29,8 @@ pub fn receive(
     amount: Amount,
     day: Day,
 ) -> Result<Decision, AllocError>
-    ensures decides { IfOk result (Decides (moves slice.now.owner key (Move.Receive material lot sublot) amount day) slice.now) }
+    ensures decides { IfOk result (Decides
+        (moves slice.now.owner key (Move.Receive material lot sublot) amount day) slice.now) }
     ensures rules { IfOk result (DecisionKeepsRules slice.now) }
     ensures own { IfOk result (λ d. PutsOnly slice.now.owner (changes_of d)) }
 {
@@ -81,7 +82,8 @@ fn check_receipt(
     sublot: &Name,
     amount: Amount,
 ) -> Result<(), Refusal>
-    ensures { verdict_of_result result ≡ verdict_of_checks (received_checks (facts_of slice.now) material.now lot.now sublot.now amount) }
+    ensures { verdict_of_result result ≡ verdict_of_checks (received_checks
+        (facts_of slice.now) material.now lot.now sublot.now amount) }
 {
     if slice.material(material).is_none() {
         return Err(Refusal::UnknownMaterial);

@@ -26,7 +26,8 @@ pub fn record_result(
     value: Value,
     day: Day,
 ) -> Result<Decision, AllocError>
-    ensures decides { IfOk result (Decides (by slice.now.owner (RecordResult lot test value day)) slice.now) }
+    ensures decides { IfOk result
+        (Decides (by slice.now.owner (RecordResult lot test value day)) slice.now) }
     ensures rules { IfOk result (DecisionKeepsRules slice.now) }
     ensures own { IfOk result (λ d. PutsOnly slice.now.owner (changes_of d)) }
 {
@@ -96,7 +97,8 @@ fn put_result(
     row: ResultRow,
     lot: LotRow,
 ) -> Result<Decision, AllocError>
-    ensures { IfOk result (IsDecided [] (Change.Put owner (Row.Result row) ∷ Change.Put owner (Row.Lot lot) ∷ [])) }
+    ensures { IfOk result
+        (IsDecided [] (Change.Put owner (Row.Result row) ∷ Change.Put owner (Row.Lot lot) ∷ [])) }
 {
     let changes = [
         Change::Put(owner, Row::Result(row)),

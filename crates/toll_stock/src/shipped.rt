@@ -42,7 +42,8 @@ impl Shipped {
     // Adds the movement's amount, if it is a shipment.
     fn add(&mut self, what: &Move, amount: u64) -> Result<(), AllocError>
         requires { (lot : Bytes) → amount_of self.old lot + amount < 2 ^ 64 }
-        ensures { OnOk result ((lot : Bytes) → amount_of self.new lot ≡ amount_of self.old lot + (if is_shipment_of lot what.now then amount else 0)) }
+        ensures { OnOk result ((lot : Bytes) → amount_of self.new lot
+            ≡ amount_of self.old lot + (if is_shipment_of lot what.now then amount else 0)) }
     {
         let Some(lot) = lot_shipped(what) else {
             return Ok(());

@@ -25,7 +25,8 @@ pub fn split(
     amount: Amount,
     day: Day,
 ) -> Result<Decision, AllocError>
-    ensures decides { IfOk result (Decides (moves slice.now.owner key (Move.Split lot sublot target) amount day) slice.now) }
+    ensures decides { IfOk result
+        (Decides (moves slice.now.owner key (Move.Split lot sublot target) amount day) slice.now) }
     ensures rules { IfOk result (DecisionKeepsRules slice.now) }
     ensures own { IfOk result (λ d. PutsOnly slice.now.owner (changes_of d)) }
 {
@@ -72,7 +73,8 @@ fn check_split(
     target: &Name,
     amount: Amount,
 ) -> Result<(), Refusal>
-    ensures { verdict_of_result result ≡ verdict_of_checks (parted_checks (facts_of slice.now) lot.now sublot.now target.now amount) }
+    ensures { verdict_of_result result ≡ verdict_of_checks (parted_checks
+        (facts_of slice.now) lot.now sublot.now target.now amount) }
 {
     if *sublot == *target {
         return Err(Refusal::SameSublot);

@@ -19,8 +19,10 @@ pub struct Totals {
 /// How much is in the sublot, in the measure of the lot's material; `None` if the owner has no such sublot.
 /// Only tests call it.
 pub fn on_hand(slice: &Slice, lot: &Name, sublot: &Name) -> Option<u64>
-    ensures rows { result ≡ option_map (λ row. row.amount) (sublot_at slice.now (lot.now, sublot.now)) }
-    ensures stock { (H : History) → IsRowsOf H slice.now → result ≡ stock_given H (lot_id slice.now.owner lot.now) sublot.now }
+    ensures rows { result
+        ≡ option_map (λ row. row.amount) (sublot_at slice.now (lot.now, sublot.now)) }
+    ensures stock { (H : History) → IsRowsOf H slice.now
+        → result ≡ stock_given H (lot_id slice.now.owner lot.now) sublot.now }
 {
     amount_at(slice, lot, sublot)
 }
@@ -38,7 +40,8 @@ fn amount_at(slice: &Slice, lot: &Name, sublot: &Name) -> Option<u64>
 /// owner has no such lot. It takes no memory, and looks at the lot's sublots alone.
 pub fn on_hand_of(slice: &Slice, lot: &Name) -> u64
     ensures rows { result ≡ on_hand_in slice.now lot.now }
-    ensures amount { (H : History) → IsLawful H → IsRowsOf H slice.now → result ≡ on_hand H (lot_id slice.now.owner lot.now) }
+    ensures amount { (H : History) → IsLawful H → IsRowsOf H slice.now
+        → result ≡ on_hand H (lot_id slice.now.owner lot.now) }
 {
     sum_of_sublots(slice, lot)
 }

@@ -11,7 +11,8 @@ use toll_base::{Move, MoveRow, Name, Slice};
 /// many lots, by [`LotTotals`](crate::LotTotals).
 pub fn lot_totals(slice: &Slice, lot: &Name) -> Option<Totals>
     ensures rows { result ≡ totals_in slice.now lot.now }
-    ensures totals { (H : History) → IsLawful H → IsRowsOf H slice.now → result ≡ totals_given H (lot_id slice.now.owner lot.now) }
+    ensures totals { (H : History) → IsLawful H → IsRowsOf H slice.now
+        → result ≡ totals_given H (lot_id slice.now.owner lot.now) }
 {
     match slice.lot(lot) {
         None => None,
@@ -25,7 +26,8 @@ pub fn lot_totals(slice: &Slice, lot: &Name) -> Option<Totals>
 // What the lot's shipments took.
 fn shipped_of(slice: &Slice, lot: &Name) -> u64
     ensures rows { result ≡ shipped_in slice.now lot.now }
-    ensures amount { (H : History) → IsLawful H → IsRowsOf H slice.now → result ≡ shipped H (lot_id slice.now.owner lot.now) }
+    ensures amount { (H : History) → IsLawful H → IsRowsOf H slice.now
+        → result ≡ shipped H (lot_id slice.now.owner lot.now) }
 {
     sum_of_shipments(slice, lot)
 }

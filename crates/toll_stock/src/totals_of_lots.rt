@@ -57,7 +57,8 @@ impl LotTotals {
     /// lot's sublots alone.
     pub fn of_lot(&self, lot: &Name) -> Option<Totals>
         ensures rows { result ≡ totals_in self.now lot.now }
-        ensures totals { (H : History) → IsLawful H → IsRowsOf H self.now → result ≡ totals_given H (lot_id self.now.owner lot.now) }
+        ensures totals { (H : History) → IsLawful H → IsRowsOf H self.now
+            → result ≡ totals_given H (lot_id self.now.owner lot.now) }
     {
         match self.slice.lot(lot) {
             None => None,
@@ -71,7 +72,8 @@ impl LotTotals {
     // What the lot's shipments took.
     fn shipped_of(&self, lot: &Name) -> u64
         ensures rows { result ≡ shipped_in self.now lot.now }
-        ensures amount { (H : History) → IsLawful H → IsRowsOf H self.now → result ≡ shipped H (lot_id self.now.owner lot.now) }
+        ensures amount { (H : History) → IsLawful H → IsRowsOf H self.now
+            → result ≡ shipped H (lot_id self.now.owner lot.now) }
     {
         // For the proof: movements are in the order of their keys.
         let _moves = self.slice.moves();

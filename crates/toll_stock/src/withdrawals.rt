@@ -26,7 +26,8 @@ pub fn ship(
     amount: Amount,
     day: Day,
 ) -> Result<Decision, AllocError>
-    ensures decides { IfOk result (Decides (moves slice.now.owner key (Move.Ship lot sublot) amount day) slice.now) }
+    ensures decides { IfOk result
+        (Decides (moves slice.now.owner key (Move.Ship lot sublot) amount day) slice.now) }
     ensures rules { IfOk result (DecisionKeepsRules slice.now) }
     ensures own { IfOk result (λ d. PutsOnly slice.now.owner (changes_of d)) }
 {
@@ -54,7 +55,8 @@ pub fn scrap(
     amount: Amount,
     day: Day,
 ) -> Result<Decision, AllocError>
-    ensures decides { IfOk result (Decides (moves slice.now.owner key (Move.Scrap lot sublot) amount day) slice.now) }
+    ensures decides { IfOk result
+        (Decides (moves slice.now.owner key (Move.Scrap lot sublot) amount day) slice.now) }
     ensures rules { IfOk result (DecisionKeepsRules slice.now) }
     ensures own { IfOk result (λ d. PutsOnly slice.now.owner (changes_of d)) }
 {
@@ -76,7 +78,8 @@ fn plan_withdrawal(
     sublot: Name,
     checked: Result<(), Refusal>,
 ) -> Result<Decision, AllocError>
-    ensures plan { (checks : Checks) → verdict_of_result checked ≡ verdict_of_checks checks → IfOk result (IsWithdrawalPlan checks slice.now row.now lot sublot) }
+    ensures plan { (checks : Checks) → verdict_of_result checked ≡ verdict_of_checks checks
+        → IfOk result (IsWithdrawalPlan checks slice.now row.now lot sublot) }
     ensures kept { KeepsRules slice.now }
 {
     let owner = *slice.owner();
@@ -89,7 +92,8 @@ fn plan_withdrawal(
 }
 
 fn check_shipment(slice: &Slice, lot: &Name, sublot: &Name, amount: Amount) -> Result<(), Refusal>
-    ensures { verdict_of_result result ≡ verdict_of_checks (ship_checks (facts_of slice.now) lot.now sublot.now amount) }
+    ensures { verdict_of_result result
+        ≡ verdict_of_checks (ship_checks (facts_of slice.now) lot.now sublot.now amount) }
 {
     let Some(known) = slice.lot(lot) else {
         return Err(Refusal::UnknownLot);

@@ -49,8 +49,10 @@ impl EdgeIndex {
         way: Way,
     ) -> Result<Self, AllocError>
         requires sorted { IsStrictlySortedBy lot_cmp lots.now }
-        requires listed { (e : _) → Contains edges.now e → Contains lots.now e.from × Contains lots.now e.to }
-        ensures joined { IfOk result (λ joints. (a b : LotId) → IsIndexedStep lots.now joints a b ↔ IsJoined edges.now way a b) }
+        requires listed { (e : _) → Contains edges.now e
+            → Contains lots.now e.from × Contains lots.now e.to }
+        ensures joined { IfOk result (λ joints. (a b : LotId)
+            → IsIndexedStep lots.now joints a b ↔ IsJoined edges.now way a b) }
         ensures within { IfOk result (λ joints. AreBelow (length lots.now) joints.targets.items) }
     {
         let mut sources = Vec::new(alloc);
@@ -78,7 +80,8 @@ impl EdgeIndex {
     ) -> Result<Self, AllocError>
         ensures moved { IsPermutation leaving.old leaving.new }
         ensures joined { IfOk result (λ joints. (m n : ℕ) → LeadsThrough joints.sources joints.targets.items m n ↔ PassesThrough way entering.now leaving.old m n) }
-        ensures targets { IfOk result (λ joints. (n : ℕ) → Contains joints.targets.items n → (v : _) × Contains leaving.old v × (v.1 ≡ n)) }
+        ensures targets { IfOk result (λ joints. (n : ℕ) → Contains joints.targets.items n
+            → (v : _) × Contains leaving.old v × (v.1 ≡ n)) }
     {
         put_in_order_along(leaving, way);
         let targets = numbers_used(alloc, leaving)?;

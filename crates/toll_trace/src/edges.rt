@@ -69,7 +69,8 @@ fn edges_among(
     consumptions: &[(Batch, LotUse)],
     productions: &Index<Batch, LotUse>,
 ) -> Result<Vec<Edge>, AllocError>
-    ensures { IfOk result (λ edges. edges.items ≡ flat_map (edges_from productions.now) consumptions.now) }
+    ensures { IfOk result
+        (λ edges. edges.items ≡ flat_map (edges_from productions.now) consumptions.now) }
 {
     let mut edges = Vec::new(alloc);
     for (batch, consumption) in consumptions {
@@ -127,7 +128,8 @@ fn add_edges(
     consumption: &LotUse,
     productions: &[(Batch, LotUse)],
 ) -> Result<(), AllocError>
-    ensures { OnOk result (edges.new.items ≡ edges.old.items ++ map (edge_between consumption.now) (filter (is_not_above consumption.now) productions.now)) }
+    ensures { OnOk result (edges.new.items ≡ edges.old.items ++ map (edge_between consumption.now)
+        (filter (is_not_above consumption.now) productions.now)) }
 {
     for (_, production) in productions {
         if consumption.segment <= production.segment {

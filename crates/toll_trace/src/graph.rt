@@ -79,7 +79,8 @@ impl Graph {
     /// [`crate::plain_trace`]. It walks each joint once at most.
     pub fn trace(&self, alloc: Global, from: &LotId, way: Way) -> Result<Vec<Step>, AllocError>
         ensures led { IfOk result (λ trace. IsTrace (Leads self.now way) from.now trace.items) }
-        ensures edges { IfOk result (λ trace. (edges : List Edge) → IsGraphOf edges self.now → IsTrace (IsJoined edges way) from.now trace.items) }
+        ensures edges { IfOk result (λ trace. (edges : List Edge) → IsGraphOf edges self.now
+            → IsTrace (IsJoined edges way) from.now trace.items) }
     {
         trace_among(alloc, &[self], from, way)
     }
@@ -100,7 +101,8 @@ impl Graph {
 /// The lots that the edges join, in order, each once.
 fn lots_joined(alloc: Global, edges: &[Edge]) -> Result<Vec<LotId>, AllocError>
     ensures sorted { IfOk result (λ lots. IsStrictlySortedBy lot_cmp lots.items) }
-    ensures every { IfOk result (λ lots. (e : _) → Contains edges.now e → Contains lots.items e.from × Contains lots.items e.to) }
+    ensures every { IfOk result (λ lots. (e : _) → Contains edges.now e
+        → Contains lots.items e.from × Contains lots.items e.to) }
 {
     let mut lots = Vec::new(alloc);
     for edge in edges {

@@ -30,7 +30,8 @@ pub(crate) fn ahead_of(uses: &[(Place, usize)], way: Way, place: &Place) -> Span
 /// Puts uses in the order of that way.
 pub(crate) fn put_in_order_along(uses: &mut [(Place, usize)], way: Way)
     ensures moved { IsPermutation uses.old uses.new }
-    ensures sorted { IsSortedBy (λ u v. is_lt (order_along way chain_segment_cmp u.0 v.0)) uses.new }
+    ensures sorted { IsSortedBy
+        (λ u v. is_lt (order_along way chain_segment_cmp u.0 v.0)) uses.new }
 {
     match way {
         Way::Back => uses.sort_unstable_by(|a, b| b.0.cmp(&a.0)),

@@ -59,7 +59,8 @@ impl<'a> Part<'a> {
     // Takes a step from the front. Adds the lots that it reaches and that aren't found yet.
     fn lead_on(&mut self, alloc: Global, lots: &mut Vec<LotId>) -> Result<(), AllocError>
         requires sound { IsSound self.old }
-        requires walked { AreWalked self.old.joints.now.targets.items (is_marked self.old.marks.items) self.old.lows.items self.old.front.items }
+        requires walked { AreWalked self.old.joints.now.targets.items
+            (is_marked self.old.marks.items) self.old.lows.items self.old.front.items }
         ensures { OnOk result (IsLedOn self.old self.new lots.old.items lots.new.items) }
     {
         mark(&mut self.marks, &self.front);
@@ -85,8 +86,10 @@ pub(crate) fn search(
     parts: &mut Vec<Part<'_>>,
     from: &LotId,
 ) -> Result<Vec<Step>, AllocError>
-    requires { (part : _) → Contains parts.old.items part → IsWalked (is_found []) (from.now ∷ []) part }
-    ensures { IfOk result (λ trace. IsTrace (LeadThrough (all_steps parts.old.items)) from.now trace.items) }
+    requires { (part : _) → Contains parts.old.items part
+        → IsWalked (is_found []) (from.now ∷ []) part }
+    ensures { IfOk result
+        (λ trace. IsTrace (LeadThrough (all_steps parts.old.items)) from.now trace.items) }
 {
     let mut found = Vec::new(alloc);
     let mut steps = 0;
@@ -107,10 +110,13 @@ fn advance(
     steps: u64,
     front: &[LotId],
 ) -> Result<Vec<LotId>, AllocError>
-    requires walked { (part : _) → Contains parts.old.items part → IsWalked (is_found found.old.items) front.now part }
-    ensures added { OnOk result (found.new.items ≡ found.old.items ++ map (step_at steps) front.now) }
+    requires walked { (part : _) → Contains parts.old.items part
+        → IsWalked (is_found found.old.items) front.now part }
+    ensures added { OnOk result
+        (found.new.items ≡ found.old.items ++ map (step_at steps) front.now) }
     ensures steps { OnOk result (all_steps parts.new.items ≡ all_steps parts.old.items) }
-    ensures led { IfOk result (λ lots. AreLedTo (is_found found.new.items) front.now parts.new.items lots.items) }
+    ensures led { IfOk result
+        (λ lots. AreLedTo (is_found found.new.items) front.now parts.new.items lots.items) }
 {
     add_steps(found, steps, front)?;
     let mut lots = Vec::new(alloc);
@@ -135,8 +141,10 @@ fn add_steps(found: &mut Vec<Step>, steps: u64, lots: &[LotId]) -> Result<(), Al
 /// Sets the front of each part: these lots, where its graph has them. A part that is alone has that
 /// front, since nothing else led to the lots.
 fn face_all(parts: &mut Vec<Part<'_>>, lots: &[LotId]) -> Result<(), AllocError>
-    requires sorted { (part : _) → Contains parts.old.items part → IsStrictlySortedBy lot_cmp part.lots.now }
-    requires alone { length parts.old.items ≡ 1 → (part : _) → Contains parts.old.items part → AreAllNumbers part.lots.now lots.now part.front.items }
+    requires sorted { (part : _) → Contains parts.old.items part
+        → IsStrictlySortedBy lot_cmp part.lots.now }
+    requires alone { length parts.old.items ≡ 1 → (part : _) → Contains parts.old.items part
+        → AreAllNumbers part.lots.now lots.now part.front.items }
     ensures steps { OnOk result (all_steps parts.new.items ≡ all_steps parts.old.items) }
     ensures faced { OnOk result (AreFaced lots.now parts.old.items parts.new.items) }
 {
@@ -156,7 +164,8 @@ fn face_all(parts: &mut Vec<Part<'_>>, lots: &[LotId]) -> Result<(), AllocError>
 fn nothing_walked(alloc: Global, joints: usize) -> Result<Vec<usize>, AllocError>
     requires { joints + 1 < 2 ^ 64 }
     ensures length { IfOk result (λ lows. length lows.items ≡ joints + 1) }
-    ensures lows { IfOk result (λ lows. (end : ℕ) → end < joints + 1 → slice_index lows.items end ≡ end) }
+    ensures lows { IfOk result
+        (λ lows. (end : ℕ) → end < joints + 1 → slice_index lows.items end ≡ end) }
 {
     let mut lows = Vec::new(alloc);
     for end in 0..joints + 1 {
@@ -216,7 +225,8 @@ fn enter(
     requires within { AreWithin targets.now sources.now }
     requires sized { length lows.old ≡ length targets.now + 1 }
     requires walked { AreWalked targets.now (is_marked marks.now) lows.old numbers.old.items }
-    ensures { OnOk result (AreEntered targets.now (is_marked marks.now) sources.now lows.new numbers.old.items numbers.new.items) }
+    ensures { OnOk result (AreEntered targets.now
+        (is_marked marks.now) sources.now lows.new numbers.old.items numbers.new.items) }
 {
     for (_, span) in sources {
         let low = lows[span.end];
@@ -231,7 +241,8 @@ fn enter(
 /// Adds those of the lots that aren't marked.
 fn add_new(numbers: &mut Vec<usize>, marks: &[bool], leaving: &[usize]) -> Result<(), AllocError>
     requires { AreBelow (length marks.now) leaving.now }
-    ensures { OnOk result (numbers.new.items ≡ numbers.old.items ++ filter (λ number. not (is_marked marks.now number)) leaving.now) }
+    ensures { OnOk result (numbers.new.items
+        ≡ numbers.old.items ++ filter (λ number. not (is_marked marks.now number)) leaving.now) }
 {
     for number in leaving {
         if !marks[*number] {

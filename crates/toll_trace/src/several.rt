@@ -17,7 +17,8 @@ pub fn trace_among(
     from: &LotId,
     way: Way,
 ) -> Result<Vec<Step>, AllocError>
-    ensures { IfOk result (λ trace. IsTrace (LeadAmong (map (λ graph. graph.now) graphs.now) way) from.now trace.items) }
+    ensures { IfOk result (λ trace. IsTrace
+        (LeadAmong (map (λ graph. graph.now) graphs.now) way) from.now trace.items) }
 {
     let mut parts = Vec::new(alloc);
     for graph in graphs {

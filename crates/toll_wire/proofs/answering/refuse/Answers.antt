@@ -1,4 +1,4 @@
-use Rattle.std.proofs.Common.{Ok, Some, true, false, subst, sym, ◌∙◌}
+use Rattle.std.proofs.Common.{Some, true, false, subst, sym, ◌∙◌}
 use Rattle.toll_answers.specs.Replies.{has_owner_key}
 use Rattle.toll_desk.proofs.OwnerPlans.{right_key, wrong_key}
 use Rattle.toll_wire.specs.ReplyTexts.{text_of_failure}
