@@ -1,5 +1,5 @@
 -- Graphs of owners, and the edges that they have together.
-use Rattle.std.proofs.Common.{Bor, ◌≡◌, ◌↔◌, ◌⊎◌, ℕ, ◌+◌, ◌<◌, cond, length, get_or, take, drop, Bool, true, false, Option, Some, None, List, [], ◌∷◌, ◌++◌, map, Result, Ok, Err, IfOk, Vec, Global, refl, sym, ap, subst, ◌∙◌, inl, inr}
+use Rattle.std.proofs.Common.{Bor, ◌≡◌, ◌↔◌, ◌⊎◌, ℕ, ◌+◌, ◌<◌, cond, length, get_or, take, drop, Bool, true, false, Some, None, List, [], ◌∷◌, ◌++◌, map, Result, Ok, Err, IfOk, Vec, Global, refl, sym, ap, subst, ◌∙◌, inl, inr}
 use Rattle.std.specs.Prelude.{Contains, filter, ◌||◌}
 use Rattle.std.proofs.lemmas.List.{take-append-drop}
 use Rattle.toll_trace.specs.Chain.{edge_of}
@@ -11,7 +11,7 @@ use Rattle.toll_trace.specs.declared.way.Way.{Way}
 use Rattle.toll_trace.proofs.Members.{Contains-filter, Contains-from_filter, Contains-map, Contains-from_map}
 use Rattle.toll_trace.proofs.Unique.{trace_same}
 use Rattle.toll_base.specs.declared.lot.LotId.{LotId}
-use Rattle.toll_keep.proofs.Common.{false≢true, list_any, All-get_or, Bytes, same_bytes, same_bytes-exact, same_bytes-refl, Slice, empty_slice, IsEdge, Contains-none, Contains-here, Contains-later, Contains-cases, Contains-append_left, Contains-append_cases, Contains-push, Contains-push_cases, take_more, Edge}
+use Rattle.toll_keep.proofs.Common.{list_any, Bytes, same_bytes, same_bytes-exact, same_bytes-refl, Slice, empty_slice, IsEdge, Contains-none, Contains-cases, Contains-append_left, Contains-append_cases, Contains-push, Contains-push_cases, take_more, Edge}
 use Rattle.toll_keep.specs.Content.{Content, slice_of, knows}
 use Rattle.toll_keep.specs.Graphs.{AreGraphsOf, HasGraph, IsKnownGraph}
 use Rattle.toll_keep.specs.Holding.{IsEdgeOfOne, GivesTrace}

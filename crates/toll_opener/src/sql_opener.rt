@@ -5,11 +5,13 @@ ghost use Rattle.toll_sql.specs.Opened.{IsOpened};
 ghost use Rattle.toll_sql.specs.Opening.{open_fault_word};
 
 use sqlite::{File as StoreFile, FileStore, Unknown};
+use std::alloc::Global;
 use std::fs;
 use std::fs::{File, OpenOptions};
 use std::io::ErrorKind;
 use std::os::unix::fs::OpenOptionsExt;
-use toll_keep::CachedKeep;
+use toll_base::{Name, Slice};
+use toll_keep::{CachedKeep, Keep, KeepFault};
 use toll_service::{FILE_MODE, KeepOpener, LeftFiles, OfficeFault, OfficePath, take_lock};
 use toll_sql::{OpenFault, SqlKeep};
 
@@ -70,6 +72,15 @@ impl KeepOpener<FileKeep> for SqlOpener {
             Err(OfficeFault::NotOurs) => open_as(rt, path, !is_fresh),
             opened => opened,
         }
+    }
+
+    fn read_rows(
+        &mut self,
+        alloc: Global,
+        keep: &mut FileKeep,
+        owner: &Name,
+    ) -> Result<Option<Slice>, KeepFault> {
+        keep.slice(alloc, owner)
     }
 
     fn close(&mut self, keep: FileKeep) {

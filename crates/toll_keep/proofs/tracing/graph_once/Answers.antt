@@ -1,4 +1,4 @@
-use Rattle.std.proofs.Common.{sym, ap, ◌∙◌}
+use Rattle.std.proofs.Common.{sym, ◌∙◌}
 use Rattle.toll_keep.proofs.Learning.{rows_there, no_rows_there}
 use Rattle.toll_keep.proofs.tracing.graph_once.Goals as goal
 

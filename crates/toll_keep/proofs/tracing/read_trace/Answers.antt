@@ -1,4 +1,4 @@
-use Rattle.std.proofs.Common.{sym, subst, ◌∙◌}
+use Rattle.std.proofs.Common.{sym, subst}
 use Rattle.toll_keep.specs.Remembered.{AreOf}
 use Rattle.toll_keep.proofs.Around.{some_owners}
 use Rattle.toll_keep.proofs.Calls.{read_ok, read_fault}

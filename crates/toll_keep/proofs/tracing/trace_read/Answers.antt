@@ -1,6 +1,4 @@
 use Rattle.std.proofs.Common.{sym, subst}
-use Rattle.std.specs.Prelude.{Contains}
-use Rattle.toll_keep.proofs.Common.{Bytes}
 use Rattle.toll_keep.specs.Graphs.{AreGraphsOf, HasGraph}
 use Rattle.toll_keep.proofs.Learning.{graphs_taken}
 use Rattle.toll_keep.proofs.tracing.trace_read.Goals as goal

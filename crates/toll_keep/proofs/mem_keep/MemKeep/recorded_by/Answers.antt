@@ -1,7 +1,6 @@
-use Rattle.std.proofs.Common.{◌↔◌, sym, subst}
+use Rattle.std.proofs.Common.{◌↔◌, subst}
 use Rattle.std.proofs.lemmas.List.{take_all}
 use Rattle.toll_trace.specs.Recorded.{Draws}
-use Rattle.toll_keep.proofs.Common.{Edge}
 use Rattle.toll_keep.specs.Holding.{IsEdgeOfOne}
 use Rattle.toll_keep.specs.Slices.{content_of}
 use Rattle.toll_keep.proofs.Learning.{drawn_none, drawn_more}
