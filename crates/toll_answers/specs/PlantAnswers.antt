@@ -1,7 +1,7 @@
 -- The answers to the plant over a list of commands.
 use Rattle.std.specs.Prelude.{◌≡◌, not, Option, Some, None, is_none, IfSome, List, [], ◌∷◌, ◌++◌}
 use Rattle.toll_base.specs.declared.movement.Move.TheVariants as move
-use Rattle.toll_history.specs.Command.{AddMaterial, AddTest, CloseBatch, RecordResult, Require, Void}
+use Rattle.toll_history.specs.Command.{AddMaterial, AddTest, CloseBatch, Record, RecordResult, Require, Void}
 use Rattle.toll_answers.specs.Common.{Bytes, bytes_cmp, house_name, option_map_or, RequirementKey, requirement_cmp, AreRowsGiven, AddOwner, AddRecipe, AddUnit, CancelOrder, CommandBatch, OpenBatch, PlaceOrder, Reject, Release, Command, by, moves, IsValidAction, History, acts, owner_known, order_of, batch_of, facts_given, lot_row, Verdict, Refused, Checks, verdict_of_checks, verdict, grow, known_batch_checks, UnknownOwner, UnknownLot, LotId, BatchRow, OrderRow, Step, IsTrace, line_of, line_key, RequirementLine}
 use Rattle.toll_answers.specs.Edges.{IsPlantJoined}
 use Rattle.toll_trace.specs.declared.way.Way.{Way}
@@ -33,7 +33,7 @@ recorded_command (cmd.Scrap owner key lot sublot amount day) = Some (moves owner
 recorded_command (cmd.Result owner lot test value day) = Some (by owner (RecordResult lot test value day))
 recorded_command (cmd.Release lot) = Some (by house_name (Release lot))
 recorded_command (cmd.Reject lot) = Some (by house_name (Reject lot))
-recorded_command (cmd.Actual key owner order number segment role material lot sublot amount day) = Some (moves owner key (move.Actual order number segment role material lot sublot) amount day)
+recorded_command (cmd.Actual owner row) = Some (by owner (Record row.movement))
 recorded_command (cmd.Void owner key) = Some (by owner (Void key))
 recorded_command _ = None
 

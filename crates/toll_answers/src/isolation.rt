@@ -9,6 +9,8 @@ ghost use Rattle.toll_answers.specs.OwnerReply.{OwnerReply};
 /// part of it; and what a request makes of the history, cut to the owner, is what it makes of the
 /// part.
 pub fn replies_come_from_the_owners_part()
-    ensures reply { (H : History) (o key : Bytes) (q : Request) (r : OwnerReply) → IsLawful H → same_bytes o house_name ≡ false → IsOwnReply o key H q r }
-    ensures growth { (H : History) (o key : Bytes) (q : Request) → IsLawful H → same_bytes o house_name ≡ false → IsOwnGrowth o key H q }
+    ensures reply { (H : History) (o key : Bytes) (q : Request) (r : OwnerReply) → IsLawful H
+        → same_bytes o house_name ≡ false → IsOwnReply o key H q r }
+    ensures growth { (H : History) (o key : Bytes) (q : Request) → IsLawful H
+        → same_bytes o house_name ≡ false → IsOwnGrowth o key H q }
 {}

@@ -2,12 +2,14 @@
 //! genealogy and recalls, and the plant's texts.
 #![tactic(auto)]
 
+mod actual_row;
 mod genealogy;
 mod isolation;
 mod plant_cmd;
 mod print;
 mod views;
 
+pub use actual_row::ActualRow;
 pub use genealogy::{
     RecallLine, a_movement_stands_unless_it_is_voided, edges_of_a_batch,
     edges_of_a_slice_are_the_owners, lots_of_edges_are_known,

@@ -2,9 +2,10 @@
 ghost use Rattle.std.specs.Prelude.{◌≡◌};
 ghost use Rattle.toll_answers.specs.PlantAnswers.{IsValidCommand, concerned};
 
+use crate::actual_row::ActualRow;
 use toll_base::{
-    Amount, BatchNo, Day, Limits, LotId, Measure, Name, OwnerKey, Refusal, RequirementRow, Role,
-    Segment, StateCommand, Value,
+    Amount, BatchNo, Day, Limits, LotId, Measure, Name, OwnerKey, Refusal, RequirementRow, Segment,
+    StateCommand, Value,
 };
 use toll_trace::Way;
 
@@ -134,17 +135,8 @@ pub enum PlantCmd {
     },
     /// Records an actual of a batch of the owner, as [`toll_work::record_actual`] says.
     Actual {
-        key: Name,
         owner: Name,
-        order: Name,
-        number: BatchNo,
-        segment: Segment,
-        role: Role,
-        material: Name,
-        lot: LotId,
-        sublot: Name,
-        amount: Amount,
-        day: Day,
+        row: ActualRow,
     },
     /// Voids an actual, as [`toll_work::void_actual`] says.
     Void {
@@ -221,9 +213,11 @@ impl PlantCmd {
             PlantCmd::Receive { amount, .. }
             | PlantCmd::Split { amount, .. }
             | PlantCmd::Ship { amount, .. }
-            | PlantCmd::Scrap { amount, .. }
-            | PlantCmd::Actual { amount, .. } => {
+            | PlantCmd::Scrap { amount, .. } => {
                 let _within = amount.get();
+            }
+            PlantCmd::Actual { row, .. } => {
+                let _within = row.movement.amount.get();
             }
             _ => {}
         }

@@ -12,7 +12,7 @@ ghost use Rattle.toll_desk.specs.Subjects.{IsCommandSuchThat, IsOfLot, ConcernsO
 
 use std::alloc::{AllocError, Global};
 use toll_answers::PlantCmd;
-use toll_base::{Decision, Move, MoveRow, Slice};
+use toll_base::{Decision, Slice};
 use toll_stock::{
     add_material, add_test, receive, record_result, reject, release, scrap, ship, split,
 };
@@ -134,36 +134,7 @@ pub fn decide_shared(
     let _house = house.owner();
     match *command {
         PlantCmd::Require { row, .. } => require(alloc, own, house, row),
-        PlantCmd::Actual {
-            key,
-            order,
-            number,
-            segment,
-            role,
-            material,
-            lot,
-            sublot,
-            amount,
-            day,
-            ..
-        } => {
-            let what = Move::Actual {
-                order,
-                number,
-                segment,
-                role,
-                material,
-                lot,
-                sublot,
-            };
-            let row = MoveRow {
-                key,
-                what,
-                amount,
-                day,
-            };
-            record_actual(alloc, own, house, row)
-        }
+        PlantCmd::Actual { row, .. } => record_actual(alloc, own, house, row.movement),
         PlantCmd::Void { key, .. } => void_actual(alloc, own, house, key),
         _ => unreachable!(),
     }

@@ -38,7 +38,7 @@ pub use representing::{
 pub use request::{Planned, Reply};
 pub use staging::plant_stage;
 pub use toll_answers::{
-    LotView, PlantCmd, RecallLine, StockLine, batch_text, orders_text, recall_text, stock_text,
-    trace_text,
+    ActualRow, LotView, PlantCmd, RecallLine, StockLine, batch_text, orders_text, recall_text,
+    stock_text, trace_text,
 };
 pub use toll_base::Request;

@@ -4,9 +4,8 @@ use Rattle.std.specs.Prelude.{◌==◌, IsSome, Result, Ok, Err}
 use Rattle.toll_plant.proofs.Common.{AllByRecursion, Refusal, IsValidCommand, recorded_command, PlantCmd, looks_at_two}
 use Rattle.toll_base.proofs.Texts.{nat_eq-exact}
 use Rattle.toll_base.specs.Lots.{lot_id}
-use Rattle.toll_base.specs.declared.movement.Move.TheVariants as move
 use Rattle.toll_answers.specs.declared.plant_cmd.PlantCmd.TheVariants.{Actual, Unread}
-use Rattle.toll_plant.specs.Commands.{command_from}
+use Rattle.toll_plant.specs.Commands.{actual_row, command_from}
 use Rattle.toll_plant.specs.Files.{Fields, command_in}
 use Rattle.toll_plant.specs.Imports.{commands_in}
 use Rattle.toll_plant.specs.Table.{actual_line}
@@ -36,8 +35,9 @@ deeds_made fields (Err why) same e command is =
 deeds_made fields (Ok values) same e command is =
     values_have actual_line.values MakeDeed fields values same
     (λ key owner order number segment role material lot_owner lot sublot amount within day command is.
-    let command_made : Actual key owner order number segment role material (lot_id lot_owner lot) sublot amount day ≡ command = cc is in
-    (inl (owner, record { key = key; what = move.Actual order number segment role material (lot_id lot_owner lot) sublot; amount = amount; day = day }, ap recorded_command (sym command_made)), ap looks_at_two (sym command_made), subst IsValidCommand command_made within))
+    let row = actual_row key order number segment (record { role = role; material = material; lot = lot_id lot_owner lot; sublot = sublot; amount = amount; day = day }) in
+    let command_made : Actual owner row ≡ command = cc is in
+    (inl (owner, row.movement, ap recorded_command (sym command_made)), ap looks_at_two (sym command_made), subst IsValidCommand command_made within))
     e command is
 
 in_record : (fields : Fields) (b : Bool) → (length fields == length actual_line.values) ≡ b → (command : PlantCmd) → cond b (command_with actual_line fields) None ≡ Some command → IsDeedOfTwo command

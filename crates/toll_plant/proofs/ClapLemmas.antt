@@ -1,6 +1,6 @@
 -- `clap` reads plain words unchanged.
-use Rattle.std.proofs.Common.{◌≡◌, ◌∙◌, ℕ, ◌+◌, ◌<◌, Bool, true, false, List, [], ◌∷◌, ◌++◌, length, map, drop, refl, sym, ap, subst, arith, append_assoc, codes, Option, Some, None}
-use Rattle.std.specs.Prelude.{IfOk, Result, Ok, Err, ◌||◌, ◌==◌, not, fold, nat_le, nat_lt, option_map}
+use Rattle.std.proofs.Common.{◌≡◌, ◌∙◌, ℕ, ◌+◌, ◌<◌, Bool, true, false, List, [], ◌∷◌, ◌++◌, length, drop, refl, sym, ap, subst, arith, append_assoc, codes, Option, Some, None}
+use Rattle.std.specs.Prelude.{IfOk, Result, Ok, Err, ◌==◌, not, fold, nat_le, nat_lt, option_map}
 use Rattle.toll_plant.proofs.Common.{list_all, append-nil, nat_tests, App, HasMatchesOf, Row, Rule, Shape, Text, Walk, built, filled, is_simple, nothing_held, settle_passes, takes, walk, walk_from, walk_passes, walked, with_index}
 use Rattle.clap.proofs.WalkLemmas.{raw_values-rows}
 use Rattle.clap.specs.Matches.{found_of, matched_of, raw_values}

@@ -1,8 +1,6 @@
 -- Why files are not imported.
-use Rattle.std.proofs.Common.{◌≡◌, ◌<◌, ◌≤◌, length, Result, Err, refl, arith}
-use Rattle.std.specs.Prelude.{◌≢◌, ◌↔◌}
+use Rattle.std.proofs.Common.{◌≤◌, length}
 use Rattle.toll_base.specs.Bytes.{Bytes}
-use Rattle.toll_plant.specs.Files.{HasHeader}
 use Rattle.toll_plant.specs.ImportFaults.{IsNoActualsOf, IsRefusedFor}
 use Rattle.toll_plant.specs.declared.import_fault.ImportFault.{ImportFault}
 use Rattle.toll_plant.specs.declared.import_fault.ImportFault.TheVariants.{Memory, TooLong, BadHeader}

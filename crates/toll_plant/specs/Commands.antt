@@ -1,9 +1,11 @@
 -- The commands that values make.
-use Rattle.std.specs.Prelude.{ℕ, ℤ, ◌≤ℤ◌, Bool, true, false, T, List, [], ◌∷◌, Option, Some, None, option_map}
+use Rattle.std.specs.Prelude.{ℕ, ℤ, ◌≤ℤ◌, Bool, true, false, T, List, [], ◌∷◌, Option, Some, None, option_map, refl}
 use Rattle.std.specs.Int.Signed.{le_z, le_z_yes}
 use Rattle.toll_plant.specs.Common.{Bytes, BadAmount, PlantCmd}
 use Rattle.toll_base.specs.Lots.{lot_id}
+use Rattle.toll_base.specs.declared.movement.Move.TheVariants as move
 use Rattle.toll_base.specs.declared.limits.Limits.{Limits}
+use Rattle.toll_answers.specs.declared.actual_row.ActualRow.{ActualRow}
 use Rattle.toll_answers.specs.declared.plant_cmd.PlantCmd.TheVariants as cmd
 use Rattle.toll_plant.specs.declared.taken.Taken.{Taken}
 use Rattle.toll_plant.specs.declared.command.CommandName.{CommandName}
@@ -30,9 +32,16 @@ abbrev pub taken_from : List ArgumentValue → Option Taken
 taken_from (Role role ∷ Name material ∷ Name lot_owner ∷ Name lot ∷ Name sublot ∷ Amount amount ∷ Day day ∷ []) = Some (record { role = role; material = material; lot = lot_id lot_owner lot; sublot = sublot; amount = amount; day = day })
 taken_from _ = None
 
+-- the row of an actual of this segment of a batch
+abbrev pub actual_row : (key order : Bytes) (number segment : ℕ) → Taken → ActualRow
+actual_row key order number segment t = record {
+  movement = record { key = key; what = move.Actual order number segment t.role t.material t.lot t.sublot; amount = t.amount; day = t.day };
+  actual = refl;
+}
+
 -- an actual of this segment of a batch
 abbrev pub actual_command : (key owner order : Bytes) (number segment : ℕ) → Taken → PlantCmd
-actual_command key owner order number segment t = cmd.Actual key owner order number segment t.role t.material t.lot t.sublot t.amount t.day
+actual_command key owner order number segment t = cmd.Actual owner (actual_row key order number segment t)
 
 -- the command with this name and these values, if they fit the name
 abbrev pub command_from : CommandName → List ArgumentValue → Option PlantCmd

@@ -10,7 +10,8 @@ use crate::records::{fields, records};
 use crate::values::read;
 use csv::ByteRecord;
 use std::alloc::{AllocError, Global};
-use toll_desk::PlantCmd;
+use toll_base::{Move, MoveRow};
+use toll_desk::{ActualRow, PlantCmd};
 
 // The first record of a file of actuals.
 const HEADER: [&'static [u8]; 12] = [
@@ -86,6 +87,10 @@ fn is_field(row: &ByteRecord, place: usize, name: &[u8]) -> bool
 fn commands(alloc: Global, records: &[ByteRecord]) -> Result<Vec<Option<PlantCmd>>, AllocError>
     ensures { IfOk result (λ commands. commands.items ≡ map (λ r. command_in (fields_of r)) records.now) }
 {
+    // For the proof: it names the types of what a command for an actual has.
+    let _row: Option<ActualRow> = None;
+    let _movement: Option<MoveRow> = None;
+    let _what: Option<Move> = None;
     let mut commands = Vec::new(alloc);
     for row in records {
         commands.push(command(alloc, row)?)?;

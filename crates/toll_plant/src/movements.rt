@@ -1,11 +1,12 @@
 //! Movements of material. Each is `None` if the values aren't those of its command.
-ghost use Rattle.std.specs.Prelude.{◌≡◌};
-ghost use Rattle.toll_plant.specs.Commands.{command_from};
+ghost use Rattle.std.specs.Prelude.{◌≡◌, option_map};
+ghost use Rattle.toll_plant.specs.Commands.{actual_command, actual_row, command_from, taken_from};
 ghost use Rattle.toll_plant.specs.declared.command.CommandName.TheVariants as called;
 
 use crate::argument::{ArgumentValue, from_values};
 use crate::taken::Taken;
-use toll_desk::PlantCmd;
+use toll_base::{BatchNo, Move, MoveRow, Name, Segment};
+use toll_desk::{ActualRow, PlantCmd};
 
 /// Material received into a lot.
 pub fn receive(values: &[ArgumentValue]) -> Option<PlantCmd>
@@ -55,24 +56,48 @@ pub fn actual(values: &[ArgumentValue]) -> Option<PlantCmd>
             ArgumentValue::BatchNo(number),
             ArgumentValue::Segment(segment),
             ref rest @ ..,
-        ] => {
-            let taken = Taken::from_values(rest)?;
-            Some(PlantCmd::Actual {
-                key,
-                owner,
-                order,
-                number,
-                segment,
-                role: taken.role,
-                material: taken.material,
-                lot: taken.lot,
-                sublot: taken.sublot,
-                amount: taken.amount,
-                day: taken.day,
-            })
-        }
+        ] => actual_of(key, owner, order, number, segment, rest),
         _ => None,
     }
+}
+
+// An actual of this segment of a batch: it takes what these values say.
+fn actual_of(
+    key: Name,
+    owner: Name,
+    order: Name,
+    number: BatchNo,
+    segment: Segment,
+    rest: &[ArgumentValue],
+) -> Option<PlantCmd>
+    ensures { result
+        ≡ option_map (actual_command key owner order number segment) (taken_from rest.now) }
+{
+    let taken = Taken::from_values(rest)?;
+    let row = actual_row(key, order, number, segment, &taken);
+    Some(PlantCmd::Actual { owner, row })
+}
+
+// The row of an actual of this segment of a batch.
+fn actual_row(key: Name, order: Name, number: BatchNo, segment: Segment, taken: &Taken) -> ActualRow
+    ensures { result ≡ actual_row key order number segment taken.now }
+{
+    let what = Move::Actual {
+        order,
+        number,
+        segment,
+        role: taken.role,
+        material: taken.material,
+        lot: taken.lot,
+        sublot: taken.sublot,
+    };
+    let movement = MoveRow {
+        key,
+        what,
+        amount: taken.amount,
+        day: taken.day,
+    };
+    ActualRow { movement }
 }
 
 /// An actual that is taken back.

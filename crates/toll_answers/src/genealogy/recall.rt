@@ -20,11 +20,13 @@ pub struct RecallLine {
 /// The recall of a lot of HOUSE has, of an owner's lots, exactly those on the owner's forward traces from
 /// the lots of HOUSE that HOUSE's own edges reach, each with the least sum of steps.
 pub fn recalls_within_an_owner_are_the_owners()
-    ensures { (H : History) (o : Bytes) (lot : LotId) → IsLawful H → lot.owner ≡ house_name → IsRecallFromHouse H o lot }
+    ensures { (H : History) (o : Bytes) (lot : LotId) → IsLawful H → lot.owner ≡ house_name
+        → IsRecallFromHouse H o lot }
 {}
 
 /// Two lawful histories in which the commands of HOUSE and of an owner are the same give the recalls
 /// of a lot of HOUSE equal lines of that owner's lots: the steps, the dispositions and the totals.
 pub fn recalls_agree_where_their_parts_do()
-    ensures { (G H : History) (o : Bytes) (lot : LotId) → IsLawful G → IsLawful H → same_bytes o house_name ≡ false → IfPartsAgree G H o (RecallsAgree G H o lot) }
+    ensures { (G H : History) (o : Bytes) (lot : LotId) → IsLawful G → IsLawful H
+        → same_bytes o house_name ≡ false → IfPartsAgree G H o (RecallsAgree G H o lot) }
 {}

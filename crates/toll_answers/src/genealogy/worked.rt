@@ -14,14 +14,16 @@ pub fn edges_of_a_batch()
 
 /// The product of a batch is traced back to what went into it, and that forward to it.
 pub fn traces_of_a_batch()
-    ensures back { IsOwnTrace one_product acme Back p1 (step_at 0 p1 ∷ step_at 1 a ∷ step_at 1 h1 ∷ []) }
+    ensures back { IsOwnTrace one_product acme Back p1
+        (step_at 0 p1 ∷ step_at 1 a ∷ step_at 1 h1 ∷ []) }
     ensures forward { IsOwnTrace one_product acme Forward h1 (step_at 0 h1 ∷ step_at 1 p1 ∷ []) }
 {}
 
 /// Every command of the two further setups is accepted.
 pub fn setups_of_genealogy_are_accepted()
     ensures circle { verdicts [] consumed_in_a_circle ≡ accepted_verdicts consumed_in_a_circle }
-    ensures house_material { verdicts [] made_of_house_material ≡ accepted_verdicts made_of_house_material }
+    ensures house_material { verdicts [] made_of_house_material
+        ≡ accepted_verdicts made_of_house_material }
 {}
 
 /// If two lots went into each other, each is one step from the other, both ways, and no lot is listed
@@ -35,5 +37,6 @@ pub fn traces_of_a_circle()
 /// HOUSE's own goes from H-1 to H-2.
 pub fn traces_go_by_the_owners_batches()
     ensures owners { IsOwnTrace house_material acme Back p1 (step_at 0 p1 ∷ step_at 1 h2 ∷ []) }
-    ensures house { IsOwnTrace house_material house_name Forward h1 (step_at 0 h1 ∷ step_at 1 h2 ∷ []) }
+    ensures house { IsOwnTrace house_material house_name Forward h1
+        (step_at 0 h1 ∷ step_at 1 h2 ∷ []) }
 {}

@@ -1,5 +1,5 @@
 //! Columns of a line.
-ghost use Rattle.std.specs.Prelude.{◌≡◌, ◌-◌, ◌∷◌, [], ◌++◌, OnOk, decimal, length};
+ghost use Rattle.std.specs.Prelude.{◌≡◌, ◌-◌, ◌∷◌, [], ◌++◌, OnOk, decimal};
 ghost use Rattle.toll_answers.specs.Columns.{blanks, left_aligned, right_aligned};
 
 use std::alloc::{AllocError, Global};
@@ -28,7 +28,8 @@ pub(crate) fn push_left(
     column: &[u8],
     behind: u8,
 ) -> Result<(), AllocError>
-    ensures { OnOk result (text.new.items ≡ text.old.items ++ (left_aligned width column.now ++ behind ∷ [])) }
+    ensures { OnOk result
+        (text.new.items ≡ text.old.items ++ (left_aligned width column.now ++ behind ∷ [])) }
 {
     text.extend_from_slice(column)?;
     push_blanks(text, width.saturating_sub(column.len()))?;
@@ -46,7 +47,8 @@ pub(crate) fn push_number(
     number: u64,
     behind: u8,
 ) -> Result<(), AllocError>
-    ensures { OnOk result (text.new.items ≡ text.old.items ++ (right_aligned width (decimal number) ++ behind ∷ [])) }
+    ensures { OnOk result
+        (text.new.items ≡ text.old.items ++ (right_aligned width (decimal number) ++ behind ∷ [])) }
 {
     let digits = format!(in alloc; "{number}")?;
     push_blanks(text, width.saturating_sub(digits.len()))?;

@@ -1,5 +1,5 @@
 //! Orders.
-ghost use Rattle.std.specs.Prelude.{◌≡◌, ◌++◌, IfOk, OnOk, take};
+ghost use Rattle.std.specs.Prelude.{◌≡◌, ◌++◌, IfOk, OnOk};
 ghost use Rattle.toll_answers.specs.Texts as spec;
 
 use crate::print::column::{BLANK, LINE_FEED, push_left, push_number, push_whole};

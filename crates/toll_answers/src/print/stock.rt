@@ -15,8 +15,10 @@ use toll_base::{LotRow, Measure, Slice, SublotRow};
 /// the lot's material and disposition, and how much is in the sublot, with the material's measure. It
 /// is empty if there are none.
 pub fn stock_text(alloc: Global, slice: &Slice) -> Result<Vec<u8>, AllocError>
-    ensures in_slice { IfOk result (λ text. text.items ≡ spec.stock_text (spec.sublots_in slice.now)) }
-    ensures over_histories { (H : History) → IsLawful H → IsRowsOf H slice.now → IfOk result (λ text. spec.IsStockText H slice.now.owner text.items) }
+    ensures in_slice { IfOk result
+        (λ text. text.items ≡ spec.stock_text (spec.sublots_in slice.now)) }
+    ensures over_histories { (H : History) → IsLawful H → IsRowsOf H slice.now
+        → IfOk result (λ text. spec.IsStockText H slice.now.owner text.items) }
 {
     text_in_slice(alloc, slice)
 }
@@ -39,7 +41,8 @@ fn push_shown(
     slice: &Slice,
     row: &SublotRow,
 ) -> Result<(), AllocError>
-    ensures { OnOk result (text.new.items ≡ text.old.items ++ spec.stock_text (option_to_list (spec.shown_in slice.now row.now))) }
+    ensures { OnOk result (text.new.items
+        ≡ text.old.items ++ spec.stock_text (option_to_list (spec.shown_in slice.now row.now))) }
 {
     let Some(lot) = slice.lot(&row.lot) else {
         return Ok(());
@@ -57,7 +60,8 @@ fn push_sublot(
     lot: &LotRow,
     measure: &Measure,
 ) -> Result<(), AllocError>
-    ensures { OnOk result (text.new.items ≡ text.old.items ++ spec.sublot_line (record { row = row.now; lot = lot.now; measure = measure.now })) }
+    ensures { OnOk result (text.new.items ≡ text.old.items
+        ++ spec.sublot_line (record { row = row.now; lot = lot.now; measure = measure.now })) }
 {
     push_left(text, 16, row.lot.as_bytes(), BLANK)?;
     push_left(text, 16, row.sublot.as_bytes(), BLANK)?;

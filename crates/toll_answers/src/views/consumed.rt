@@ -10,7 +10,8 @@ use toll_base::{LotId, Move, Role, Slice};
 /// that isn't voided.
 pub fn has_consumed(slice: &Slice, lot: &LotId) -> bool
     ensures in_slice { result ≡ has_consumed_in slice.now lot.now }
-    ensures over { (H : History) → IsLawful H → IsRowsOf H slice.now → result ≡ shown.has_consumed (acts slice.now.owner H) lot.now }
+    ensures over { (H : History) → IsLawful H → IsRowsOf H slice.now
+        → result ≡ shown.has_consumed (acts slice.now.owner H) lot.now }
 {
     has_standing(slice, lot)
 }

@@ -21,14 +21,16 @@ pub struct LotView {
 /// lot.
 pub fn lot_view(alloc: Global, slice: &Slice, lot: &Name) -> Result<Option<LotView>, AllocError>
     ensures in_slice { IfOk result (IsLotViewIn slice.now (lot_at slice.now lot.now)) }
-    ensures over { (H : History) → IsLawful H → IsRowsOf H slice.now → IfOk result (IsLotViewOf H slice.now.owner (lot_row H slice.now.owner lot.now)) }
+    ensures over { (H : History) → IsLawful H → IsRowsOf H slice.now
+        → IfOk result (IsLotViewOf H slice.now.owner (lot_row H slice.now.owner lot.now)) }
 {
     view_in_slice(alloc, slice, lot)
 }
 
 fn view_in_slice(alloc: Global, slice: &Slice, lot: &Name) -> Result<Option<LotView>, AllocError>
     ensures view { IfOk result (IsLotViewIn slice.now (lot_at slice.now lot.now)) }
-    ensures results { IsInKeyOrder result_cmp (λ row. (row.lot, row.test, row.number)) slice.now.results }
+    ensures results { IsInKeyOrder result_cmp
+        (λ row. (row.lot, row.test, row.number)) slice.now.results }
     ensures sublots { IsInKeyOrder pair_cmp (λ row. (row.lot, row.sublot)) slice.now.sublots }
 {
     // For the proof: reading the owner shows the slice's rules and the order of its rows.

@@ -22,7 +22,8 @@ pub struct StockLine {
 /// All lots of the slice's owner, in the order of their names, each with how much of it is on hand.
 pub fn stock_lines(alloc: Global, slice: &Slice) -> Result<Vec<StockLine>, AllocError>
     ensures in_slice { IfOk result (λ lines. lines.items ≡ map (line_in slice.now) slice.now.lots) }
-    ensures over { OverRows slice.now (λ H. IfOk result (λ lines. AreStockLines H slice.now.owner lines.items)) }
+    ensures over { OverRows slice.now
+        (λ H. IfOk result (λ lines. AreStockLines H slice.now.owner lines.items)) }
 {
     lines_in_slice(alloc, slice)
 }
@@ -54,7 +55,8 @@ fn take_lot<'a>(sublots: &'a [SublotRow], lot: &Name) -> (u64, &'a [SublotRow])
     requires order { IsInKeyOrder pair_cmp (λ row. (row.lot, row.sublot)) sublots.now }
     requires fits { held_in lot.now sublots.now < 2 ^ 64 }
     ensures amount { result.0 ≡ held_in lot.now sublots.now }
-    ensures later { (l : Bytes) → bytes_cmp lot.now l ≡ Less → held_in l result.1.now ≡ held_in l sublots.now }
+    ensures later { (l : Bytes) → bytes_cmp lot.now l ≡ Less
+        → held_in l result.1.now ≡ held_in l sublots.now }
     ensures order { IsInKeyOrder pair_cmp (λ row. (row.lot, row.sublot)) result.1.now }
 {
     let mut sum: u64 = 0;
