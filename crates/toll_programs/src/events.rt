@@ -1,5 +1,5 @@
 //! The events of a script.
-ghost use Rattle.std.specs.Prelude.{◌≡◌, ◌∷◌, ◌<◌, ◌≤◌, IfOk, IfErr, IfSome, OnOk, Ok, Err, map, length, option_map};
+ghost use Rattle.std.specs.Prelude.{◌≡◌, ◌∷◌, ◌<◌, IfOk, IfErr, IfSome, OnOk, Ok, Err, map, length, option_map};
 ghost use Rattle.std.specs.Str.{is_utf8};
 ghost use Rattle.toll_programs.specs.ScriptEvents.{script_events_of, IsFaultOf, GivesEvent, Gives, AddsEvent, script_lines_left, IsFaultOfScript};
 ghost use Rattle.toll_programs.specs.Script.{IsScriptOf, script_lines, meaning_of_line, request_in_line, command_in_line, is_request, takes_memory, words_in};

@@ -36,25 +36,25 @@ call_met before behind requested poll reported text is same response noted = rec
 none_in_empty : {X : Type 0} (xs : List X) (x : X) → xs ≡ [] → Contains xs x → ⊥
 none_in_empty {X} xs x empty there = let (k, less, is) = subst (λ ys. Contains ys x) empty there in absurd (omega (arith, less))
 
-module _ {K : Type 0} (meaning : Meaning K) (is_opened : K → Type 0) where
+module _ {K : Type 0} (meaning : Meaning K) (is_opened : K → Type 0) (is_probed : K → Bytes → K → Type 0) where
   -- No owner was added.
-  pub damage_none_found : (known : Damage) (owner : Bytes) → AreOwnersFound meaning is_opened known known owner
+  pub damage_none_found : (known : Damage) (owner : Bytes) → AreOwnersFound meaning is_opened is_probed known known owner
   damage_none_found known owner = record { found = λ name there. inl there }
 
   -- An owner that is noted was found damaged.
-  pub noted_found : (before behind : Damage) (owner : Bytes) (b : Bool) → (b ≡ true → HasFoundDamage meaning is_opened)
+  pub noted_found : (before behind : Damage) (owner : Bytes) (b : Bool) → (b ≡ true → HasFoundDamage meaning is_opened is_probed owner)
       → ((name : Bytes) → Contains behind.owners.items name → Contains before.owners.items name ⊎ ((name ≡ owner) × (b ≡ true)))
-      → AreOwnersFound meaning is_opened before behind owner
+      → AreOwnersFound meaning is_opened is_probed before behind owner
   noted_found before behind owner b found noted = record {
     found = λ name there. elim (noted name there) [
       | inl known ↦ inl known
-      | inr (is, so) ↦ inr (is, found so)
+      | inr (is, so) ↦ inr (is, subst (λ o. HasFoundDamage meaning is_opened is_probed o) (sym is) (found so))
     ];
   }
 
   -- Nothing new is noted if what is known is unchanged, or all of it is forgotten.
   pub noted_none : (IsSo : Type 0) (before behind : Damage) (listener : Listener) (requested : Bytes) (poll : Poll ImportState) → StaysWhere IsSo before behind
-      → IsNoted meaning is_opened IsSo before behind listener requested poll
+      → IsNoted meaning is_opened is_probed IsSo before behind listener requested poll
   noted_none IsSo before behind listener requested poll (inl (same, so)) = record {
     owners = λ owner there. inl (subst (λ d. Contains d.owners.items owner) same there, so);
     calls = λ call there. inl (subst (λ d. Contains d.calls.items call) same there, so);
@@ -66,7 +66,7 @@ module _ {K : Type 0} (meaning : Meaning K) (is_opened : K → Type 0) where
 
   -- The owner of the request was noted.
   pub noted_owner : (before behind : Damage) (listener : Listener) (requested owner : Bytes) (poll : Poll ImportState) → listener ≡ Owners → IsBy listener requested (Owner owner)
-      → AreOwnersFound meaning is_opened before behind owner → behind.calls ≡ before.calls → IsNoted meaning is_opened ⊤ before behind listener requested poll
+      → AreOwnersFound meaning is_opened is_probed before behind owner → behind.calls ≡ before.calls → IsNoted meaning is_opened is_probed ⊤ before behind listener requested poll
   noted_owner before behind listener requested owner poll is by found same = record {
     owners = λ name there. elim (found.found name there) [
       | inl known ↦ inl (known, tt)
@@ -77,7 +77,7 @@ module _ {K : Type 0} (meaning : Meaning K) (is_opened : K → Type 0) where
 
   -- The call is noted because it met damage.
   pub noted_call : (before behind : Damage) (listener : Listener) (requested : Bytes) (poll : Poll ImportState) → listener ≡ Plant
-      → behind.owners ≡ before.owners → AreCallsMet before behind requested poll → IsNoted meaning is_opened ⊤ before behind listener requested poll
+      → behind.owners ≡ before.owners → AreCallsMet before behind requested poll → IsNoted meaning is_opened is_probed ⊤ before behind listener requested poll
   noted_call before behind listener requested poll is same met = record {
     owners = λ owner there. inl (subst (λ owners. Contains owners.items owner) same there, tt);
     calls = λ call there. elim (met.met call there) [ inl known ↦ inl (known, tt) | inr reported ↦ inr (is, reported.0, reported.1) ];
@@ -85,7 +85,7 @@ module _ {K : Type 0} (meaning : Meaning K) (is_opened : K → Type 0) where
 
   -- Noting after a step that kept or forgot what is known.
   pub noted_behind : (IsSo : Type 0) (before middle behind : Damage) (listener : Listener) (requested : Bytes) (poll : Poll ImportState) → StaysWhere IsSo before middle
-      → IsNoted meaning is_opened ⊤ middle behind listener requested poll → IsNoted meaning is_opened IsSo before behind listener requested poll
+      → IsNoted meaning is_opened is_probed ⊤ middle behind listener requested poll → IsNoted meaning is_opened is_probed IsSo before behind listener requested poll
   noted_behind IsSo before middle behind listener requested poll (inl (same, so)) noted = record {
     owners = λ owner there. elim (noted.owners owner there) [
       | inl known ↦ inl (subst (λ d. Contains d.owners.items owner) same known.0, so)

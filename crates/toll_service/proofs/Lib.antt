@@ -8,3 +8,4 @@ pub mod RequestLemmas
 pub mod PlantTurns
 pub mod SessionLemmas
 pub mod DamageLemmas
+pub mod LogLemmas

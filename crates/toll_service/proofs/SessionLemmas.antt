@@ -1,14 +1,15 @@
 -- The inputs while one office stayed open.
-use Rattle.std.proofs.Common.{◌≡◌, ◌⊎◌, ◌∙◌, ◌≤◌, ◌+◌, ◌^◌, ◌-◌, Bool, ap, List, [], ◌∷◌, Option, None, Some, Result, refl, sym, subst, inl, inr, arith}
+use Rattle.std.proofs.Common.{◌≡◌, ◌⊎◌, ◌∙◌, ◌≤◌, Bool, ap, List, [], ◌∷◌, Option, None, Some, Result, refl, sym, subst, inl, inr, arith}
 use Rattle.std.specs.Prelude.{⊤}
+use Rattle.toll_base.specs.Bytes.{Bytes}
 use Rattle.toll_keep.specs.Content.{Content}
 use Rattle.toll_keep.specs.Meaning.{Meaning}
-use Rattle.toll_service.specs.Openings.{IsOneOpened, IsOneRefused, IsNoneOpened, Openings}
+use Rattle.toll_service.specs.Openings.{Openings}
+use Rattle.toll_service.specs.declared.fault_log.ServingFault.{ServingFault}
 use Rattle.toll_service.specs.declared.file_stamps.LeftFiles.{LeftFiles}
 use Rattle.toll_service.specs.declared.office_fault.OfficeFault.{OfficeFault}
 use Rattle.toll_service.specs.declared.office_session.OfficeSession.{OfficeSession}
-use Rattle.toll_service.specs.Sessions.{AnswersBy, AreAsLeft, AreCounted, AreThoseTaken, HasReadAhead, IsAtHand, IsSessionIdle, IsLeftOpen, IsNewSession, IsOpenedAhead, IsSessionRun, IsAnsweredAtHand, IsToldBy, IsSessionUnopened, IsUnserved, IsWithheld, ResumesBy, SessionState, state_of_session}
-use Rattle.toll_service.specs.Listeners.{IsReadyWith}
+use Rattle.toll_service.specs.Sessions.{AnswersBy, AreAsLeft, AreThoseTaken, IsAtHand, IsSessionIdle, IsLeftOpen, IsSessionRun, IsAnsweredAtHand, IsToldBy, IsTurnedAway, ResumesBy, SessionState, state_of_session}
 use Rattle.toll_server.specs.Runs.{Input, Request, Task, Yields, TakesTurns, Turn}
 use Rattle.toll_server.specs.declared.poll.Poll.{Poll}
 use Rattle.toll_plant.specs.ImportStates.{ImportState}
@@ -16,9 +17,9 @@ use Rattle.toll_service.proofs.EventLemmas.{were_served}
 use Rattle.toll_service.specs.Serving.{AnswersOver, ResumesOver, RunsOver}
 
 module _ {K : Type 0} (meaning : Meaning K) (is_opened : K → Type 0) where
-  -- The input was taken over an office, or no office was available and the response says so.
+  -- The input was taken over an office, or turned away.
   abbrev IsReportedOver : SessionState K → Input ImportState → Poll ImportState → SessionState K → Type 0
-  IsReportedOver old input poll new = IsAnsweredAtHand meaning is_opened ⊤ old input poll new ⊎ (IsSessionIdle old new × IsReadyWith poll (IsUnserved input))
+  IsReportedOver old input poll new = IsAnsweredAtHand meaning is_opened ⊤ old input poll new ⊎ (IsSessionIdle old new × IsTurnedAway input poll)
 
   -- Each turn acts on the session that the turns before it left.
   abbrev TurnsLead : SessionState K → List (Turn ImportState) → SessionState K → Type 0
@@ -113,34 +114,36 @@ module _ {K : Type 0} (meaning : Meaning K) (is_opened : K → Type 0) where
     taken = one.taken;
   }
 
-  module _ (is_found : LeftFiles → Result Bool OfficeFault → Type 0) where
-    session_served_so : (IsSo : Type 0) (old new : OfficeSession K) (before behind : Option Openings) (input : Input ImportState) (poll : Poll ImportState)
-        → IsToldBy meaning is_opened is_found IsSo old before behind input poll new → IsReportedOver (state_of_session old) input poll (state_of_session new)
-    session_served_so IsSo old new before behind input poll (inl (one, so)) =
-        inl (taken_over (AreAsLeft is_found old) (state_of_session old) (state_of_session new) input poll one)
-    session_served_so IsSo old new before behind input poll (inr away) = inr (away.idle, away.reported)
-
-    reported_by : {O : Type 0} (session : O → OfficeSession K) (tally : O → Option Openings) (old new : O) (input : Input ImportState) (poll : Poll ImportState)
-        → Yields (AnswersBy meaning is_opened is_found session tally) (ResumesBy meaning is_opened is_found session tally) old input poll new
+  module _ (is_found : LeftFiles → Result Bool OfficeFault → Type 0) (is_probed : K → Bytes → K → Type 0) {O : Type 0} (session : O → OfficeSession K) (tally : O → Option Openings) (log : O → Option ServingFault) where
+    reported_so : (IsSo : Type 0) (old new : O) (input : Input ImportState) (poll : Poll ImportState) → IsToldBy meaning is_opened is_found is_probed session tally log IsSo old input poll new
         → IsReportedOver (state_of_session (session old)) input poll (state_of_session (session new))
-    reported_by session tally old new (Request listener requested) poll one = session_served_so _ (session old) (session new) (tally old) (tally new) (Request listener requested) poll one
-    reported_by session tally old new (Task import) poll one = session_served_so _ (session old) (session new) (tally old) (tally new) (Task import) poll one
+    reported_so IsSo old new input poll (inl (one, so)) =
+        inl (taken_over (AreAsLeft is_found (session old)) (state_of_session (session old)) (state_of_session (session new)) input poll one)
+    reported_so IsSo old new input poll (inr away) = inr (away.idle, inl (away.fault, away.reported))
 
-    told_over : {O : Type 0} (session : O → OfficeSession K) (tally : O → Option Openings) (old new : O) (turns : List (Turn ImportState))
-        → TakesTurns (AnswersBy meaning is_opened is_found session tally) (ResumesBy meaning is_opened is_found session tally) old turns new
+    reported_by : (old new : O) (input : Input ImportState) (poll : Poll ImportState)
+        → Yields (AnswersBy meaning is_opened is_found is_probed session tally log) (ResumesBy meaning is_opened is_found is_probed session tally log) old input poll new
+        → IsReportedOver (state_of_session (session old)) input poll (state_of_session (session new))
+    reported_by old new (Request listener requested) poll (inl one) = reported_so _ old new (Request listener requested) poll one
+    reported_by old new (Request listener requested) poll (inr unheard) =
+        inr ((inl (ap (λ s. (state_of_session s).keep) unheard.same_session), ap (λ s. s.openings) unheard.same_session), inr unheard.silent)
+    reported_by old new (Task import) poll one = reported_so _ old new (Task import) poll one
+
+    told_over : (old new : O) (turns : List (Turn ImportState))
+        → TakesTurns (AnswersBy meaning is_opened is_found is_probed session tally log) (ResumesBy meaning is_opened is_found is_probed session tally log) old turns new
         → TurnsLead (state_of_session (session old)) turns (state_of_session (session new))
-    told_over session tally old new [] same = ap (λ o. state_of_session (session o)) same
-    told_over session tally old new (t ∷ turns) (middle, one, rest) =
-        (state_of_session (session middle), reported_by session tally old middle t.input t.poll one, told_over session tally middle new turns rest)
+    told_over old new [] same = ap (λ o. state_of_session (session o)) same
+    told_over old new (t ∷ turns) (middle, one, rest) =
+        (state_of_session (session middle), reported_by old middle t.input t.poll one, told_over middle new turns rest)
 
     -- The inputs while one office stayed open are a run over it.
-    pub sitting : {O : Type 0} → ((k : K) (c : Content) → meaning.is_honest k → meaning.is_store_open k → meaning.holds k c → meaning.leaves k (c ∷ []))
-        → (session : O → OfficeSession K) (tally : O → Option Openings) (old new : O) (turns : List (Turn ImportState)) (first : K)
-        → TakesTurns (AnswersBy meaning is_opened is_found session tally) (ResumesBy meaning is_opened is_found session tally) old turns new
+    pub sitting : ((k : K) (c : Content) → meaning.is_honest k → meaning.is_store_open k → meaning.holds k c → meaning.leaves k (c ∷ []))
+        → (old new : O) (turns : List (Turn ImportState)) (first : K)
+        → TakesTurns (AnswersBy meaning is_opened is_found is_probed session tally log) (ResumesBy meaning is_opened is_found is_probed session tally log) old turns new
         → (state_of_session (session old)).keep ≡ Some first → (state_of_session (session new)).openings ≡ (state_of_session (session old)).openings
         → IsSessionRun meaning first turns (state_of_session (session new))
-    sitting settled session tally old new turns first reported there count =
-        let over = sat (state_of_session (session old)) (state_of_session (session new)) turns first (told_over session tally old new turns reported) there count in
+    sitting settled old new turns first reported there count =
+        let over = sat (state_of_session (session old)) (state_of_session (session new)) turns first (told_over old new turns reported) there count in
         record {
           last = over.last;
           taken = over.taken;
@@ -148,25 +151,3 @@ module _ {K : Type 0} (meaning : Meaning K) (is_opened : K → Type 0) where
           were = were_served meaning settled (λ keep. keep) first over.last over.taken over.runs;
           left = over.left;
         }
-
--- An office that is opened ahead.
-module _ {K : Type 0} (meaning : Meaning K) (is_opened : K → Type 0) where
-  -- It was opened now, because none was open.
-  pub opened_ahead : (IsSo : Type 0) (old middle new : SessionState K) (first then : K) (before behind last : Option Openings) → IsSessionUnopened old → IsAtHand is_opened IsSo old middle first
-      → AreCounted old middle before behind → HasReadAhead meaning first then → IsLeftOpen then new → new.openings ≡ middle.openings → last ≡ behind → IsOpenedAhead meaning is_opened before last new
-  opened_ahead IsSo old middle new first then before behind last (none, zero) (inl (there, same, still)) counted read left count tally = absurd (cc (none, there))
-  opened_ahead IsSo old middle new first then before behind last (none, zero) (inr (opened, more)) (inl (same, unasked)) read left count tally = absurd (omega (arith, more, same))
-  opened_ahead IsSo old middle new first then before behind last (none, zero) (inr (opened, more)) (inr (more_too, once)) read left count tally =
-      inr (first, then, opened, read, left, omega (arith, count, more, zero), tally ∙ once)
-
-  -- An opening was refused.
-  pub refused_ahead : (is_found : LeftFiles → Result Bool OfficeFault → Type 0) (old new : OfficeSession K) (before behind : Option Openings) → IsNewSession old
-      → IsSessionIdle (state_of_session old) (state_of_session new) → IsWithheld is_found old before behind → IsOpenedAhead meaning is_opened before behind (state_of_session new)
-  refused_ahead is_found old new before behind fresh idle why =
-      let none : (state_of_session new).keep ≡ None = elim (idle.0) [ inl same ↦ same ∙ fresh.unopened.0 | inr closed ↦ closed ] in
-      let zero : (state_of_session new).openings ≡ 0 = idle.1 ∙ fresh.unopened.1 in
-      elim (why) [
-        | inl (inl refused) ↦ inl ((none, zero), inr refused)
-        | inl (inr most) ↦ absurd (omega (arith, most, fresh.unopened.1))
-        | inr (lost, unasked) ↦ inl ((none, zero), inl unasked)
-      ]

@@ -45,22 +45,23 @@ pub record AreCallsMet (before behind : Damage) (requested : Bytes) (poll : Poll
   pub met : (call : Vec ℕ) → Contains behind.calls.items call
       → Contains before.calls.items call ⊎ ((call.items ≡ requested) × IsReadyWith poll (λ reported. IsResponse reported (exit_code Failed) [] (fault_text Damaged)))
 
-module _ {K : Type 0} (meaning : Meaning K) (is_opened : K → Type 0) where
-  -- Reading an owner's rows in an office that was opened reported damage.
-  pub record HasFoundDamage : Type 0 where
+module _ {K : Type 0} (meaning : Meaning K) (is_opened : K → Type 0) (is_probed : K → Bytes → K → Type 0) where
+  -- Reading this owner's rows in an office that was opened reported damage.
+  pub record HasFoundDamage (owner : Bytes) : Type 0 where
     pub first : K
     pub last : K
     pub opened : is_opened first
+    pub probed : is_probed first owner last
     pub found : IsReading {X = Option Slice} meaning first last (Err FoundDamaged)
 
-  -- Each owner whose rows are known to be damaged was known before, or is this one, and reading found the damage.
+  -- Each owner whose rows are known to be damaged was known before, or is this one, and reading its rows found the damage.
   pub record AreOwnersFound (before behind : Damage) (owner : Bytes) : Type 0 where
-    pub found : (name : Bytes) → Contains behind.owners.items name → Contains before.owners.items name ⊎ ((name ≡ owner) × HasFoundDamage)
+    pub found : (name : Bytes) → Contains behind.owners.items name → Contains before.owners.items name ⊎ ((name ≡ owner) × HasFoundDamage name)
 
-  -- All known damage was known before, and then IsSo holds. An owner may be added if this request claims it and reading found the damage. A
+  -- All known damage was known before, and then IsSo holds. An owner may be added if this request claims it and reading its rows found the damage. A
   -- call of the plant may be added if it is this one and its reply reports damage.
   pub record IsNoted (IsSo : Type 0) (before behind : Damage) (listener : Listener) (requested : Bytes) (poll : Poll ImportState) : Type 0 where
     pub owners : (owner : Bytes) → Contains behind.owners.items owner
-        → (Contains before.owners.items owner × IsSo) ⊎ ((listener ≡ Owners) × IsBy listener requested (Owner owner) × HasFoundDamage)
+        → (Contains before.owners.items owner × IsSo) ⊎ ((listener ≡ Owners) × IsBy listener requested (Owner owner) × HasFoundDamage owner)
     pub calls : (call : Vec ℕ) → Contains behind.calls.items call → (Contains before.calls.items call × IsSo)
         ⊎ ((listener ≡ Plant) × (call.items ≡ requested) × IsReadyWith poll (λ reported. IsResponse reported (exit_code Failed) [] (fault_text Damaged)))

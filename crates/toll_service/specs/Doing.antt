@@ -14,7 +14,7 @@ use Rattle.toll_service.specs.Faults.{fault_text}
 use Rattle.toll_service.specs.declared.office_fault.OfficeFault.{OfficeFault}
 use Rattle.toll_service.specs.declared.operation.Operation.{Operation}
 use Rattle.toll_service.specs.declared.operation.Operation.TheVariants.{Command, Import}
-use Rattle.toll_service.specs.Openings.{IsOneOpened, IsOneRefused, IsNoneOpened, Openings}
+use Rattle.toll_service.specs.Openings.{IsOneOpened, IsOneRefused, IsSomeRefused, IsNoneOpened, Openings}
 use Rattle.toll_wire.specs.Steps.{IsAnswered}
 use Rattle.toll_wire.specs.declared.outgoing.Out.{Out}
 use Rattle.toll_wire.specs.declared.outgoing.Out.TheVariants.{Unavailable}
@@ -23,9 +23,9 @@ use Rattle.toll_wire.specs.declared.outgoing.Out.TheVariants.{Unavailable}
 abbrev pub IsUsageShown : List Bytes → Streams → ℕ → Type 0
 IsUsageShown words s status = IsWrittenOrFailed s.error (usage_text command_lines words) (exit_code Usage) status × IsNothingWritten s.output
 
--- The printout reports why no office was opened.
-abbrev pub IsClosed : Printout → Type 0
-IsClosed p = (fault : OfficeFault) × (p ≡ on_error Failed (fault_text fault))
+-- No office was opened because of a fault, which is printed.
+abbrev pub IsRefusalPrinted : (before behind : Option Openings) → Streams → ℕ → Type 0
+IsRefusalPrinted before behind s status = (fault : OfficeFault) × IsPrinted s (on_error Failed (fault_text fault)) status × IsOneRefused fault before behind
 
 -- The work was done over a keep that was opened like this.
 pub record IsDoneOver {K : Type 0} (is_opened : K → Type 0) (Done : K → K → Type 0) : Type 0 where
@@ -45,13 +45,13 @@ abbrev pub IsDoneByServerOrHere : {K S : Type 0} → (is_opened : K → Type 0) 
 IsDoneByServerOrHere is_opened before behind c words file Done s status =
     (IsServerAsked c (frame (call_text words file)) s (Some status) × IsNoneOpened before behind)
     ⊎ ((unused : Streams) × IsServerAsked c (frame (call_text words file)) unused None
-    × ((IsSomePrinted IsClosed s status × IsOneRefused before behind)
+    × (IsRefusalPrinted before behind s status
     ⊎ (IsSomePrinted (λ p. IsDoneOver is_opened (λ first last. Done first last p)) s status × IsOneOpened before behind)))
 
 -- The request was answered over the office that was opened; or none was opened, and the reply is 503.
 abbrev pub IsRequestOver : {K : Type 0} → Meaning K → (K → Type 0) → (before behind : Option Openings) → Bytes → Out → Type 0
 IsRequestOver meaning is_opened before behind request reported =
-    (IsDoneOver is_opened (λ first last. IsAnswered meaning first last request reported) × IsOneOpened before behind) ⊎ ((reported ≡ Unavailable) × IsOneRefused before behind)
+    (IsDoneOver is_opened (λ first last. IsAnswered meaning first last request reported) × IsOneOpened before behind) ⊎ ((reported ≡ Unavailable) × IsSomeRefused before behind)
 
 module _ {K S : Type 0} (meaning : Meaning K) (is_opened : K → Type 0) (before behind : Option Openings) (c : Connections S) where
   -- The import of a file, by a server or here.

@@ -9,6 +9,7 @@ use Rattle.toll_service.specs.Damages.{KnowsNothing}
 use Rattle.toll_service.specs.Openings.{Openings}
 use Rattle.toll_service.specs.Parties.{IsBy}
 use Rattle.toll_service.specs.Sessions.{AnswersBy, IsLockKept, IsOpenedAhead, ResumesBy, state_of_session}
+use Rattle.toll_service.specs.declared.fault_log.ServingFault.{ServingFault}
 use Rattle.toll_service.specs.declared.file_stamps.LeftFiles.{LeftFiles}
 use Rattle.toll_service.specs.declared.office_fault.OfficeFault.{OfficeFault}
 use Rattle.toll_service.specs.declared.office_service.OfficeService.{OfficeService}
@@ -18,6 +19,10 @@ use Rattle.toll_service.specs.declared.party.Party.{Party}
 abbrev pub openings_of : {K O : Type 0} → (O → Option Openings) → OfficeService K O → Option Openings
 openings_of openings service = openings service.office_path.opener
 
+-- the fault that the operator's log has
+abbrev pub logged_by : {K O : Type 0} → OfficeService K O → Option ServingFault
+logged_by service = service.faults.fault
+
 -- The service has answered nothing yet. Either no office was opened, or one was opened ahead and its rows may have been read. No damage is
 -- known, and no import is under way.
 pub record IsFresh {K O : Type 0} (meaning : Meaning K) (is_opened : K → Type 0) (openings : O → Option Openings) (before : Option Openings) (service : OfficeService K O) : Type 0 where
@@ -26,14 +31,15 @@ pub record IsFresh {K O : Type 0} (meaning : Meaning K) (is_opened : K → Type 
   pub imports : service.session.imports ≡ 0
   pub lock : IsLockKept service.session
 
-module _ {K O : Type 0} (meaning : Meaning K) (is_opened : K → Type 0) (is_found : LeftFiles → Result Bool OfficeFault → Type 0) (openings : O → Option Openings) where
+module _ {K O : Type 0} (meaning : Meaning K) (is_opened : K → Type 0) (is_found : LeftFiles → Result Bool OfficeFault → Type 0)
+    (is_probed : K → Bytes → K → Type 0) (openings : O → Option Openings) where
   -- The service of an office in a file answers by its session.
   abbrev pub Answers : OfficeService K O → Listener → Bytes → Poll ImportState → OfficeService K O → Type 0
-  Answers = AnswersBy meaning is_opened is_found (λ service. service.session) (openings_of openings)
+  Answers = AnswersBy meaning is_opened is_found is_probed (λ service. service.session) (openings_of openings) logged_by
 
   -- The service goes on with an import by its session.
   abbrev pub Resumes : OfficeService K O → ImportState → Poll ImportState → OfficeService K O → Type 0
-  Resumes = ResumesBy meaning is_opened is_found (λ service. service.session) (openings_of openings)
+  Resumes = ResumesBy meaning is_opened is_found is_probed (λ service. service.session) (openings_of openings) logged_by
 
   -- The service had answered nothing at first and changed by turns alone: in order, and in rounds over the network. Each import was
   -- continued for the client that began it, and once everything is over, none is left.

@@ -12,4 +12,5 @@ pub mod FileServing
 pub mod Openings
 pub mod Doing
 pub mod FileChanges
+pub mod LogEnds
 pub mod Damages

@@ -1,16 +1,19 @@
 -- How a server answers its clients, over an office that stays open between turns.
-use Rattle.std.specs.Prelude.{◌≡◌, ◌⊎◌, ◌↔◌, ◌+◌, ◌-◌, ◌<◌, ◌^◌, ℕ, Bool, false, true, min, List, [], ◌∷◌, Option, None, Some, IsSome, option_map, Result, Ok}
+use Rattle.std.specs.Prelude.{◌≡◌, ◌⊎◌, ◌↔◌, ◌+◌, ◌-◌, ◌<◌, ◌^◌, ℕ, Bool, false, true, min, List, [], ◌∷◌, Option, None, Some, IsSome, option_map, Result, Ok, Err}
 use Rattle.toll_base.specs.Bytes.{Bytes}
 use Rattle.toll_keep.specs.CallEffects.{IsReading}
 use Rattle.toll_keep.specs.Meaning.{Meaning}
 use Rattle.toll_keep.specs.declared.fault.KeepFault.{KeepFault}
 use Rattle.toll_service.specs.Damages.{IsKnown, IsNoted, KnowsNoMore, KnowsNothing, StaysWhere}
 use Rattle.toll_service.specs.Faults.{fault_text}
-use Rattle.toll_service.specs.FileChanges.{AreFound, AreFoundLost}
-use Rattle.toll_service.specs.Openings.{IsOneOpened, IsOneRefused, IsRefusedAfter, IsNoneOpened, Openings}
+use Rattle.toll_service.specs.FileChanges.{AreFound}
+use Rattle.toll_service.specs.Openings.{IsOneOpened, IsRefusedAfter, IsSomeRefused, IsNoneOpened, Openings}
 use Rattle.toll_service.specs.declared.damage.Damage.{Damage}
 use Rattle.toll_service.specs.declared.file_stamps.LeftFiles.{LeftFiles}
+use Rattle.toll_service.specs.declared.fault_log.ServingFault.{ServingFault}
+use Rattle.toll_service.specs.declared.fault_log.ServingFault.TheVariants.{Office}
 use Rattle.toll_service.specs.declared.office_fault.OfficeFault.{OfficeFault}
+use Rattle.toll_service.specs.declared.office_fault.OfficeFault.TheVariants.{Damaged, Memory}
 use Rattle.toll_service.specs.declared.office_session.OfficeSession.{OfficeSession}
 use Rattle.toll_protocol.specs.PlantMessages.{IsResponse}
 use Rattle.toll_server.specs.Runs.{Input, Request, Task, Yields, TakesTurns, Turn}
@@ -32,29 +35,34 @@ pub record SessionState (K : Type 0) : Type 0 where
   pub keep : Option K
   pub openings : ℕ
 
--- The response says that no office is available: 503 for owners; for the plant, the line of a fault and the exit status of a failure.
-abbrev pub IsRefusal : Listener → Bytes → Type 0
-IsRefusal Owners reported = reported ≡ out_bytes Unavailable
-IsRefusal Plant reported = (fault : OfficeFault) × IsResponse reported (exit_code Failed) [] (fault_text fault)
+-- The response says that no office is available because of this fault: 503 for owners; for the plant, its line and the exit status of a
+-- failure.
+abbrev pub IsRefusal : OfficeFault → Listener → Bytes → Type 0
+IsRefusal fault Owners reported = reported ≡ out_bytes Unavailable
+IsRefusal fault Plant reported = IsResponse reported (exit_code Failed) [] (fault_text fault)
 
--- The response is that refusal, or empty if there was no memory for it.
-abbrev pub IsTurnedAway : Listener → Bytes → Type 0
-IsTurnedAway listener reported = IsRefusal listener reported ⊎ (reported ≡ [])
+-- The response reports the outcomes of the import's records so far and the line of this fault, with the exit status of a failure.
+abbrev pub IsGivenUp : OfficeFault → ImportState → Bytes → Type 0
+IsGivenUp fault import reported = IsImportAborted import.lines (fault_text fault) reported false
 
--- The response reports the outcomes of the import's records so far and the line of a fault, with the exit status of a failure.
-abbrev pub IsGivenUp : ImportState → Bytes → Type 0
-IsGivenUp import reported = (fault : OfficeFault) × IsImportAborted import.lines (fault_text fault) reported false
+-- The response to an input says that no office is available because of this fault: a request is refused, and an import aborted.
+abbrev pub IsUnserved : OfficeFault → Input ImportState → Bytes → Type 0
+IsUnserved fault (Request listener requested) reported = IsRefusal fault listener reported
+IsUnserved fault (Task import) reported = IsGivenUp fault import reported
 
--- The response to an input says that no office is available: a request is turned away, and an import aborted.
-abbrev pub IsUnserved : Input ImportState → Bytes → Type 0
-IsUnserved (Request listener requested) reported = IsTurnedAway listener reported
-IsUnserved (Task import) reported = IsGivenUp import reported
+-- The response to a request is empty.
+abbrev pub IsSilent : Input ImportState → Poll ImportState → Type 0
+IsSilent (Request listener requested) poll = IsReadyWith poll (λ reported. reported ≡ [])
+IsSilent (Task import) poll = ⊥
 
--- The input is withheld for this cause; or because it is known to meet damage, in unchanged files; or because the plant's listener received
--- nothing.
-abbrev pub HasWithholdingCause : (cause IsAsLeft : Type 0) → Damage → Input ImportState → Type 0
-HasWithholdingCause cause IsAsLeft known (Request listener requested) = cause ⊎ (IsKnown known listener requested × IsAsLeft) ⊎ ((listener ≡ Plant) × (requested ≡ []))
-HasWithholdingCause cause IsAsLeft known (Task import) = cause
+-- The response names a fault because of which no office is available, or it is empty.
+abbrev pub IsTurnedAway : Input ImportState → Poll ImportState → Type 0
+IsTurnedAway input poll = ((fault : OfficeFault) × IsReadyWith poll (IsUnserved fault input)) ⊎ IsSilent input poll
+
+-- The input is withheld for this cause; or it is known to meet damage, and IsSo holds.
+abbrev pub HasWithholdingCause : (cause IsSo : Type 0) → Damage → Input ImportState → Type 0
+HasWithholdingCause cause IsSo known (Request listener requested) = cause ⊎ (IsKnown known listener requested × IsSo)
+HasWithholdingCause cause IsSo known (Task import) = cause
 
 -- how many imports are under way after a request, which may begin one, and after a turn of an import, which may end it
 abbrev pub imports_if_begun : Poll ImportState → ℕ → ℕ
@@ -95,7 +103,7 @@ module _ {K : Type 0} where
   -- Either none was opened and at most one was refused; or one was opened, only reading calls followed, and it stays open or was closed.
   abbrev pub IsOpenedAhead : Meaning K → (K → Type 0) → (before behind : Option Openings) → SessionState K → Type 0
   IsOpenedAhead meaning is_opened before behind s =
-      (IsSessionUnopened s × (IsNoneOpened before behind ⊎ IsOneRefused before behind))
+      (IsSessionUnopened s × (IsNoneOpened before behind ⊎ IsSomeRefused before behind))
       ⊎ ((first last : K) × is_opened first × HasReadAhead meaning first last × IsLeftOpen last s × (s.openings ≡ 1) × IsOneOpened before behind)
 
   -- This office was open at first, and none was opened since.
@@ -122,14 +130,14 @@ module _ {K : Type 0} where
   abbrev pub AreAsLeft : (LeftFiles → Result Bool OfficeFault → Type 0) → OfficeSession K → Type 0
   AreAsLeft is_found s = IsSome s.lock ⊎ AreFound is_found s.left (Ok true)
 
-  -- Committed changes are lost from the files that the session left, and no office was opened or refused.
-  abbrev pub IsFoundLost : (LeftFiles → Result Bool OfficeFault → Type 0) → OfficeSession K → (before behind : Option Openings) → Type 0
-  IsFoundLost is_found s before behind = AreFoundLost is_found s.left × IsNoneOpened before behind
+  -- The look at the files that the session left found this fault, since committed changes are lost. No office was opened or refused.
+  abbrev pub IsFoundLost : (LeftFiles → Result Bool OfficeFault → Type 0) → OfficeFault → OfficeSession K → (before behind : Option Openings) → Type 0
+  IsFoundLost is_found fault s before behind = AreFound is_found s.left (Err fault) × IsNoneOpened before behind
 
-  -- No office is available because a lock or an opening was refused, because the openings can't be counted any further, or because
+  -- No office is available because of this fault: a lock or an opening was refused for it, the openings can't be counted any further, or
   -- committed changes are lost.
-  abbrev pub IsWithheld : (LeftFiles → Result Bool OfficeFault → Type 0) → OfficeSession K → (before behind : Option Openings) → Type 0
-  IsWithheld is_found s before behind = IsRefusedAfter s.openings before behind ⊎ IsFoundLost is_found s before behind
+  abbrev pub IsWithheld : (LeftFiles → Result Bool OfficeFault → Type 0) → OfficeFault → OfficeSession K → (before behind : Option Openings) → Type 0
+  IsWithheld is_found fault s before behind = IsRefusedAfter fault s.openings before behind ⊎ IsFoundLost is_found fault s before behind
 
 module _ {K : Type 0} (meaning : Meaning K) where
   -- The input had this outcome over this office, which stays open or is closed.
@@ -150,37 +158,49 @@ module _ {K : Type 0} (meaning : Meaning K) (is_opened : K → Type 0) (is_found
   abbrev pub TakesInput : OfficeSession K → Input ImportState → Poll ImportState → OfficeSession K → Type 0
   TakesInput old input poll new = IsAnsweredAtHand meaning is_opened (AreAsLeft is_found old) (state_of_session old) input poll (state_of_session new)
 
-  -- No office was used, for a cause, and the response says so. The session knows no more of the files and their damage than before.
-  pub record IsTurnedAwayFor (old : OfficeSession K) (before behind : Option Openings) (input : Input ImportState) (poll : Poll ImportState) (new : OfficeSession K) : Type 0 where
-    pub idle : IsSessionIdle (state_of_session old) (state_of_session new)
-    pub reported : IsReadyWith poll (IsUnserved input)
-    pub cause : HasWithholdingCause (IsWithheld is_found old before behind) (AreAsLeft is_found old) old.damage input
-    pub left : new.left ≡ old.left
-    pub known : KnowsNoMore old.damage new.damage
+  module _ {O : Type 0} (is_probed : K → Bytes → K → Type 0) (session : O → OfficeSession K) (tally : O → Option Openings)
+      (log : O → Option ServingFault) where
+    -- No office was used because of a fault. The response names it, and so does the operator's log, unless it is damage that was known. The
+    -- session knows no more of the files and their damage than before.
+    pub record IsTurnedAwayFor (old : O) (input : Input ImportState) (poll : Poll ImportState) (new : O) : Type 0 where
+      pub fault : OfficeFault
+      pub cause : HasWithholdingCause (IsWithheld is_found fault (session old) (tally old) (tally new) × (log new ≡ Some (Office fault)))
+          ((fault ≡ Damaged) × AreAsLeft is_found (session old) × (tally new ≡ tally old) × (log new ≡ log old)) (session old).damage input
+      pub reported : IsReadyWith poll (IsUnserved fault input)
+      pub idle : IsSessionIdle (state_of_session (session old)) (state_of_session (session new))
+      pub left : (session new).left ≡ (session old).left
+      pub known : KnowsNoMore (session old).damage (session new).damage
 
-  -- The input was taken and IsSo holds, or it was turned away.
-  abbrev pub IsToldBy : (IsSo : Type 0) → OfficeSession K → (before behind : Option Openings) → Input ImportState → Poll ImportState → OfficeSession K → Type 0
-  IsToldBy IsSo old before behind input poll new = (TakesInput old input poll new × IsSo) ⊎ IsTurnedAwayFor old before behind input poll new
+    -- Nothing was done, and the response is empty: the plant's listener received nothing; or there was no memory for a refusal, which the
+    -- operator's log names.
+    pub record IsUnheard (old : O) (listener : Listener) (requested : Bytes) (poll : Poll ImportState) (new : O) : Type 0 where
+      pub silent : IsSilent (Request listener requested) poll
+      pub same_session : session new ≡ session old
+      pub same_tally : tally new ≡ tally old
+      pub cause : ((listener ≡ Plant) × (requested ≡ []) × (log new ≡ log old)) ⊎ (log new ≡ Some (Office Memory))
 
-  module _ {O : Type 0} (session : O → OfficeSession K) (tally : O → Option Openings) where
+    -- The input was taken and IsSo holds, or it was turned away.
+    abbrev pub IsToldBy : (IsSo : Type 0) → O → Input ImportState → Poll ImportState → O → Type 0
+    IsToldBy IsSo old input poll new = (TakesInput (session old) input poll (session new) × IsSo) ⊎ IsTurnedAwayFor old input poll new
+
     -- The owner of a session answers a request by it. Damage that was known before stays known only if no other program has changed the
     -- files. New damage was met in this turn.
     abbrev pub AnswersBy : O → Listener → Bytes → Poll ImportState → O → Type 0
     AnswersBy old listener requested poll new =
-        IsToldBy (IsNoted meaning is_opened (AreAsLeft is_found (session old)) (session old).damage (session new).damage listener requested poll)
-        (session old) (tally old) (tally new) (Request listener requested) poll (session new)
+        IsToldBy (IsNoted meaning is_opened is_probed (AreAsLeft is_found (session old)) (session old).damage (session new).damage listener requested poll)
+        old (Request listener requested) poll new
+        ⊎ IsUnheard old listener requested poll new
 
     -- The owner of a session goes on with an import by it.
     abbrev pub ResumesBy : O → ImportState → Poll ImportState → O → Type 0
     ResumesBy old import poll new =
-        IsToldBy (StaysWhere (AreAsLeft is_found (session old)) (session old).damage (session new).damage)
-        (session old) (tally old) (tally new) (Task import) poll (session new)
+        IsToldBy (StaysWhere (AreAsLeft is_found (session old)) (session old).damage (session new).damage) old (Task import) poll new
 
--- The second list has the turns that used an office, in order. In all others none was available, and the response said so.
+-- The second list has the turns that used an office, in order. In all others the client was turned away.
 abbrev pub AreThoseTaken : List (Turn ImportState) → List (Turn ImportState) → Type 0
 AreThoseTaken [] taken = taken ≡ []
 AreThoseTaken (t ∷ turns) taken =
-    (IsReadyWith t.poll (IsUnserved t.input) × AreThoseTaken turns taken)
+    (IsTurnedAway t.input t.poll × AreThoseTaken turns taken)
     ⊎ ((rest : List (Turn ImportState)) × (taken ≡ t ∷ rest) × AreThoseTaken turns rest)
 
 -- The turns that used the office, while it stood open, are a run over it.
@@ -192,8 +212,11 @@ pub record IsSessionRun {K : Type 0} (meaning : Meaning K) (first : K) (turns : 
   pub left : IsLeftOpen last new
 
 -- While one office stands open and none is opened, the turns of a session's owner are a run over it.
-abbrev pub AreSessionRuns : {K : Type 0} → Meaning K → (K → Type 0) → (LeftFiles → Result Bool OfficeFault → Type 0) → Type 0 → Type 0
-AreSessionRuns {K} meaning is_opened is_found O =
-    (session : O → OfficeSession K) (tally : O → Option Openings) (old new : O) (turns : List (Turn ImportState)) (first : K)
-    → TakesTurns (AnswersBy meaning is_opened is_found session tally) (ResumesBy meaning is_opened is_found session tally) old turns new
+abbrev pub AreSessionRuns : {K : Type 0} → Meaning K → (K → Type 0) → (LeftFiles → Result Bool OfficeFault → Type 0)
+    → (K → Bytes → K → Type 0) → Type 0 → Type 0
+AreSessionRuns {K} meaning is_opened is_found is_probed O =
+    (session : O → OfficeSession K) (tally : O → Option Openings) (log : O → Option ServingFault)
+    (old new : O) (turns : List (Turn ImportState)) (first : K)
+    → TakesTurns (AnswersBy meaning is_opened is_found is_probed session tally log)
+    (ResumesBy meaning is_opened is_found is_probed session tally log) old turns new
     → IsOneOffice first (state_of_session (session old)) (state_of_session (session new)) → IsSessionRun meaning first turns (state_of_session (session new))

@@ -1,5 +1,5 @@
 //! Doing one thing over an office that is opened for it alone.
-ghost use Rattle.std.specs.Prelude.{IfOk, OnErr, OnOk};
+ghost use Rattle.std.specs.Prelude.{IfErr, IfOk, OnOk};
 ghost use Rattle.std.specs.Fn.{FnOnceReturnsAtMut};
 ghost use Rattle.toll_service.specs.Doing.{IsDoneOver, IsRequestOver};
 ghost use Rattle.toll_wire.specs.Steps.{IsAnswered};
@@ -19,7 +19,8 @@ pub fn with_keep<K: Keep, O: KeepOpener<K>, T, F: FnOnce(&mut K) -> T + Drop>(
     requires { F.IsAlwaysCallable act }
     ensures done { IfOk result (λ done. IsDoneOver O.is_opened (λ first last. FnOnceReturnsAtMut F.FnOnce act first done last)) }
     ensures once { OnOk result (IsOneOpened (O.openings office_path.old.opener) (O.openings office_path.new.opener)) }
-    ensures refused { OnErr result (IsOneRefused (O.openings office_path.old.opener) (O.openings office_path.new.opener)) }
+    ensures refused { IfErr result (λ fault. IsOneRefused fault
+        (O.openings office_path.old.opener) (O.openings office_path.new.opener)) }
 {
     let opener = &mut office_path.opener;
     let lock = opener.lock(office_path.rt, office_path.path)?;

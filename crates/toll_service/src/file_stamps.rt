@@ -1,15 +1,13 @@
 //! How an office's files have changed since a server left them.
-ghost use Rattle.std.specs.Prelude.{◌≡◌, ◌↔◌, true, IfErr, IfOk, IfSome};
-ghost use Rattle.toll_service.specs.FileChanges.{AreUntouched, HadSomething, HasContentOf, AreCommitsLost, IsStampUnchanged};
+ghost use Rattle.std.specs.Prelude.{◌≡◌, ◌↔◌, None, true, IfErr, IfOk, IfSome};
+ghost use Rattle.toll_service.specs.FileChanges.{AreUntouched, HadSomething, HasContentOf, AreCommitsLost, IsEndLost, IsLogLost, IsStampUnchanged};
 
+use crate::log_end::{FoundEnd, LogEnd, end_of};
 use crate::office_fault::OfficeFault;
 use std::fs::File;
-use std::io::{ErrorKind, Read};
+use std::io::ErrorKind;
 use std::os::unix::fs::MetadataExt;
 use std::{fs, io};
-
-/// The length in bytes of a log's header and the header of its first frame together.
-const FRONT_BYTES: usize = 56;
 
 /// Which file it is, its length, when it was written, and when that or its name or mode changed. All fields
 /// are 0 for a file that isn't there.
@@ -98,24 +96,45 @@ pub enum FileChange {
 #[derive(Clone, Copy)]
 pub struct LeftFiles {
     pub stamps: FileStamps,
-    /// Whether the log holds commits, which the file may lack.
-    pub has_commits: bool,
+    /// The last commit in the log, which the file may lack. None if the log holds no commit.
+    pub log_end: Option<LogEnd>,
+}
+
+/// The state in which a server finds the files of its office.
+#[derive(Clone, Copy)]
+pub struct FoundFiles {
+    pub stamps: FileStamps,
+    /// What became of the last commit in the log. None if the log is untouched or held no commit, or if it
+    /// can't be read, which the opening of the office reports.
+    pub log_end: Option<FoundEnd>,
+}
+
+impl FoundFiles {
+    /// The state of the files at this path, which were left so. The log is read only if it has changed.
+    pub fn of(rt: &HostRuntime, path: &str, left: &LeftFiles) -> io::Result<Self>
+        ensures { IfOk result (λ found. IsStampUnchanged found.stamps.log left.now.stamps.log → found.log_end ≡ None) }
+    {
+        let stamps = FileStamps::of(rt, path)?;
+        let log_end = match &left.log_end {
+            Some(end) if !stamps.log.is_same(&left.stamps.log) => find_end(rt, path, end).ok(),
+            _ => None,
+        };
+        Ok(FoundFiles { stamps, log_end })
+    }
 }
 
 impl LeftFiles {
     /// The state of the files now. The log is read only if it has changed since `before`.
     pub fn of(rt: &HostRuntime, path: &str, before: &Option<LeftFiles>) -> io::Result<Self>
-        ensures { IfOk result (λ left. IfSome before.now (λ known. IsStampUnchanged known.stamps.log left.stamps.log → left.has_commits ≡ known.has_commits)) }
+        ensures { IfOk result (λ left. IfSome before.now (λ known. IsStampUnchanged known.stamps.log left.stamps.log → left.log_end ≡ known.log_end)) }
     {
         let stamps = FileStamps::of(rt, path)?;
-        let has_commits = match before {
-            Some(before) if before.stamps.log.is_same(&stamps.log) => before.has_commits,
-            _ => has_commits(rt, path)?,
+        let log_end = match before {
+            Some(before) if before.stamps.log.is_same(&stamps.log) => before.log_end,
+            Some(before) => log_end(rt, path, &before.log_end)?,
+            None => log_end(rt, path, &None)?,
         };
-        Ok(LeftFiles {
-            stamps,
-            has_commits,
-        })
+        Ok(LeftFiles { stamps, log_end })
     }
 
     /// Whether no other program has changed the files of the office at this path since they were left so. If
@@ -135,20 +154,20 @@ impl LeftFiles {
     pub fn compare(&self, rt: &HostRuntime, path: &str) -> FileChange
         ensures { result ≡ FileChange.NotOurs → HadSomething self.now }
     {
-        match FileStamps::of(rt, path) {
+        match FoundFiles::of(rt, path, self) {
             Ok(found) => self.change_to(&found),
             Err(_) => FileChange::ByOthers,
         }
     }
 
-    /// What other programs did if the files have these stamps now.
-    pub fn change_to(&self, found: &FileStamps) -> FileChange
-        ensures same { (result ≡ FileChange.Same) ↔ AreUntouched self.now.stamps found.now }
+    /// What other programs did if the files are found so now.
+    pub fn change_to(&self, found: &FoundFiles) -> FileChange
+        ensures same { (result ≡ FileChange.Same) ↔ AreUntouched self.now.stamps found.now.stamps }
         ensures lost { (result ≡ FileChange.NotOurs) ↔ AreCommitsLost self.now found.now }
     {
         if self.is_lost(found) {
             FileChange::NotOurs
-        } else if self.are_untouched(found) {
+        } else if self.are_untouched(&found.stamps) {
             FileChange::Same
         } else {
             FileChange::ByOthers
@@ -163,16 +182,39 @@ impl LeftFiles {
     }
 
     // Whether committed changes are gone.
-    fn is_lost(&self, found: &FileStamps) -> bool
+    fn is_lost(&self, found: &FoundFiles) -> bool
         ensures { (result ≡ true) ↔ AreCommitsLost self.now found.now }
     {
-        let is_database_kept = found.database.has_content_of(&self.stamps.database);
-        let is_log_kept = found.log.has_content_of(&self.stamps.log);
-        let is_log_cut = found.log.bytes < self.stamps.log.bytes;
-        if self.stamps.database.bytes > 0 && found.database.bytes == 0 {
+        if self.stamps.database.bytes > 0 && found.stamps.database.bytes == 0 {
             return true;
         }
-        self.has_commits && (is_database_kept && is_log_cut || !is_database_kept && is_log_kept)
+        self.log_end.is_some() && self.is_log_lost(found)
+    }
+
+    // Whether the commits in the log are gone.
+    fn is_log_lost(&self, found: &FoundFiles) -> bool
+        ensures { (result ≡ true) ↔ IsLogLost self.now found.now }
+    {
+        let is_database_kept = found.stamps.database.has_content_of(&self.stamps.database);
+        let is_log_kept = found.stamps.log.has_content_of(&self.stamps.log);
+        let is_log_cut = found.stamps.log.bytes < self.stamps.log.bytes;
+        is_database_kept && is_log_cut
+            || !is_database_kept && is_log_kept
+            || self.is_end_lost(found, is_database_kept)
+    }
+
+    // Whether the last commit is found to be gone from the log.
+    fn is_end_lost(&self, found: &FoundFiles, is_database_kept: bool) -> bool
+        ensures { (result ≡ true) ↔ IsEndLost (is_database_kept ≡ true) self.now found.now }
+    {
+        if found.stamps.log.is_same(&self.stamps.log) {
+            return false;
+        }
+        match found.log_end {
+            Some(FoundEnd::Gone) => true,
+            Some(FoundEnd::BegunAnew) => is_database_kept,
+            Some(FoundEnd::Stands) | None => false,
+        }
     }
 }
 
@@ -180,15 +222,28 @@ fn log_path(rt: &HostRuntime, path: &str) -> io::Result<String> {
     Ok(format!(in rt.alloc(); "{path}-wal")?)
 }
 
-// Whether the log of the office at this path holds a commit: its first frame then has the salts of the
-// header. A frame that was already copied into the file has older salts.
-fn has_commits(rt: &HostRuntime, path: &str) -> io::Result<bool> {
+// The last commit in the log of the office at this path, of which an earlier one may be known.
+fn log_end(rt: &HostRuntime, path: &str, before: &Option<LogEnd>) -> io::Result<Option<LogEnd>> {
+    match open_log(rt, path)? {
+        Some(log) => end_of(&log, before),
+        None => Ok(None),
+    }
+}
+
+// What became of the end of the log.
+fn find_end(rt: &HostRuntime, path: &str, end: &LogEnd) -> io::Result<FoundEnd> {
+    match open_log(rt, path)? {
+        Some(log) => end.find(&log),
+        None => Ok(FoundEnd::BegunAnew),
+    }
+}
+
+// The log of the office at this path, if there is one.
+fn open_log(rt: &HostRuntime, path: &str) -> io::Result<Option<File>> {
     let log = log_path(rt, path)?;
-    let mut front = [0u8; FRONT_BYTES];
-    let read = match File::open(rt, log.as_str()) {
-        Ok(mut file) => file.read(&mut front)?,
-        Err(fault) if fault.kind() == ErrorKind::NotFound => 0,
-        Err(fault) => return Err(fault),
-    };
-    Ok(read == FRONT_BYTES && front[16..24] == front[40..48])
+    match File::open(rt, log.as_str()) {
+        Ok(file) => Ok(Some(file)),
+        Err(fault) if fault.kind() == ErrorKind::NotFound => Ok(None),
+        Err(fault) => Err(fault),
+    }
 }

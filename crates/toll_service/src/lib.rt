@@ -11,6 +11,7 @@ mod file_stamps;
 mod keep_service;
 mod laws;
 mod lock;
+mod log_end;
 mod notes;
 mod office_fault;
 mod office_path;
@@ -22,6 +23,7 @@ mod party;
 mod pending_import;
 mod plant;
 mod reading_ahead;
+mod reserved_refusal;
 mod reserved_reply;
 mod serving;
 mod shared_file;
@@ -32,13 +34,14 @@ mod words;
 pub use answering::answer_at;
 pub use doing::{answer_once, with_keep};
 pub use fault_log::{FaultLog, ServingFault};
-pub use file_stamps::{FileChange, FileStamps, LeftFiles, Stamp};
+pub use file_stamps::{FileChange, FileStamps, FoundFiles, LeftFiles, Stamp};
 pub use keep_service::KeepService;
 pub use laws::{
     turns_between_two_openings_are_a_run, turns_of_a_request_are_all_of_it,
     turns_over_a_keep_are_a_run,
 };
 pub use lock::{FILE_MODE, take_lock};
+pub use log_end::{FoundEnd, LogEnd, ReadAt, end_of};
 pub use office_fault::OfficeFault;
 pub use office_path::{KeepOpener, OfficePath};
 pub use office_service::OfficeService;

@@ -1,5 +1,8 @@
 //! Why an office on a file was not opened.
-ghost use Rattle.std.specs.Prelude.{◌≡◌};
+ghost use Rattle.std.specs.Prelude.{◌≡◌, ◌≤◌, [], length};
+ghost use Rattle.toll_programs.specs.Statuses.{exit_code};
+ghost use Rattle.toll_programs.specs.declared.status.Status.TheVariants.{Failed};
+ghost use Rattle.toll_protocol.specs.PlantMessages.{IsResponse};
 ghost use Rattle.toll_service.specs.Faults.{fault_text, office_fault_name};
 
 use std::fmt;
@@ -44,6 +47,21 @@ impl OfficeFault {
             OfficeFault::Disk => b"fault Disk\n",
             OfficeFault::Damaged => b"fault Damaged\n",
             OfficeFault::NotOurs => b"fault NotOurs\n",
+        }
+    }
+
+    /// The frame of the response to the plant that reports it: its line, and the exit status of a failure. It
+    /// takes no memory.
+    pub fn response(self) -> &'static [u8]
+        ensures reports { IsResponse result.now (exit_code Failed) [] (fault_text self) }
+        ensures short { length result.now ≤ 24 }
+    {
+        match self {
+            OfficeFault::Locked => b"\0\0\0\x12\x03\0\0\0\0fault Locked\n",
+            OfficeFault::Memory => b"\0\0\0\x12\x03\0\0\0\0fault Memory\n",
+            OfficeFault::Disk => b"\0\0\0\x10\x03\0\0\0\0fault Disk\n",
+            OfficeFault::Damaged => b"\0\0\0\x13\x03\0\0\0\0fault Damaged\n",
+            OfficeFault::NotOurs => b"\0\0\0\x13\x03\0\0\0\0fault NotOurs\n",
         }
     }
 }

@@ -1,27 +1,35 @@
 //! The place of an office in a file.
-ghost use Rattle.std.specs.Prelude.{◌≡◌, ⊤, Bool, Option, None, Result, option_map, is_ok, IfOk};
+ghost use Rattle.std.specs.Prelude.{◌≡◌, ⊤, Bool, Option, None, Result, option_map, IfOk};
+ghost use Rattle.toll_base.specs.Bytes.{Bytes};
+ghost use Rattle.toll_keep.specs.CallEffects.{IsReading};
 ghost use Rattle.toll_service.specs.Openings.{Openings, after_lock, after_opening};
 ghost use Rattle.toll_service.specs.declared.file_stamps.LeftFiles.{LeftFiles};
 ghost use Rattle.toll_service.specs.declared.office_fault.OfficeFault.{OfficeFault};
 
 use crate::file_stamps::LeftFiles;
 use crate::office_fault::OfficeFault;
+use std::alloc::Global;
 use std::fs::File;
+use toll_base::{Name, Slice};
+use toll_keep::{Keep, KeepFault};
 
 /// Opens the keep in a file, and closes it. The caller holds the lock of the file when it has one opened.
-pub trait KeepOpener<K>: Drop {
+pub trait KeepOpener<K: Keep>: Drop {
     // The keep was opened, and has been asked nothing.
     ghost is_opened: { K → Type 0 };
 
-    // How many keeps it has opened, and how often opening or locking was refused, if that is known.
+    // How many keeps it has opened, and for which faults opening or locking was refused, if that is known.
     ghost openings: { Self → Option Openings } = { λ _. None };
 
     // Files that had been left so were looked at, and this was found, if that is known.
     ghost is_found: { LeftFiles → Result Bool OfficeFault → Type 0 } = { λ left found. ⊤ };
 
+    // An opened keep was asked for this owner's rows, and was this one then, if that is known.
+    ghost is_probed: { K → Bytes → K → Type 0 } = { λ first owner last. ⊤ };
+
     /// Takes the lock of the file, as [`take_lock`](crate::take_lock) does.
     fn lock(&mut self, rt: &HostRuntime, path: &str) -> Result<File, OfficeFault>
-        ensures { openings self.new ≡ option_map (after_lock (is_ok result)) (openings self.old) };
+        ensures { openings self.new ≡ option_map (after_lock result) (openings self.old) };
 
     /// Looks whether no other program has changed the files since they were left so, as
     /// [`LeftFiles::is_unchanged`] says. NotOurs if committed changes are gone.
@@ -37,7 +45,18 @@ pub trait KeepOpener<K>: Drop {
     /// Opens the keep in the file.
     fn open(&mut self, rt: &HostRuntime, path: &str) -> Result<K, OfficeFault>
         ensures opened { IfOk result is_opened }
-        ensures counted { openings self.new ≡ option_map (after_opening (is_ok result)) (openings self.old) };
+        ensures counted { openings self.new ≡ option_map (after_opening result) (openings self.old) };
+
+    /// Reads an owner's rows in a keep that it opened.
+    fn read_rows(
+        &mut self,
+        alloc: Global,
+        keep: &mut K,
+        owner: &Name,
+    ) -> Result<Option<Slice>, KeepFault>
+        ensures openings { openings self.new ≡ openings self.old }
+        ensures probed { is_probed keep.old owner.now keep.new }
+        ensures reading { IsReading K.meaning keep.old keep.new result };
 
     /// Closes the file. All answered changes are in it even if the closing meets a fault.
     fn close(&mut self, keep: K)

@@ -2,7 +2,7 @@
 ghost use Rattle.std.specs.Prelude.{◌≡◌, None, Some, if◌then◌else◌};
 ghost use Rattle.toll_service.specs.Parties.{IsBy};
 ghost use Rattle.toll_service.specs.FileServing.{Answers, IsFresh, Resumes};
-ghost use Rattle.toll_service.specs.Sessions.{IsNewSession, IsTurnedAway};
+ghost use Rattle.toll_service.specs.Sessions.{IsNewSession};
 
 use crate::fault_log::{FaultLog, ServingFault};
 use crate::office_fault::OfficeFault;
@@ -10,14 +10,12 @@ use crate::office_path::{KeepOpener, OfficePath};
 use crate::office_session::OfficeSession;
 use crate::party::Party;
 use crate::pending_import::PendingImport;
+use crate::reserved_refusal::ReservedRefusal;
 use crate::turn_result::TurnResult;
 use std::alloc::Global;
 use std::fs;
 use toll_keep::Keep;
-use toll_programs::Status;
-use toll_protocol::Response;
 use toll_server::{Listener, Poll, Service};
-use toll_wire::Out;
 
 /// The office in a file as a service. It answers requests and calls by its session, and reports the faults
 /// that it meets to the operator.
@@ -109,9 +107,9 @@ impl<K: Keep + Drop, O: KeepOpener<K>> Service for OfficeService<'_, K, O> {
 
     ghost is_by = { IsBy };
 
-    ghost answers = { Answers K.meaning O.is_opened O.is_found O.openings };
+    ghost answers = { Answers K.meaning O.is_opened O.is_found O.is_probed O.openings };
 
-    ghost resumes = { Resumes K.meaning O.is_opened O.is_found O.openings };
+    ghost resumes = { Resumes K.meaning O.is_opened O.is_found O.is_probed O.openings };
 
     fn party(listener: Listener, bytes: &[u8]) -> Party
         ensures { IsBy listener bytes.now result }
@@ -119,17 +117,22 @@ impl<K: Keep + Drop, O: KeepOpener<K>> Service for OfficeService<'_, K, O> {
         Party::of(listener, bytes)
     }
 
-    // A client of the plant's listener that asked nothing only looked whether a server is there. A request or
-    // call that is known to meet damage gets that reply without asking the keep.
+    // A client of the plant's listener that asked nothing only looked whether a server is there. Memory for a
+    // refusal is taken before anything else is done. A request or call that is known to meet damage gets that
+    // reply without asking the keep.
     fn answer(&mut self, alloc: Global, listener: Listener, bytes: &[u8]) -> Poll<PendingImport> {
         if listener == Listener::Plant && bytes.is_empty() {
             return Poll::Ready(Vec::new(alloc));
         }
+        let Ok(reserved) = ReservedRefusal::new(alloc) else {
+            self.log_closed(OfficeFault::Memory);
+            return Poll::Ready(Vec::new(alloc));
+        };
         if self
             .session
             .is_damaged(&mut self.office_path, listener, bytes)
         {
-            return Poll::Ready(refusal(alloc, listener, OfficeFault::Damaged));
+            return Poll::Ready(reserved.write(listener, OfficeFault::Damaged));
         }
         match self.session.answer(&mut self.office_path, listener, bytes) {
             Ok(reply) => {
@@ -141,7 +144,7 @@ impl<K: Keep + Drop, O: KeepOpener<K>> Service for OfficeService<'_, K, O> {
             }
             Err(fault) => {
                 self.log_closed(fault);
-                Poll::Ready(refusal(alloc, listener, fault))
+                Poll::Ready(reserved.write(listener, fault))
             }
         }
     }
@@ -152,29 +155,6 @@ impl<K: Keep + Drop, O: KeepOpener<K>> Service for OfficeService<'_, K, O> {
             Err(stopped) => {
                 self.log_closed(stopped.fault);
                 stopped.give_up(alloc)
-            }
-        }
-    }
-}
-
-// The reply at a listener if no office could be asked; no bytes if there is no memory for it.
-fn refusal(alloc: Global, listener: Listener, fault: OfficeFault) -> Vec<u8>
-    ensures { IsTurnedAway listener result.items }
-{
-    match listener {
-        Listener::Owners => match Vec::from_slice(alloc, Out::Unavailable.bytes()) {
-            Ok(bytes) => bytes,
-            Err(_) => Vec::new(alloc),
-        },
-        Listener::Plant => {
-            let response = Response {
-                status: Status::Failed.code(),
-                output: b"",
-                error: fault.line(),
-            };
-            match response.encode(alloc) {
-                Ok(bytes) => bytes,
-                Err(_) => Vec::new(alloc),
             }
         }
     }

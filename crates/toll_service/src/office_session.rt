@@ -3,9 +3,9 @@ ghost use Rattle.std.specs.Prelude.{◌≡◌, ◌⊎◌, ◌+◌, ◌-◌, ◌<
 ghost use Rattle.toll_server.specs.Runs.{Request, Task};
 ghost use Rattle.toll_service.specs.Damages.{AreCallsMet, AreOwnersFound, HasFoundDamage, IsKnown, IsNoted, KnowsNoMore, StaysWhere};
 ghost use Rattle.toll_service.specs.Faults.{fault_text};
-ghost use Rattle.toll_service.specs.FileChanges.{AreFound, AreFoundLost};
+ghost use Rattle.toll_service.specs.FileChanges.{AreFound};
 ghost use Rattle.toll_service.specs.Listeners.{IsServedIfRoom};
-ghost use Rattle.toll_service.specs.Openings.{IsOneOpened, IsOneRefused, IsRefusedAfter, IsNoneOpened};
+ghost use Rattle.toll_service.specs.Openings.{IsOneOpened, IsOneRefused, IsRefusedAfter, IsSomeRefused, IsNoneOpened};
 ghost use Rattle.toll_service.specs.Sessions.{AreAsLeft, AreCounted, IsAtHand, IsSessionIdle, IsLeftOpen, IsLockKept, IsFoundLost, IsNewSession, IsOpenedAhead, IsWithheld, TakesInput, imports_if_begun, imports_if_ended, state_of_session};
 ghost use Rattle.toll_programs.specs.Statuses.{exit_code};
 ghost use Rattle.toll_programs.specs.declared.status.Status.TheVariants.{Failed};
@@ -29,8 +29,6 @@ use std::time::Instant;
 use std::{io, str};
 use toll_base::Name;
 use toll_keep::{Keep, KeepFault};
-use toll_programs::Status;
-use toll_protocol::Response;
 use toll_server::{Listener, Poll};
 use toll_wire::OfficeRouter;
 
@@ -118,7 +116,8 @@ impl<K: Keep + Drop> OfficeSession<K> {
         ensures closed { IfOk result (λ reply. reply.keep_usable ≡ false → self.new.opened ≡ None) }
         ensures imports { IfOk result (λ reply. self.new.imports ≡ imports_if_begun reply.poll self.old.imports) }
         ensures err { OnErr result (IsSessionIdle (state_of_session self.old) (state_of_session self.new) × (self.new.imports ≡ self.old.imports)) }
-        ensures refused { OnErr result (IsWithheld O.is_found self.old (O.openings office_path.old.opener) (O.openings office_path.new.opener)) }
+        ensures refused { IfErr result (λ fault. IsWithheld O.is_found fault self.old
+            (O.openings office_path.old.opener) (O.openings office_path.new.opener)) }
         ensures damage { OnOk result (StaysWhere (AreAsLeft O.is_found self.old) self.old.damage self.new.damage) }
         ensures stays { OnErr result ((self.new.left ≡ self.old.left) × KnowsNoMore self.old.damage self.new.damage) }
         ensures lock { IsLockKept self.old → IsLockKept self.new }
@@ -157,7 +156,8 @@ impl<K: Keep + Drop> OfficeSession<K> {
         ensures closed { IfOk result (λ reply. reply.keep_usable ≡ false → self.new.opened ≡ None) }
         ensures imports { IfOk result (λ reply. self.new.imports ≡ imports_if_ended reply.poll self.old.imports) }
         ensures err { OnErr result (IsSessionIdle (state_of_session self.old) (state_of_session self.new)) }
-        ensures refused { OnErr result (IsWithheld O.is_found self.old (O.openings office_path.old.opener) (O.openings office_path.new.opener)) }
+        ensures refused { IfErr result (λ stopped. IsWithheld O.is_found stopped.fault self.old
+            (O.openings office_path.old.opener) (O.openings office_path.new.opener)) }
         ensures damage { OnOk result (StaysWhere (AreAsLeft O.is_found self.old) self.old.damage self.new.damage) }
         ensures stays { OnErr result ((self.new.left ≡ self.old.left) × KnowsNoMore self.old.damage self.new.damage) }
         ensures stopped { IfErr result (λ stopped. (stopped.import ≡ import) × (self.new.imports ≡ self.old.imports - 1)) }
@@ -189,7 +189,8 @@ impl<K: Keep + Drop> OfficeSession<K> {
         ensures counted { OnOk result (AreCounted (state_of_session self.old) (state_of_session self.new)
             (O.openings office_path.old.opener) (O.openings office_path.new.opener)) }
         ensures err { OnErr result (IsSessionIdle (state_of_session self.old) (state_of_session self.new)) }
-        ensures refused { OnErr result (IsWithheld O.is_found self.old (O.openings office_path.old.opener) (O.openings office_path.new.opener)) }
+        ensures refused { IfErr result (λ fault. IsWithheld O.is_found fault self.old
+            (O.openings office_path.old.opener) (O.openings office_path.new.opener)) }
         ensures imports { self.new.imports ≡ self.old.imports }
         ensures damage { OnOk result (StaysWhere (AreAsLeft O.is_found self.old) self.old.damage self.new.damage) }
         ensures stays { OnErr result (KnowsNoMore self.old.damage self.new.damage) }
@@ -214,8 +215,8 @@ impl<K: Keep + Drop> OfficeSession<K> {
         ensures ok { OnOk result ((self.new.opened ≡ None) × IsSome self.new.lock) }
         ensures err { OnErr result (IsSessionIdle (state_of_session self.old) (state_of_session self.new)) }
         ensures kept { IsSome self.old.lock → IsSome self.new.lock }
-        ensures refused { OnErr result (IsOneRefused (O.openings office_path.old.opener) (O.openings office_path.new.opener)
-            ⊎ IsFoundLost O.is_found self.old (O.openings office_path.old.opener) (O.openings office_path.new.opener)) }
+        ensures refused { IfErr result (λ fault. IsOneRefused fault (O.openings office_path.old.opener) (O.openings office_path.new.opener)
+            ⊎ IsFoundLost O.is_found fault self.old (O.openings office_path.old.opener) (O.openings office_path.new.opener)) }
         ensures unasked { OnOk result (IsNoneOpened (O.openings office_path.old.opener) (O.openings office_path.new.opener)) }
         ensures openings { self.new.openings ≡ self.old.openings }
         ensures imports { self.new.imports ≡ self.old.imports }
@@ -246,7 +247,7 @@ impl<K: Keep + Drop> OfficeSession<K> {
     ) -> Result<bool, OfficeFault>
         ensures unasked { IsNoneOpened (O.openings office_path.old.opener) (O.openings office_path.new.opener) }
         ensures found { result ≡ Ok true → AreFound O.is_found self.now.left (Ok true) }
-        ensures lost { OnErr result (AreFoundLost O.is_found self.now.left) }
+        ensures lost { IfErr result (λ fault. AreFound O.is_found self.now.left (Err fault)) }
     {
         match &self.left {
             Some(left) => {
@@ -266,7 +267,8 @@ impl<K: Keep + Drop> OfficeSession<K> {
         ensures opened { IfOk result (λ o. O.is_opened o.keep × (self.new.openings ≡ self.old.openings + 1)) }
         ensures once { OnOk result (IsOneOpened (O.openings office_path.old.opener) (O.openings office_path.new.opener)) }
         ensures err { OnErr result (self.new.openings ≡ self.old.openings) }
-        ensures refused { OnErr result (IsRefusedAfter self.old.openings (O.openings office_path.old.opener) (O.openings office_path.new.opener)) }
+        ensures refused { IfErr result (λ fault. IsRefusedAfter fault self.old.openings
+            (O.openings office_path.old.opener) (O.openings office_path.new.opener)) }
         ensures beside { self.new ≡ record self.old { openings = self.new.openings; notes = self.new.notes } }
     {
         let Some(openings) = self.openings.checked_add(1) else {
@@ -391,7 +393,7 @@ impl<K: Keep + Drop> OfficeSession<K> {
     )
         ensures state { state_of_session self.new ≡ state_of_session self.old }
         ensures imports { self.new.imports ≡ self.old.imports }
-        ensures noted { IsNoted K.meaning O.is_opened ⊤ self.old.damage self.new.damage listener bytes.now poll.now }
+        ensures noted { IsNoted K.meaning O.is_opened O.is_probed ⊤ self.old.damage self.new.damage listener bytes.now poll.now }
         ensures files { (self.new.left ≡ self.old.left) ⊎ AreAsLeft O.is_found self.old }
         ensures lock { IsLockKept self.old → IsLockKept self.new }
     {
@@ -412,7 +414,7 @@ impl<K: Keep + Drop> OfficeSession<K> {
         ensures calls { AreCallsMet self.old.damage self.new.damage bytes.now poll.now }
     {
         if let Poll::Ready(reported) = poll {
-            if reports_damage(alloc, reported) {
+            if reports_damage(reported) {
                 self.damage.note_call(alloc, bytes);
             }
         }
@@ -422,7 +424,7 @@ impl<K: Keep + Drop> OfficeSession<K> {
     fn probe_owner<O: KeepOpener<K>>(&mut self, office_path: &mut OfficePath<'_, O>, owner: Name)
         ensures state { state_of_session self.new ≡ state_of_session self.old }
         ensures imports { self.new.imports ≡ self.old.imports }
-        ensures owners { AreOwnersFound K.meaning O.is_opened self.old.damage self.new.damage owner }
+        ensures owners { AreOwnersFound K.meaning O.is_opened O.is_probed self.old.damage self.new.damage owner }
         ensures calls { self.new.damage.calls ≡ self.old.damage.calls }
         ensures files { (self.new.left ≡ self.old.left) ⊎ AreAsLeft O.is_found self.old }
         ensures lock { IsLockKept self.old → IsLockKept self.new }
@@ -455,7 +457,7 @@ impl<K: Keep + Drop> OfficeSession<K> {
     // Opens the file, only to read an owner's rows, and closes it.
     fn probe_rows<O: KeepOpener<K>>(&mut self, office_path: &mut OfficePath<'_, O>, owner: Name)
         ensures beside { self.new ≡ record self.old { left = self.new.left; damage = self.new.damage; notes = self.new.notes } }
-        ensures owners { AreOwnersFound K.meaning O.is_opened self.old.damage self.new.damage owner }
+        ensures owners { AreOwnersFound K.meaning O.is_opened O.is_probed self.old.damage self.new.damage owner }
         ensures calls { self.new.damage.calls ≡ self.old.damage.calls }
     {
         let is_damaged = has_damaged_rows(office_path, &owner);
@@ -468,7 +470,7 @@ impl<K: Keep + Drop> OfficeSession<K> {
     /// not it is closed.
     pub fn close<O: KeepOpener<K>>(mut self, office_path: &mut OfficePath<'_, O>)
         ensures { IsNoneOpened (O.openings office_path.old.opener) (O.openings office_path.new.opener)
-            ⊎ IsOneRefused (O.openings office_path.old.opener) (O.openings office_path.new.opener) }
+            ⊎ IsSomeRefused (O.openings office_path.old.opener) (O.openings office_path.new.opener) }
     {
         if let Ok(Some(opened)) = self.check_out_left(office_path) {
             opened.close(&mut office_path.opener);
@@ -503,27 +505,20 @@ fn has_damaged_rows<K: Keep + Drop, O: KeepOpener<K>>(
     office_path: &mut OfficePath<'_, O>,
     owner: &Name,
 ) -> bool
-    ensures { result ≡ true → HasFoundDamage K.meaning O.is_opened }
+    ensures { result ≡ true → HasFoundDamage K.meaning O.is_opened O.is_probed owner.now }
 {
     let Ok(mut keep) = office_path.opener.open(office_path.rt, office_path.path) else {
         return false;
     };
-    let read = keep.slice(office_path.rt.alloc(), owner);
+    let alloc = office_path.rt.alloc();
+    let read = office_path.opener.read_rows(alloc, &mut keep, owner);
     office_path.opener.close(keep);
     matches!(read, Err(KeepFault::Damaged))
 }
 
 // Whether the reply to the plant reports damage, and nothing else.
-fn reports_damage(alloc: Global, reported: &[u8]) -> bool
+fn reports_damage(reported: &[u8]) -> bool
     ensures { result ≡ true → IsResponse reported.now (exit_code Failed) [] (fault_text OfficeFault.Damaged) }
 {
-    let wanted = Response {
-        status: Status::Failed.code(),
-        output: b"",
-        error: OfficeFault::Damaged.line(),
-    };
-    match wanted.encode(alloc) {
-        Ok(bytes) => bytes.as_slice() == reported,
-        Err(_) => false,
-    }
+    reported == OfficeFault::Damaged.response()
 }

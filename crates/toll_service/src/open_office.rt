@@ -1,11 +1,12 @@
 //! An office that was opened.
-ghost use Rattle.std.specs.Prelude.{◌≡◌, IfOk, IfSome, OnErr, OnOk};
+ghost use Rattle.std.specs.Prelude.{◌≡◌, IfErr, IfOk, IfSome, OnOk};
 ghost use Rattle.toll_service.specs.Openings.{IsOneOpened, IsOneRefused, IsNoneOpened};
 
 use crate::office_fault::OfficeFault;
 use crate::office_path::{KeepOpener, OfficePath};
 use crate::shared_file::SharedFile;
 use std::io;
+use toll_keep::Keep;
 
 /// An open office, and its files if they can be released.
 pub struct OpenOffice<K> {
@@ -26,12 +27,13 @@ struct Files {
     log: SharedFile,
 }
 
-impl<K: Drop> OpenOffice<K> {
+impl<K: Keep + Drop> OpenOffice<K> {
     /// The office at this place.
     pub fn at<O: KeepOpener<K>>(office_path: &mut OfficePath<'_, O>) -> Result<Self, OfficeFault>
         ensures opened { IfOk result (λ opened. O.is_opened opened.keep) }
         ensures once { OnOk result (IsOneOpened (O.openings office_path.old.opener) (O.openings office_path.new.opener)) }
-        ensures refused { OnErr result (IsOneRefused (O.openings office_path.old.opener) (O.openings office_path.new.opener)) }
+        ensures refused { IfErr result (λ fault. IsOneRefused fault
+            (O.openings office_path.old.opener) (O.openings office_path.new.opener)) }
     {
         let keep = office_path.opener.open(office_path.rt, office_path.path)?;
         Ok(OpenOffice {

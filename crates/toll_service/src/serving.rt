@@ -60,8 +60,8 @@ pub fn serve_file<W: Announcing, K: Keep + Drop, O: KeepOpener<K>>(
     office_path: OfficePath<'_, O>,
     count: u64,
 ) -> io::Result<ServingEnd>
-    ensures served { IfOk result (λ end. IsFileServed K.meaning O.is_opened O.is_found O.openings ⟦<Party as PartialEq>⟧.eq W.Stream.Source.unread
-        office_path.entry.opener (W.tally world.old) (W.tally world.new) (end ≡ ServingEnd.All)) }
+    ensures served { IfOk result (λ end. IsFileServed K.meaning O.is_opened O.is_found O.is_probed O.openings
+        ⟦<Party as PartialEq>⟧.eq W.Stream.Source.unread office_path.entry.opener (W.tally world.old) (W.tally world.new) (end ≡ ServingEnd.All)) }
     ensures end { IfOk result (λ end. Tallies (EndsSo end count) (W.tally world.old) (W.tally world.new)) }
     ensures listens { OnOk result (Tallies (ListensTill count) (W.tally world.old) (W.tally world.new)) }
     ensures closes { IfOk result (λ end. Tallies (AreClosedForCause ImportState ⟦<Party as PartialEq>⟧.eq (W.limit world.old)

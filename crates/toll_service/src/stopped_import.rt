@@ -17,7 +17,7 @@ pub struct StoppedImport {
 impl StoppedImport {
     /// The reply to the plant: the outcomes of the records so far, and the line of the fault.
     pub fn give_up(self, alloc: Global) -> Poll<PendingImport>
-        ensures { IsReadyWith result (IsGivenUp self.import) }
+        ensures { IsReadyWith result (IsGivenUp self.fault self.import) }
     {
         self.import.abort(alloc, self.fault).poll
     }

@@ -10,4 +10,4 @@ returns-in-Ok g c =
     let done = rw ran.leaves at (rw ran.shows at ran.met) in
     let here : IsDoneOver g.O.KeepOpener.is_opened (λ first last. IsOperationDone g.K.Keep.meaning c.args.operation first last (printout_of c.in-Ok.done)) =
     record { first = over.first; last = over.last; opened = over.opened; done = done } in
-    search (rules, here)
+    search (rules, here, c.in-Ok.ensures.once)

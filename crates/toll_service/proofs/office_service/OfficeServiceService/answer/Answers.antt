@@ -14,38 +14,42 @@ returns-after-not-reply g c =
     let Kept : Type 0 = AreAsLeft g.O.KeepOpener.is_found first in
     let session : c.logged.new.self.session ≡ c.if-not-reply.self.session = c.logged.ensures.session in
     let noted : (state_of_session c.if-not-reply.self.session ≡ state_of_session c.answer.new.self)
-    × IsNoted g.K.Keep.meaning g.O.KeepOpener.is_opened Kept known c.if-not-reply.self.session.damage c.args.listener c.args.bytes.now c.in-Ok.reply.poll =
+    × IsNoted g.K.Keep.meaning g.O.KeepOpener.is_opened g.O.KeepOpener.is_probed Kept known c.if-not-reply.self.session.damage c.args.listener c.args.bytes.now c.in-Ok-answer.reply.poll =
     elim (c.if-not-reply.branch) [
       | then-not-reply w ↦ (
         ap (λ s. state_of_session s.session) w.self-is ∙ w.note_damage.ensures.state,
-        subst (λ s. IsNoted g.K.Keep.meaning g.O.KeepOpener.is_opened Kept known s.session.damage c.args.listener c.args.bytes.now c.in-Ok.reply.poll) (sym w.self-is)
-            (noted_behind g.K.Keep.meaning g.O.KeepOpener.is_opened Kept known c.answer.new.self.damage w.note_damage.new.self.damage c.args.listener c.args.bytes.now c.in-Ok.reply.poll
-            c.in-Ok.ensures.damage w.note_damage.ensures.noted),
+        subst (λ s. IsNoted g.K.Keep.meaning g.O.KeepOpener.is_opened g.O.KeepOpener.is_probed Kept known s.session.damage c.args.listener c.args.bytes.now c.in-Ok-answer.reply.poll) (sym w.self-is)
+            (noted_behind g.K.Keep.meaning g.O.KeepOpener.is_opened g.O.KeepOpener.is_probed Kept known c.answer.new.self.damage w.note_damage.new.self.damage c.args.listener c.args.bytes.now c.in-Ok-answer.reply.poll
+            c.in-Ok-answer.ensures.damage w.note_damage.ensures.noted),
       )
       | else-not-reply w ↦ (
         ap (λ s. state_of_session s.session) w.self-is,
-        subst (λ s. IsNoted g.K.Keep.meaning g.O.KeepOpener.is_opened Kept known s.session.damage c.args.listener c.args.bytes.now c.in-Ok.reply.poll) (sym w.self-is)
-            (noted_none g.K.Keep.meaning g.O.KeepOpener.is_opened Kept known c.answer.new.self.damage c.args.listener c.args.bytes.now c.in-Ok.reply.poll c.in-Ok.ensures.damage),
+        subst (λ s. IsNoted g.K.Keep.meaning g.O.KeepOpener.is_opened g.O.KeepOpener.is_probed Kept known s.session.damage c.args.listener c.args.bytes.now c.in-Ok-answer.reply.poll) (sym w.self-is)
+            (noted_none g.K.Keep.meaning g.O.KeepOpener.is_opened g.O.KeepOpener.is_probed Kept known c.answer.new.self.damage c.args.listener c.args.bytes.now c.in-Ok-answer.reply.poll c.in-Ok-answer.ensures.damage),
       )
     ] in
     let state : state_of_session c.logged.new.self.session ≡ state_of_session c.answer.new.self = ap (λ s. state_of_session s) session ∙ noted.0 in
-    inl (
+    inl (inl (
       subst (λ s. IsAnsweredAtHand g.K.Keep.meaning g.O.KeepOpener.is_opened Kept old (Request c.args.listener c.args.bytes.now) c.logged.result s) (sym state)
           (subst (λ p. IsAnsweredAtHand g.K.Keep.meaning g.O.KeepOpener.is_opened Kept old (Request c.args.listener c.args.bytes.now) p (state_of_session c.answer.new.self)) (sym c.logged.ensures.poll)
-          c.in-Ok.ensures.ok),
-      subst (λ s. IsNoted g.K.Keep.meaning g.O.KeepOpener.is_opened Kept known s.damage c.args.listener c.args.bytes.now c.logged.result) (sym session)
-          (subst (λ p. IsNoted g.K.Keep.meaning g.O.KeepOpener.is_opened Kept known c.if-not-reply.self.session.damage c.args.listener c.args.bytes.now p) (sym c.logged.ensures.poll) noted.1),
-    )
+          c.in-Ok-answer.ensures.ok),
+      subst (λ s. IsNoted g.K.Keep.meaning g.O.KeepOpener.is_opened g.O.KeepOpener.is_probed Kept known s.damage c.args.listener c.args.bytes.now c.logged.result) (sym session)
+          (subst (λ p. IsNoted g.K.Keep.meaning g.O.KeepOpener.is_opened g.O.KeepOpener.is_probed Kept known c.if-not-reply.self.session.damage c.args.listener c.args.bytes.now p) (sym c.logged.ensures.poll) noted.1),
+    ))
 
 pub returns-in-Err : goal.returns-in-Err
 returns-in-Err g c =
     let first = c.args.self.now.session in
-    inr (record {
-      idle = subst (λ s. IsSessionIdle (state_of_session first) (state_of_session s)) (sym c.log_closed.ensures.session) c.in-Err.ensures.err.0;
-      reported = c.refusal-in-Err.ensures;
-      cause = inl (subst (λ t. IsWithheld g.O.KeepOpener.is_found first t (g.O.KeepOpener.openings c.log_closed.new.self.office_path.opener)) c.is_damaged.ensures.unasked
-          (subst (λ p. IsWithheld g.O.KeepOpener.is_found first (g.O.KeepOpener.openings c.is_damaged.new.office_path.opener) (g.O.KeepOpener.openings p.opener))
-          (sym c.log_closed.ensures.office_path) c.in-Err.ensures.refused));
-      left = subst (λ s. s.left ≡ first.left) (sym c.log_closed.ensures.session) c.in-Err.ensures.stays.0;
-      known = subst (λ s. KnowsNoMore first.damage s.damage) (sym c.log_closed.ensures.session) c.in-Err.ensures.stays.1;
-    })
+    inl (inr (record {
+      fault = c.in-Err.fault;
+      idle = subst (λ s. IsSessionIdle (state_of_session first) (state_of_session s)) (sym c.log_closed-in-Err.ensures.session) c.in-Err.ensures.err.0;
+      reported = c.write-in-Err.ensures;
+      cause = inl (
+        subst (λ t. IsWithheld g.O.KeepOpener.is_found c.in-Err.fault first t (g.O.KeepOpener.openings c.log_closed-in-Err.new.self.office_path.opener)) c.is_damaged.ensures.unasked
+            (subst (λ p. IsWithheld g.O.KeepOpener.is_found c.in-Err.fault first (g.O.KeepOpener.openings c.is_damaged.new.office_path.opener) (g.O.KeepOpener.openings p.opener))
+            (sym c.log_closed-in-Err.ensures.office_path) c.in-Err.ensures.refused),
+        c.log_closed-in-Err.ensures.fault,
+      );
+      left = subst (λ s. s.left ≡ first.left) (sym c.log_closed-in-Err.ensures.session) c.in-Err.ensures.stays.0;
+      known = subst (λ s. KnowsNoMore first.damage s.damage) (sym c.log_closed-in-Err.ensures.session) c.in-Err.ensures.stays.1;
+    }))

@@ -1,0 +1,42 @@
+//! A refusal that is reserved before anything is done.
+ghost use Rattle.std.specs.Prelude.{◌≡◌, ◌≤◌, [], vec_capacity, vec_len};
+ghost use Rattle.toll_service.specs.declared.reserved_refusal.TheConstants.{MOST_REFUSAL_BYTES};
+
+use crate::office_fault::OfficeFault;
+use std::alloc::{AllocError, Global};
+use toll_server::Listener;
+use toll_wire::Out;
+
+/// The length limit in bytes of a refusal.
+const MOST_REFUSAL_BYTES: usize = 160;
+
+/// Memory for the reply to a client if no office is available. It is taken before anything is done, so a fault
+/// that is met is always named.
+#[derive(Drop)]
+pub struct ReservedRefusal {
+    bytes: Vec<u8>,
+    ghost is_empty: { (bytes.items ≡ []) × (vec_len bytes ≡ 0) },
+    ghost has_room: { MOST_REFUSAL_BYTES ≤ vec_capacity bytes },
+}
+
+impl ReservedRefusal {
+    ghost use Rattle.toll_service.specs.Sessions.{IsRefusal};
+
+    /// Takes the memory.
+    pub fn new(alloc: Global) -> Result<Self, AllocError> {
+        let bytes = Vec::with_capacity(alloc, MOST_REFUSAL_BYTES)?;
+        Ok(ReservedRefusal { bytes })
+    }
+
+    /// The reply at a listener that no office is available because of this fault. It takes no more memory.
+    pub fn write(self, listener: Listener, fault: OfficeFault) -> Vec<u8>
+        ensures { IsRefusal fault listener result.items }
+    {
+        let ReservedRefusal { mut bytes } = self;
+        let _ = match listener {
+            Listener::Owners => bytes.extend_from_slice(Out::Unavailable.bytes()),
+            Listener::Plant => bytes.extend_from_slice(fault.response()),
+        };
+        bytes
+    }
+}
