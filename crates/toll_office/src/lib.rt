@@ -4,11 +4,11 @@
 #![tactic(auto)]
 
 mod descriptors;
-mod file_server;
 mod plant_listener;
 mod programs;
 mod resolving;
 mod serving;
+mod socket_connector;
 mod socket_file;
 mod socket_stream;
 mod sockets;

@@ -1,6 +1,6 @@
 //! The programs.
-use crate::file_server::FileServer;
 use crate::resolving::resolved;
+use crate::socket_connector::SocketConnector;
 use crate::sockets::Sockets;
 use std::alloc::{AllocError, Global};
 use std::fmt::Display;
@@ -108,7 +108,7 @@ fn run_words<K: Keep, O: KeepOpener<K>>(
     let (mut output, mut error) = (io::writer(rt), rt.stderr());
     Ok(do_words(
         &mut OfficePath { rt, path, opener },
-        &mut FileServer,
+        &mut SocketConnector,
         words,
         &mut output,
         &mut error,
@@ -130,7 +130,7 @@ fn run_import<K: Keep, O: KeepOpener<K>>(
     let (mut output, mut error) = (io::writer(rt), rt.stderr());
     Ok(do_file(
         &mut OfficePath { rt, path, opener },
-        &mut FileServer,
+        &mut SocketConnector,
         &text,
         &mut output,
         &mut error,

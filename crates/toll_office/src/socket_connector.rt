@@ -9,7 +9,7 @@ use toll_programs::{Connector, TrackedStream};
 
 /// Connects to the server of a file, by the socket file beside it.
 #[derive(Drop)]
-pub struct FileServer;
+pub struct SocketConnector;
 
 /// How many seconds a server may take for its handshake.
 const HANDSHAKE_SECONDS: u64 = 5;
@@ -42,7 +42,7 @@ impl Write for ServerStream {
     }
 }
 
-impl Connector<TrackedStream<ServerStream>> for FileServer {
+impl Connector<TrackedStream<ServerStream>> for SocketConnector {
     fn connect(&mut self, rt: &HostRuntime, path: &str) -> Option<TrackedStream<ServerStream>> {
         let stream = connect(rt, path)?;
         let limit = Duration::from_secs(HANDSHAKE_SECONDS);
