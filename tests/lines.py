@@ -137,7 +137,7 @@ def stock_body(*lots: str) -> str:
 def batch_body(*requirements: str) -> str:
     """Each requirement is given by its actual, material, owner, required amount, segment and use."""
     names = ("actual", "material", "owner", "required", "segment", "use")
-    rows = [[int(it) if it.isdecimal() else it for it in requirement.split()] for requirement in requirements]
+    rows = [[int(field) if field.isdecimal() else field for field in requirement.split()] for requirement in requirements]
     return body(batch=1, closed=False, order="O", state="running", unit="U1",
                 requirements=[dict(zip(names, row)) for row in rows])
 

@@ -18,7 +18,7 @@ def is_want_of_memory(text: str) -> bool:
 
 def test_one_refusal_over_lists_is_answered_as_want_of_memory() -> None:
     words = ["rt", "try", "--test", "--fail-alloc", str(REFUSED), "--", TEST]
-    done = subprocess.run(words, cwd=ROOT / "crates" / "toll_tests", capture_output=True, text=True, errors="replace")
+    done = subprocess.run(words, cwd=ROOT / "crates" / "toll_story_tests", capture_output=True, text=True, errors="replace")
     assert is_want_of_memory(done.stdout), done.stdout + done.stderr
 
 

@@ -38,9 +38,9 @@ class Item:
 
 def owner_of(line: str) -> str:
     """The type of an `impl`, or the trait, which begins in this line."""
-    found = OWNER.match(line)
-    head = re.sub(r"<[^<>]*>", "", re.sub(r"<[^<>]*>", "", found[1] or "")) if found else ""
-    return found and found[2] or (re.findall(r"\w+", head.split(" for ")[-1]) or [""])[0]
+    match = OWNER.match(line)
+    head = re.sub(r"<[^<>]*>", "", re.sub(r"<[^<>]*>", "", match[1] or "")) if match else ""
+    return match and match[2] or (re.findall(r"\w+", head.split(" for ")[-1]) or [""])[0]
 
 
 def items_of(crate: str, file: str, text: str) -> Iterator[Item]:
@@ -88,7 +88,7 @@ class Sources:
         """The public functions that docs/PROVED.md means by a name: of a type, by themselves, or all methods that a
         type has in its crate."""
         *owner, last = name.split("::")
-        own = [item for item in self.items if "_tests" not in item.crate]
+        own = [item for item in self.items if not item.crate.endswith(("_tests", "_stories"))]
         items = [item for item in own if item.is_public and item.name == last and item.owner == "".join(owner)]
         items = [item for item in items if (item.owner or item.name) in self.exported[item.crate]] or items
         return items or [item for item in own if item.owner == name and name in self.types[item.crate]]
@@ -102,18 +102,18 @@ class Sources:
     @functools.cache
     def imports(self, crate: str, file: str) -> dict[str, Place]:
         """The names that a file of the code takes from definitions, each with its crate and file."""
-        found = dict[str, Place]()
+        source_of = dict[str, Place]()
         for below, place, names, whole in USED.findall(self.code[self.crates / crate / file]):
             of_file = [name for name, places in self.definitions.items() if (below, whole) in places]
             source = below, whole or place.split(".")[-1]
-            found.update(dict.fromkeys(of_file + re.findall(r"[\w']+", names), source))
-        return found
+            source_of.update(dict.fromkeys(of_file + re.findall(r"[\w']+", names), source))
+        return source_of
 
     def file_of(self, item: Item, name: str) -> Place | None:
         """The file of the definition that a clause of this item cites by this name."""
         places = self.definitions.get(name, [])
         place = self.imports(item.crate, item.file).get(name, (item.crate, ""))
-        exact = [it for it in places if it == place] or [it for it in places if it[0] == place[0]] or places
+        exact = [candidate for candidate in places if candidate == place] or [candidate for candidate in places if candidate[0] == place[0]] or places
         return exact[0] if exact else None
 
     @functools.cached_property

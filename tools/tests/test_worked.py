@@ -64,37 +64,37 @@ def worked(tmp_path):
         environment = {**os.environ, "PATH": f"{kit}/bin:{os.environ['PATH']}", "TOLD": str(tmp_path / "told")}
         done = subprocess.run([top / "tools" / "check-worked"], capture_output=True, text=True, timeout=60, env=environment)
         return done.returncode, done.stdout + done.stderr
-    run.told = tmp_path / "told"
+    run.notes = tmp_path / "told"
     run.top = top
     return run
 
 
 def test_a_change_that_applies_is_read_by_the_front_end_in_a_copy(worked):
     assert worked() == (0, "check-worked: 1 changes apply, and their code is typed\n")
-    words = worked.told.read_text().split()
-    assert words[words.index("--crate-name") + 1] == "low" and "src/lib.rt" in words and any(it.endswith("rlibs/serde.rlib") for it in words)
+    words = worked.notes.read_text().split()
+    assert words[words.index("--crate-name") + 1] == "low" and "src/lib.rt" in words and any(word.endswith("rlibs/serde.rlib") for word in words)
     assert (worked.top / "crates/low/src/lib.rt").read_text() == "fn one()\n"
 
 
 def test_a_change_whose_text_is_gone_or_twice_there_is_told(worked):
-    status, told = worked(code=("fn one()", "fn one() fn one()"))
-    assert status == 1 and "crates/low/src/lib.rt has 2 times, and not once: 'fn one()'" in told
+    status, output = worked(code=("fn one()", "fn one() fn one()"))
+    assert status == 1 and "crates/low/src/lib.rt has 2 times, and not once: 'fn one()'" in output
     assert "has 0 times" in worked(code=("fn one()", "fn other()"))[1]
 
 
 def test_code_that_the_front_end_refuses_is_told(worked):
-    status, told = worked(change=("fn two()", "fn wrong()"))
-    assert status == 1 and "error[unknown-name]" in told
+    status, output = worked(change=("fn two()", "fn wrong()"))
+    assert status == 1 and "error[unknown-name]" in output
 
 
 def test_text_that_the_formatter_refuses_is_told(worked):
-    status, told = worked(change=("fn two()", "fn unformatted()"))
-    assert status == 1 and "crates/low/src/lib.rt" in told
+    status, output = worked(change=("fn two()", "fn unformatted()"))
+    assert status == 1 and "crates/low/src/lib.rt" in output
 
 
 def test_a_file_that_the_section_does_not_name_is_told(worked):
-    status, told = worked(page=("`src/lib.rt`, and", "and"))
-    assert status == 1 and "'Add a thing', doesn't name crates/low/src/lib.rt, which thing.edit changes" in told
+    status, output = worked(page=("`src/lib.rt`, and", "and"))
+    assert status == 1 and "'Add a thing', doesn't name crates/low/src/lib.rt, which thing.edit changes" in output
     assert "CONTRIBUTING.md has no section Add a thing" in worked(page=("## Add a thing", "## Add one"))[1]
 
 
@@ -110,5 +110,5 @@ def test_a_file_that_a_tool_writes_is_written_in_the_copy(worked):
 
 
 def test_a_line_that_is_none_of_a_change_is_told(worked):
-    status, told = worked(change=("old: one thing", "was: one thing"))
-    assert status == 1 and "thing.edit: 'was: one thing' is no line of a change" in told
+    status, output = worked(change=("old: one thing", "was: one thing"))
+    assert status == 1 and "thing.edit: 'was: one thing' is no line of a change" in output

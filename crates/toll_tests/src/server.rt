@@ -1,10 +1,8 @@
-//! Tests of a server: the texts of frames, byte for byte; clients in memory, in all orders in which their
-//! bytes may come; the replies to them over a keep, and over an office that stays open in a file; the
-//! outcomes of handing something to a server; and a network with a known tally.
+//! Tests of a server: the texts of frames, byte for byte; the replies to clients over a keep, and over an office
+//! that stays open in a file; the outcomes of handing something to a server; and the last commit in a log.
 
 mod calling;
-mod connections;
 mod frames;
-mod known;
+mod log_ends;
 mod served;
 mod words;

@@ -1,6 +1,5 @@
 //! Connections to an office in a file.
 use crate::programs::prints::run;
-use crate::stories::check;
 use sqlite::Unknown;
 use std::fs;
 use std::fs::File;
@@ -13,6 +12,7 @@ use toll_plant::command_of;
 use toll_programs::{ScriptEnd, execute};
 use toll_service::{take_lock, with_keep};
 use toll_sql::{OpenFault, SqlKeep};
+use toll_stories::check;
 
 const ADDED: &[&[&str]] = &[
     &["owner-add", "ACME", "ACMEKEY1"],

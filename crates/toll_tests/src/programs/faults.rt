@@ -1,8 +1,8 @@
 //! Reads and writes that fail.
-use crate::wire::fakes::{Sink, Source};
 use std::alloc::Global;
 use toll_keep::MemKeep;
 use toll_programs::{ScriptEnd, script};
+use toll_stories::{Sink, Source};
 
 const SCRIPT: &[u8] = b"owner-add ACME ACMEKEY1\nrecipe-add ACME R-1 2\n";
 

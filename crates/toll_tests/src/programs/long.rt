@@ -1,8 +1,8 @@
 //! A script that prints much.
 use crate::programs::prints::run;
-use crate::stories::{told_stock, with_much_stock};
 use std::test::Fail;
 use toll_programs::ScriptEnd;
+use toll_stories::{told_stock, with_much_stock};
 
 #[test]
 fn a_script_prints_a_megabyte(rt: HostRuntime) -> Result<(), Fail> {

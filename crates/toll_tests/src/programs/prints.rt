@@ -1,9 +1,9 @@
 //! What scripts print.
-use crate::stories::{empty_tables, text_of};
 use std::alloc::Global;
 use std::test::Fail;
 use toll_keep::{Keep, MemKeep};
 use toll_programs::{ScriptEnd, script};
+use toll_stories::{empty_tables, text_of};
 
 /// ACME with a recipe, a released lot and a batch that runs.
 pub const BEGUN: (&str, &str) = (

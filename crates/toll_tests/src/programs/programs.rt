@@ -1,12 +1,12 @@
 //! Commands and imports, as the program does them.
 use crate::programs::prints::{BEGUN, check_prints_over};
-use crate::stories::{REPEATED_FILE, check, empty_tables, plant_cmd};
 use std::alloc::Global;
 use std::test::Fail;
 use toll_base::Refusal;
 use toll_desk::PlantCmd;
 use toll_keep::{Keep, MemKeep};
 use toll_programs::{plant_import, plant_line};
+use toll_stories::{REPEATED_FILE, check, empty_tables, plant_cmd};
 
 // What is written to output and to error, and the exit status.
 type Ended = (&'static str, &'static str, u64);

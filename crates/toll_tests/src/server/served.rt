@@ -5,13 +5,13 @@ mod imports;
 mod long;
 mod services;
 
-use crate::refusing::{Refused, Refusing};
 use crate::server::served::fake_network::{FakeNetwork, Log};
 use std::alloc::{AllocError, Global};
 use toll_keep::{Keep, MemKeep};
 use toll_protocol::Response;
 use toll_server::{Listener, Poll, ServingEnd};
 use toll_service::{KeepService, TurnResult, answer_at, serve_keep};
+use toll_stories::{Refused, Refusing};
 use toll_wire::OfficeRouter;
 
 /// The listener at which a client comes, what it asks, and the reply to it.

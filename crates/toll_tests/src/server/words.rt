@@ -1,12 +1,14 @@
 //! Words of the plant over an office in a file that has no server.
-use crate::stories::check;
+use std::alloc::Global;
 use std::fs::File;
 use std::test::Fail;
 use std::{fs, io};
-use toll_keep::MemKeep;
+use toll_base::{Name, Slice};
+use toll_keep::{Keep, KeepFault, MemKeep};
 use toll_programs::{Connector, TrackedStream};
 use toll_protocol::Sink;
 use toll_service::{KeepOpener, LeftFiles, OfficeFault, OfficePath, do_words, take_lock};
+use toll_stories::check;
 
 /// Opens an office without rows, and counts how many.
 #[derive(Drop)]
@@ -35,6 +37,15 @@ impl KeepOpener<MemKeep> for Counting {
     fn open(&mut self, rt: &HostRuntime, _path: &str) -> Result<MemKeep, OfficeFault> {
         self.opened = self.opened.saturating_add(1);
         Ok(MemKeep::new(rt.alloc()))
+    }
+
+    fn read_rows(
+        &mut self,
+        alloc: Global,
+        keep: &mut MemKeep,
+        owner: &Name,
+    ) -> Result<Option<Slice>, KeepFault> {
+        keep.slice(alloc, owner)
     }
 
     fn close(&mut self, _keep: MemKeep) {}

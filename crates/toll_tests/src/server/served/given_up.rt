@@ -1,16 +1,17 @@
 //! An import that is given up, since its office was closed and can't be opened.
-use crate::refusing::{Refused, Refusing};
 use crate::server::served::imports::{import_of_records, push_lines};
 use crate::server::served::{ADD_OWNER, Client, NO_MEMORY};
 use std::alloc::Global;
 use std::fs;
 use std::fs::File;
 use std::test::Fail;
-use toll_keep::MemKeep;
+use toll_base::{Name, Slice};
+use toll_keep::{Keep, KeepFault, MemKeep};
 use toll_plant::GROUP_RECORDS;
 use toll_protocol::{EncodeFault, Response};
 use toll_server::{Listener, Poll, Service};
 use toll_service::{KeepOpener, LeftFiles, OfficeFault, OfficePath, OfficeService, take_lock};
+use toll_stories::{Refused, Refusing};
 
 /// Opens one office, which refuses one change, and then none.
 #[derive(Drop)]
@@ -42,6 +43,15 @@ impl KeepOpener<Refusing<MemKeep>> for Once {
         }
         self.is_opened = true;
         Ok(Refusing::new(MemKeep::new(rt.alloc()), Refused::Apply))
+    }
+
+    fn read_rows(
+        &mut self,
+        alloc: Global,
+        keep: &mut Refusing<MemKeep>,
+        owner: &Name,
+    ) -> Result<Option<Slice>, KeepFault> {
+        keep.slice(alloc, owner)
     }
 
     fn close(&mut self, _keep: Refusing<MemKeep>) {}

@@ -1,5 +1,4 @@
 //! Imports in turns, with others in between.
-use crate::refusing::{Refused, Refusing};
 use crate::server::served::fake_network::{FakeNetwork, Log};
 use crate::server::served::{
     ADD_OWNER, ADD_RECIPE, Client, LIST, PLACE, answer_alone, is_expected, resume, tells,
@@ -11,6 +10,7 @@ use toll_plant::GROUP_RECORDS;
 use toll_protocol::{Call, EncodeFault, Response};
 use toll_server::{Listener, ServingEnd};
 use toll_service::{KeepService, serve_keep};
+use toll_stories::{Refused, Refusing};
 
 const HEADER: &str = "key,owner,order,batch,segment,use,material,lot_owner,lot,sublot,amount,day\n";
 

@@ -2,13 +2,13 @@
 //! imported.
 use crate::server::served::fake_network::{FakeNetwork, Log};
 use crate::server::served::{Client, answer_alone, tells};
-use crate::stories::{told_stock, with_much_stock};
 use std::alloc::{AllocError, Global};
 use std::test::Fail;
 use toll_keep::MemKeep;
 use toll_protocol::{Call, EncodeFault, Response};
 use toll_server::Listener;
 use toll_service::{KeepService, TurnResult, serve_keep};
+use toll_stories::{told_stock, with_much_stock};
 
 /// How long a file of actuals may be.
 const FILE_BYTES: usize = 1_048_576;

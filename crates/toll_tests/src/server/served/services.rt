@@ -7,7 +7,8 @@ use std::fs::{File, OpenOptions};
 use std::io::Write;
 use std::test::Fail;
 use std::{fs, io};
-use toll_keep::MemKeep;
+use toll_base::{Name, Slice};
+use toll_keep::{Keep, KeepFault, MemKeep};
 use toll_server::{Listener, Poll, Service};
 use toll_service::{KeepOpener, LeftFiles, OfficeFault, OfficePath, OfficeService, take_lock};
 
@@ -59,6 +60,15 @@ impl KeepOpener<MemKeep> for Shelf<'_> {
     fn open(&mut self, rt: &HostRuntime, _path: &str) -> Result<MemKeep, OfficeFault> {
         add_one(&self.counts.opened);
         Ok(MemKeep::new(rt.alloc()))
+    }
+
+    fn read_rows(
+        &mut self,
+        alloc: Global,
+        keep: &mut MemKeep,
+        owner: &Name,
+    ) -> Result<Option<Slice>, KeepFault> {
+        keep.slice(alloc, owner)
     }
 
     fn close(&mut self, _keep: MemKeep) {

@@ -1,0 +1,148 @@
+//! Lines of what is asked, and what is said to each.
+use crate::commands::plant_cmd;
+use crate::fakes::read_pieces;
+use crate::http::{reply_said, request_of};
+use crate::keeps::{BareKeep, TableKeep, bare_tables, empty_tables, taken_over};
+use crate::said::{plant_said, said_text};
+use std::alloc::{AllocError, Global};
+use std::test::Fail;
+use toll_desk::plant_do;
+use toll_keep::{Keep, MemKeep};
+use toll_plant::{import_actuals, import_text};
+use toll_wire::answer;
+
+/// What is asked, and what is said to it.
+pub type Line = (&'static str, &'static str);
+
+/// The first record of a file of actuals, with its line end.
+pub const HEADER: &str =
+    "key,owner,order,batch,segment,use,material,lot_owner,lot,sublot,amount,day\n";
+
+/// What is said to the line. An `Err` means that there was no memory.
+///
+/// An owner's line begins with `>`, its name and its key, and then has the method, the target and, if there is
+/// one, the body; what is said to it is the status and the body of the reply. A file of actuals follows `file`,
+/// and the records of one, without its header, follow `records`. Each other line has the plant's words, to which
+/// `unread` is said if they are no command's.
+pub fn say<K: Keep>(alloc: Global, keep: &mut K, line: &str) -> Result<String, AllocError> {
+    match line.split_once(' ') {
+        Some((">", _)) => say_to_owner(alloc, keep, line),
+        Some(("file", file)) => say_to_file(alloc, keep, file.as_bytes()),
+        Some(("records", records)) => say_to_records(alloc, keep, records),
+        _ => say_to_plant(alloc, keep, line),
+    }
+}
+
+// The request comes in pieces, all of it.
+fn say_to_owner<K: Keep>(alloc: Global, keep: &mut K, line: &str) -> Result<String, AllocError> {
+    let Some(bytes) = request_of(alloc, line)? else {
+        return String::from_str(alloc, "unread");
+    };
+    match read_pieces(alloc, &bytes, 7, false) {
+        Ok(came) if came.as_slice() == bytes.as_slice() => {
+            reply_said(alloc, answer(alloc, keep, &came).bytes())
+        }
+        _ => String::from_str(alloc, "unread"),
+    }
+}
+
+fn say_to_records<K: Keep>(
+    alloc: Global,
+    keep: &mut K,
+    records: &str,
+) -> Result<String, AllocError> {
+    let file = format!(in alloc; "{HEADER}{records}")?;
+    say_to_file(alloc, keep, file.as_bytes())
+}
+
+fn say_to_plant<K: Keep>(alloc: Global, keep: &mut K, line: &str) -> Result<String, AllocError> {
+    let words: Vec<&str> = line.split(' ').collect(alloc)?;
+    match plant_cmd(alloc, &words)? {
+        Some(command) => plant_said(alloc, &plant_do(alloc, keep, &command)),
+        None => String::from_str(alloc, "unread"),
+    }
+}
+
+/// What is said to a file of actuals: the text of its import, or the word of the fault.
+pub fn say_to_file<K: Keep>(
+    alloc: Global,
+    keep: &mut K,
+    file: &[u8],
+) -> Result<String, AllocError> {
+    match import_actuals(alloc, keep, file) {
+        Ok(report) => {
+            let text = import_text(alloc, &report)?;
+            said_text(alloc, &text)
+        }
+        Err(fault) => format!(in alloc; "{fault}"),
+    }
+}
+
+/// Whether just this is said to each of these lines, over this keep. An `Err` means that there was no
+/// memory.
+pub fn are_said<K: Keep>(alloc: Global, keep: &mut K, lines: &[Line]) -> Result<bool, AllocError> {
+    for line in lines {
+        let (requested, wanted) = *line;
+        if say(alloc, keep, requested)?.as_str() != wanted {
+            return Ok(false);
+        }
+    }
+    Ok(true)
+}
+
+// Fails with the answer to the line, if that isn't the wanted one.
+fn check_line<K: Keep>(alloc: Global, keep: &mut K, line: &Line) -> Result<(), Fail> {
+    let (requested, wanted) = *line;
+    let said = say(alloc, keep, requested)?;
+    if said.as_str() == wanted {
+        return Ok(());
+    }
+    Err(format!(in alloc; "{requested}: {said}")?.into())
+}
+
+/// Fails if one of these lines has another answer, over this keep.
+pub fn check_lines<K: Keep>(alloc: Global, keep: &mut K, lines: &[Line]) -> Result<(), Fail> {
+    for line in lines {
+        check_line(alloc, keep, line)?;
+    }
+    Ok(())
+}
+
+/// The same along chapters.
+pub fn check_said_over<K: Keep>(
+    alloc: Global,
+    keep: &mut K,
+    chapters: &[&[Line]],
+) -> Result<(), Fail> {
+    for lines in chapters {
+        check_lines(alloc, keep, lines)?;
+    }
+    Ok(())
+}
+
+/// The same over an empty office: kept in lists, and kept in tables that are given back and taken over again
+/// after each chapter.
+pub fn check_said(alloc: Global, chapters: &[&[Line]]) -> Result<(), Fail> {
+    check_said_over_lists(alloc, chapters)?;
+    check_said_over_tables(alloc, chapters)
+}
+
+/// The same, and over tables of which nothing is remembered, so that each trace is made of the tables.
+pub fn check_said_and_traced(alloc: Global, chapters: &[&[Line]]) -> Result<(), Fail> {
+    check_said(alloc, chapters)?;
+    check_said_over::<BareKeep>(alloc, &mut bare_tables(alloc)?, chapters)
+}
+
+/// The same over an empty office that is kept in lists.
+pub fn check_said_over_lists(alloc: Global, chapters: &[&[Line]]) -> Result<(), Fail> {
+    check_said_over::<MemKeep>(alloc, &mut MemKeep::new(alloc), chapters)
+}
+
+fn check_said_over_tables(alloc: Global, chapters: &[&[Line]]) -> Result<(), Fail> {
+    let mut keep = empty_tables(alloc)?;
+    for lines in chapters {
+        check_lines::<TableKeep>(alloc, &mut keep, lines)?;
+        keep = taken_over(alloc, keep)?;
+    }
+    Ok(())
+}

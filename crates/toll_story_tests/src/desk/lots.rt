@@ -1,0 +1,102 @@
+//! Stories of lots, their tests and their dispositions.
+use std::test::Fail;
+use toll_stories::{Line, check_said};
+
+const TESTED: &[Line] = &[
+    ("owner-add ACME ACMEKEY1", "accepted"),
+    ("material-add ACME ABCDEFGHIJKLMNOPQ kg", "refused BadName"),
+    ("material-add ACME M kg", "accepted"),
+    ("test-add ACME M PH 8 M5", "refused BadAmount"),
+    ("test-add ACME M PH M5 008", "accepted"),
+    ("test-add ACME M PH M5 8", "refused TestExists"),
+    ("receive ACME K1 M A S 10 1", "accepted"),
+    ("receive ACME K1 M A S 10 1", "repeated"),
+    ("receive ACME K1 M A S 9 1", "refused KeyConflict"),
+    ("receive ACME K1 M A S 10 2", "refused KeyConflict"),
+    (
+        "> ACME ACMEKEY1 POST /lots/A/release",
+        "409 {\"code\":36,\"error\":\"TestsOpen\"}",
+    ),
+    ("result ACME A PH M6 1", "accepted"),
+    (
+        "> ACME ACMEKEY1 POST /lots/A/release",
+        "409 {\"code\":36,\"error\":\"TestsOpen\"}",
+    ),
+    ("result ACME A PH 8 1", "accepted"),
+    (
+        "> ACME ACMEKEY1 POST /lots/A/release",
+        "200 {\"disposition\":\"released\",\"lot\":\"A\",\"material\":\"M\",\"measure\":\"kg\",\"origin\":\"receipts\",\"results\":[{\"day\":1,\"test\":\"PH\",\"value\":-6},{\"day\":1,\"test\":\"PH\",\"value\":8}],\"sublots\":[{\"amount\":10,\"sublot\":\"S\"}]}",
+    ),
+];
+
+const OUT_OF_LIMITS: &[Line] = &[
+    ("result ACME A PH 9 2", "accepted"),
+    (
+        "> ACME ACMEKEY1 GET /lots/A",
+        "200 {\"disposition\":\"quarantined\",\"lot\":\"A\",\"material\":\"M\",\"measure\":\"kg\",\"origin\":\"receipts\",\"results\":[{\"day\":1,\"test\":\"PH\",\"value\":-6},{\"day\":1,\"test\":\"PH\",\"value\":8},{\"day\":2,\"test\":\"PH\",\"value\":9}],\"sublots\":[{\"amount\":10,\"sublot\":\"S\"}]}",
+    ),
+    (
+        "> ACME ACMEKEY1 POST /lots/A/release",
+        "409 {\"code\":36,\"error\":\"TestsOpen\"}",
+    ),
+    ("ship ACME K9 A S 1 3", "refused NotReleased"),
+    ("test-add ACME M PH2 0 1", "refused MaterialInUse"),
+    (
+        "> ACME ACMEKEY1 POST /lots/A/reject",
+        "200 {\"disposition\":\"rejected\",\"lot\":\"A\",\"material\":\"M\",\"measure\":\"kg\",\"origin\":\"receipts\",\"results\":[{\"day\":1,\"test\":\"PH\",\"value\":-6},{\"day\":1,\"test\":\"PH\",\"value\":8},{\"day\":2,\"test\":\"PH\",\"value\":9}],\"sublots\":[{\"amount\":10,\"sublot\":\"S\"}]}",
+    ),
+    (
+        "> ACME ACMEKEY1 POST /lots/A/reject",
+        "409 {\"code\":42,\"error\":\"Rejected\"}",
+    ),
+    ("result ACME A PH 8 3", "refused Rejected"),
+    (
+        "> ACME ACMEKEY1 GET /lots/B",
+        "404 {\"code\":27,\"error\":\"UnknownLot\"}",
+    ),
+];
+
+#[test]
+fn a_lot_is_released_while_its_tests_pass(rt: HostRuntime) -> Result<(), Fail> {
+    check_said(rt.alloc(), &[TESTED, OUT_OF_LIMITS])
+}
+
+// Three lots, two of whose names begin alike, with results and sublots.
+const NAMED_ALIKE: &[Line] = &[
+    ("owner-add ACME ACMEKEY1", "accepted"),
+    ("material-add ACME M kg", "accepted"),
+    ("material-add ACME P l", "accepted"),
+    ("test-add ACME M PH 0 9", "accepted"),
+    ("test-add ACME M TASTE 0 9", "accepted"),
+    ("test-add ACME P PH 0 9", "accepted"),
+    ("receive ACME K1 P A S1 40 1", "accepted"),
+    ("receive ACME K2 P A S2 2 1", "accepted"),
+    ("receive ACME K3 M AB S1 7 1", "accepted"),
+    ("receive ACME K4 M B S1 1000000000 0", "accepted"),
+    ("result ACME A PH 1 2", "accepted"),
+    ("result ACME AB PH 3 2", "accepted"),
+    ("result ACME AB PH 4 3", "accepted"),
+    ("result ACME AB TASTE 5 3", "accepted"),
+    ("result ACME B PH M1000000000 9999999", "accepted"),
+    (
+        "> ACME ACMEKEY1 GET /stock",
+        "200 {\"lots\":[{\"amount\":42,\"disposition\":\"quarantined\",\"lot\":\"A\",\"material\":\"P\",\"measure\":\"l\"},{\"amount\":7,\"disposition\":\"quarantined\",\"lot\":\"AB\",\"material\":\"M\",\"measure\":\"kg\"},{\"amount\":1000000000,\"disposition\":\"quarantined\",\"lot\":\"B\",\"material\":\"M\",\"measure\":\"kg\"}]}",
+    ),
+    (
+        "> ACME ACMEKEY1 GET /lots/A",
+        "200 {\"disposition\":\"quarantined\",\"lot\":\"A\",\"material\":\"P\",\"measure\":\"l\",\"origin\":\"receipts\",\"results\":[{\"day\":2,\"test\":\"PH\",\"value\":1}],\"sublots\":[{\"amount\":40,\"sublot\":\"S1\"},{\"amount\":2,\"sublot\":\"S2\"}]}",
+    ),
+    (
+        "> ACME ACMEKEY1 GET /lots/AB",
+        "200 {\"disposition\":\"quarantined\",\"lot\":\"AB\",\"material\":\"M\",\"measure\":\"kg\",\"origin\":\"receipts\",\"results\":[{\"day\":2,\"test\":\"PH\",\"value\":3},{\"day\":3,\"test\":\"PH\",\"value\":4},{\"day\":3,\"test\":\"TASTE\",\"value\":5}],\"sublots\":[{\"amount\":7,\"sublot\":\"S1\"}]}",
+    ),
+    (
+        "> ACME ACMEKEY1 GET /lots/B",
+        "200 {\"disposition\":\"quarantined\",\"lot\":\"B\",\"material\":\"M\",\"measure\":\"kg\",\"origin\":\"receipts\",\"results\":[{\"day\":9999999,\"test\":\"PH\",\"value\":-1000000000}],\"sublots\":[{\"amount\":1000000000,\"sublot\":\"S1\"}]}",
+    ),
+];
+
+#[test]
+fn a_lot_is_shown_with_its_own_rows(rt: HostRuntime) -> Result<(), Fail> {
+    check_said(rt.alloc(), &[NAMED_ALIKE])
+}

@@ -1,6 +1,0 @@
-use Rattle.std.proofs.Common.{rules}
-use Rattle.toll_tests.specs.Known.{known_keys}
-use Rattle.toll_tests.proofs.server.known.KnownNetworkNetwork.wait.Goals as goal
-
-pub returns : goal.returns
-returns c = (search rules, (known_keys c.args.self.now.owner, search rules, search rules))
