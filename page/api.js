@@ -80,7 +80,7 @@ export class Office {
   #rest;
   #waits;
 
-  constructor({ fetch = (...it) => globalThis.fetch(...it), rest = restFor, waits = () => () => {} } = {}) {
+  constructor({ fetch = (...request) => globalThis.fetch(...request), rest = restFor, waits = () => () => {} } = {}) {
     this.#fetch = fetch;
     this.#rest = rest;
     this.#waits = waits;
@@ -105,9 +105,24 @@ export class Office {
   async carry(who, path, { body, stands, signal } = {}) {
     try {
       return await this.ask(who, "POST", path, { body, signal });
-    } catch (it) {
-      if (it instanceof Refused && it.repeated && await stands?.()) return null;
-      throw it;
+    } catch (error) {
+      if (error instanceof Refused && error.repeated && await stands?.()) return null;
+      throw error;
+    }
+  }
+
+  /**
+   * A reply as it came to one request, or null where none came: for what the page can do without. Its `mark` is that of
+   * the version that came (ETag).
+   */
+  async peek(who, path, { headers, signal } = {}) {
+    await this.#turns.take(false);
+    try {
+      return await this.#send(who, "GET", path, undefined, signal, headers);
+    } catch {
+      return null;
+    } finally {
+      this.#turns.give();
     }
   }
 
@@ -119,7 +134,7 @@ export class Office {
         signal?.throwIfAborted();
         const reply = await this.#send(who, method, path, body, signal);
         const why = reply === null || AWAY.has(reply.status) ? "away" : BUSY.has(reply.status) ? "busy" : null;
-        if (why === null) return valueOf(reply, tries > 0, it => isReply(method, path, it));
+        if (why === null) return valueOf(reply, tries > 0, parsed => isReply(method, path, parsed));
         if (tries === RESTS.length) throw new Away(why);
         if (why !== shown) {
           const before = over;
@@ -134,18 +149,19 @@ export class Office {
   }
 
   /** The reply, or null where there is none. */
-  async #send(who, method, path, body, signal) {
+  async #send(who, method, path, body, signal, headers = {}) {
     const limit = AbortSignal.timeout(LONGEST_REQUEST);
     try {
       const reply = await this.#fetch(path, {
         method,
-        headers: { "toll-owner": who.owner, "toll-key": who.key },
+        headers: { "toll-owner": who.owner, "toll-key": who.key, ...headers },
         body: body && JSON.stringify(body),
         signal: signal ? AbortSignal.any([signal, limit]) : limit,
         cache: "no-store", credentials: "omit", redirect: "error", referrerPolicy: "no-referrer",
       });
       // a reply that breaks off is none
-      return { status: reply.status, type: reply.headers.get("content-type") ?? "", after: reply.headers.get("retry-after"), text: await reply.text() };
+      const field = name => reply.headers.get(name);
+      return { status: reply.status, type: field("content-type") ?? "", after: field("retry-after"), mark: field("etag"), text: await reply.text() };
     } catch {
       signal?.throwIfAborted();
       return null;

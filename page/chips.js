@@ -23,6 +23,7 @@ const WORDS = {
   pausing: ["wait", "bars"], paused: ["wait", "bars"], holding: ["wait", "bars"], held: ["wait", "bars"],
   stopping: ["calm", "square"], stopped: ["calm", "square"], aborting: ["bad", "cross"], aborted: ["bad", "cross"],
   "the plant's": ["calm", "house"],
+  passes: ["good", "tick"], "below its limit": ["bad", "cross"], "above its limit": ["bad", "cross"], "no result yet": ["wait", "diamond"],
 };
 
 /** The tone of a word: the name of its colours in style.css. */

@@ -22,9 +22,9 @@ export function cellOf(value) {
 
 /** The text of a file. Each column has `values`: the titles in the file, each with what it is of a row. */
 export function csvOf(columns, rows) {
-  const fields = columns.flatMap(it => Object.entries(it.values ?? {}));
+  const fields = columns.flatMap(column => Object.entries(column.values ?? {}));
   const records = [fields.map(([title]) => fieldOf(title)), ...rows.map(row => fields.map(([, of]) => cellOf(of(row))))];
-  return records.map(it => `${it.join(",")}\r\n`).join("");
+  return records.map(record => `${record.join(",")}\r\n`).join("");
 }
 
 /** The name of a file: whose it is, what, and the day on which it was made. */

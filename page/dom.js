@@ -17,7 +17,7 @@ export const fact = (name, ...value) => html("div", {}, html("dt", {}, name), ht
 /** Text that is read out and not seen. */
 export const unseen = (...inner) => html("span", { class: "unseen" }, ...inner);
 
-const isThere = it => it !== null && it !== undefined && it !== false;
+const isThere = child => child !== null && child !== undefined && child !== false;
 
 function fill(element, given, inner) {
   for (const [name, value] of Object.entries(given)) {
@@ -25,6 +25,6 @@ function fill(element, given, inner) {
     else if (isThere(value)) element.setAttribute(name, value === true ? "" : value);
   }
   // what is no element becomes a text node
-  element.append(...inner.flat(Infinity).filter(isThere).map(it => (it instanceof Node ? it : String(it))));
+  element.append(...inner.flat(Infinity).filter(isThere).map(child => (child instanceof Node ? child : String(child))));
   return element;
 }

@@ -48,8 +48,8 @@ export class IdleWatch {
 
   /** Watches the window. */
   begin() {
-    for (const it of ACTIVITY) addEventListener(it, () => this.touch(), { passive: true, capture: true });
-    for (const it of ["visibilitychange", "focus", "pageshow"]) addEventListener(it, () => { if (!document.hidden) this.look(); }, { capture: true });
+    for (const type of ACTIVITY) addEventListener(type, () => this.touch(), { passive: true, capture: true });
+    for (const type of ["visibilitychange", "focus", "pageshow"]) addEventListener(type, () => { if (!document.hidden) this.look(); }, { capture: true });
     setInterval(() => this.look(), INTERVAL);
   }
 

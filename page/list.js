@@ -7,6 +7,12 @@ import { count, number } from "./values.js";
 const FIRST_PART = 60;
 const PART = 150;
 
+/** The option of a choice that hides nothing. */
+const ALL = "all";
+
+/** How long a search rests before it is asked elsewhere, in milliseconds. */
+const TYPING = 400;
+
 const nextFrame = () => new Promise(done => setTimeout(done, 0));
 
 /**
@@ -26,7 +32,7 @@ export async function inParts(place, items, draw, signal) {
 export function table({ caption, columns, rows, signal }) {
   const body = html("tbody", { role: "rowgroup" });
   inParts(body, rows, row => line(columns, row), signal);
-  return frame(caption, columns.map(it => head(it, it.title)), body);
+  return frame(caption, columns.map(column => head(column, column.title)), body);
 }
 
 const classOf = column => (column.number ? "number" : column.acts && "acts");
@@ -38,9 +44,9 @@ const frame = (caption, heads, body) => html("div", { class: "table" }, html("ta
   html("thead", { role: "rowgroup" }, html("tr", { role: "row" }, heads)), body));
 
 /** A row, whose first cell is its head. Where cells stand in blocks, each begins with its column's title. */
-const line = (columns, row) => html("tr", { role: "row" }, columns.map((it, i) => {
-  const given = { class: classOf(it), "data-title": typeof it.title === "string" && it.title };
-  return i === 0 ? html("th", { role: "rowheader", scope: "row", ...given }, it.cell(row)) : html("td", { role: "cell", ...given }, it.cell(row));
+const line = (columns, row, className) => html("tr", { role: "row", class: className }, columns.map((column, i) => {
+  const given = { class: classOf(column), "data-title": typeof column.title === "string" && column.title };
+  return i === 0 ? html("th", { role: "rowheader", scope: "row", ...given }, column.cell(row)) : html("td", { role: "cell", ...given }, column.cell(row));
 }));
 
 /**
@@ -49,16 +55,19 @@ const line = (columns, row) => html("tr", { role: "row" }, columns.map((it, i) =
  *
  * `columns`: name, title, cell(row), compare(a, b) where it sorts, and `values` where it stands in the file
  * (csv.js), which has the rows that are found. `search(row)`: the text that is searched. `choices`: name,
- * title, options, of(row). `what`: one and many of the rows. `file`: what
- * the file is called by.
+ * title, options, of(row), and `usual`, the option that is chosen where the address has none, with the words of
+ * what it hides. `what`: one and many of the rows. `file`: what the file is called by. `classOf(row)`: the class of
+ * a row. `elsewhere(text)`: what there is of a searched text where no row is found, or null.
  */
 export class Finder {
   #page;
   #given;
   #body = html("tbody", { role: "rowgroup" });
   #count = html("p", { class: "count", role: "status" });
+  #beyond = html("div", { class: "beyond-list", role: "status" });
   #heads = new Map();
   #drawing = null;
+  #asking = null;
   #query;
 
   constructor(page, given) {
@@ -66,7 +75,7 @@ export class Finder {
     this.#given = given;
     this.#query = Object.fromEntries(page.route.query);
     const download = downloadButton(page, given.file, given.columns, () => this.#rows());
-    this.element = html("div", { class: "finder" }, this.#fields(), html("div", { class: "line" }, this.#count, download), this.#table());
+    this.element = html("div", { class: "finder" }, this.#fields(), html("div", { class: "line" }, this.#count, download), this.#beyond, this.#table());
     this.#draw();
   }
 
@@ -76,25 +85,48 @@ export class Finder {
   #fields() {
     const { what, choices = [] } = this.#given;
     const search = html("input", {
-      type: "search", name: "search", value: this.#query.search, autocomplete: "off", input: event => this.#set("search", event.target.value.trim()),
+      type: "search", name: "search", value: this.#query.search, autocomplete: "off", "data-key": "search",
+      input: event => this.#set("search", event.target.value.trim()),
     });
-    return html("form", { class: "fields", role: "search", "aria-label": `Find ${what[1]}`, submit: event => event.preventDefault() },
-      html("label", {}, `Search ${what[1]}`, search),
-      choices.map(it => html("label", {}, it.title, this.#choice(it))));
+    // on a phone the choices are folded
+    const unfold = html("button", { type: "button", class: "small unfold", "aria-expanded": "false", click: () => {
+      unfold.setAttribute("aria-expanded", String(form.classList.toggle("unfolded")));
+    } }, "Filter and sort");
+    const form = html("form", { class: "fields", role: "search", "aria-label": `Find ${what[1]}`, submit: event => event.preventDefault() },
+      html("label", {}, `Search ${what[1]}`, search), unfold,
+      choices.map(choice => html("label", { class: "choice" }, choice.title, this.#choice(choice))),
+      this.#sorting());
+    return form;
   }
 
-  #choice({ name, options }) {
-    const chosen = this.#query[name];
-    const known = chosen && !options.includes(chosen) ? [...options, chosen] : options;
-    return html("select", { name, change: event => this.#set(name, event.target.value) },
-      html("option", { value: "" }, "all"),
-      known.map(it => html("option", { value: it, selected: it === chosen }, it)));
+  #choice({ name, options, usual }) {
+    const chosen = this.#query[name] || usual?.option;
+    const isOther = chosen && chosen !== ALL && !options.includes(chosen);
+    const option = (value, text) => html("option", { value, selected: value === chosen }, text);
+    return html("select", { name, "data-key": name, change: event => this.#set(name, event.target.value) },
+      option(usual ? ALL : "", ALL), (isOther ? [...options, chosen] : options).map(word => option(word, word)));
+  }
+
+  /** What sorts where the heads of columns aren't seen. */
+  #sorting() {
+    const by = this.#sorted();
+    const option = (column, down) => {
+      const isChosen = column.name === by.name && Boolean(this.#query.down) === down;
+      return html("option", { value: `${column.name} ${down ? "yes" : ""}`, selected: isChosen }, down ? `${column.title}, descending` : column.title);
+    };
+    const options = this.#given.columns.filter(column => column.compare).flatMap(column => [option(column, false), option(column, true)]);
+    const change = event => {
+      const [name, down] = event.target.value.split(" ");
+      this.#query.down = down;
+      this.#set("sort", name);
+    };
+    return html("label", { class: "choice sort-by" }, "Sort by", html("select", { name: "sort", "data-key": "sort", change }, options));
   }
 
   #table() {
-    for (const it of this.#given.columns) {
-      const sorts = it.compare && html("button", { type: "button", class: "sort", click: () => this.#sortBy(it.name) }, it.title);
-      this.#heads.set(it.name, head(it, sorts ?? it.title));
+    for (const column of this.#given.columns) {
+      const sorts = column.compare && html("button", { type: "button", class: "sort", click: () => this.#sortBy(column.name) }, column.title);
+      this.#heads.set(column.name, head(column, sorts ?? column.title));
     }
     return frame(this.#given.caption, [...this.#heads.values()], this.#body);
   }
@@ -112,20 +144,49 @@ export class Finder {
   }
 
   #sorted() {
-    const sorting = this.#given.columns.filter(it => it.compare);
-    return sorting.find(it => it.name === this.#query.sort) ?? sorting[0];
+    const sorting = this.#given.columns.filter(column => column.compare);
+    return sorting.find(column => column.name === this.#query.sort) ?? sorting[0];
   }
 
-  #found() {
+  /** The option of a choice that holds now; undefined where all do. */
+  #option({ name, usual }) {
+    const option = this.#query[name] || usual?.option;
+    return option === ALL ? undefined : option;
+  }
+
+  /** The rows that are found by the search and by these choices. */
+  #matching(choices = this.#given.choices ?? []) {
     const wanted = (this.#query.search ?? "").toUpperCase();
-    const choices = (this.#given.choices ?? []).filter(it => this.#query[it.name]);
-    return this.#given.rows.filter(row => this.#given.search(row).toUpperCase().includes(wanted) && choices.every(it => it.of(row) === this.#query[it.name]));
+    const chosen = choices.map(choice => [choice, this.#option(choice)]).filter(([, option]) => option);
+    return this.#given.rows.filter(row => this.#given.search(row).toUpperCase().includes(wanted) && chosen.every(([choice, option]) => choice.of(row) === option));
+  }
+
+  /** What the usual option hides, with a button that shows it; and what there is elsewhere where nothing is found. */
+  #tellBeyond(rows) {
+    const hiding = (this.#given.choices ?? []).find(choice => choice.usual && !this.#query[choice.name]);
+    const hidden = hiding ? this.#matching(this.#given.choices.filter(choice => choice !== hiding)).length - rows.length : 0;
+    const show = () => {
+      this.element.querySelector(`select[name="${hiding.name}"]`).value = ALL;
+      this.#set(hiding.name, ALL);
+    };
+    this.#beyond.replaceChildren(...(hidden > 0
+      ? [html("p", { class: "soft" }, `${number(hidden)} more: ${hiding.usual.hides}. `, html("button", { type: "button", class: "small", "data-key": "beyond", click: show }, "Show them"))] : []));
+    this.#askElsewhere(rows.length + hidden === 0 && (this.#query.search ?? "").toUpperCase());
+  }
+
+  #askElsewhere(text) {
+    clearTimeout(this.#asking);
+    if (!text || !this.#given.elsewhere) return;
+    this.#asking = setTimeout(() => this.#page.fill(this.#beyond, async () => {
+      const answer = await this.#given.elsewhere(text);
+      if (answer && (this.#query.search ?? "").toUpperCase() === text) this.#beyond.replaceChildren(answer);
+    }), TYPING);
   }
 
   /** The rows that are found, as they are sorted. */
   #rows() {
     const by = this.#sorted();
-    return this.#found().sort((a, b) => (this.#query.down ? by.compare(b, a) : by.compare(a, b)));
+    return this.#matching().sort((a, b) => (this.#query.down ? by.compare(b, a) : by.compare(a, b)));
   }
 
   #draw() {
@@ -140,6 +201,7 @@ export class Finder {
     const all = this.#given.rows.length;
     const whole = all === 0 ? `No ${this.#given.what[1]} yet.` : count(all, ...this.#given.what);
     this.#count.textContent = rows.length === all ? whole : `${number(rows.length)} of ${whole}`;
-    this.drawn = inParts(this.#body, rows, row => line(this.#given.columns, row), AbortSignal.any([this.#drawing.signal, this.#page.signal]));
+    this.#tellBeyond(rows);
+    this.drawn = inParts(this.#body, rows, row => line(this.#given.columns, row, this.#given.classOf?.(row)), AbortSignal.any([this.#drawing.signal, this.#page.signal]));
   }
 }

@@ -1,15 +1,18 @@
 /** The page: who logs in and off, what stands around the views, and which view is shown. */
 
 import { Forbidden, Office } from "./api.js";
+import { Companion } from "./companion.js";
+import { drawContact, introduce } from "./contact.js";
 import { html } from "./dom.js";
 import { IdleWatch } from "./idle.js";
 import { failed, tell, waits, warnIdle } from "./notices.js";
 import { isActing, Page } from "./page.js";
-import { read, toOrders, toStock } from "./router.js";
+import { read, toHome, toOrders, toStock } from "./router.js";
 import { goBackTo, leaving, stoodAt } from "./scrolling.js";
 import { forget, giveUp, keep, see, seenAt, whoAsks } from "./session.js";
 import { readSettings } from "./settings.js";
 import { time } from "./values.js";
+import { home } from "./views/home.js";
 import { logIn } from "./views/log-in.js";
 import { lot } from "./views/lot.js";
 import { nowhere } from "./views/nowhere.js";
@@ -18,19 +21,24 @@ import { orders } from "./views/orders.js";
 import { plant } from "./views/plant.js";
 import { stock } from "./views/stock.js";
 
-const VIEWS = { orders, order, stock, lot, plant, nowhere };
-const PARTS = [["orders", "Orders", toOrders(), ["orders", "order"]], ["stock", "Stock", toStock(), ["stock", "lot", "plant"]]];
-const TITLES = { orders: "Orders", order: "Order", stock: "Stock", lot: "Lot", plant: "Lot" };
+const VIEWS = { home, orders, order, stock, lot, plant, nowhere };
+const PARTS = [
+  ["home", "Home", toHome(), ["home"]], ["orders", "Orders", toOrders(), ["orders", "order"]], ["stock", "Stock", toStock(), ["stock", "lot", "plant"]],
+];
+const TITLES = { home: "Home", orders: "Orders", order: "Order", stock: "Stock", lot: "Lot", plant: "Lot" };
 
 const UNKNOWN = "Whether the last thing was done isn't known.";
 
 const at = id => document.getElementById(id);
 
-const app = { office: new Office({ waits }), show, sendAway, isShown: page => page === current };
+const office = new Office({ waits });
+const companion = new Companion(office, { late: drawAnew });
+const app = { office, companion, show, sendAway, isShown: page => page === current };
 
 let current = null;
 
 const settings = await readSettings();
+introduce(settings, companion);
 
 // Logging in and off
 
@@ -42,7 +50,7 @@ async function logInAs(who, signal) {
   keep(who);
   const back = sentAway === who.owner;
   sentAway = null;
-  if (!back && !["", "#/", toOrders()].includes(location.hash)) history.replaceState(null, "", toOrders());
+  if (!back && !["", "#/", toHome()].includes(location.hash)) history.replaceState(null, "", toHome());
   await show();
 }
 
@@ -91,6 +99,7 @@ async function show({ anew = false } = {}) {
   const view = await viewOf(page);
   clearTimeout(late);
   if (page !== current || !view) return;
+  drawContact(at("plant"));
   draw(page, view, anew);
   goBackTo(stood, view.drawn, () => page === current);
 }
@@ -98,10 +107,10 @@ async function show({ anew = false } = {}) {
 async function viewOf(page) {
   try {
     return page.who ? await VIEWS[page.route.view](page) : logIn({ logInAs, tell, owner: sentAway, idleMinutes: settings.idleMinutes, signal: page.signal });
-  } catch (it) {
+  } catch (error) {
     if (page.signal.aborted) return null;
-    if (it instanceof Forbidden) return sendAway();
-    return { title: [TITLES[page.route.view], page.route.name].filter(Boolean).join(" "), body: failed(it, () => show()) };
+    if (error instanceof Forbidden) return sendAway();
+    return { title: [TITLES[page.route.view], page.route.name].filter(Boolean).join(" "), body: failed(error, () => show()) };
   }
 }
 
@@ -121,7 +130,14 @@ function draw(page, view, anew) {
 function readAt({ owner }) {
   const now = new Date();
   return html("p", { class: "read" }, `${owner}, read on ${now.toLocaleDateString("sv")} at ${now.toLocaleTimeString("sv")}`,
-    html("button", { type: "button", class: "quiet", "data-key": "again", click: () => show({ anew: true }) }, "Read again"));
+    html("span", { id: "newer", role: "status" }),
+    html("button", { type: "button", class: "quiet", "data-key": "again", click: readAgain }, "Read again"));
+}
+
+function readAgain() {
+  companion.expire();
+  tell("");
+  return show({ anew: true });
 }
 
 function drawBar({ who, route }) {
@@ -129,6 +145,26 @@ function drawBar({ who, route }) {
   at("nav").replaceChildren(...(who ? parts : []));
   at("who").replaceChildren(...(who ? [html("span", { class: "owner" }, who.owner), html("button", { type: "button", click: logOff }, "Log off")] : []));
 }
+
+// The companion, each minute while the window is seen
+
+const EACH = 60_000;
+
+/** Draws the view anew, but not under the hands of somebody. */
+function drawAnew() {
+  const isInUse = isActing() || document.querySelector("dialog[open]") || document.activeElement?.matches("input, select");
+  if (current?.who && !isInUse) show({ anew: true });
+}
+
+async function readCompanion() {
+  const who = whoAsks();
+  if (document.hidden || !who || !await companion.read(who)) return;
+  drawContact(at("plant"));
+  if (current?.route.view === "home") drawAnew();
+  else at("newer")?.replaceChildren("The plant has recorded more since.");
+}
+
+setInterval(readCompanion, EACH);
 
 // What the browser does with the page
 
@@ -142,7 +178,7 @@ addEventListener("pagehide", () => {
   current?.leave();
   giveUp();
   tell("");
-  for (const id of ["view", "nav", "who"]) at(id).replaceChildren();
+  for (const id of ["view", "nav", "who", "plant"]) at(id).replaceChildren();
   document.title = "Hilpoven";
 });
 addEventListener("pageshow", event => { if (event.persisted) show(); });
@@ -156,9 +192,9 @@ at("skip").addEventListener("click", event => {
 let opened = [];
 addEventListener("beforeprint", () => {
   opened = [...document.querySelectorAll("details:not([open])")];
-  opened.forEach(it => { it.open = true; });
+  opened.forEach(details => { details.open = true; });
 });
-addEventListener("afterprint", () => opened.forEach(it => { it.open = false; }));
+addEventListener("afterprint", () => opened.forEach(details => { details.open = false; }));
 
 watch.begin();
 if (watch.look()) show();

@@ -1,6 +1,7 @@
 /** What is told: the sign that the page waits, what was done, and what went wrong. */
 
-import { Refused } from "./api.js";
+import { Away, Refused } from "./api.js";
+import { whomToAsk } from "./contact.js";
 import { html } from "./dom.js";
 
 const SIGNS = {
@@ -27,7 +28,7 @@ export function waits(why) {
 
 function drawSign() {
   const last = waiting.at(-1);
-  const sign = () => html("p", { class: "notice wait" }, html("span", { class: "turning", "aria-hidden": "true" }), SIGNS[last.why]);
+  const sign = () => html("p", { class: "notice wait" }, html("span", { class: "turning", "aria-hidden": "true" }), [SIGNS[last.why], last.why === "away" && whomToAsk()].filter(Boolean).join(" "));
   at("sign").replaceChildren(...(last ? [sign()] : []));
 }
 
@@ -49,5 +50,5 @@ export function warnIdle(isWarned) {
 export const wordsOf = error => (error instanceof Refused ? [error.message, " ", html("small", {}, `${error.code} ${error.word}`)] : error.message);
 
 /** What stands in the place of what couldn't be read. A refusal stays one, all else may be asked again. */
-export const failed = (error, again) => html("div", { class: "failed" }, html("p", {}, wordsOf(error)),
+export const failed = (error, again) => html("div", { class: "failed" }, html("p", {}, wordsOf(error)), error instanceof Away && html("p", {}, whomToAsk()),
   !(error instanceof Refused) && html("button", { type: "button", click: again }, "Ask again"));

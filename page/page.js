@@ -2,20 +2,20 @@
 
 import { Forbidden, Refused } from "./api.js";
 import { failed, tell, wordsOf } from "./notices.js";
-import { toOrders } from "./router.js";
+import { toHome } from "./router.js";
 import { untilEnd, whoAsks } from "./session.js";
 
 const UNKNOWN = "Whether this was done isn't known: look before you do it again.";
 
 /** What was read before something was to be changed. Where that fails, nothing was changed, and the error says so. */
-const asBefore = reading => reading?.catch(it => { throw Object.assign(it, { isBefore: true }); });
+const asBefore = reading => reading?.catch(error => { throw Object.assign(error, { isBefore: true }); });
 
 let acting = 0;
 
 /** Whether something that changes rows wasn't answered yet. */
 export const isActing = () => acting > 0;
 
-/** A view's place in the page. `app` has the office, show(), isShown(page) and sendAway(). */
+/** A view's place in the page. `app` has the office, the companion, show(), isShown(page) and sendAway(). */
 export class Page {
   #app;
   #leaving = new AbortController();
@@ -37,10 +37,15 @@ export class Page {
     return this.#app.office.ask(this.who, "GET", path, { signal: this.signal });
   }
 
+  /** What the companion tells the owner, or null where there is none. */
+  records() {
+    return this.#app.companion.records(this.who);
+  }
+
   /** Keeps what is searched and sorted in the address. */
   remember(query) {
     const set = Object.entries(query).filter(([, value]) => value);
-    const path = location.hash.split("?")[0] || toOrders();
+    const path = location.hash.split("?")[0] || toHome();
     history.replaceState(history.state, "", set.length > 0 ? `${path}?${new URLSearchParams(set)}` : path);
   }
 
@@ -51,7 +56,7 @@ export class Page {
    * lost. Once the owner has logged off, it is given up, and nothing is told of it.
    */
   async act(button, path, { body, before, stands, said, refused }) {
-    const get = it => this.#app.office.ask(this.who, "GET", it, { signal: this.#over });
+    const get = target => this.#app.office.ask(this.who, "GET", target, { signal: this.#over });
     button.disabled = true;
     acting += 1;
     tell("");
@@ -59,8 +64,8 @@ export class Page {
       const stood = await asBefore(before?.(get));
       const reply = await this.#app.office.carry(this.who, path, { body, signal: this.#over, stands: stands && (() => stands(get)) });
       await this.#done(said(reply, stood), refused);
-    } catch (it) {
-      await this.#notDone(it, refused);
+    } catch (error) {
+      await this.#notDone(error, refused);
     } finally {
       acting -= 1;
       button.disabled = false;
@@ -96,10 +101,10 @@ export class Page {
   async fill(place, doing) {
     try {
       await doing();
-    } catch (it) {
+    } catch (error) {
       if (this.signal.aborted) return;
-      if (it instanceof Forbidden) this.#app.sendAway();
-      else place.append(failed(it, () => { place.replaceChildren(); this.fill(place, doing); }));
+      if (error instanceof Forbidden) this.#app.sendAway();
+      else place.append(failed(error, () => { place.replaceChildren(); this.fill(place, doing); }));
     }
   }
 }

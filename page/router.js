@@ -7,17 +7,17 @@ const NAMED = new Map([["orders", "order"], ["lots", "lot"], ["plant", "plant"]]
 /** What an address asks for: the view, the name that it is about, and what stands behind its ?. */
 export function read(hash) {
   const [path, query = ""] = hash.replace(/^#/, "").split("?", 2);
-  const found = { view: "nowhere", name: null, query: new URLSearchParams(query) };
+  const route = { view: "nowhere", name: null, query: new URLSearchParams(query) };
   const [first = "", name, ...more] = path.replace(/^\//, "").split("/");
-  if (more.length > 0) return found;
+  if (more.length > 0) return route;
   if (name === undefined) {
-    if (first === "" || first === "orders") found.view = "orders";
-    else if (first === "stock") found.view = "stock";
+    if (first === "") route.view = "home";
+    else if (["home", "orders", "stock"].includes(first)) route.view = first;
   } else if (NAMED.has(first) && isName(name)) {
-    found.view = NAMED.get(first);
-    found.name = name;
+    route.view = NAMED.get(first);
+    route.name = name;
   }
-  return found;
+  return route;
 }
 
 const behind = query => {
@@ -26,6 +26,7 @@ const behind = query => {
 };
 
 /** The addresses of the views. */
+export const toHome = (query = {}) => `#/home${behind(query)}`;
 export const toOrders = (query = {}) => `#/orders${behind(query)}`;
 export const toStock = (query = {}) => `#/stock${behind(query)}`;
 export const toOrder = name => `#/orders/${name}`;

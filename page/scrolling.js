@@ -11,7 +11,7 @@ addEventListener("scroll", () => {
 // whether somebody did something since a view was drawn
 let touched = false;
 
-for (const it of ["wheel", "touchmove", "pointerdown", "keydown"]) addEventListener(it, () => { touched = true; }, { passive: true });
+for (const type of ["wheel", "touchmove", "pointerdown", "keydown"]) addEventListener(type, () => { touched = true; }, { passive: true });
 
 /** Where the view of this address stood when it was left. */
 export const stoodAt = () => history.state?.scroll ?? 0;

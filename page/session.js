@@ -7,19 +7,19 @@ let ends = new AbortController();
 /** What is kept, or null where it isn't a session. */
 function kept() {
   try {
-    const it = JSON.parse(sessionStorage.getItem(PLACE));
-    return typeof it?.owner === "string" && typeof it?.key === "string" ? it : null;
+    const session = JSON.parse(sessionStorage.getItem(PLACE));
+    return typeof session?.owner === "string" && typeof session?.key === "string" ? session : null;
   } catch {
     return null;
   }
 }
 
-const put = it => sessionStorage.setItem(PLACE, JSON.stringify(it));
+const put = session => sessionStorage.setItem(PLACE, JSON.stringify(session));
 
 /** The owner and its key, or null. */
 export function whoAsks() {
-  const it = kept();
-  return it && { owner: it.owner, key: it.key };
+  const session = kept();
+  return session && { owner: session.owner, key: session.key };
 }
 
 /** When this session did something last, in milliseconds; a browser that brings a window back brings this back too. */
@@ -27,8 +27,8 @@ export const seenAt = () => kept()?.seen ?? 0;
 
 /** Something was done. */
 export function see(now) {
-  const it = kept();
-  if (it) put({ ...it, seen: now });
+  const session = kept();
+  if (session) put({ ...session, seen: now });
 }
 
 /** A signal that comes when this session ends: nothing is asked or told in its owner's name any more. */

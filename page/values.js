@@ -15,10 +15,26 @@ export const MOST_BATCHES = 99;
 const GROUPED = new Intl.NumberFormat("en");
 
 /** Whether it is a name, which may stand in an address. */
-export const isName = it => typeof it === "string" && /^[A-Z0-9][A-Z0-9-]{0,15}$/.test(it);
+export const isName = name => typeof name === "string" && /^[A-Z0-9][A-Z0-9-]{0,15}$/.test(name);
 
 /** A whole number in groups of three digits: 1,000. Sums may be larger than what a Number holds. */
 export const number = value => GROUPED.format(BigInt(value));
+
+/** A recorded whole number as measured: so many of its digits stand behind the point. */
+export function decimal(value, decimals = 0) {
+  if (decimals === 0) return number(value);
+  const [sign, digits] = BigInt(value) < 0n ? ["-", String(-BigInt(value))] : ["", String(value)];
+  const padded = digits.padStart(decimals + 1, "0");
+  return `${sign}${number(padded.slice(0, -decimals))}.${padded.slice(-decimals)}`;
+}
+
+/** A day as people read it: six digits that are a date of this century (YYMMDD) as 2026-11-28, another number as it is. */
+export function day(value) {
+  const [, year, month, date] = /^([1-9]\d)(\d\d)(\d\d)$/.exec(value) ?? [];
+  const text = `20${year}-${month}-${date}`;
+  const time = new Date(`${text}T00:00:00Z`);
+  return !Number.isNaN(time.getTime()) && time.toISOString().startsWith(text) ? text : String(value);
+}
 
 /** An amount with its measure: 1,000 kg. */
 export const amount = (value, measure) => `${number(value)} ${measure}`;

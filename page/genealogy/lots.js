@@ -12,14 +12,15 @@ export const MORE = 30;
 /** The most that a picture has; behind that, the table tells them. */
 export const MOST = 300;
 
-export const idOf = ({ owner, lot }) => `${owner}/${lot}`;
+/** The id of a lot, OWNER/LOT; what has one already, such as a group's box, keeps it. */
+export const idOf = ({ id, owner, lot }) => id ?? `${owner}/${lot}`;
 
 /** The lots of both traces, each once: with its steps back and forward, or null where it isn't on a trace. */
 export function lotsOf(back, forward) {
   const lots = new Map();
-  const put = way => it => {
-    const found = lots.get(idOf(it)) ?? { id: idOf(it), owner: it.owner, lot: it.lot, back: null, forward: null };
-    lots.set(found.id, { ...found, [way]: it.steps });
+  const put = way => traced => {
+    const lot = lots.get(idOf(traced)) ?? { id: idOf(traced), owner: traced.owner, lot: traced.lot, back: null, forward: null };
+    lots.set(lot.id, { ...lot, [way]: traced.steps });
   };
   back.forEach(put("back"));
   forward.forEach(put("forward"));
@@ -36,7 +37,7 @@ export function within(trace) {
 
 /** How many lots of a trace are shown after another step was asked for: whole steps, if they aren't too large. */
 export function further(trace, shown) {
-  const next = within(trace).find(it => it > shown) ?? shown;
+  const next = within(trace).find(count => count > shown) ?? shown;
   return Math.min(next, shown + MORE);
 }
 
@@ -46,7 +47,7 @@ export function atFirst(back, forward) {
   for (let grown = true; grown;) {
     grown = false;
     for (const [way, trace] of [["back", back], ["forward", forward]]) {
-      const next = within(trace).find(it => it > shown[way]);
+      const next = within(trace).find(count => count > shown[way]);
       if (next !== undefined && next + shown.back + shown.forward - shown[way] <= AT_FIRST) [shown[way], grown] = [next, true];
     }
   }
@@ -65,7 +66,7 @@ export function shownOf(back, forward, shown) {
 }
 
 /** The lots at one step of a trace: what the asked lot was directly made of, or directly went into. */
-export const directOf = trace => trace.filter(it => it.steps === 1);
+export const directOf = trace => trace.filter(lot => lot.steps === 1);
 
 /** The box that stands for the lots of a way that aren't shown. */
 export const foldOf = way => `fold/${way}`;
@@ -86,7 +87,7 @@ export function waysAsked(hidden) {
  * step forward, as far as they were asked. An edge to a lot that isn't shown leads to the fold of its way.
  */
 export function edgesOf(shown, neighbours, hidden) {
-  const here = new Set(shown.map(it => it.id));
+  const here = new Set(shown.map(lot => lot.id));
   const placeOf = id => (here.has(id) ? id : hidden.has(id) ? foldOf(hidden.get(id)) : null);
   const edges = new Map();
   const add = (from, to) => {
@@ -101,7 +102,7 @@ export function edgesOf(shown, neighbours, hidden) {
 
 /** The lots that aren't shown, with the way on which they are: back, where they are on both. */
 export function hiddenOf(back, forward, shown) {
-  const here = new Set(shownOf(back, forward, shown).map(it => it.id));
-  const rest = lotsOf(back, forward).filter(it => !here.has(it.id));
-  return new Map(rest.map(it => [it.id, it.back !== null ? "back" : "forward"]));
+  const here = new Set(shownOf(back, forward, shown).map(lot => lot.id));
+  const rest = lotsOf(back, forward).filter(lot => !here.has(lot.id));
+  return new Map(rest.map(lot => [lot.id, lot.back !== null ? "back" : "forward"]));
 }

@@ -8,6 +8,6 @@ export function beginning(length, asked, ins, outs) {
   const wanted = [[asked, ...ins, ...outs], [asked, ...ins], [asked]].map(boxes => ({
     from: Math.min(...boxes.map(([from]) => from)), to: Math.max(...boxes.map(([, to]) => to)),
   }));
-  const { from, to } = wanted.find(it => it.to - it.from <= length) ?? wanted.at(-1);
+  const { from, to } = wanted.find(range => range.to - range.from <= length) ?? wanted.at(-1);
   return (from + to - length) / 2;
 }

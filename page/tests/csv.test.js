@@ -8,10 +8,10 @@ function recordsOf(text) {
   const [records, fields] = [[], /(?:"((?:[^"]|"")*)"|([^",\r\n]*))(,|\r\n)/gy];
   let record = [];
   while (fields.lastIndex < text.length) {
-    const found = fields.exec(text);
-    assert.ok(found, text.slice(0, 80));
-    record.push(found[1]?.replaceAll('""', '"') ?? found[2]);
-    if (found[3] === "\r\n") {
+    const match = fields.exec(text);
+    assert.ok(match, text.slice(0, 80));
+    record.push(match[1]?.replaceAll('""', '"') ?? match[2]);
+    if (match[3] === "\r\n") {
       records.push(record);
       record = [];
     }
@@ -20,8 +20,8 @@ function recordsOf(text) {
 }
 
 const COLUMNS = [
-  { title: "Lot", values: { Lot: it => it.lot } },
-  { title: "On hand", values: { "On hand": it => it.amount, Measure: it => it.measure } },
+  { title: "Lot", values: { Lot: row => row.lot } },
+  { title: "On hand", values: { "On hand": row => row.amount, Measure: row => row.measure } },
   { title: "What can be done" },
 ];
 

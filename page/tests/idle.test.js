@@ -8,45 +8,45 @@ const MINUTE = 60_000;
 
 /** A watch over a window in which somebody is logged in, with a clock that is set by hand. */
 function window(minutes, seen = 0) {
-  const it = { now: seen, seen, isOn: true, told: [] };
-  it.watch = new IdleWatch({
+  const opened = { now: seen, seen, isOn: true, events: [] };
+  opened.watch = new IdleWatch({
     minutes,
-    session: { isOn: () => it.isOn, seenAt: () => it.seen, see: now => { it.seen = now; } },
-    warn: isWarned => it.told.push(isWarned ? "warned" : "not warned"),
-    end: () => { it.isOn = false; it.told.push("over"); },
-    now: () => it.now,
+    session: { isOn: () => opened.isOn, seenAt: () => opened.seen, see: now => { opened.seen = now; } },
+    warn: isWarned => opened.events.push(isWarned ? "warned" : "not warned"),
+    end: () => { opened.isOn = false; opened.events.push("over"); },
+    now: () => opened.now,
   });
-  it.at = minutesLater => { it.now = minutesLater * MINUTE; return it.watch; };
-  return it;
+  opened.at = minutesLater => { opened.now = minutesLater * MINUTE; return opened.watch; };
+  return opened;
 }
 
 test("who does nothing is warned a minute before, and logged off", () => {
-  const it = window(15);
-  for (const minutes of [1, 13.9, 14, 14.5, 15, 16]) it.at(minutes).look();
-  assert.deepEqual(it.told, ["warned", "over", "not warned"]);
+  const opened = window(15);
+  for (const minutes of [1, 13.9, 14, 14.5, 15, 16]) opened.at(minutes).look();
+  assert.deepEqual(opened.events, ["warned", "over", "not warned"]);
 });
 
 test("a key or a click begins anew, also after the warning", () => {
-  const it = window(15);
-  it.at(10).touch();
-  it.at(24.5).look();
-  it.at(24.6).touch();
-  it.at(38).look();
-  assert.deepEqual(it.told, ["warned", "not warned"]);
-  it.at(39.6).look();
-  assert.deepEqual(it.told.slice(2), ["over"]);
+  const opened = window(15);
+  opened.at(10).touch();
+  opened.at(24.5).look();
+  opened.at(24.6).touch();
+  opened.at(38).look();
+  assert.deepEqual(opened.events, ["warned", "not warned"]);
+  opened.at(39.6).look();
+  assert.deepEqual(opened.events.slice(2), ["over"]);
 });
 
 test("what is done after the end, as when a machine wakes up, is no way back", () => {
-  const it = window(15);
-  it.at(600).touch();
-  assert.deepEqual([it.told, it.isOn, it.seen], [["over"], false, 0]);
+  const opened = window(15);
+  opened.at(600).touch();
+  assert.deepEqual([opened.events, opened.isOn, opened.seen], [["over"], false, 0]);
 });
 
 test("a window that is brought back after the time isn't shown", () => {
-  const it = window(15, 5 * MINUTE);
-  it.now = 21 * MINUTE;
-  assert.equal(it.watch.look(), false);
+  const opened = window(15, 5 * MINUTE);
+  opened.now = 21 * MINUTE;
+  assert.equal(opened.watch.look(), false);
   assert.equal(window(15).watch.look(), true);
 });
 
@@ -57,17 +57,17 @@ test("nobody is logged off where nobody is logged in, nor where the site sets 0"
   off.at(101).touch();
   const never = window(0);
   never.at(10_000).look();
-  assert.deepEqual([off.told, never.told, off.seen], [[], [], 0]);
+  assert.deepEqual([off.events, never.events, off.seen], [[], [], 0]);
 });
 
 test("a time below two minutes warns half way", () => {
-  assert.deepEqual([0, 2.9, 3, 5.9, 6].map(it => stateOf(it * 1000, 6000)), ["active", "active", "warned", "warned", "over"]);
+  assert.deepEqual([0, 2.9, 3, 5.9, 6].map(seconds => stateOf(seconds * 1000, 6000)), ["active", "active", "warned", "warned", "over"]);
 });
 
 test("settings that are none are as if there were none", () => {
   assert.deepEqual(settingsOf({ idle_minutes: 5 }), { idleMinutes: 5 });
   assert.deepEqual(settingsOf({ idle_minutes: 0 }), { idleMinutes: 0 });
-  for (const it of [null, [], "15", {}, { idle_minutes: -1 }, { idle_minutes: "5" }, { idle_minutes: null }, { idle_minutes: Infinity }]) assert.deepEqual(settingsOf(it), DEFAULTS);
+  for (const unusable of [null, [], "15", {}, { idle_minutes: -1 }, { idle_minutes: "5" }, { idle_minutes: null }, { idle_minutes: Infinity }]) assert.deepEqual(settingsOf(unusable), DEFAULTS);
 });
 
 test("the settings are read from the site, and where they can't be, the page goes on", async () => {

@@ -9,7 +9,7 @@ const trace = (name, ...counts) => [{ lot: "ASKED", owner: "ACME", steps: 0 },
 test("each lot of both traces is there once, with its steps", () => {
   const back = [{ lot: "A", owner: "ACME", steps: 0 }, { lot: "W", owner: "HOUSE", steps: 1 }, { lot: "B", owner: "ACME", steps: 2 }];
   const forward = [{ lot: "A", owner: "ACME", steps: 0 }, { lot: "B", owner: "ACME", steps: 1 }];
-  assert.deepEqual(lotsOf(back, forward).map(it => [it.id, it.back, it.forward]), [["ACME/A", 0, 0], ["HOUSE/W", 1, null], ["ACME/B", 2, 1]]);
+  assert.deepEqual(lotsOf(back, forward).map(lot => [lot.id, lot.back, lot.forward]), [["ACME/A", 0, 0], ["HOUSE/W", 1, null], ["ACME/B", 2, 1]]);
 });
 
 test("how many lots there are within so many steps", () => {
@@ -43,15 +43,15 @@ function edgesFound(edges, back, forward, shown) {
   const [lots, hidden] = [shownOf(back, forward, shown), hiddenOf(back, forward, shown)];
   const neighbours = new Map();
   for (const { id } of lots) {
-    const asked = { back: edges.filter(it => it[1] === id).map(it => it[0]), forward: edges.filter(it => it[0] === id).map(it => it[1]) };
+    const asked = { back: edges.filter(edge => edge[1] === id).map(edge => edge[0]), forward: edges.filter(edge => edge[0] === id).map(edge => edge[1]) };
     neighbours.set(id, Object.fromEntries(waysAsked(hidden).map(way => [way, asked[way]])));
   }
-  return edgesOf(lots, neighbours, hidden).map(it => it.join(">").replaceAll("ACME/", "")).sort();
+  return edgesOf(lots, neighbours, hidden).map(edge => edge.join(">").replaceAll("ACME/", "")).sort();
 }
 
 test("no edge is missed, whatever is folded", () => {
-  const edges = "B2>B1 B1>X B2>X X>F1 X>G1 F1>F2 G1>F2 F2>F3 B1>F1 B2>F2".split(" ").map(it => it.split(">").map(name => `ACME/${name}`));
-  const steps = text => text.split(" ").map(it => ({ lot: it.split(":")[0], owner: "ACME", steps: Number(it.split(":")[1]) }));
+  const edges = "B2>B1 B1>X B2>X X>F1 X>G1 F1>F2 G1>F2 F2>F3 B1>F1 B2>F2".split(" ").map(pair => pair.split(">").map(name => `ACME/${name}`));
+  const steps = text => text.split(" ").map(word => ({ lot: word.split(":")[0], owner: "ACME", steps: Number(word.split(":")[1]) }));
   const [back, forward] = [steps("X:0 B1:1 B2:1"), steps("X:0 F1:1 G1:1 F2:2 F3:3")];
   assert.deepEqual(edgesFound(edges, back, forward, { back: 2, forward: 4 }), ["B1>F1", "B1>X", "B2>B1", "B2>F2", "B2>X", "F1>F2", "F2>F3", "G1>F2", "X>F1", "X>G1"]);
   assert.deepEqual(edgesFound(edges, back, forward, { back: 2, forward: 2 }), ["B1>F1", "B1>X", "B2>B1", "B2>X", "B2>fold/forward", "F1>fold/forward", "G1>fold/forward", "X>F1", "X>G1"]);
@@ -70,7 +70,7 @@ test("edges join what is shown, and lead to a fold where a neighbour isn't", () 
     ["ACME/B-1-1", { back: ["ACME/B-2-0"] }],
     ["ACME/F-1-0", { back: ["ACME/ASKED", "ACME/ELSEWHERE"] }],
   ]);
-  assert.deepEqual(edgesOf(shownOf(back, forward, shown), neighbours, hidden).map(it => it.join(">")).sort(), [
+  assert.deepEqual(edgesOf(shownOf(back, forward, shown), neighbours, hidden).map(edge => edge.join(">")).sort(), [
     "ACME/ASKED>ACME/F-1-0", "ACME/B-1-0>ACME/ASKED", "ACME/B-1-1>ACME/ASKED", `${foldOf("back")}>ACME/B-1-0`, `${foldOf("back")}>ACME/B-1-1`,
   ].sort());
 });

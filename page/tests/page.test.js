@@ -4,9 +4,9 @@ import test from "node:test";
 import { Away, Forbidden, Office, Refused, RESTS, Strange } from "../api.js";
 import { known, meaning } from "../refusals.js";
 import { isReply } from "../replies.js";
-import { read, toLot, toOrder, toOrders, toPlantLot, toStock } from "../router.js";
+import { read, toHome, toLot, toOrder, toOrders, toPlantLot, toStock } from "../router.js";
 import { forget, giveUp, keep, see, seenAt, untilEnd, whoAsks } from "../session.js";
-import { compareNumbers, count, isName, number, parse, share, time } from "../values.js";
+import { compareNumbers, count, day, decimal, isName, number, parse, share, time } from "../values.js";
 
 const PAGE = new URL("..", import.meta.url);
 const WHO = { owner: "ACME", key: "ACMEKEY1" };
@@ -21,7 +21,7 @@ function office(...replies) {
   const asked = [];
   const rests = [];
   const signs = [];
-  const it = new Office({
+  const client = new Office({
     fetch: async (path, given) => {
       asked.push([given.method, path, given.headers["toll-owner"], given.body]);
       const reply = replies.length > 1 ? replies.shift() : replies[0];
@@ -30,43 +30,43 @@ function office(...replies) {
     rest: async milliseconds => { rests.push(milliseconds); },
     waits: why => { signs.push(why); return () => signs.push("over"); },
   });
-  return Object.assign(it, { asked, rests, signs });
+  return Object.assign(client, { asked, rests, signs });
 }
 
 const away = () => { throw new TypeError("Failed to fetch"); };
 
 test("a reply is given as it is", async () => {
-  const it = office(json(200, { orders: [] }));
-  assert.deepEqual(await it.ask(WHO, "GET", "/orders"), { orders: [] });
-  assert.deepEqual(it.asked, [["GET", "/orders", "ACME", undefined]]);
-  assert.deepEqual(it.signs, []);
+  const client = office(json(200, { orders: [] }));
+  assert.deepEqual(await client.ask(WHO, "GET", "/orders"), { orders: [] });
+  assert.deepEqual(client.asked, [["GET", "/orders", "ACME", undefined]]);
+  assert.deepEqual(client.signs, []);
 });
 
 test("503 and 429, and a server that is away, are asked again, each with its sign until it is over", async () => {
-  const it = office(json(503, { error: "Unavailable" }), new Response("<html>", { status: 429 }), away, new Response("", { status: 502 }), json(200, { lots: [] }));
-  assert.deepEqual(await it.ask(WHO, "GET", "/stock"), { lots: [] });
-  assert.equal(it.asked.length, 5);
+  const client = office(json(503, { error: "Unavailable" }), new Response("<html>", { status: 429 }), away, new Response("", { status: 502 }), json(200, { lots: [] }));
+  assert.deepEqual(await client.ask(WHO, "GET", "/stock"), { lots: [] });
+  assert.equal(client.asked.length, 5);
   // the sign of the busy office is over when that of the office that is away has begun, so that there is one all the time
-  assert.deepEqual(it.signs, ["busy", "away", "over", "over"]);
-  it.rests.forEach((rest, i) => assert.ok(rest >= RESTS[i] * 0.75 && rest <= RESTS[i] * 1.25));
+  assert.deepEqual(client.signs, ["busy", "away", "over", "over"]);
+  client.rests.forEach((rest, i) => assert.ok(rest >= RESTS[i] * 0.75 && rest <= RESTS[i] * 1.25));
 });
 
 test("retry-after is kept, up to half a minute", async () => {
-  const it = office(json(429, {}, { "retry-after": "3" }), json(503, {}, { "retry-after": "900" }), json(200, { lots: [] }));
-  await it.ask(WHO, "GET", "/stock");
-  assert.deepEqual(it.rests, [3000, 30000]);
+  const client = office(json(429, {}, { "retry-after": "3" }), json(503, {}, { "retry-after": "900" }), json(200, { lots: [] }));
+  await client.ask(WHO, "GET", "/stock");
+  assert.deepEqual(client.rests, [3000, 30000]);
 });
 
 test("in the end it is told that the office is away", async () => {
-  const it = office(away);
-  await assert.rejects(it.ask(WHO, "GET", "/stock"), Away);
-  assert.equal(it.asked.length, RESTS.length + 1);
-  assert.deepEqual(it.signs, ["away", "over"]);
+  const client = office(away);
+  await assert.rejects(client.ask(WHO, "GET", "/stock"), Away);
+  assert.equal(client.asked.length, RESTS.length + 1);
+  assert.deepEqual(client.signs, ["away", "over"]);
 });
 
 test("refusals, a wrong key and what the interface doesn't have are told apart", async () => {
   await assert.rejects(office(json(409, { code: 36, error: "TestsOpen" })).ask(WHO, "POST", "/lots/B-1/release"),
-    it => it instanceof Refused && it.code === 36 && it.status === 409 && !it.repeated && it.message === meaning(36, "TestsOpen"));
+    error => error instanceof Refused && error.code === 36 && error.status === 409 && !error.repeated && error.message === meaning(36, "TestsOpen"));
   await assert.rejects(office(json(403, { error: "Forbidden" })).ask(WHO, "GET", "/stock"), Forbidden);
   const page = (status, text) => new Response(text, { status, headers: { "content-type": "text/html" } });
   const cut = text => new Response(text, { status: 200, headers: { "content-type": "application/json" } });
@@ -85,7 +85,7 @@ test("each reply of docs/http.md has its form, and no form takes another route's
   const kinds = new Set(asked.map(([method, path]) => `${method} ${path.replace(/[A-Z]+-\d+|\d+/g, "*")}`));
   assert.equal(kinds.size, 12);
   for (const [method, path, value] of asked) assert.ok(isReply(method, path, value), `${method} ${path}`);
-  const [order, lots, lot] = ["/orders/O-1", "/stock", "/lots/S-1"].map(it => asked.find(([method, path]) => method === "GET" && path === it)[2]);
+  const [order, lots, lot] = ["/orders/O-1", "/stock", "/lots/S-1"].map(wanted => asked.find(([method, path]) => method === "GET" && path === wanted)[2]);
   for (const [path, value] of [["/orders", order], ["/orders/O-1", lots], ["/stock", lot], ["/lots/S-1", lots], ["/trace/back/S-1", { lots: [] }], ["/nowhere", {}]]) {
     assert.ok(!isReply("GET", path, value), path);
   }
@@ -102,14 +102,14 @@ test("a refusal of what was asked twice is none, where it stands as it was asked
 });
 
 test("an order is sent as JSON", async () => {
-  const it = office(json(200, ORDER));
-  await it.carry(WHO, "/orders", { body: { order: "O-1", recipe: "R", batches: 2 } });
-  assert.deepEqual(it.asked, [["POST", "/orders", "ACME", '{"order":"O-1","recipe":"R","batches":2}']]);
+  const client = office(json(200, ORDER));
+  await client.carry(WHO, "/orders", { body: { order: "O-1", recipe: "R", batches: 2 } });
+  assert.deepEqual(client.asked, [["POST", "/orders", "ACME", '{"order":"O-1","recipe":"R","batches":2}']]);
 });
 
 test("at most three are asked at a time, as the site lets an address ask four", async () => {
   let [now, most] = [0, 0];
-  const it = new Office({
+  const client = new Office({
     fetch: async () => {
       most = Math.max(most, ++now);
       await new Promise(done => setTimeout(done, 2));
@@ -117,7 +117,7 @@ test("at most three are asked at a time, as the site lets an address ask four", 
       return json(200, { lots: [] });
     },
   });
-  await Promise.all(Array.from({ length: 25 }, () => it.ask(WHO, "GET", "/stock")));
+  await Promise.all(Array.from({ length: 25 }, () => client.ask(WHO, "GET", "/stock")));
   assert.equal(most, 3);
   const site = readFileSync(new URL("../packaging/nginx.conf", PAGE), "utf8");
   assert.ok(most < Number(site.match(/limit_conn toll_at_once (\d+);/)[1]));
@@ -125,58 +125,58 @@ test("at most three are asked at a time, as the site lets an address ask four", 
 
 test("what changes something is asked before all that waits to be read", async () => {
   const asked = [];
-  const it = new Office({
+  const client = new Office({
     fetch: async path => {
       asked.push(path);
       await new Promise(done => setTimeout(done, 2));
       return json(200, path === "/stock" ? { lots: [] } : ORDER);
     },
   });
-  const reads = Array.from({ length: 9 }, () => it.ask(WHO, "GET", "/stock"));
-  await Promise.all([...reads, it.carry(WHO, "/orders", { body: {} })]);
+  const reads = Array.from({ length: 9 }, () => client.ask(WHO, "GET", "/stock"));
+  await Promise.all([...reads, client.carry(WHO, "/orders", { body: {} })]);
   assert.equal(asked.indexOf("/orders"), 3);
 });
 
 test("what was left is asked no more", async () => {
   const leaving = new AbortController();
-  const it = office(() => { leaving.abort(); throw leaving.signal.reason; });
-  await assert.rejects(it.ask(WHO, "GET", "/stock", { signal: leaving.signal }), { name: "AbortError" });
-  await assert.rejects(it.ask(WHO, "GET", "/stock", { signal: leaving.signal }), { name: "AbortError" });
-  assert.equal(it.asked.length, 1);
+  const client = office(() => { leaving.abort(); throw leaving.signal.reason; });
+  await assert.rejects(client.ask(WHO, "GET", "/stock", { signal: leaving.signal }), { name: "AbortError" });
+  await assert.rejects(client.ask(WHO, "GET", "/stock", { signal: leaving.signal }), { name: "AbortError" });
+  assert.equal(client.asked.length, 1);
 });
 
 test("what was given up between two tries is asked no more, and not looked up", async () => {
   const over = new AbortController();
-  const it = office(() => { over.abort(); throw new TypeError("Failed to fetch"); }, json(409, { code: 32, error: "NotQuarantined" }));
+  const client = office(() => { over.abort(); throw new TypeError("Failed to fetch"); }, json(409, { code: 32, error: "NotQuarantined" }));
   let looked = false;
-  await assert.rejects(it.carry(WHO, "/lots/S-1/release", { signal: over.signal, stands: async () => { looked = true; return true; } }), { name: "AbortError" });
-  assert.deepEqual([it.asked.length, looked, it.signs], [1, false, []]);
+  await assert.rejects(client.carry(WHO, "/lots/S-1/release", { signal: over.signal, stands: async () => { looked = true; return true; } }), { name: "AbortError" });
+  assert.deepEqual([client.asked.length, looked, client.signs], [1, false, []]);
 });
 
 // Who asks
 
 test("a session ends when its owner logs off, and when another logs in", () => {
   const kept = new Map();
-  globalThis.sessionStorage = { getItem: name => kept.get(name) ?? null, setItem: (name, it) => kept.set(name, it), removeItem: name => kept.delete(name) };
+  globalThis.sessionStorage = { getItem: name => kept.get(name) ?? null, setItem: (name, text) => kept.set(name, text), removeItem: name => kept.delete(name) };
   const ends = [];
   const begin = () => ends.push(untilEnd());
   begin();
   keep(WHO);
   begin();
-  assert.deepEqual([whoAsks(), ends.map(it => it.aborted)], [WHO, [true, false]]);
+  assert.deepEqual([whoAsks(), ends.map(end => end.aborted)], [WHO, [true, false]]);
   keep({ owner: "BOLT", key: "BOLTKEY1" });
   begin();
-  assert.deepEqual([whoAsks().owner, ends.map(it => it.aborted)], ["BOLT", [true, true, false]]);
+  assert.deepEqual([whoAsks().owner, ends.map(end => end.aborted)], ["BOLT", [true, true, false]]);
   giveUp();
   begin();
-  assert.deepEqual([whoAsks().owner, ends.map(it => it.aborted)], ["BOLT", [true, true, true, false]]);
+  assert.deepEqual([whoAsks().owner, ends.map(end => end.aborted)], ["BOLT", [true, true, true, false]]);
   see(1234);
   assert.deepEqual([whoAsks(), seenAt()], [{ owner: "BOLT", key: "BOLTKEY1" }, 1234]);
   keep(WHO, 5678);
   assert.deepEqual([whoAsks(), seenAt()], [WHO, 5678]);
   forget();
   see(9999);
-  assert.deepEqual([whoAsks(), seenAt(), kept.size, ends.every(it => it.aborted)], [null, 0, 0, true]);
+  assert.deepEqual([whoAsks(), seenAt(), kept.size, ends.every(end => end.aborted)], [null, 0, 0, true]);
   for (const wrong of ["", "null", "{", "[]", '{"owner":"ACME"}', '{"owner":1,"key":2}']) {
     kept.set("hilpoven", wrong);
     assert.equal(whoAsks(), null, wrong);
@@ -197,9 +197,10 @@ test("each refusal of an owner's request has its meaning, by the number and the 
 // Addresses
 
 test("an address names a view, and what it is about", () => {
-  const view = hash => { const it = read(hash); return [it.view, it.name]; };
-  assert.deepEqual(view(""), ["orders", null]);
-  assert.deepEqual(view("#/"), ["orders", null]);
+  const view = hash => { const route = read(hash); return [route.view, route.name]; };
+  assert.deepEqual(view(""), ["home", null]);
+  assert.deepEqual(view("#/"), ["home", null]);
+  assert.deepEqual(view(toHome({ days: 30 })), ["home", null]);
   assert.deepEqual(view(toOrders()), ["orders", null]);
   assert.deepEqual(view(toOrder("O-1")), ["order", "O-1"]);
   assert.deepEqual(view(toStock({ material: "BRINE" })), ["stock", null]);
@@ -218,9 +219,9 @@ test("what is no name is in no address", () => {
 // Values
 
 test("numbers that a Number can't hold are kept", () => {
-  const told = parse('{"lots":[{"amount":123456789012345678,"lot":"A"},{"amount":5,"lot":"1234567890123456"}]}');
-  assert.equal(number(told.lots[0].amount), "123,456,789,012,345,678");
-  assert.equal(told.lots[1].lot, "1234567890123456");
+  const parsed = parse('{"lots":[{"amount":123456789012345678,"lot":"A"},{"amount":5,"lot":"1234567890123456"}]}');
+  assert.equal(number(parsed.lots[0].amount), "123,456,789,012,345,678");
+  assert.equal(parsed.lots[1].lot, "1234567890123456");
   assert.deepEqual(["20", "3", 100].sort(compareNumbers), ["3", "20", 100]);
 });
 
@@ -228,13 +229,15 @@ test("numbers and names in words", () => {
   assert.deepEqual([number(1000), number(-5), count(1, "lot"), count(2000, "lot")], ["1,000", "-5", "1 lot", "2,000 lots"]);
   assert.deepEqual([time(15), time(1), time(0.1)], ["15 minutes", "1 minute", "6 seconds"]);
   assert.deepEqual([share(980, 1000), share(9999, 10000), share(1002, 1000), share(0, 7), share("20000000000000000", 1)], ["98 %", "99.9 %", "100.2 %", "0 %", "2,000,000,000,000,000,000 %"]);
+  assert.deepEqual([261128, "261128", 100101, 260229, 261301, 101, 20261128].map(day), ["2026-11-28", "2026-11-28", "2010-01-01", "260229", "261301", "101", "20261128"]);
+  assert.deepEqual([decimal(1180), decimal(1180, 2), decimal(-5, 2), decimal(123456, 1), decimal("12345678901234567", 3)], ["1,180", "11.80", "-0.05", "12,345.6", "12,345,678,901,234.567"]);
   assert.deepEqual(["A", "A-1", "-A", "a", "", "A".repeat(17), "A/B", 5].map(isName), [true, true, false, false, false, false, false, false]);
 });
 
 // The files
 
 test("no file of the page makes HTML of texts, and none has styles or scripts within", () => {
-  const files = readdirSync(PAGE, { recursive: true }).filter(it => /\.(js|html)$/.test(it) && !it.startsWith("tests"));
+  const files = readdirSync(PAGE, { recursive: true }).filter(file => /\.(js|html)$/.test(file) && !file.startsWith("tests"));
   for (const file of files) {
     const text = readFileSync(new URL(file, PAGE), "utf8");
     assert.doesNotMatch(text, /innerHTML|outerHTML|insertAdjacentHTML|document\.write|DOMParser|\beval\(|new Function|localStorage/, file);

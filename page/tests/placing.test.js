@@ -32,5 +32,5 @@ test("what stands before is the order, or nothing; another fault is none of both
 
 test("a refusal leads to the field at fault", () => {
   assert.equal(fieldAtFault(new Refused(409, 13, "UnknownRecipe", false)), "recipe");
-  for (const it of [new Refused(409, 17, "OrderExists", false), new Refused(409, 39, "LimitReached", false), {}]) assert.equal(fieldAtFault(it), "order");
+  for (const error of [new Refused(409, 17, "OrderExists", false), new Refused(409, 39, "LimitReached", false), {}]) assert.equal(fieldAtFault(error), "order");
 });

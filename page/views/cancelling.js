@@ -17,9 +17,9 @@ const NEAR = "150px 0px";
 export async function batchOf(page, name, n) {
   try {
     return await page.get(`/batches/${name}/${n}`);
-  } catch (it) {
-    if (it instanceof Refused && it.code === UNKNOWN_BATCH) return null;
-    throw it;
+  } catch (error) {
+    if (error instanceof Refused && error.code === UNKNOWN_BATCH) return null;
+    throw error;
   }
 }
 
@@ -50,7 +50,7 @@ export class CancelButtons {
   #isStarted;
   #places = new Map();
   #timers = new Map();
-  #sight = new IntersectionObserver(them => them.forEach(it => this.#seen(it)), { rootMargin: NEAR });
+  #sight = new IntersectionObserver(entries => entries.forEach(entry => this.#seen(entry)), { rootMargin: NEAR });
 
   constructor(page) {
     this.#page = page;

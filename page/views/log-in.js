@@ -7,10 +7,11 @@ import { KEY_TYPED, NAME_TYPED, time } from "../values.js";
 export function logIn({ logInAs, tell, owner, idleMinutes, signal }) {
   const name = html("input", {
     name: "owner", required: true, pattern: NAME_TYPED, title: "1 to 16 letters, digits and -", value: owner,
-    autocomplete: "username", autocapitalize: "characters", spellcheck: "false",
+    autocomplete: "off", autocapitalize: "characters", spellcheck: "false", invalid: () => tell(""),
   });
   const key = html("input", {
-    name: "key", type: "password", required: true, pattern: KEY_TYPED, title: "8 to 32 letters or digits", autocomplete: "current-password",
+    name: "key", type: "password", required: true, pattern: KEY_TYPED, title: "8 to 32 letters or digits", autocomplete: "one-time-code",
+    "data-key": "key", invalid: () => tell(""),
   });
   const button = html("button", { class: "main" }, "Log in");
 
@@ -20,10 +21,10 @@ export function logIn({ logInAs, tell, owner, idleMinutes, signal }) {
     tell("");
     try {
       await logInAs({ owner: name.value.toUpperCase(), key: key.value }, signal);
-    } catch (it) {
+    } catch (error) {
       if (signal.aborted) return;
-      tell(it.message, "bad");
-      if (it instanceof Forbidden) key.select();
+      tell(error.message, "bad");
+      if (error instanceof Forbidden) key.select();
     } finally {
       button.disabled = false;
     }

@@ -1,13 +1,14 @@
-/** A lot: its disposition and what decides it, its sublots and results, and its genealogy. */
+/** A lot: its disposition and what decides it, its tests, sublots, results and shipments, and its genealogy. */
 
 import { chip } from "../chips.js";
 import { downloadButton } from "../csv.js";
 import { fact, html, link, unseen } from "../dom.js";
 import { Genealogy } from "../genealogy/view.js";
 import { table } from "../list.js";
-import { ask } from "../question.js";
 import { toOrder, toStock } from "../router.js";
-import { amount, number } from "../values.js";
+import { amount, day, number } from "../values.js";
+import { blocksOf, heldBy, limits, measured, verdict, verdictsOf } from "../verdicts.js";
+import { deciding } from "./deciding.js";
 
 const MEANINGS = {
   quarantined: "In quarantine: nothing is shipped or consumed out of this lot until you release it.",
@@ -17,64 +18,73 @@ const MEANINGS = {
 
 export async function lot(page) {
   const { name } = page.route;
-  const told = await page.get(`/lots/${name}`);
+  const [askedLot, records] = await Promise.all([page.get(`/lots/${name}`), page.records()]);
   const place = html("div", {}, html("p", { class: "card soft" }, "Reading the genealogy…"));
-  const drawn = page.fill(place, () => drawGenealogy(page, name, place));
+  const drawn = page.fill(place, () => drawGenealogy(page, name, records, place));
+  const tests = records?.testsOf(askedLot.material);
   return {
     upward: link(toStock(), "Stock"),
-    title: `Lot ${told.lot}`,
-    mark: chip(told.disposition),
+    title: `Lot ${askedLot.lot}`,
+    mark: chip(askedLot.disposition),
     drawn,
-    body: [facts(page, told), html("div", { class: "two" }, sublots(page, told), results(page, told)), place],
+    body: [
+      facts(page, askedLot, records, tests),
+      html("div", { class: "two" },
+        tests?.length > 0 && testsPart(page, askedLot, tests), results(page, askedLot, tests, records?.lot(askedLot.lot)?.bounds), sublots(page, askedLot), records && shipments(page, askedLot, records)),
+      place,
+    ],
   };
 }
 
-/** What the picture stands on: both traces, and the lots in stock by name. */
-async function drawGenealogy(page, name, place) {
-  const [back, forward, stock] = await Promise.all([`/trace/back/${name}`, `/trace/forward/${name}`, "/stock"].map(it => page.get(it)));
-  const genealogy = new Genealogy(page, { back: back.lots, forward: forward.lots, stock: new Map(stock.lots.map(it => [it.lot, it])) });
+/** What the picture stands on: both traces, the lots in stock by name, and what the companion tells. */
+async function drawGenealogy(page, name, records, place) {
+  const [back, forward, stock] = await Promise.all([`/trace/back/${name}`, `/trace/forward/${name}`, "/stock"].map(path => page.get(path)));
+  const genealogy = new Genealogy(page, { back: back.lots, forward: forward.lots, stock: new Map(stock.lots.map(row => [row.lot, row])), records });
   place.replaceChildren(genealogy.element);
   await genealogy.drawn;
 }
 
-function facts(page, told) {
-  const whole = told.sublots.reduce((sum, it) => sum + BigInt(it.amount), 0n);
+function facts(page, askedLot, records, tests) {
+  const whole = askedLot.sublots.reduce((sum, sublot) => sum + BigInt(sublot.amount), 0n);
+  const row = records?.lot(askedLot.lot);
   return html("section", { class: "card facts" },
     html("dl", {},
-      fact("Material", link(toStock({ material: told.material }), told.material)),
-      fact("On hand", amount(whole, told.measure)),
-      fact("Comes from", origin(told.origin))),
-    html("p", {}, MEANINGS[told.disposition]),
-    html("div", { class: "buttons" },
-      told.disposition === "quarantined" && releaseButton(page, told.lot),
-      told.disposition !== "rejected" && rejectButton(page, told.lot)));
+      fact("Material", link(toStock({ material: askedLot.material }), askedLot.material)),
+      fact("On hand", amount(whole, askedLot.measure)),
+      fact("Comes from", origin(askedLot.origin)),
+      row && notedFacts(row, records)),
+    html("p", {}, MEANINGS[askedLot.disposition]),
+    row && warnings(row).map(text => html("p", { class: "blocks" }, text)),
+    records?.reasonFor({ lot: askedLot.lot }) && html("p", {}, html("span", { class: "soft" }, "The plant noted: "), records.reasonFor({ lot: askedLot.lot })),
+    deciding(page, askedLot, records ? blocksOf(row, tests, askedLot.results) : []));
 }
 
-function origin(told) {
-  if (told === "receipts") return "receipts";
-  const [name, batch] = told.split("/");
+/** What the plant noted of a lot. */
+function notedFacts(row, records) {
+  const isDay = ([, value]) => value !== undefined;
+  const days = [["Made on", row.made], ["Test again on", row.retest], ["Expires on", row.expires], ["Signed by the plant on", row.signed?.day]];
+  const sources = records.movementsOf(row.lot).filter(each => each.kind === "receipt" && !each.voided).map(each => sourceOf(each, records)).filter(Boolean);
+  return [days.filter(isDay).map(([title, value]) => fact(title, day(value))), sources.length > 0 && fact("Received", [...new Set(sources)].join("; "))];
+}
+
+/** Who a receipt is from, the supplier's name of the lot, and the document. */
+const sourceOf = ({ from, supplierLot, document }, records) => [from && records.partyOf(from), supplierLot && `lot ${supplierLot}`, document].filter(Boolean).join(", ");
+
+/** What doesn't keep the lot from being released, and is to be known: the plant's word, and days that have passed. */
+function warnings(row, now = new Date()) {
+  const { expires, retest } = row;
+  const isPast = date => date !== undefined && day(date) !== String(date) && day(date) < now.toLocaleDateString("sv");
+  return [
+    heldBy(row),
+    isPast(expires) && `It expired on ${day(expires)}.`,
+    isPast(retest) && `It was to be tested again on ${day(retest)}.`,
+  ].filter(Boolean);
+}
+
+function origin(from) {
+  if (from === "receipts") return "receipts";
+  const [name, batch] = from.split("/");
   return [`batch ${batch} of order `, link(toOrder(name), name)];
-}
-
-const decision = (page, name, way, done) => button => page.act(button, `/lots/${name}/${way}`, {
-  said: () => ({ text: `Lot ${name} is ${done}.` }),
-  stands: async get => (await get(`/lots/${name}`)).disposition === done,
-});
-
-function releaseButton(page, name) {
-  const release = decision(page, name, "release", "released");
-  return html("button", { type: "button", class: "main", "data-key": "release", click: event => release(event.currentTarget) }, "Release");
-}
-
-function rejectButton(page, name) {
-  const reject = decision(page, name, "reject", "rejected");
-  return html("button", {
-    type: "button", class: "danger", "data-key": "reject",
-    click: async ({ currentTarget: button }) => {
-      const text = "This is for good. A rejected lot is never released again, and nothing leaves it.";
-      if (await ask(page.signal, { title: `Reject lot ${name}?`, text, yes: "Reject the lot" })) await reject(button);
-    },
-  }, "Reject…");
 }
 
 /** A part of the view with its table, or what is said where it has no rows. */
@@ -85,32 +95,71 @@ function part(page, { title, file, rows, columns, none, more }) {
     rows.length === 0 ? html("p", { class: "soft" }, none) : shown());
 }
 
-const sublots = (page, told) => part(page, {
-  title: "Sublots",
-  file: `${told.lot}-sublots`,
-  none: "It has none.",
-  rows: told.sublots,
+/** A test with its full name and its method, as noted. */
+const testCell = ({ test, description, method }) => [test, (description || method) && html("small", { class: "soft" }, ` ${[description, method].filter(Boolean).join(", ")}`)];
+
+/** Each test of the material: its limits, the latest value, and whether that passes. */
+const testsPart = (page, askedLot, tests) => part(page, {
+  title: "Tests",
+  file: `${askedLot.lot}-tests`,
+  rows: verdictsOf(tests, askedLot.results),
   columns: [
-    { title: "Sublot", cell: it => it.sublot, values: { Sublot: it => it.sublot } },
-    { title: "On hand", number: true, cell: it => amount(it.amount, told.measure), values: { "On hand": it => it.amount, Measure: () => told.measure } },
+    { title: "Test", cell: testCell, values: { Test: row => row.test, Description: row => row.description, Method: row => row.method } },
+    { title: "Value", number: true, cell: row => (row.value === undefined ? "" : measured(row, row.value)), values: { Value: row => row.value } },
+    { title: "Limits", number: true, cell: limits, values: { Low: row => row.low, High: row => row.high, Unit: row => row.unit, Decimals: row => row.decimals } },
+    { title: "Verdict", cell: row => chip(row.word), values: { Verdict: row => row.word } },
   ],
 });
 
+const sublots = (page, askedLot) => part(page, {
+  title: "Sublots",
+  file: `${askedLot.lot}-sublots`,
+  none: "It has none.",
+  rows: askedLot.sublots,
+  columns: [
+    { title: "Sublot", cell: sublot => sublot.sublot, values: { Sublot: sublot => sublot.sublot } },
+    { title: "On hand", number: true, cell: sublot => amount(sublot.amount, askedLot.measure), values: { "On hand": sublot => sublot.amount, Measure: () => askedLot.measure } },
+  ],
+});
+
+/** Of a result that is a bound: the measured value is below or above it. */
+const SIGNS = { below: "<", above: ">" };
+
 /** All results, as they came. The last of each test is the one that counts for the release. */
-function results(page, told) {
-  const counts = new Set(new Map(told.results.map(it => [it.test, it])).values());
-  const word = it => (counts.has(it) ? "counts" : "earlier");
+function results(page, askedLot, tests, bounds = []) {
+  const counts = new Set(new Map(askedLot.results.map(result => [result.test, result])).values());
+  const word = result => (counts.has(result) ? "counts" : "earlier");
+  const testOf = row => tests?.find(test => test.test === row.test);
+  const bound = row => SIGNS[bounds.find(each => each.test === row.test && each.value === row.value && each.day === row.day)?.bound] ?? "";
+  const value = row => `${bound(row)}${testOf(row) ? measured(testOf(row), row.value) : number(row.value)}`;
+  const passing = { title: "Verdict", cell: row => testOf(row) && verdict(testOf(row), row.value), values: { Verdict: row => testOf(row) && verdict(testOf(row), row.value) } };
   return part(page, {
     title: "Results",
-    file: `${told.lot}-results`,
+    file: `${askedLot.lot}-results`,
     none: "None was recorded.",
-    rows: told.results,
+    rows: askedLot.results,
     columns: [
-      { title: "Test", cell: it => it.test, values: { Test: it => it.test } },
-      { title: "Value", number: true, cell: it => number(it.value), values: { Value: it => it.value } },
-      { title: "Day", number: true, cell: it => String(it.day), values: { Day: it => it.day } },
-      { title: unseen("Whether it counts"), cell: it => (counts.has(it) ? word(it) : html("span", { class: "soft" }, word(it))), values: { Counts: word } },
+      { title: "Test", cell: result => result.test, values: { Test: result => result.test } },
+      { title: "Value", number: true, cell: value, values: { Value: result => result.value } },
+      { title: "Day", number: true, cell: result => day(result.day), values: { Day: result => result.day } },
+      ...(tests ? [passing] : []),
+      { title: unseen("Whether it counts"), cell: result => (counts.has(result) ? word(result) : html("span", { class: "soft" }, word(result))), values: { Counts: word } },
     ],
     more: html("p", { class: "soft" }, "All that were recorded, in the order in which they came. The last of each test counts."),
   });
 }
+
+/** What was shipped of the lot, and to whom. Voided shipments are left out. */
+const shipments = (page, askedLot, records) => part(page, {
+  title: "Shipments",
+  file: `${askedLot.lot}-shipments`,
+  none: "None was recorded.",
+  rows: records.shipmentsOf(askedLot.lot).filter(row => !row.voided),
+  columns: [
+    { title: "Recipient", cell: row => (row.to ? records.partyOf(row.to) : html("span", { class: "soft" }, "not noted")), values: { Recipient: row => row.to } },
+    { title: "Day", number: true, cell: row => day(row.day), values: { Day: row => row.day } },
+    { title: "Sublot", cell: row => row.sublot, values: { Sublot: row => row.sublot } },
+    { title: "Amount", number: true, cell: row => amount(row.amount, askedLot.measure), values: { Amount: row => row.amount, Measure: () => askedLot.measure } },
+    { title: "Document", cell: row => row.document, values: { Document: row => row.document, Key: row => row.key } },
+  ],
+});

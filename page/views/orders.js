@@ -3,10 +3,15 @@
 import { chip } from "../chips.js";
 import { html, link, unseen } from "../dom.js";
 import { Finder } from "../list.js";
+import { tell } from "../notices.js";
 import { toOrder } from "../router.js";
 import { compareNames, MOST_BATCHES, NAME_TYPED, number } from "../values.js";
 import { CancelButtons } from "./cancelling.js";
+import { drafted } from "./draft.js";
 import { fieldAtFault, outcome, standing } from "./placing.js";
+
+/** A phone's width, as in style.css: the form is folded. */
+const NARROW = "(max-width: 40rem)";
 
 const byOrder = (a, b) => compareNames(a.order, b.order);
 
@@ -18,14 +23,14 @@ export async function orders(page) {
     what: ["order", "orders"],
     file: "orders",
     rows,
-    search: it => `${it.order} ${it.recipe}`,
-    choices: [{ name: "status", title: "Status", options: ["open", "cancelled"], of: it => it.status }],
+    search: order => `${order.order} ${order.recipe}`,
+    choices: [{ name: "status", title: "Status", options: ["open", "cancelled"], of: order => order.status }],
     columns: [
-      { name: "order", title: "Order", cell: it => link(toOrder(it.order), it.order), compare: byOrder, values: { Order: it => it.order } },
-      { name: "recipe", title: "Recipe", cell: it => it.recipe, compare: (a, b) => compareNames(a.recipe, b.recipe) || byOrder(a, b), values: { Recipe: it => it.recipe } },
-      { name: "batches", title: "Batches", number: true, cell: it => number(it.batches), compare: (a, b) => a.batches - b.batches || byOrder(a, b), values: { Batches: it => it.batches } },
-      { name: "status", title: "Status", cell: it => chip(it.status), compare: (a, b) => compareNames(a.status, b.status) || byOrder(a, b), values: { Status: it => it.status } },
-      { name: "acts", title: unseen("What can be done"), acts: true, cell: it => it.status === "open" && buttons.place(it.order) },
+      { name: "order", title: "Order", cell: order => link(toOrder(order.order), order.order), compare: byOrder, values: { Order: order => order.order } },
+      { name: "recipe", title: "Recipe", cell: order => order.recipe, compare: (a, b) => compareNames(a.recipe, b.recipe) || byOrder(a, b), values: { Recipe: order => order.recipe } },
+      { name: "batches", title: "Batches", number: true, cell: order => number(order.batches), compare: (a, b) => a.batches - b.batches || byOrder(a, b), values: { Batches: order => order.batches } },
+      { name: "status", title: "Status", cell: order => chip(order.status), compare: (a, b) => compareNames(a.status, b.status) || byOrder(a, b), values: { Status: order => order.status } },
+      { name: "acts", title: unseen("What can be done"), acts: true, cell: order => order.status === "open" && buttons.place(order.order) },
     ],
   });
   return {
@@ -36,10 +41,11 @@ export async function orders(page) {
 }
 
 function newOrder(page, rows) {
-  const recipes = [...new Set(rows.map(it => it.recipe))].sort(compareNames);
+  const recipes = [...new Set(rows.map(order => order.recipe))].sort(compareNames);
+  const draft = drafted();
   const name = field({ name: "order", title: "1 to 16 letters, digits and -" });
   const recipe = field({ name: "recipe", title: "1 to 16 letters, digits and -", list: "recipes" });
-  const batches = html("input", { name: "batches", type: "number", min: 1, max: MOST_BATCHES, value: 1, required: true });
+  const batches = html("input", { name: "batches", type: "number", min: 1, max: MOST_BATCHES, value: 1, required: true, ...CHECKED("batches") });
   const button = html("button", { class: "main" }, "Place the order");
   const fields = { order: name, recipe };
 
@@ -49,18 +55,27 @@ function newOrder(page, rows) {
     await page.act(button, "/orders", {
       body,
       before: get => standing(get, body.order),
-      said: outcome,
-      refused: it => fields[fieldAtFault(it)].select(),
+      said: (reply, stood) => {
+        const result = outcome(reply, stood);
+        if (result.tone !== "bad") draft.clear();
+        return result;
+      },
+      refused: error => fields[fieldAtFault(error)].select(),
     });
   }
 
+  const form = html("form", { class: "fields", submit },
+    html("label", {}, "Order", name), html("label", {}, "Recipe", recipe), html("label", { class: "narrow" }, "Batches", batches), button);
+  draft.fill(form);
   return html("section", { class: "card" },
-    html("h2", {}, "New order"),
-    html("form", { class: "fields", submit },
-      html("label", {}, "Order", name), html("label", {}, "Recipe", recipe), html("label", { class: "narrow" }, "Batches", batches), button),
-    html("datalist", { id: "recipes" }, recipes.map(it => html("option", { value: it }))));
+    html("details", { class: "fold", open: draft.isBegun || !matchMedia(NARROW).matches },
+      html("summary", {}, html("h2", {}, "New order")), form),
+    html("datalist", { id: "recipes" }, recipes.map(known => html("option", { value: known }))));
 }
 
+/** What a field has so that a redrawn view finds it again, and that an old notice goes when it is checked. */
+const CHECKED = name => ({ "data-key": `new-${name}`, invalid: () => tell("") });
+
 const field = given => html("input", {
-  required: true, pattern: NAME_TYPED, autocomplete: "off", autocapitalize: "characters", spellcheck: "false", class: "name", ...given,
+  required: true, pattern: NAME_TYPED, autocomplete: "off", autocapitalize: "characters", spellcheck: "false", class: "name", ...given, ...CHECKED(given.name),
 });

@@ -9,9 +9,9 @@ const UNKNOWN_RECIPE = 13;
 export async function standing(get, name) {
   try {
     return await get(`/orders/${name}`);
-  } catch (it) {
-    if (it instanceof Refused && it.code === UNKNOWN_ORDER) return null;
-    throw it;
+  } catch (error) {
+    if (error instanceof Refused && error.code === UNKNOWN_ORDER) return null;
+    throw error;
   }
 }
 

@@ -8,11 +8,12 @@ import { PLANT } from "../values.js";
 
 export async function plant(page) {
   const { name } = page.route;
-  const [forward, stock] = await Promise.all([`/trace/house/${name}`, "/stock"].map(it => page.get(it)));
+  const [forward, stock, records] = await Promise.all([...[`/trace/house/${name}`, "/stock"].map(path => page.get(path)), page.records()]);
   const genealogy = new Genealogy(page, {
     back: [{ lot: name, owner: PLANT, steps: 0 }],
     forward: forward.lots,
-    stock: new Map(stock.lots.map(it => [it.lot, it])),
+    stock: new Map(stock.lots.map(row => [row.lot, row])),
+    records,
   });
   return {
     upward: link(toStock(), "Stock"),

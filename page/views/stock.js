@@ -4,8 +4,12 @@ import { chip } from "../chips.js";
 import { html, link } from "../dom.js";
 import { Finder } from "../list.js";
 import { toLot, toStock } from "../router.js";
-import { amount, compareNames, compareNumbers, number } from "../values.js";
+import { amount, compareNames, compareNumbers, isName, number } from "../values.js";
+import { plantsLotNamed } from "./tracing.js";
 
+const ON_HAND = "on hand";
+const EMPTY = "empty";
+const fillingOf = row => (BigInt(row.amount) > 0n ? ON_HAND : EMPTY);
 const DISPOSITIONS = ["quarantined", "released", "rejected"];
 
 export async function stock(page) {
@@ -28,54 +32,57 @@ const byAmount = (a, b) => compareNumbers(a.amount, b.amount) || byLot(a, b);
 const byDisposition = (a, b) => compareNames(a.disposition, b.disposition) || byLot(a, b);
 
 function lotsOf(page, rows) {
-  const materials = [...new Set(rows.map(it => it.material))].sort(compareNames);
+  const materials = [...new Set(rows.map(lot => lot.material))].sort(compareNames);
   return new Finder(page, {
     caption: "Lots in stock",
     what: ["lot", "lots"],
     file: "stock",
     rows,
-    search: it => `${it.lot} ${it.material}`,
+    search: lot => `${lot.lot} ${lot.material}`,
     choices: [
-      { name: "material", title: "Material", options: materials, of: it => it.material },
-      { name: "disposition", title: "Disposition", options: DISPOSITIONS, of: it => it.disposition },
+      { name: "material", title: "Material", options: materials, of: lot => lot.material },
+      { name: "disposition", title: "Disposition", options: DISPOSITIONS, of: lot => lot.disposition },
+      { name: "show", title: "Show", options: [ON_HAND, EMPTY], of: fillingOf, usual: { option: ON_HAND, hides: "empty lots" } },
     ],
+    classOf: row => (fillingOf(row) === EMPTY ? "emptied" : null),
+    elsewhere: text => (isName(text) ? plantsLotNamed(page, text) : null),
     columns: [
-      { name: "lot", title: "Lot", cell: it => link(toLot(it.lot), it.lot), compare: byLot, values: { Lot: it => it.lot } },
-      { name: "material", title: "Material", cell: it => it.material, compare: (a, b) => compareNames(a.material, b.material) || byLot(a, b), values: { Material: it => it.material } },
-      { name: "amount", title: "On hand", number: true, cell: it => amount(it.amount, it.measure), compare: byAmount, values: { "On hand": it => it.amount, Measure: it => it.measure } },
-      { name: "disposition", title: "Disposition", cell: it => chip(it.disposition), compare: byDisposition, values: { Disposition: it => it.disposition } },
+      { name: "lot", title: "Lot", cell: lot => link(toLot(lot.lot), lot.lot), compare: byLot, values: { Lot: lot => lot.lot } },
+      { name: "material", title: "Material", cell: lot => lot.material, compare: (a, b) => compareNames(a.material, b.material) || byLot(a, b), values: { Material: lot => lot.material } },
+      { name: "amount", title: "On hand", number: true, cell: lot => amount(lot.amount, lot.measure), compare: byAmount, values: { "On hand": lot => lot.amount, Measure: lot => lot.measure } },
+      { name: "disposition", title: "Disposition", cell: lot => chip(lot.disposition), compare: byDisposition, values: { Disposition: lot => lot.disposition } },
     ],
   });
 }
 
 /** The sums of each material, over all its lots and over those of each disposition. */
 export function sums(lots) {
-  const found = new Map();
+  const totals = new Map();
   for (const { material, measure, amount: value, disposition } of lots) {
-    const sum = found.get(material) ?? { material, measure, lots: 0, all: 0n, quarantined: 0n, released: 0n, rejected: 0n };
+    const sum = totals.get(material) ?? { material, measure, lots: 0, all: 0n, quarantined: 0n, released: 0n, rejected: 0n };
     sum.lots += 1;
     sum.all += BigInt(value);
     sum[disposition] += BigInt(value);
-    found.set(material, sum);
+    totals.set(material, sum);
   }
-  return [...found.values()];
+  return [...totals.values()];
 }
 
 function materialsOf(page, lots) {
   const byMaterial = (a, b) => compareNames(a.material, b.material);
   const sum = (name, title) => ({
-    name, title, number: true, cell: it => amount(it[name], it.measure), compare: (a, b) => compareNumbers(a[name], b[name]) || byMaterial(a, b),
-    values: { [title]: it => it[name] },
+    name, title, number: true, cell: total => amount(total[name], total.measure), compare: (a, b) => compareNumbers(a[name], b[name]) || byMaterial(a, b),
+    values: { [title]: total => total[name] },
   });
   return new Finder(page, {
     caption: "Stock by material",
     what: ["material", "materials"],
     file: "stock-by-material",
     rows: sums(lots),
-    search: it => it.material,
+    search: total => total.material,
     columns: [
-      { name: "material", title: "Material", cell: it => link(toStock({ material: it.material }), it.material), compare: byMaterial, values: { Material: it => it.material, Measure: it => it.measure } },
-      { name: "lots", title: "Lots", number: true, cell: it => number(it.lots), compare: (a, b) => a.lots - b.lots || byMaterial(a, b), values: { Lots: it => it.lots } },
+      { name: "material", title: "Material", cell: total => link(toStock({ material: total.material }), total.material), compare: byMaterial, values: { Material: total => total.material, Measure: total => total.measure } },
+      { name: "lots", title: "Lots", number: true, cell: total => number(total.lots), compare: (a, b) => a.lots - b.lots || byMaterial(a, b), values: { Lots: total => total.lots } },
       sum("released", "Released"), sum("quarantined", "Quarantined"), sum("rejected", "Rejected"), sum("all", "On hand"),
     ],
   });

@@ -20,7 +20,7 @@ for (const path of ["/stock", "/orders", "/stock"]) await fetch(path);
 const leaving = new AbortController();
 const asked = fetch("/left", { signal: leaving.signal });
 leaving.abort();
-await asked.catch(it => sent.push(it.name));
+await asked.catch(error => sent.push(error.name));
 console.log(JSON.stringify({ rested, sent }));
 """
 
@@ -62,7 +62,7 @@ def test_replies_are_late_or_the_processor_is_slow_or_both_or_the_trial() -> Non
     assert late.longest_rest > 0 and late.times == 1
     assert slow.times > 1 and slow.longest_rest == 0
     assert both.longest_rest > 0 and both.times > 1
-    assert trial.longest_pause > 0 and not any(it.longest_pause for it in (late, slow, both))
+    assert trial.longest_pause > 0 and not any(slowness.longest_pause for slowness in (late, slow, both))
 
 
 def test_a_trial_pauses_before_few_commands_by_the_seed(monkeypatch: pytest.MonkeyPatch) -> None:
@@ -75,7 +75,7 @@ def test_a_trial_pauses_before_few_commands_by_the_seed(monkeypatch: pytest.Monk
 
     once, again, otherwise = (pauses(Slowness(seed, longest_pause=3)) for seed in (4, 4, 8))
     assert once == again != otherwise
-    assert 0 < len(once) < 200 and all(0 <= it < 3 for it in once)
+    assert 0 < len(once) < 200 and all(0 <= pause < 3 for pause in once)
 
 
 def test_a_window_is_slowed_down_by_commands_of_its_devtools() -> None:
@@ -92,8 +92,8 @@ def asked_in(folder: pathlib.Path, seed: int, longest: int) -> dict[str, list[An
     script.write_text(RESTS % json.dumps([seed, longest]))
     document.write_text(DOCUMENT)
     done = subprocess.run(["node", document, script], capture_output=True, text=True, check=True)
-    told: dict[str, list[Any]] = json.loads(done.stdout)
-    return told
+    asked: dict[str, list[Any]] = json.loads(done.stdout)
+    return asked
 
 
 def test_requests_rest_by_the_seed_and_one_that_is_left_is_not_sent(tmp_path: pathlib.Path) -> None:

@@ -29,12 +29,12 @@ MISSED = {"stale element reference", "element click intercepted", "element not i
 
 # From now on a click that comes to something else than this element is kept from it, as where rows have moved meanwhile.
 AIM = """const [wanted] = arguments, kinds = ["pointerdown", "mousedown", "pointerup", "mouseup", "click"];
-const aim = window.aim = {hasHit: false, end: () => kinds.forEach(it => removeEventListener(it, aim, true)), handleEvent(event) {
+const aim = window.aim = {hasHit: false, end: () => kinds.forEach(kind => removeEventListener(kind, aim, true)), handleEvent(event) {
     if (wanted.contains(event.target)) return void (aim.hasHit ||= event.type === "click");
     event.preventDefault();
     event.stopImmediatePropagation();
 }};
-kinds.forEach(it => addEventListener(it, aim, true));"""
+kinds.forEach(kind => addEventListener(kind, aim, true));"""
 # Whether the click came to it; in a document that the click led to, it did.
 HAS_HIT = "window.aim?.end(); return window.aim?.hasHit ?? true"
 
@@ -127,9 +127,9 @@ class Browser:
         return until(lambda: self.seen(css, text), f"{css} {text or ''} is there")
 
     def seen(self, css, text=None):
-        found = self.js("""return [...document.querySelectorAll(arguments[0])].find(it =>
-            it.getClientRects().length > 0 && (arguments[1] === null || it.textContent.trim().startsWith(arguments[1]))) ?? null""", css, text)
-        return found and found[ELEMENT]
+        shown = self.js("""return [...document.querySelectorAll(arguments[0])].find(element =>
+            element.getClientRects().length > 0 && element.checkVisibility() && (arguments[1] === null || element.textContent.trim().startsWith(arguments[1]))) ?? null""", css, text)
+        return shown and shown[ELEMENT]
 
     def element(self, css):
         """An element that is seen, as js() takes it; also one that is behind a question."""
@@ -146,7 +146,7 @@ class Browser:
 
     def heading(self, text):
         """Waits for the view of this heading; after back() and reload(), for one that was drawn since."""
-        until(lambda: self.js("const it = document.querySelector('h1'); return it?.isLeft ? '' : it?.firstChild?.textContent ?? ''").strip() == text,
+        until(lambda: self.js("const heading = document.querySelector('h1'); return heading?.isLeft ? '' : heading?.firstChild?.textContent ?? ''").strip() == text,
               lambda: f"the heading is {text!r}; it is {self.text('h1')!r}")
 
     # What is done
@@ -181,7 +181,7 @@ class Browser:
 
     def _choose(self, element, value):
         """Whether the select has this option, and it is chosen."""
-        option = self.js("return [...arguments[0].options].find(it => it.value === arguments[1]) ?? null", {ELEMENT: element}, value)
+        option = self.js("return [...arguments[0].options].find(option => option.value === arguments[1]) ?? null", {ELEMENT: element}, value)
         if option:
             self.ask("POST", f"/element/{option[ELEMENT]}/click")
         return self.js("return arguments[0].value", {ELEMENT: element}) == value
@@ -189,8 +189,8 @@ class Browser:
     def press(self, *keys):
         """Presses keys one after another; "shift+tab" holds the first."""
         for key in keys:
-            *held, last = [KEYS.get(it, it) for it in key.split("+")]
-            steps = [{"type": "keyDown", "value": it} for it in [*held, last]] + [{"type": "keyUp", "value": it} for it in [last, *held]]
+            *held, last = [KEYS.get(key_name, key_name) for key_name in key.split("+")]
+            steps = [{"type": "keyDown", "value": key_name} for key_name in [*held, last]] + [{"type": "keyUp", "value": key_name} for key_name in [last, *held]]
             self.ask("POST", "/actions", actions=[{"type": "key", "id": "keys", "actions": steps}])
 
     def write(self, text):
@@ -207,7 +207,7 @@ class Browser:
         self.ask("POST", "/refresh")
 
     def _leave_view(self):
-        self.js("const it = document.querySelector('h1'); if (it) it.isLeft = true")
+        self.js("const heading = document.querySelector('h1'); if (heading) heading.isLeft = true")
 
     # Windows
 
@@ -237,6 +237,10 @@ class Browser:
     def phone(self, width=390, height=844):
         self.devtools("Emulation.setDeviceMetricsOverride", width=width, height=height, deviceScaleFactor=2, mobile=True)
 
+    def colours(self, **features):
+        """The colours that a person has set: prefers_color_scheme="dark", forced_colors="active"; the usual ones where none is named."""
+        self.devtools("Emulation.setEmulatedMedia", features=[{"name": name.replace("_", "-"), "value": value} for name, value in features.items()])
+
     def no_phone(self):
         self.devtools("Emulation.clearDeviceMetricsOverride")
 
@@ -255,16 +259,16 @@ class Browser:
 
     def log(self):
         """What the browser's console was told since it was asked last."""
-        return [it["message"] for it in self.ask("POST", "/se/log", type="browser")]
+        return [message["message"] for message in self.ask("POST", "/se/log", type="browser")]
 
 
 def until(holds, what, patience=PATIENCE):
     """What `holds` gives, as soon as that is something."""
     ends = time.monotonic() + patience
     while True:
-        found = holds()
-        if found:
-            return found
+        outcome = holds()
+        if outcome:
+            return outcome
         if time.monotonic() > ends:
             raise Failed(f"waited {patience} s for this: {what() if callable(what) else what}")
         time.sleep(0.03)

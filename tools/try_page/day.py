@@ -11,11 +11,11 @@ from .trial import TOLL
 
 def day(t):
     small = t.office
-    replies = [(int(it[:3]), it[4:]) for it in (ROOT / "docs" / "day.out").read_text().splitlines() if re.match(r"\d{3}( \{|$)", it)]
-    lines = [it for it in (ROOT / "docs" / "day.toll").read_text().splitlines() if it and not it.startswith("#")]
-    asked = [it for it in lines if it.startswith("> ")]
+    replies = [(int(line[:3]), line[4:]) for line in (ROOT / "docs" / "day.out").read_text().splitlines() if re.match(r"\d{3}( \{|$)", line)]
+    lines = [line for line in (ROOT / "docs" / "day.toll").read_text().splitlines() if line and not line.startswith("#")]
+    asked = [line for line in lines if line.startswith("> ")]
     t.expect(len(asked) == len(replies), f"{len(asked)} lines of owners have {len(replies)} replies")
-    straight, clicked = (Office(TOLL, t.folder / f"{it}.db", t.office_port) for it in ("straight", "clicked"))
+    straight, clicked = (Office(TOLL, t.folder / f"{name}.db", t.office_port) for name in ("straight", "clicked"))
     by_http = iter(replies)
     run_day(t, straight, lines, lambda *line: t.expect(straight.ask(*line) == next(by_http), f"{line} is told otherwise than in docs/day.out"))
     clicks, by_page = Clicks(t), iter(replies)
@@ -60,18 +60,20 @@ class Clicks:
         else:
             self.windows[owner] = self.b.new_window()
             self.t.enter(owner)
+            self.b.heading("Home")
+            self.b.click("#nav a", "Orders")
         self.b.heading("Orders")
 
     def do(self, owner, key, method, target, body, status, reply):
-        told = json.loads(reply) if reply else {}
+        answered = json.loads(reply) if reply else {}
         if key != f"{owner}KEY1":
             return self.knock(owner, key)
         self.window_of(owner)
         what = " ".join(filter(None, [owner, method, target, body]))
         if method == "POST":
-            doing = self.post(owner, target, body and json.loads(body), status, told)
+            doing = self.post(owner, target, body and json.loads(body), status, answered)
         else:
-            doing = self.look(method, target, status, told)
+            doing = self.look(method, target, status, answered)
         self.t.expect(doing is not False, f"the day by clicks: {what}")
         self.done, self.none = self.done + (doing is not None), self.none + (doing is None)
 
@@ -90,7 +92,7 @@ class Clicks:
         self.b.close_window(before)
         self.done += 1
 
-    def post(self, owner, target, body, status, told):
+    def post(self, owner, target, body, status, answered):
         """Whether the page says what was told; None where no click asks for it."""
         _, first, *rest = target.split("/")
         if target == "/orders":
@@ -99,62 +101,62 @@ class Clicks:
                 self.b.click("button", "Place the order")
                 return self.b.js("return document.querySelector('input:invalid').name") == "recipe"
             self.t.place(body["order"], body["recipe"], body["batches"])
-            return self.says(self.told_of_order(owner, told) if status == 200 else str(told["code"]))
+            return self.says(self.told_of_order(owner, answered) if status == 200 else str(answered["code"]))
         if first == "orders":
             self.b.click("tbody a", rest[0])
             # the list has such buttons too, and stands until the order is read
             self.b.heading(f"Order {rest[0]}")
-            return self.press("Cancel", "Cancel the order", f"Order {rest[0]} is cancelled.", status, told)
+            return self.press("Cancel", "Cancel the order", f"Order {rest[0]} is cancelled.", status, answered)
         if first == "lots":
             self.t.to_lot(rest[0])
             if rest[1] == "release":
-                return self.press("Release", None, f"Lot {rest[0]} is released.", status, told)
-            return self.press("Reject…", "Reject the lot", f"Lot {rest[0]} is rejected.", status, told)
+                return self.press("Release", None, f"Lot {rest[0]} is released.", status, answered)
+            return self.press("Reject…", "Reject the lot", f"Lot {rest[0]} is rejected.", status, answered)
         return None
 
-    def told_of_order(self, owner, told):
+    def told_of_order(self, owner, answered):
         """What the page says of an order that is told as it stands."""
-        name = told["order"]
+        name = answered["order"]
         was_there = (owner, name) in self.placed
         self.placed.add((owner, name))
-        if told["status"] == "cancelled":
+        if answered["status"] == "cancelled":
             return f"{name} was cancelled; choose another name."
         return f"Order {name} was placed before" if was_there else f"Order {name} is placed"
 
-    def press(self, button, answer, said, status, told):
-        if status == 409 and told["error"] == "NotQuarantined":
+    def press(self, button, answer, said, status, answered):
+        if status == 409 and answered["error"] == "NotQuarantined":
             # a page that shows the lot as it is doesn't offer this
             return not self.b.seen("button", button)
         self.b.click("button", button)
         if answer:
             self.b.click("dialog button", answer)
-        return self.says(said if status == 200 else str(told["code"]))
+        return self.says(said if status == 200 else str(answered["code"]))
 
     def says(self, words):
         until(lambda: self.b.text("#told") + self.b.text("#wrong"), "something is told")
         return words in self.b.text("#told") + self.b.text("#wrong")
 
-    def look(self, method, target, status, told):
+    def look(self, method, target, status, answered):
         """Whether all names and amounts of a reply are seen."""
         if method != "GET":
             return None
         _, first, *rest = target.split("/")
-        address = {"orders": "#/orders", "stock": "#/stock", "batches": "#/orders", "lots": "#/lots", "trace": "#/lots", "nowhere": "#/nowhere"}[first]
+        address = {"orders": "#/orders", "stock": "#/stock?show=all", "batches": "#/orders", "lots": "#/lots", "trace": "#/lots", "nowhere": "#/nowhere"}[first]
         if first == "trace":
             address, rest = ("#/plant" if rest[0] == "house" else "#/lots"), rest[1:]
         self.b.go(self.t.proxy.address + "/".join([address, *rest[:1]]))
-        wanted = [f"{it:,}" if isinstance(it, int) and it > 99 else str(it) for it in leaves(told)]
+        wanted = [f"{leaf:,}" if isinstance(leaf, int) and leaf > 99 else str(leaf) for leaf in leaves(answered)]
         if status == 404:
             wanted = ["There is no such page" if first == "nowhere" else "You have no lot"]
         if first == "trace":
             self.t.pictured()
             self.b.js("document.querySelector('details').open = true")
-        until(lambda: all(it in self.b.text() for it in wanted), lambda: f"{target} shows {wanted}: {self.b.text()[:500]!r}")
+        until(lambda: all(word in self.b.text() for word in wanted), lambda: f"{target} shows {wanted}: {self.b.text()[:500]!r}")
         return True
 
 
 def leaves(value):
     """The names and amounts of a reply."""
     if isinstance(value, dict):
-        return [leaf for name, it in value.items() if name not in ("closed", "origin", "owner", "batch", "day") for leaf in leaves(it)]
-    return [leaf for it in value for leaf in leaves(it)] if isinstance(value, list) else [value]
+        return [leaf for name, member in value.items() if name not in ("closed", "origin", "owner", "batch", "day") for leaf in leaves(member)]
+    return [leaf for member in value for leaf in leaves(member)] if isinstance(value, list) else [value]

@@ -46,7 +46,7 @@ ACME/B-1>ACME/BL-1 ACME/B-2>ACME/BL-1 HOUSE/W-102>ACME/BL-1 ACME/BL-1>ACME/DR-1 
 def fill_small(office):
     """Five batches of brine in several states, a blend of two of them, and drums of the blend."""
     place = lambda name, recipe, batches: ("POST", "/orders", {"order": name, "recipe": recipe, "batches": batches})
-    release = lambda *names: [("POST", f"/lots/{it}/release") for it in names]
+    release = lambda *names: [("POST", f"/lots/{lot}/release") for lot in names]
     office.asks("ACME", place("O-1", "BRINE-10", 6), place("O-2", "BLEND-2", 1), place("O-3", "FILL", 2), place("O-4", "FILL", 1), place("O-5", "BRINE-10", 3),
                 *release("S-1", "S-2"), ("POST", "/orders/O-4/cancel"))
     office.plants("""
@@ -114,6 +114,8 @@ def fill_small(office):
 BATCHES, LOTS_EACH, CHAIN = 11, 199, 32
 # drums and the salt; casks with the first one, a yeast for each, and the sugar
 LARGE_LOTS = BATCHES * LOTS_EACH + 1 + 2 * CHAIN + 2
+# each cask but the last one went into the next one
+EMPTY_LOTS = CHAIN - 1
 
 LARGE_SETUP = """
 owner-add ACME ACMEKEY1
@@ -137,30 +139,30 @@ receive ACME R2 CASK C-0 BAY1 100 101
 receive ACME R3 SUGAR SU-1 BAY1 1000 101
 receive HOUSE R1 WATER W-1 TANK 1000 101
 release W-1
-""" + "".join(f"receive ACME Y{it} YEAST Y-{it} BAY1 10 101\n" for it in range(1, CHAIN + 1)) + "".join(f"unit-add U-{it}\n" for it in range(1, BATCHES + CHAIN + 1))
+""" + "".join(f"receive ACME Y{number} YEAST Y-{number} BAY1 10 101\n" for number in range(1, CHAIN + 1)) + "".join(f"unit-add U-{number}\n" for number in range(1, BATCHES + CHAIN + 1))
 
 
 def fill_large(office):
     """2,000 orders; a lot of salt that went into 2,189 lots of drums; and a chain of 32 casks, each made of four lots."""
-    office.asks("ACME", *(("POST", f"/lots/{it}/release") for it in ("S-1", "C-0", "SU-1", *(f"Y-{it}" for it in range(1, CHAIN + 1)))),
+    office.asks("ACME", *(("POST", f"/lots/{lot}/release") for lot in ("S-1", "C-0", "SU-1", *(f"Y-{number}" for number in range(1, CHAIN + 1)))),
                 ("POST", "/orders", {"order": "BIG", "recipe": "FILL", "batches": BATCHES}),
                 ("POST", "/orders", {"order": "CHAIN", "recipe": "AGE", "batches": CHAIN}),
-                *(("POST", "/orders", {"order": f"ORDER-{it:04}", "recipe": "FILL" if it % 3 else "AGE", "batches": 1 + it % 20}) for it in range(1, 1999)))
+                *(("POST", "/orders", {"order": f"ORDER-{number:04}", "recipe": "FILL" if number % 3 else "AGE", "batches": 1 + number % 20}) for number in range(1, 1999)))
     for batch in range(1, BATCHES + 1):
         office.plants(f"open ACME BIG U-{batch}\ndo ACME BIG {batch} start")
     office.actuals([record for batch in range(1, BATCHES + 1) for record in drums(batch)])
     for batch in range(1, CHAIN + 1):
         office.plants(f"open ACME CHAIN U-{BATCHES + batch}\ndo ACME CHAIN {batch} start")
-    actuals = lambda key, use, what: [f"{key}{it},ACME,CHAIN,{it},1,{use},{what(it)},1,102" for it in range(1, CHAIN + 1)]
-    office.actuals(actuals("D", "produced", lambda it: f"CASK,ACME,C-{it},BAY1"))
-    office.asks("ACME", *(("POST", f"/lots/C-{it}/release") for it in range(1, CHAIN + 1)))
-    office.actuals(actuals("C", "consumed", lambda it: f"CASK,ACME,C-{it - 1},BAY1"))
-    office.actuals(actuals("G", "consumed", lambda it: "SUGAR,ACME,SU-1,BAY1"))
-    office.actuals(actuals("V", "consumed", lambda it: f"YEAST,ACME,Y-{it},BAY1"))
-    office.actuals(actuals("W", "consumed", lambda it: "WATER,HOUSE,W-1,TANK"))
+    actuals = lambda key, use, what: [f"{key}{number},ACME,CHAIN,{number},1,{use},{what(number)},1,102" for number in range(1, CHAIN + 1)]
+    office.actuals(actuals("D", "produced", lambda number: f"CASK,ACME,C-{number},BAY1"))
+    office.asks("ACME", *(("POST", f"/lots/C-{number}/release") for number in range(1, CHAIN + 1)))
+    office.actuals(actuals("C", "consumed", lambda number: f"CASK,ACME,C-{number - 1},BAY1"))
+    office.actuals(actuals("G", "consumed", lambda _: "SUGAR,ACME,SU-1,BAY1"))
+    office.actuals(actuals("V", "consumed", lambda number: f"YEAST,ACME,Y-{number},BAY1"))
+    office.actuals(actuals("W", "consumed", lambda _: "WATER,HOUSE,W-1,TANK"))
 
 
 def drums(batch):
     yield f"S{batch},ACME,BIG,{batch},1,consumed,SALT,ACME,S-1,BAY1,199,102"
-    for it in range(LOTS_EACH):
-        yield f"P{batch}-{it},ACME,BIG,{batch},1,produced,DRUM,ACME,L-{batch}-{it:03},PAL{1 + it % 9},1,102"
+    for number in range(LOTS_EACH):
+        yield f"P{batch}-{number},ACME,BIG,{batch},1,produced,DRUM,ACME,L-{batch}-{number:03},PAL{1 + number % 9},1,102"

@@ -9,6 +9,8 @@ from .trial import TOLL
 # a person waits about so long for something to come up, in milliseconds
 FIRST_DRAW, LONGEST_TASK = 1000, 200
 ORDERS = 2000
+# lots that are on hand, which are shown at first
+LOTS = fillings.LARGE_LOTS - fillings.EMPTY_LOTS
 
 
 def many(t):
@@ -18,12 +20,12 @@ def many(t):
     t.serve(large)
     fillings.fill_large(large)
     t.entered()
-    for name, path, rows, view in (("orders", "#/orders", ORDERS, "35-many-orders"), ("lots", "#/stock", fillings.LARGE_LOTS, "36-many-lots")):
-        told = in_time(t, f"{rows} {name}", lambda: drawn(b, path, rows), first=FIRST_DRAW, longest=LONGEST_TASK)
-        print(f"{rows} {name}: first rows after {told['first']} ms, all after {told['all']} ms, longest task {told['longest']} ms", flush=True)
+    for name, path, rows, view in (("orders", "#/orders", ORDERS, "35-many-orders"), ("lots", "#/stock", LOTS, "36-many-lots")):
+        times = in_time(t, f"{rows} {name}", lambda: drawn(b, path, rows), first=FIRST_DRAW, longest=LONGEST_TASK)
+        print(f"{rows} {name}: first rows after {times['first']} ms, all after {times['all']} ms, longest task {times['longest']} ms", flush=True)
         t.shot(view, f"{rows} {name}", whole=False)
-    told = in_time(t, "a search", lambda: {"longest": b.later(TYPED, "L-7")}, longest=LONGEST_TASK)
-    print(f"a search among {fillings.LARGE_LOTS} lots: longest task {told['longest']} ms", flush=True)
+    times = in_time(t, "a search", lambda: {"longest": b.later(TYPED, "L-7")}, longest=LONGEST_TASK)
+    print(f"a search among {LOTS} lots: longest task {times['longest']} ms", flush=True)
     far(t)
     folds(t)
     t.serve(small)
@@ -35,12 +37,12 @@ def in_time(t, what, measured, **bounds):
     ends = time.monotonic() + PATIENCE
     while True:
         before = slower_now(t.browser)
-        found = measured()
+        times_measured = measured()
         times = (before + slower_now(t.browser)) / 2
-        is_in_time = all(found[name] < bound * times for name, bound in bounds.items())
+        is_in_time = all(times_measured[name] < bound * times for name, bound in bounds.items())
         if is_in_time or t.browser.slowness or time.monotonic() > ends:
-            t.expect(is_in_time or t.browser.slowness, f"{what} take long, on a machine that is {times:.1f} times slower: {found}")
-            return found
+            t.expect(is_in_time or t.browser.slowness, f"{what} take long, on a machine that is {times:.1f} times slower: {times_measured}")
+            return times_measured
 
 
 def slower_now(b):
@@ -65,7 +67,7 @@ def drawn(b, path, rows):
 
 # The time from a click to the first rows and to all of them, and the longest task on the way.
 TIMED = """const [address, rows, done] = arguments, tasks = [0];
-new PerformanceObserver(list => tasks.push(...list.getEntries().map(it => it.duration))).observe({type: 'longtask'});
+new PerformanceObserver(list => tasks.push(...list.getEntries().map(entry => entry.duration))).observe({type: 'longtask'});
 const count = () => document.querySelectorAll('tbody tr').length;
 document.querySelector('#view').replaceChildren();
 const begun = performance.now(); let first = null;
@@ -78,7 +80,7 @@ const look = () => {
 look();"""
 # The longest task while a text is typed and taken away again.
 TYPED = """const [text, done] = arguments, tasks = [0], field = document.querySelector('input[type=search]');
-new PerformanceObserver(list => tasks.push(...list.getEntries().map(it => it.duration))).observe({type: 'longtask'});
+new PerformanceObserver(list => tasks.push(...list.getEntries().map(entry => entry.duration))).observe({type: 'longtask'});
 const steps = [...text].map((_, i) => text.slice(0, i + 1)).concat('');
 const next = () => {
     if (steps.length === 0) return setTimeout(() => done(Math.round(Math.max(...tasks))), 900);
@@ -92,8 +94,8 @@ next();"""
 def far(t):
     """A list that is scrolled far down is there again after going back."""
     b = t.browser
-    at = scroll_far(b, fillings.LARGE_LOTS)
-    b.js("[...document.querySelectorAll('tbody a')].find(it => it.getBoundingClientRect().top > 200).click()")
+    at = scroll_far(b, LOTS)
+    b.js("[...document.querySelectorAll('tbody a')].find(link => link.getBoundingClientRect().top > 200).click()")
     until(lambda: b.text("h1").startswith("Lot "), "a lot")
     b.back()
     b.heading("Stock")
@@ -113,7 +115,7 @@ def far(t):
 
 # A button in the middle of the window: to click it moves nothing.
 IN_SIGHT = """const inSight = ({top, bottom}) => top > 200 && bottom < innerHeight - 200;
-return [...document.querySelectorAll('[data-key^=cancel]')].find(it => inSight(it.getBoundingClientRect()))?.dataset.key"""
+return [...document.querySelectorAll('[data-key^=cancel]')].find(button => inSight(button.getBoundingClientRect()))?.dataset.key"""
 
 
 def scroll_far(b, rows):
@@ -130,25 +132,45 @@ def folds(t):
     b.go(f"{t.proxy.address}#/lots/S-1")
     b.heading("Lot S-1")
     begun = time.monotonic()
-    found = t.pictured()
-    print(f"a genealogy of 2,190 lots: {found['boxes']} boxes after {time.monotonic() - begun:.1f} s, as fast as the proxy lets it ask", flush=True)
+    picture = t.pictured()
+    print(f"a genealogy of 2,190 lots: {picture['boxes']} boxes after {time.monotonic() - begun:.1f} s, as fast as the proxy lets it ask", flush=True)
     t.check_drawing("S-1")
-    t.expect(found["boxes"] <= 32 and "fold/forward" in str(found["edges"]), f"{found['boxes']} boxes are shown at first")
-    t.shot("37-folded", "a lot that went into 2,200 others: the first of them, and a box that stands for the rest")
+    t.expect(picture["boxes"] == 3 and "fold/forward" in str(picture["edges"]) and group_of(b).startswith("14 DRUM"), f"{picture['boxes']} boxes are shown at first, {group_of(b)}")
+    t.shot("37-folded", "a lot that went into 2,200 others: a box for the first of them, which are alike, and one for the rest")
     b.click("[data-key=more-forward]")
-    until(lambda: t.pictured()["boxes"] > found["boxes"] + 20, "more lots are shown")
-    t.check_drawing("S-1, unfolded")
+    until(lambda: group_of(b).startswith("44 DRUM"), "more lots are shown")
     b.click("[data-key=all]")
-    until(lambda: t.pictured()["boxes"] == 302, "300 lots are shown")
+    until(lambda: group_of(b).startswith("300 DRUM"), "300 lots are shown")
+    t.expect(t.pictured()["boxes"] == 3, "300 lots that are alike need more than a box")
+    unfold(t, 300)
     t.check_sight("S-1 with 300 others", "ACME/S-1")
     b.js("document.querySelector('.picture').scrollIntoView({block: 'center'})")
-    t.shot("37-unfolded", "the same with 300 lots: what was asked for is in sight", whole=False)
+    t.shot("37-unfolded", "the same with 300 lots, each unfolded: what was asked for is in sight", whole=False)
     b.js("document.querySelector('.picture').scrollTo(0, 0)")
     b.click("[data-key=asked]")
     t.check_sight("S-1, asked for again", "ACME/S-1")
-    b.click("[data-key=fewer]")
-    until(lambda: t.pictured()["boxes"] == found["boxes"], "fewer lots are shown")
+    b.click("[data-key=refold]")
+    until(lambda: t.pictured()["boxes"] == picture["boxes"] and group_of(b).startswith("14 DRUM"), "fewer lots are shown")
     chain(t)
+
+
+def group_of(b):
+    """The name of the picture's group, empty where there is none."""
+    return b.js("return document.querySelector('.genealogy .group')?.getAttribute('aria-label') ?? ''")
+
+
+def unfold(t, lots):
+    """Unfolds a picture's only group until each of its lots has a box."""
+    b = t.browser
+    while b.seen(".genealogy .group"):
+        before = t.pictured()["boxes"]
+        # by a key: the box may be out of sight
+        b.js("document.querySelector('.genealogy .group').focus()")
+        b.press("enter")
+        until(lambda: t.pictured()["boxes"] > before, "lots of the group are shown")
+        if before < 60:
+            t.check_drawing("S-1, unfolded")
+    t.expect(t.pictured()["boxes"] == lots + 2, f"{t.pictured()['boxes']} boxes of {lots} lots")
 
 
 def chain(t):
@@ -169,5 +191,38 @@ def chain(t):
     until(lambda: not b.seen("[data-key=all]"), "the whole chain is shown")
     t.check_drawing("C-16, wholly unfolded")
     t.check_sight("C-16, wholly unfolded", *made_of, "ACME/C-17")
+    once(t, "ACME/SU-1", "HOUSE/W-1")
     b.js("document.querySelector('.picture').scrollIntoView({block: 'center'})")
     t.shot("38-unfolded", "the whole chain: what was asked for is in sight, with all that it was made of", whole=False)
+    batches(t)
+
+
+def once(t, *sources):
+    """A source that each lot of a chain was made of has one box."""
+    boxes = t.browser.js("return [...document.querySelectorAll('.genealogy .box')].map(box => box.dataset.id)")
+    for source in sources:
+        t.expect(boxes.count(source) == 1, f"{source} has {boxes.count(source)} boxes")
+
+
+def batches(t):
+    """With a companion, the 2,189 lots of eleven batches are eleven boxes, all in sight at once."""
+    b = t.browser
+    t.companions.write(t.office)
+    try:
+        b.go(f"{t.proxy.address}#/lots/S-1")
+        b.heading("Lot S-1")
+        b.click("button", "Read again")
+        until(lambda: (t.pictured() or {}).get("boxes") == fillings.BATCHES + 1, "each batch has a box")
+        groups = [f"group/BIG/{number} | DRUM, quarantined" for number in range(1, fillings.BATCHES + 1)]
+        t.check_drawing("S-1 by batches")
+        t.check_sight("S-1 by batches", "ACME/S-1", *groups)
+        t.shot("44-by-batches", "2,189 lots of eleven batches: a box for each batch, all in sight")
+        b.js("document.querySelector(`[data-id='${arguments[0]}']`).focus()", groups[0])
+        b.press("enter")
+        until(lambda: t.pictured()["boxes"] == fillings.BATCHES + 1 + 30, "30 lots of a batch are shown")
+        t.check_drawing("S-1, a batch unfolded")
+        t.shot("44-a-batch-unfolded", "the same with 30 lots of a batch, and a box for its others", whole=False)
+        b.click("[data-key=refold]")
+        until(lambda: t.pictured()["boxes"] == fillings.BATCHES + 1, "the lots are folded again")
+    finally:
+        t.companions.clear()

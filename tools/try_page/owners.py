@@ -10,6 +10,9 @@ from .views import row
 # What stands on ACME's views: its name and key, lots, materials, orders and amounts.
 OF_ACME = ("ACME", "B-1", "B-2", "BLEND", "BRINE", "DR-1", "S-1", "O-1", "O-LATE", "845", "990")
 
+# The plant, as this site's settings name it.
+PLANT = '{"name":"Hilltop Blending","contact":"+00 555 0100"}'
+
 
 def windows(t):
     b = t.browser
@@ -19,7 +22,8 @@ def windows(t):
     first = b.window()
     b.new_window()
     t.enter("ACME")
-    b.heading("Orders")
+    b.heading("Home")
+    t.to_orders()
     t.cancel("O-TWO")
     b.click("dialog button", "Cancel the order")
     b.wait("Order O-TWO is cancelled.")
@@ -31,6 +35,8 @@ def windows(t):
     t.shot("23-two-windows", "another window cancelled the order meanwhile: told in words, and the list is read anew")
     b.new_window()
     t.enter("BOLT")
+    b.heading("Home")
+    t.to_orders()
     b.wait("No orders yet.")
     t.shot("24-no-orders", "another owner in another window sees its own orders alone: none yet")
     b.turn(first)
@@ -58,6 +64,8 @@ def leaving(t):
         nothing_of_acme(t, "after going back")
     t.shot("40-left", "the owner logged off and went back in the window's history: there is nothing but the form to log in")
     t.fill_in("BOLT")
+    b.heading("Home")
+    t.to_orders()
     b.wait("No orders yet.")
     nothing_of_acme(t, "when another has logged in")
     b.js("location.hash = '#/lots/BL-1'")
@@ -77,12 +85,12 @@ def idle(t):
     t.proxy.end()
     folder = t.folder / "idle"
     folder.mkdir()
-    quick = Proxy(folder, t.office_port, changes=[(r'"idle_minutes":\d+', '"idle_minutes":0.25')], port=t.proxy.port)
+    quick = Proxy(folder, t.office_port, changes=[(r'"idle_minutes":\d+', f'"idle_minutes":0.25,"plant":{PLANT}')], port=t.proxy.port)
     quick.start()
     clock = Clock(b)
     try:
         t.enter("ACME")
-        b.heading("Orders")
+        b.heading("Home")
         t.to_lot("B-1")
         doing_nothing(t, clock)
         brought_back(t, clock)
@@ -108,7 +116,8 @@ def doing_nothing(t, clock):
     b.heading("Log in")
     t.expect(b.js("return sessionStorage.length") == 0, "the key stays after the time is over")
     shown = b.js("return document.title + document.body.innerText")
-    t.expect(not [it for it in ("B-1", "BRINE", "980") if it in shown], "rows are seen after the time is over")
+    t.expect(not [name for name in ("B-1", "BRINE", "980") if name in shown], "rows are seen after the time is over")
+    t.expect("Hilltop Blending" in b.text("#plant") and "+00 555 0100" in b.text("#plant"), "the site's name of the plant isn't below the form")
     t.shot("43-logged-off", "the owner was logged off; its name is there, and it comes back to where it was", whole=False)
 
 
@@ -125,9 +134,9 @@ def brought_back(t, clock):
 
 
 def nothing_of_acme(t, when):
-    shown = t.browser.js("return document.title + document.documentElement.outerHTML + [...document.querySelectorAll('input')].map(it => it.value)")
-    found = [it for it in OF_ACME if it in shown]
-    t.expect(not found, f"{when} {found} can be seen")
+    shown = t.browser.js("return document.title + document.documentElement.outerHTML + [...document.querySelectorAll('input')].map(field => field.value)")
+    seen = [name for name in OF_ACME if name in shown]
+    t.expect(not seen, f"{when} {seen} can be seen")
 
 
 def late_reply(t):
@@ -144,6 +153,8 @@ def late_reply(t):
     t.shot("41-left-early", "the owner logged off while the page still asked: what isn't known is told, without a name")
     t.office.serve()
     t.fill_in("BOLT")
+    b.heading("Home")
+    t.to_orders()
     b.wait("No orders yet.")
     # longer than any rest between two tries: the site asks for a second, and the page about doubles it each time, up to ten
     time.sleep(min(2 + 1.5 * asked, 12))
@@ -161,10 +172,11 @@ def kept_page(t):
     b.js("window.kept = true")
     b.go(f"{t.proxy.address}icon.svg")
     b.go(t.proxy.address)
-    b.heading("Orders")
+    b.heading("Home")
     b.click("#who button", "Log off")
     t.fill_in("BOLT")
-    b.wait("No orders yet.")
+    b.wait("BOLT", "#who")
+    b.heading("Home")
     b.back()
     until(lambda: b.js("return location.pathname") == "/owner/icon.svg", "the picture from before")
     b.back()

@@ -37,42 +37,42 @@ http {{
 
 def has_ipv6():
     try:
-        with socket.socket(socket.AF_INET6) as it:
-            it.bind(("::1", 0))
+        with socket.socket(socket.AF_INET6) as probe:
+            probe.bind(("::1", 0))
             return True
     except OSError:
         return False
 
 
 def listens(port):
-    with socket.socket() as it:
-        return it.connect_ex(("127.0.0.1", port)) == 0
+    with socket.socket() as probe:
+        return probe.connect_ex(("127.0.0.1", port)) == 0
 
 
 class Process:
     """A program in the background, which says nothing, and is ended by its number."""
 
     def __init__(self, *words):
-        self.it = subprocess.Popen([str(it) for it in words], start_new_session=True, stdout=subprocess.DEVNULL, stderr=subprocess.DEVNULL)
+        self.process = subprocess.Popen([str(word) for word in words], start_new_session=True, stdout=subprocess.DEVNULL, stderr=subprocess.DEVNULL)
 
     def end(self):
-        if self.it.poll() is None:
-            self.it.terminate()
+        if self.process.poll() is None:
+            self.process.terminate()
             try:
-                self.it.wait(PATIENCE)
+                self.process.wait(PATIENCE)
             except subprocess.TimeoutExpired:
                 # with what it started: a worker that is left would keep the port
-                os.killpg(self.it.pid, signal.SIGKILL)
-        self.it.wait()
+                os.killpg(self.process.pid, signal.SIGKILL)
+        self.process.wait()
 
     @contextlib.contextmanager
     def stopped(self):
         """Meanwhile it does nothing, and takes nothing that is sent."""
-        self.it.send_signal(signal.SIGSTOP)
+        self.process.send_signal(signal.SIGSTOP)
         try:
             yield
         finally:
-            self.it.send_signal(signal.SIGCONT)
+            self.process.send_signal(signal.SIGCONT)
 
 
 class Office:
@@ -80,17 +80,20 @@ class Office:
 
     def __init__(self, toll, file, port):
         self.toll, self.file, self.port = toll, pathlib.Path(file), port
-        self.server = None
+        self.server, self.lines = None, []
 
     def plant(self, line):
         """The answer to a command or question of the plant, asked again while another has the lock."""
         def asked():
             done = subprocess.run([self.toll, "--db", self.file, *line.split()], capture_output=True, text=True)
             return None if "fault Locked" in done.stderr else (done.stdout + done.stderr).strip() or "(nothing)"
-        return until(asked, f"{line} gets the lock")
+        said = until(asked, f"{line} gets the lock")
+        if said == "accepted":
+            self.lines.append(line)
+        return said
 
     def plants(self, lines):
-        for line in filter(None, (it.strip() for it in lines.splitlines())):
+        for line in filter(None, (line.strip() for line in lines.splitlines())):
             said = self.plant(line)
             if said != "accepted":
                 raise SystemExit(f"try-page: the office told {said!r} to {line!r}")
@@ -102,6 +105,7 @@ class Office:
         said = self.plant(f"import {sheet}").splitlines()[-1]
         if said != f"accepted {len(records)} repeated 0 refused 0 bad 0 fault 0":
             raise SystemExit(f"try-page: the import said {said!r}")
+        self.lines += [f"actual {record.replace(',', ' ')}" for record in records]
 
     def serve(self):
         # the port of a server that was ended may be kept for a moment
@@ -126,9 +130,9 @@ class Office:
     def asks(self, owner, *requests):
         """Requests that are to be answered 200, of an owner whose key is its name and KEY1."""
         for method, path, *body in requests:
-            told = self.ask(owner, f"{owner}KEY1", method, path, json.dumps(body[0]) if body else None)
-            if told[0] != 200:
-                raise SystemExit(f"try-page: the office told {told} to {method} {path}")
+            reply = self.ask(owner, f"{owner}KEY1", method, path, json.dumps(body[0]) if body else None)
+            if reply[0] != 200:
+                raise SystemExit(f"try-page: the office told {reply} to {method} {path}")
 
     def stopped(self):
         """The server doesn't answer meanwhile, and does when this is over: to be used by `with`."""
@@ -157,7 +161,7 @@ class Proxy:
     """
 
     def __init__(self, folder, office_port, around="", changes=(), port=None, workers=1, connections=256):
-        self.folder, self.port, self.it = pathlib.Path(folder), port or free_port(), None
+        self.folder, self.port, self.nginx = pathlib.Path(folder), port or free_port(), None
         self._certify()
         self._lay_out_page()
         user = "user root;" if os.geteuid() == 0 else ""
@@ -186,17 +190,18 @@ class Proxy:
                               (r"ssl_certificate_key [^;]*;", f"ssl_certificate_key {self.folder}/key.pem;"),
                               (r"127\.0\.0\.1:800\b", f"127.0.0.1:{free_port()}"),
                               (r"proxy_pass http://127\.0\.0\.1:\d+", f"proxy_pass http://127.0.0.1:{office_port}"),
-                              (r"alias [^;]*/page/;", f"alias {self.folder}/toll/page/;"), (r"/var/log/nginx/", f"{self.folder}/")):
+                              (r"alias [^;]*/page/;", f"alias {self.folder}/toll/page/;"), (r"/var/log/nginx/", f"{self.folder}/"),
+                              (r"/var/cache/toll-companion/NAME/", f"{self.folder}/companion/")):
             site = re.sub(pattern, ours, site)
         return site
 
     def start(self):
-        self.it = Process("nginx", "-e", self.folder / "error.log", "-p", self.folder, "-c", self.folder / "nginx.conf")
-        until(lambda: self.it.it.poll() is not None or listens(self.port), "nginx listens")
-        if self.it.it.poll() is not None:
+        self.nginx = Process("nginx", "-e", self.folder / "error.log", "-p", self.folder, "-c", self.folder / "nginx.conf")
+        until(lambda: self.nginx.process.poll() is not None or listens(self.port), "nginx listens")
+        if self.nginx.process.poll() is not None:
             raise SystemExit(f"nginx ended: {(self.folder / 'error.log').read_text()[-600:]}")
 
     def end(self):
-        if self.it:
-            self.it.end()
-            self.it = None
+        if self.nginx:
+            self.nginx.end()
+            self.nginx = None

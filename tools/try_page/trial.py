@@ -25,7 +25,7 @@ class Trial:
     def __init__(self, folder, pictures):
         self.folder, self.pictures = pathlib.Path(folder), pathlib.Path(pictures)
         self.wrong, self.shots, self.least, self.office_port = [], [], 21, free_port()
-        self.office = self.proxy = self.browser = None
+        self.office = self.proxy = self.browser = self.companions = None
 
     def expect(self, holds, what):
         if not holds:
@@ -43,10 +43,10 @@ class Trial:
         """Keeps a picture, and looks at what is on it."""
         self.browser.shot(self.pictures / f"{name}.png", whole)
         self.shots.append((name, what))
-        contrasts, others = self.looks("[contrasts(), names().concat(widths(), heads())]")
+        contrasts, others = self.looks("[contrasts(), names().concat(widths(), heads(), targets())]")
         self.least = min(self.least, contrasts["least"])
-        for it in contrasts["wrong"] + others:
-            self.expect(False, f"{name}: {it}")
+        for fault in contrasts["wrong"] + others:
+            self.expect(False, f"{name}: {fault}")
 
     def looks(self, asked):
         return self.browser.js(f"{LOOKS}\nreturn {asked};")
@@ -71,8 +71,11 @@ class Trial:
             if self.browser.js("return sessionStorage.length") > 0:
                 self.browser.click("#who button")
             self.enter(owner)
-        else:
-            self.browser.click("#nav a", "Orders")
+            self.browser.heading("Home")
+        self.to_orders()
+
+    def to_orders(self):
+        self.browser.click("#nav a", "Orders")
         self.browser.heading("Orders")
 
     def to_lot(self, name):
@@ -82,8 +85,7 @@ class Trial:
         self.browser.heading(f"Lot {name}")
 
     def to_order(self, name):
-        self.browser.click("#nav a", "Orders")
-        self.browser.heading("Orders")
+        self.to_orders()
         self.browser.click("tbody a", name)
         self.browser.heading(f"Order {name}")
 
@@ -91,15 +93,19 @@ class Trial:
         """The picture of a genealogy, as soon as it is drawn: its boxes and edges, and the marked lot."""
         return until(lambda: self.looks("pictured()"), "the genealogy is drawn")
 
-    @contextlib.contextmanager
     def slow_traces(self, milliseconds=1500):
         """Meanwhile the page asks for a trace so much later, and a picture is drawn after the rest of its view."""
-        self.browser.js("""const [rest, soon] = [arguments[0], window.fetch];
+        return self.slow("/trace/", milliseconds)
+
+    @contextlib.contextmanager
+    def slow(self, begins, milliseconds):
+        """Meanwhile the document asks so much later for what begins so."""
+        self.browser.js("""const [begins, rest, soon] = [...arguments, window.fetch];
             window.withoutRest = soon;
             window.fetch = async (path, ...given) => {
-                if (path.startsWith("/trace/")) await new Promise(go => setTimeout(go, rest));
+                if (path.startsWith(begins)) await new Promise(go => setTimeout(go, rest));
                 return soon(path, ...given);
-            };""", milliseconds)
+            };""", begins, milliseconds)
         try:
             yield
         finally:
@@ -123,12 +129,12 @@ class Trial:
         return list(csv.DictReader(io.StringIO(text, newline=""), strict=True)), file.name
 
     def check_drawing(self, lot):
-        for it in self.looks("drawing()"):
-            self.expect(False, f"the genealogy of {lot}: {it}")
+        for fault in self.looks("drawing()"):
+            self.expect(False, f"the genealogy of {lot}: {fault}")
 
     def cancel(self, order):
         """Clicks an order's Cancel, which is there when its row has been in sight for a moment."""
-        self.browser.js("""[...document.querySelectorAll('tbody tr')].find(it => it.cells[0].textContent === arguments[0])
+        self.browser.js("""[...document.querySelectorAll('tbody tr')].find(row => row.cells[0].textContent === arguments[0])
             .scrollIntoView({block: 'center'})""", order)
         self.browser.click(f"button[data-key=cancel-{order}]")
 

@@ -69,14 +69,14 @@ def crowded(t):
 def crowd_of(proxy, family):
     """As many requests as the site takes at once, and one that it doesn't take."""
     words = ["curl", family, "-sk", "-m", PATIENCE, "-o", os.devnull, "-w", "%{http_code}", f"https://localhost:{proxy.port}/stock"]
-    crowd = [subprocess.Popen([str(it) for it in words], stdout=subprocess.PIPE, text=True) for _ in range(AT_ONCE + 1)]
+    crowd = [subprocess.Popen([str(word) for word in words], stdout=subprocess.PIPE, text=True) for _ in range(AT_ONCE + 1)]
     try:
-        until(lambda: any(it.poll() is not None and it.stdout.read() == "429" for it in crowd), "the proxy tells 429")
+        until(lambda: any(process.poll() is not None and process.stdout.read() == "429" for process in crowd), "the proxy tells 429")
         yield
     finally:
-        for it in crowd:
-            it.kill()
-            it.communicate()
+        for process in crowd:
+            process.kill()
+            process.communicate()
 
 
 def away(t):
@@ -164,8 +164,8 @@ def garbled(t):
     b = t.browser
     t.entered()
     t.office.end()
-    for what, told in STRANGE.items():
-        with another(t.office_port, told):
+    for what, reply in STRANGE.items():
+        with another(t.office_port, reply):
             b.click("#nav a", "Stock")
             b.wait(NOT_THE_OFFICES)
             look_sane(t, what)
@@ -227,7 +227,7 @@ def garbled_entering(t):
             t.expect(b.text("h1") == "Log in" and b.js("return sessionStorage.length") == 0, f"{what} logs somebody in")
     t.office.serve()
     t.fill_in("ACME")
-    b.heading("Orders")
+    b.heading("Home")
 
 
 def strange(t):
@@ -242,15 +242,15 @@ def strange(t):
         })""")
     t.expect(said == [0, "<img src=x onerror=top.hit=1><b>bold</b>" * 2], f"a text is read as HTML: {said}")
     t.shot("34-strange-texts", "texts that would be HTML are shown as they are")
-    said = b.js("try { document.body.insertAdjacentHTML('beforeend', '<p>'); return 'done'; } catch (it) { return it.name; }")
+    said = b.js("try { document.body.insertAdjacentHTML('beforeend', '<p>'); return 'done'; } catch (error) { return error.name; }")
     t.expect(said == "TypeError", f"HTML of a text is {said}")
-    said = b.js("""const it = document.createElement('p'); document.body.append(it); it.setAttribute('style', 'color: red');
-        try { it.setAttribute('onclick', 'window.hit = 3'); } catch { } it.click(); return [window.hit ?? 0, getComputedStyle(it).color]""")
+    said = b.js("""const paragraph = document.createElement('p'); document.body.append(paragraph); paragraph.setAttribute('style', 'color: red');
+        try { paragraph.setAttribute('onclick', 'window.hit = 3'); } catch { } paragraph.click(); return [window.hit ?? 0, getComputedStyle(paragraph).color]""")
     t.expect(said == [0, "rgb(23, 33, 43)"], f"a script or a style within the page is taken: {said}")
     moving(t)
     b.reload()
     b.heading("Orders")
-    headers = b.later("fetch('/owner/').then(it => arguments[0]([...it.headers]))")
+    headers = b.later("fetch('/owner/').then(reply => arguments[0]([...reply.headers]))")
     policy = dict(headers).get("content-security-policy", "")
     t.expect("default-src 'none'" in policy and "unsafe" not in policy, f"the policy is {policy}")
 
@@ -259,7 +259,7 @@ def moving(t):
     """A button changes places with another under the pointer: a click on it comes to it in the end, and never to the other."""
     b = t.browser
     b.js("""window.clicked = [];
-        const [wanted, other] = ['Wanted', 'Other'].map(it => Object.assign(document.createElement('button'), {textContent: it, onclick: () => clicked.push(it)}));
+        const [wanted, other] = ['Wanted', 'Other'].map(text => Object.assign(document.createElement('button'), {textContent: text, onclick: () => clicked.push(text)}));
         document.querySelector('#view').append(wanted, other);
         addEventListener('mousemove', () => wanted.before(other), {once: true})""")
     b.click("button", "Wanted")

@@ -10,8 +10,8 @@ def entering(t):
     t.expect(b.js("return location.href") == t.proxy.address, "the site's own address doesn't lead to the page")
     t.shot("01-log-in", "an owner logs in: its name, its key, where the key stays, and until when")
     for name, begins in (("openapi.yaml", "openapi: 3"), ("http.md", "# Requests over HTTP")):
-        told = b.later("fetch(document.querySelector(`footer a[href='${arguments[0]}']`).href).then(it => it.text()).then(arguments[1])", name)
-        t.expect(told.startswith(begins), f"the page doesn't lead to {name}")
+        text = b.later("fetch(document.querySelector(`footer a[href='${arguments[0]}']`).href).then(reply => reply.text()).then(arguments[1])", name)
+        t.expect(text.startswith(begins), f"the page doesn't lead to {name}")
     b.type("input[name=owner]", "ACME")
     b.type("input[name=key]", "WRONGKEY1")
     b.click("button", "Log in")
@@ -21,7 +21,7 @@ def entering(t):
     b.type("input[name=owner]", "acme")
     b.type("input[name=key]", "ACMEKEY1")
     b.click("button", "Log in")
-    b.heading("Orders")
+    b.heading("Home")
     t.expect(b.text("#who .owner") == "ACME", "a name in small letters is not taken")
     t.expect(b.js("return [sessionStorage.length, localStorage.length, document.cookie]") == [1, 0, ""], "the key is kept elsewhere than in sessionStorage")
     b.click("#who button", "Log off")
@@ -33,12 +33,12 @@ def orders(t):
     b = t.browser
     t.entered()
     b.find("button[data-key=cancel-O-5]")
-    until(lambda: all("started" in row(b, it) for it in ("O-1", "O-2", "O-3")), "the orders that were started say so")
-    t.expect(not any("Cancel" in row(b, it) for it in ("O-1", "O-2", "O-3", "O-4")), "an order that was started or cancelled can be cancelled")
+    until(lambda: all("started" in row(b, placed) for placed in ("O-1", "O-2", "O-3")), "the orders that were started say so")
+    t.expect(not any("Cancel" in row(b, placed) for placed in ("O-1", "O-2", "O-3", "O-4")), "an order that was started or cancelled can be cancelled")
     t.shot("03-orders", "the orders: a form for a new one, search, status, and cancelling where it can work")
     records, name = t.downloaded("csv-orders")
     t.expect(name.startswith("ACME-orders-20"), f"the file of the orders is called {name}")
-    t.expect([tuple(it.values()) for it in records[:4]] == [('="O-1"', '="BRINE-10"', "6", '="open"'), ('="O-2"', '="BLEND-2"', "1", '="open"'),
+    t.expect([tuple(record.values()) for record in records[:4]] == [('="O-1"', '="BRINE-10"', "6", '="open"'), ('="O-2"', '="BLEND-2"', "1", '="open"'),
                                                          ('="O-3"', '="FILL"', "2", '="open"'), ('="O-4"', '="FILL"', "1", '="cancelled"')],
              f"the file of the orders has {records[:4]}")
     t.place("O-9", "NOPE", 1)
@@ -72,7 +72,7 @@ def orders(t):
 
 def row(b, name):
     """The text of a list's row."""
-    return b.js("return [...document.querySelectorAll('tbody tr')].find(it => it.cells[0].textContent === arguments[0])?.textContent ?? ''", name)
+    return b.js("return [...document.querySelectorAll('tbody tr')].find(row => row.cells[0].textContent === arguments[0])?.textContent ?? ''", name)
 
 
 def order(t):
@@ -87,7 +87,7 @@ def order(t):
     t.shot("07-order", "an order with its batches: states as they are, requirements beside actuals as bars, one above what is required")
     t.expect(not b.seen("button", "Cancel"), "an order that was begun can be cancelled")
     records, _ = t.downloaded("csv-O-1")
-    made = [it["Actual"] for it in records if it["Use"] == '="produced"']
+    made = [record["Actual"] for record in records if record["Use"] == '="produced"']
     t.expect(made == ["980", "1002", "410", "0", "0"] and len(records) == 15, f"the file of O-1 has {records}")
     t.to_order("O-5")
     b.wait("The plant has opened no batch of it yet.")
@@ -101,21 +101,21 @@ def stock(t):
     b.click("#nav a", "Stock")
     b.heading("Stock")
     t.shot("09-stock", "the stock by lot: what is on hand, and each disposition by word, shape and colour")
-    names = lambda: b.js("return [...document.querySelectorAll('tbody tr')].map(it => it.cells[0].textContent)")
+    names = lambda: b.js("return [...document.querySelectorAll('tbody tr')].map(row => row.cells[0].textContent)")
     whole = names()
     t.expect(whole == sorted(whole), "the lots don't come by name")
     b.click("button.sort", "On hand")
-    amounts = b.js("return [...document.querySelectorAll('tbody tr')].map(it => parseInt(it.cells[2].textContent.replaceAll(',', '')))")
+    amounts = b.js("return [...document.querySelectorAll('tbody tr')].map(row => parseInt(row.cells[2].textContent.replaceAll(',', '')))")
     t.expect(amounts == sorted(amounts), "the lots aren't sorted by amount")
     b.click("button.sort", "On hand")
     t.expect(b.js("return document.querySelector('[aria-sort]').getAttribute('aria-sort')") == "descending", "a second click doesn't turn the order round")
     b.type("input[type=search]", "brine")
     until(lambda: b.text(".count").startswith(f"{len(names())} of "), "the search is told")
-    t.expect(names() and all("B-" in it for it in names()), f"a search for brine finds {names()}")
+    t.expect(names() and all("B-" in name for name in names()), f"a search for brine finds {names()}")
     b.choose("select[name=disposition]", "quarantined")
     records, _ = t.downloaded("csv-stock")
-    t.expect([it["Lot"] for it in records] == [f'="{it}"' for it in names()], f"the file of the stock has {records}, the list {names()}")
-    t.expect(all(it["Measure"] == '="kg"' and it["On hand"].isdecimal() and it["Disposition"] == '="quarantined"' for it in records), f"the file of the stock has {records}")
+    t.expect([record["Lot"] for record in records] == [f'="{name}"' for name in names()], f"the file of the stock has {records}, the list {names()}")
+    t.expect(all(record["Measure"] == '="kg"' and record["On hand"].isdecimal() and record["Disposition"] == '="quarantined"' for record in records), f"the file of the stock has {records}")
     t.shot("10-stock-searched", "the stock searched, filtered and sorted; the address has it, so it can be reloaded")
     b.click(".ways a", "By material")
     until(lambda: "materials" in b.text(".count"), "stock by material")
@@ -143,8 +143,8 @@ def lot(t):
     t.pictured()
     t.expect("1,200" in b.text() and b.text().count("DENSITY") == 2, "a result is hidden")
     results, sublots = t.downloaded("csv-B-4-results")[0], t.downloaded("csv-B-4-sublots")[0]
-    t.expect([(it["Value"], it["Counts"]) for it in results] == [("1300", '="earlier"'), ("1200", '="counts"')], f"the file of the results has {results}")
-    t.expect([tuple(it.values()) for it in sublots] == [('="TOTE2"', "410", '="kg"')], f"the file of the sublots has {sublots}")
+    t.expect([(record["Value"], record["Counts"]) for record in results] == [("1300", '="earlier"'), ("1200", '="counts"')], f"the file of the results has {results}")
+    t.expect([tuple(record.values()) for record in sublots] == [('="TOTE2"', "410", '="kg"')], f"the file of the sublots has {sublots}")
     b.click("button", "Reject…")
     b.find("dialog")
     t.shot("14-reject-question", "the question before a rejection, which is for good", whole=False)
@@ -163,9 +163,9 @@ def genealogy(t):
     b = t.browser
     t.entered()
     t.to_lot("BL-1")
-    found = t.pictured()
-    t.expect(found["asked"] == "ACME/BL-1", f"the marked lot is {found['asked']}")
-    t.expect(found["edges"] == fillings.BLEND_EDGES, f"the edges are {found['edges']}")
+    picture = t.pictured()
+    t.expect(picture["asked"] == "ACME/BL-1", f"the marked lot is {picture['asked']}")
+    t.expect(picture["edges"] == fillings.BLEND_EDGES, f"the edges are {picture['edges']}")
     t.check_drawing("BL-1")
     t.check_sight("BL-1", "ACME/BL-1", "ACME/B-1", "ACME/B-2", "HOUSE/W-102", "ACME/DR-1", "ACME/DR-2")
     t.expect(b.text(".direct") == "Directly made of\nB-1, B-2, W-102 (the plant's)\nDirectly went into\nDR-1, DR-2", f"above the picture stands {b.text('.direct')!r}")
@@ -173,8 +173,8 @@ def genealogy(t):
     b.click("summary")
     t.shot("16-genealogy-as-table", "the same lots as a table, with their fewest steps")
     records, _ = t.downloaded("csv-BL-1-genealogy")
-    found = {(it["Lot"], it["Owner"], it["Steps back"], it["Steps forward"]) for it in records}
-    t.expect({('="W-102"', '="HOUSE"', "1", ""), ('="DR-1"', '="ACME"', "", "1"), ('="BL-1"', '="ACME"', "0", "0")} <= found, f"the file of the genealogy has {records}")
+    rows = {(record["Lot"], record["Owner"], record["Steps back"], record["Steps forward"]) for record in records}
+    t.expect({('="W-102"', '="HOUSE"', "1", ""), ('="DR-1"', '="ACME"', "", "1"), ('="BL-1"', '="ACME"', "0", "0")} <= rows, f"the file of the genealogy has {records}")
     b.js("document.querySelector('.picture').scrollIntoView({block: 'center'})")
     b.click(".genealogy a[data-id='ACME/B-2']")
     b.heading("Lot B-2")

@@ -12,12 +12,12 @@ def history(t):
     b.heading("Stock")
     b.type("input[type=search]", "S-")
     b.click("button.sort", "On hand")
-    names = lambda: b.js("return [...document.querySelectorAll('tbody th')].map(it => it.textContent)")
-    until(lambda: all(it.startswith("S-") for it in names()), "the search")
-    found = names()
+    names = lambda: b.js("return [...document.querySelectorAll('tbody th')].map(head => head.textContent)")
+    until(lambda: all(name.startswith("S-") for name in names()), "the search")
+    listed = names()
     b.reload()
     b.heading("Stock")
-    t.expect(found and names() == found, "a reload forgets the search")
+    t.expect(listed and names() == listed, "a reload forgets the search")
     t.expect(b.js("return document.querySelector('input[type=search]').value") == "S-", "a reload empties the field")
     b.click("tbody a", "S-1")
     b.heading("Lot S-1")
@@ -45,6 +45,9 @@ def keyboard(t):
     b.write("ACME")
     b.press("tab")
     b.write("ACMEKEY1")
+    b.press("enter")
+    b.heading("Home")
+    tab_to(t, "#nav a[href='#/orders']", back=True)
     b.press("enter")
     b.heading("Orders")
     tab_to(t, "input[name=order]")
@@ -87,7 +90,7 @@ def decide_by_keys(t):
     b.find("dialog")
     t.expect(b.js("return document.activeElement.textContent") == "No, keep it", "the question's first answer isn't the harmless one")
     b.press("tab", "tab", "tab")
-    within = b.js("const it = document.activeElement; return it === document.body || document.querySelector('dialog').contains(it)")
+    within = b.js("const focused = document.activeElement; return focused === document.body || document.querySelector('dialog').contains(focused)")
     t.expect(within, "the focus leaves the question")
     b.press("escape")
     b.gone("dialog")
@@ -112,10 +115,37 @@ def phone(t):
             b.phone(width)
             b.reload()
             b.heading("Orders")
+            folded(t, name) if width <= FOLDED else t.expect(b.seen("input[name=order]"), f"the form is folded at {width} px")
             narrow(t, name, f"{width} px wide")
     finally:
         b.no_phone()
         b.reload()
+
+
+# The width up to which forms are folded, as in style.css: 40rem.
+FOLDED = 640
+
+
+def folded(t, name):
+    """On a phone the form and the choices are folded, and one field sorts."""
+    b = t.browser
+    t.expect(not b.seen("input[name=order]"), "the form for a new order isn't folded")
+    b.click("summary", "New order")
+    b.find("input[name=order]")
+    t.shot(f"27-{name}-new-order", "a phone: the form for a new order, unfolded", whole=False)
+    b.click("summary", "New order")
+    b.click("#nav a", "Stock")
+    b.heading("Stock")
+    t.expect(not b.seen("select") and not b.seen("button.sort"), "the choices aren't folded")
+    b.click("button", "Filter and sort")
+    b.choose("select[name=sort]", "amount yes")
+    amounts = lambda: b.js("return [...document.querySelectorAll('tbody tr')].map(row => parseInt(row.cells[2].textContent.replaceAll(',', '')))")
+    until(lambda: amounts() == sorted(amounts(), reverse=True), "the lots are sorted by amount, the largest first")
+    t.shot(f"28-{name}-sorted", "a phone: what is shown and how it is sorted, unfolded", whole=False)
+    b.click("#nav a", "Home")
+    b.heading("Home")
+    t.shot(f"27-{name}-home", "a phone: home")
+    t.to_orders()
 
 
 def narrow(t, name, what):
