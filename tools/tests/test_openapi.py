@@ -21,16 +21,16 @@ VALIDATOR = ["perl", "-MJSON::Validator", "-e", 'print "$_\\n" for @{JSON::Valid
 def resolved(said):
     """What is said, or what its reference leads to."""
     while "$ref" in said:
-        found = PAGE
+        place = PAGE
         for part in said["$ref"][2:].split("/"):
-            found = found[part]
-        said = found
+            place = place[part]
+        said = place
     return said
 
 
 def operations():
     """Each operation: its path, its method, and what is said of it."""
-    return [(path, method, it) for path, ways in PAGE["paths"].items() for method, it in ways.items() if method in METHODS]
+    return [(path, method, operation) for path, ways in PAGE["paths"].items() for method, operation in ways.items() if method in METHODS]
 
 
 def bodies():
@@ -44,12 +44,12 @@ def bodies():
 def faults_of(schema, value):
     """Why the value isn't one of the schema's. Schemas of OpenAPI 3.0 stand on the fourth draft of JSON Schema."""
     resolver = jsonschema.RefResolver.from_schema(PAGE)
-    return [it.message for it in jsonschema.Draft4Validator(schema, resolver=resolver).iter_errors(value)]
+    return [fault.message for fault in jsonschema.Draft4Validator(schema, resolver=resolver).iter_errors(value)]
 
 
 def sources():
     """The code's files, which may move from crate to crate."""
-    return [it.read_text() for it in sorted((ROOT / "crates").glob("*/src/**/*.rt"))]
+    return [source.read_text() for source in sorted((ROOT / "crates").glob("*/src/**/*.rt"))]
 
 
 def told_of(file):
@@ -78,15 +78,27 @@ def test_the_validator_finds_what_is_wrong(tmp_path, path, broken):
 
 
 def test_the_routes_are_those_of_the_code():
+    office = [(path, method) for path, method, operation in operations() if operation.get("x-told-by") != "site"]
+    assert [(path, method) for path, method, _ in operations() if (path, method) not in office] == [("/companion", "get")]
     row = r'pattern: "(.*?)",\s+endpoint: Endpoint {\s+parts: Parts::\w+,\s+get: (\w+).*?,\s+post: (\w+)'
     routes = [route for text in sources() for route in re.findall(row, text)]
     code = {(method, re.sub(r"{\w+}", "{}", pattern)) for pattern, *asks in routes for method, ask in zip(METHODS, asks) if ask == "Some"}
-    assert code and code == {(method, re.sub(r"{\w+}", "{}", path)) for path, method, _ in operations()}
+    assert code and code == {(method, re.sub(r"{\w+}", "{}", path)) for path, method in office}
+
+
+def test_what_the_site_sends_alone_is_in_its_settings():
+    settings = (ROOT / "packaging" / "nginx.conf").read_text()
+    assert [path for path, _, operation in operations() if operation.get("x-told-by") == "site" and f"location = {path} {{" not in settings] == []
+
+
+def test_an_operation_is_named_by_what_it_does():
+    names = [operation["operationId"] for _, _, operation in operations()]
+    assert all(re.fullmatch("(get|list|place|cancel|release|reject|trace)[A-Z][a-z]+", name) for name in names) and len(set(names)) == len(names)
 
 
 def test_the_routes_are_those_of_the_page_beside_it():
     rows = re.findall(r"^\| `(/[\w/]+)` \|(.*?)\|(.*?)\|$", (ROOT / "docs" / "http.md").read_text(), re.M)
-    page = {(method, re.sub(r"\b(ORDER|LOT|N)\b", "{}", path)) for path, *told in rows for method, it in zip(METHODS, told) if it.strip()}
+    page = {(method, re.sub(r"\b(ORDER|LOT|N)\b", "{}", path)) for path, *marks in rows for method, mark in zip(METHODS, marks) if mark.strip()}
     assert page == {(method, re.sub(r"{\w+}", "{}", path)) for path, method, _ in operations()}
 
 
@@ -95,28 +107,28 @@ def test_the_refusals_are_those_of_the_code():
     words = SCHEMAS["Refusal"]["properties"]["error"]["enum"]
     assert code == {word: number for number, word in enumerate(words, 1)}
     for word in set(code) & set(SCHEMAS):
-        fits = [(other, it) for other, it in code.items() if not faults_of(SCHEMAS[word], {"code": it, "error": other})]
+        fits = [(other, number) for other, number in code.items() if not faults_of(SCHEMAS[word], {"code": number, "error": other})]
         assert fits == [(word, code[word])]
 
 
 @pytest.mark.parametrize("where, content", bodies())
 def test_each_body_has_examples_that_fit(where, content):
-    examples = [content["example"]] if "example" in content else [it["value"] for it in content.get("examples", {}).values()]
+    examples = [content["example"]] if "example" in content else [example["value"] for example in content.get("examples", {}).values()]
     assert examples
-    for it in examples:
-        assert faults_of(content["schema"], it) == []
+    for example in examples:
+        assert faults_of(content["schema"], example) == []
 
 
 def test_each_schema_and_each_field_is_described():
     for name, schema in SCHEMAS.items():
         fields = {"": schema, **schema.get("properties", {})}
-        assert [it for it, said in fields.items() if "description" not in resolved(said)] == [], name
+        assert [field for field, said in fields.items() if "description" not in resolved(said)] == [], name
 
 
 def test_a_client_elsewhere_finds_the_server():
     first = PAGE["servers"][0]["url"]
     assert first == "/"
-    assert any("127.0.0.1" not in it["url"] and it["url"].startswith("https://") for it in PAGE["servers"])
+    assert any("127.0.0.1" not in server["url"] and server["url"].startswith("https://") for server in PAGE["servers"])
 
 
 def test_a_new_word_of_an_error_is_one():
@@ -126,5 +138,5 @@ def test_a_new_word_of_an_error_is_one():
 
 @pytest.mark.parametrize("path, method, operation", operations())
 def test_each_request_may_be_told_what_the_site_tells_by_itself(path, method, operation):
-    site = {status for status, it in operation["responses"].items() if resolved(it).get("x-told-by") == "site"}
+    site = {status for status, response in operation["responses"].items() if resolved(response).get("x-told-by") == "site"}
     assert site == {"429", "502", "504", "default"}

@@ -93,7 +93,7 @@ class StubAnswer(http.server.BaseHTTPRequestHandler):
                 self.server.go.wait(20)
         if self.path == "/lots/NEVER":
             time.sleep(4)
-        body = json.dumps({"lots": [{"lot": f"{self.headers['toll-owner']}-{it}"} for it in range(40)]}).encode()
+        body = json.dumps({"lots": [{"lot": f"{self.headers['toll-owner']}-{number}"} for number in range(40)]}).encode()
         status = 403 if self.headers["toll-key"] == WRONG_KEY else STATUSES.get(self.path, 200)
         if foreign := re.fullmatch("/foreign/([0-9]+)", self.path):
             status, body = int(foreign[1]), b"<h1>Welcome to our wireless network</h1>"
@@ -111,38 +111,38 @@ class StubAnswer(http.server.BaseHTTPRequestHandler):
 
 @pytest.fixture(scope="module")
 def stub():
-    it = Stub()
-    serving = threading.Thread(target=it.serve_forever)
+    server = Stub()
+    serving = threading.Thread(target=server.serve_forever)
     serving.start()
-    yield it
-    it.go.set()
-    it.shutdown()
+    yield server
+    server.go.set()
+    server.shutdown()
     serving.join()
-    it.server_close()
+    server.server_close()
 
 
 @pytest.fixture(scope="module")
 def site(stub, tmp_path_factory):
     folder = tmp_path_factory.mktemp("site")
     port = free_port()
-    it = Proxy(folder, stub.server_port, AROUND.format(folder=folder, port=port), CHANGES, port)
-    it.start()
-    yield it
-    it.end()
+    proxy = Proxy(folder, stub.server_port, AROUND.format(folder=folder, port=port), CHANGES, port)
+    proxy.start()
+    yield proxy
+    proxy.end()
 
 
 @functools.cache
 def trusting():
-    it = ssl.create_default_context()
-    it.check_hostname, it.verify_mode = False, ssl.CERT_NONE
-    return it
+    context = ssl.create_default_context()
+    context.check_hostname, context.verify_mode = False, ssl.CERT_NONE
+    return context
 
 
 class Reply:
     """A reply with its status, fields and body, and the body's value where that is JSON."""
 
     def __init__(self, reply):
-        self.status, self.fields, self.body = reply.status, {name.lower(): it for name, it in reply.getheaders()}, reply.read()
+        self.status, self.fields, self.body = reply.status, {name.lower(): field for name, field in reply.getheaders()}, reply.read()
 
     def value(self):
         return json.loads(self.body)
@@ -154,37 +154,37 @@ def ask(site, path, method="GET", body=None, to="127.0.0.1", source=None, **fiel
     peer = http.client.HTTPConnection("localhost")
     peer.sock = trusting().wrap_socket(line, server_hostname="localhost")
     try:
-        peer.request(method, path, body, {name.replace("_", "-"): it for name, it in fields.items()})
+        peer.request(method, path, body, {name.replace("_", "-"): field for name, field in fields.items()})
         return Reply(peer.getresponse())
     finally:
         peer.close()
 
 
-def told(site, data, patience=20):
+def sent(site, data, patience=20):
     """What the site tells to these bytes, until it closes, and after how many seconds."""
-    with trusting().wrap_socket(socket.create_connection(("127.0.0.1", site.port), timeout=patience), server_hostname="localhost") as it:
+    with trusting().wrap_socket(socket.create_connection(("127.0.0.1", site.port), timeout=patience), server_hostname="localhost") as line:
         begun = time.monotonic()
-        it.sendall(data)
+        line.sendall(data)
         got = b""
-        while more := it.recv(65536):
+        while more := line.recv(65536):
             got += more
         return got, time.monotonic() - begun
 
 
 def at_once(doing, n):
     """What n calls give that are made at once."""
-    found = []
-    threads = [threading.Thread(target=lambda i=i: found.append(doing(i))) for i in range(n)]
-    for it in threads:
-        it.start()
-    for it in threads:
-        it.join()
-    return found
+    results = []
+    threads = [threading.Thread(target=lambda i=i: results.append(doing(i))) for i in range(n)]
+    for thread in threads:
+        thread.start()
+    for thread in threads:
+        thread.join()
+    return results
 
 
 def test_nginx_takes_the_site_without_a_warning(site):
     words = ["nginx", "-t", "-e", "stderr", "-p", site.folder, "-c", site.folder / "nginx.conf"]
-    done = subprocess.run([str(it) for it in words], capture_output=True, text=True)
+    done = subprocess.run([str(word) for word in words], capture_output=True, text=True)
     assert done.returncode == 0 and "[warn]" not in done.stderr, done.stderr
 
 
@@ -200,8 +200,8 @@ def test_what_is_not_the_offices_does_not_look_like_it(site, status):
 def test_every_reply_of_the_interface_says_that_nobody_keeps_it(site):
     replies = [ask(site, "/stock", toll_owner="ACME"), ask(site, "/nowhere"), ask(site, "/orders", "POST", b"x" * 5000),
                ask(site, "/stock", "TRACE"), ask(site, "/"), ask(site, "/owner"), ask(site, "/lots/NEVER"), ask(site, "/owner/nothing.js")]
-    assert [it.status for it in replies] == [200, 404, 413, 405, 302, 301, 504, 404]
-    assert {it.fields.get("cache-control") for it in replies} == {"no-store"}
+    assert [reply.status for reply in replies] == [200, 404, 413, 405, 302, 301, 504, 404]
+    assert {reply.fields.get("cache-control") for reply in replies} == {"no-store"}
 
 
 def test_a_cache_in_front_gives_no_owner_anothers_stock(site):
@@ -210,11 +210,11 @@ def test_a_cache_in_front_gives_no_owner_anothers_stock(site):
         peer.request("GET", "/stock", headers={"toll-owner": owner})
         return Reply(peer.getresponse()).value()["lots"][0]["lot"]
 
-    assert [ask_cache(it) for it in ("ACME", "BOLT", "ACME")] == ["ACME-0", "BOLT-0", "ACME-0"]
+    assert [ask_cache(owner) for owner in ("ACME", "BOLT", "ACME")] == ["ACME-0", "BOLT-0", "ACME-0"]
 
 
 def test_a_cache_for_all_sites_of_the_machine_is_off_here(site):
-    assert [ask(site, "/stock", toll_owner=it).value()["lots"][0]["lot"] for it in ("ACME", "BOLT")] == ["ACME-0", "BOLT-0"]
+    assert [ask(site, "/stock", toll_owner=owner).value()["lots"][0]["lot"] for owner in ("ACME", "BOLT")] == ["ACME-0", "BOLT-0"]
 
 
 def test_files_of_the_page_are_looked_after_each_time(site):
@@ -226,19 +226,19 @@ def test_files_of_the_page_are_looked_after_each_time(site):
 # Browsers are told to be careful
 
 def test_all_that_the_site_tells_has_the_fields_for_browsers(site):
-    for it in (ask(site, "/stock"), ask(site, "/nowhere"), ask(site, "/owner/"), ask(site, "/owner/nothing.js"), ask(site, "/lots/NEVER"),
+    for reply in (ask(site, "/stock"), ask(site, "/nowhere"), ask(site, "/owner/"), ask(site, "/owner/nothing.js"), ask(site, "/lots/NEVER"),
                ask(site, "/stock", toll_owner="ACME", toll_key=WRONG_KEY)):
-        assert re.fullmatch(r"max-age=\d{8,}", it.fields["strict-transport-security"])
-        assert it.fields["cross-origin-opener-policy"] == it.fields["cross-origin-resource-policy"] == "same-origin"
-        assert it.fields["x-content-type-options"] == "nosniff" and it.fields["referrer-policy"] == "no-referrer"
-        assert "default-src 'none'" in it.fields["content-security-policy"] and "unsafe" not in it.fields["content-security-policy"]
+        assert re.fullmatch(r"max-age=\d{8,}", reply.fields["strict-transport-security"])
+        assert reply.fields["cross-origin-opener-policy"] == reply.fields["cross-origin-resource-policy"] == "same-origin"
+        assert reply.fields["x-content-type-options"] == "nosniff" and reply.fields["referrer-policy"] == "no-referrer"
+        assert "default-src 'none'" in reply.fields["content-security-policy"] and "unsafe" not in reply.fields["content-security-policy"]
 
 
 def test_the_page_is_compressed_and_what_owners_are_told_is_not(site):
     for path in ("/owner/", "/owner/main.js", "/owner/style.css", "/owner/openapi.yaml"):
-        it = ask(site, path, accept_encoding="gzip")
-        assert it.fields["content-encoding"] == "gzip" and it.fields["vary"] == "Accept-Encoding", path
-        assert gzip.decompress(it.body) == ask(site, path).body
+        reply = ask(site, path, accept_encoding="gzip")
+        assert reply.fields["content-encoding"] == "gzip" and reply.fields["vary"] == "Accept-Encoding", path
+        assert gzip.decompress(reply.body) == ask(site, path).body
     assert "content-encoding" not in ask(site, "/stock", toll_owner="ACME", accept_encoding="gzip").fields
 
 
@@ -247,15 +247,15 @@ def test_the_page_is_compressed_and_what_owners_are_told_is_not(site):
 @pytest.mark.parametrize("path, status", [("/", 302), ("/owner", 301), ("/owner/views", 301)])
 def test_a_redirection_leads_to_the_site_itself(site, path, status):
     for fields in ({}, {"host": f"localhost:{site.port}"}, {"x_forwarded_host": "evil.example"}):
-        it = ask(site, path, **fields)
-        assert (it.status, it.fields["location"]) == (status, path.rstrip("/") + "/" if path != "/" else "/owner/")
+        reply = ask(site, path, **fields)
+        assert (reply.status, reply.fields["location"]) == (status, path.rstrip("/") + "/" if path != "/" else "/owner/")
 
 
 def test_a_host_that_was_sent_is_never_told_back(site):
     for path in ("/", "/owner", "/stock"):
-        it = ask(site, path, host="evil.example")
-        assert it.status == 421 and it.value() == {"error": "UnknownHost"} and "evil" not in str(it.fields)
-        got, _ = told(site, f"GET https://evil.example{path} HTTP/1.1\r\nHost: localhost\r\nConnection: close\r\n\r\n".encode())
+        reply = ask(site, path, host="evil.example")
+        assert reply.status == 421 and reply.value() == {"error": "UnknownHost"} and "evil" not in str(reply.fields)
+        got, _ = sent(site, f"GET https://evil.example{path} HTTP/1.1\r\nHost: localhost\r\nConnection: close\r\n\r\n".encode())
         assert got.startswith(b"HTTP/1.1 421 ") and b"evil" not in got
 
 
@@ -273,7 +273,7 @@ def test_what_is_not_encrypted_is_told_nothing(site):
 
 @pytest.mark.skipif(not has_ipv6(), reason="this machine has no IPv6")
 def test_the_site_is_there_by_both_kinds_of_addresses(site):
-    assert [ask(site, "/stock", to=it).status for it in ("127.0.0.1", "::1")] == [200, 200]
+    assert [ask(site, "/stock", to=address).status for address in ("127.0.0.1", "::1")] == [200, 200]
 
 
 # One owner doesn't keep the others waiting
@@ -296,9 +296,9 @@ def test_an_address_asks_four_things_at_once_and_others_go_on(site, stub):
     asking.join()
     assert other.status == 200 and took < 1
     assert most == 4
-    assert sorted(it.status for it in hostile) == [200] * 4 + [429] * 8
-    turned_away = [it for it in hostile if it.status == 429]
-    assert {(it.fields["retry-after"], it.body) for it in turned_away} == {("1", b'{"error":"TooManyRequests"}')}
+    assert sorted(reply.status for reply in hostile) == [200] * 4 + [429] * 8
+    turned_away = [reply for reply in hostile if reply.status == 429]
+    assert {(reply.fields["retry-after"], reply.body) for reply in turned_away} == {("1", b'{"error":"TooManyRequests"}')}
 
 
 def slow_statuses(site, stub, most, addresses, **more):
@@ -311,14 +311,14 @@ def slow_statuses(site, stub, most, addresses, **more):
     stub.go.clear()
     answering = threading.Thread(target=answer)
     answering.start()
-    found = at_once(lambda i: ask(site, "/lots/SLOW", **addresses[i], **more).status, len(addresses))
+    statuses = at_once(lambda i: ask(site, "/lots/SLOW", **addresses[i], **more).status, len(addresses))
     answering.join()
-    return sorted(found)
+    return sorted(statuses)
 
 
 @pytest.mark.parametrize("address", ["2001:db8:1:2::{:x}", "2001:db8:1:2:3:4:5:{:x}", "2001:db8:7::{:x}"])
 def test_a_network_of_the_sixth_version_counts_as_one_address(site, stub, address):
-    assert slow_statuses(site, stub, 4, [{"x_address": address.format(it + 1)} for it in range(8)]) == [200] * 4 + [429] * 4
+    assert slow_statuses(site, stub, 4, [{"x_address": address.format(number + 1)} for number in range(8)]) == [200] * 4 + [429] * 4
 
 
 @pytest.mark.parametrize("spellings", [
@@ -328,13 +328,13 @@ def test_a_network_of_the_sixth_version_counts_as_one_address(site, stub, addres
     ["192.0.2.77", "::ffff:192.0.2.77", "::ffff:c000:24d", "0:0:0:0:0:ffff:192.0.2.77", "::FFFF:192.0.2.77", "0::ffff:c000:024d"],
 ])
 def test_a_network_counts_once_whatever_its_spelling(site, stub, spellings):
-    assert slow_statuses(site, stub, 4, [{"x_address": it} for it in spellings]) == [200] * 4 + [429] * 2
+    assert slow_statuses(site, stub, 4, [{"x_address": spelling} for spelling in spellings]) == [200] * 4 + [429] * 2
 
 
 @pytest.mark.parametrize("addresses", [["2001::1:5:6:7:8", "2001::2:5:6:7:8", "2001::5:6:7:8", "2001:0:1::8", "2001:1::8"],
                                        ["::ffff:192.0.2.78", "::ffff:192.0.2.79", "192.0.2.80", "::1", "::fffe:192.0.2.78"]])
 def test_other_networks_are_other_addresses(site, stub, addresses):
-    assert slow_statuses(site, stub, 5, [{"x_address": it} for it in addresses]) == [200] * 5
+    assert slow_statuses(site, stub, 5, [{"x_address": address} for address in addresses]) == [200] * 5
 
 
 IN_A_NETWORK = "TOLL_IN_A_NETWORK"  # set where this file's tests run in a network that a test made
@@ -350,8 +350,8 @@ def network():
     within = ["ip", "netns", "exec", name]
     try:
         subprocess.run([*within, "ip", "link", "set", "lo", "up"], check=True)
-        for it in ADDRESSES:
-            subprocess.run([*within, "ip", "-6", "addr", "add", f"{it}/128", "dev", "lo", "nodad"], check=True)
+        for address in ADDRESSES:
+            subprocess.run([*within, "ip", "-6", "addr", "add", f"{address}/128", "dev", "lo", "nodad"], check=True)
         yield within
     finally:
         subprocess.run(["ip", "netns", "del", name], check=True)
@@ -366,16 +366,16 @@ def test_addresses_of_the_system_count_by_their_network(network):
 @pytest.mark.skipif(IN_A_NETWORK not in os.environ, reason="it runs in the network that the test above makes")
 def test_addresses_in_a_network(site, stub):
     """Five addresses of one network have four connections, two of another theirs."""
-    assert slow_statuses(site, stub, 6, [{"source": it} for it in ADDRESSES], to="::1") == [200] * 6 + [429]
+    assert slow_statuses(site, stub, 6, [{"source": address} for address in ADDRESSES], to="::1") == [200] * 6 + [429]
 
 
 def test_networks_of_the_sixth_version_are_told_apart(site, stub):
-    assert slow_statuses(site, stub, 8, [{"x_address": f"2001:db8:1:{it + 1:x}::1"} for it in range(8)]) == [200] * 8
+    assert slow_statuses(site, stub, 8, [{"x_address": f"2001:db8:1:{number + 1:x}::1"} for number in range(8)]) == [200] * 8
 
 
 def test_an_address_that_asks_without_end_is_told_to_wait(site):
-    found = [it for _ in range(40) for it in at_once(lambda _: ask(site, "/stock", x_address="192.0.2.9"), 4)]
-    assert {it.status for it in found} <= {200, 429}
+    replies = [reply for _ in range(40) for reply in at_once(lambda _: ask(site, "/stock", x_address="192.0.2.9"), 4)]
+    assert {reply.status for reply in replies} <= {200, 429}
     begun = time.monotonic()
     assert ask(site, "/stock", x_address="192.0.2.10").status == 200 and time.monotonic() - begun < 1
 
@@ -383,7 +383,7 @@ def test_an_address_that_asks_without_end_is_told_to_wait(site):
 def test_who_sends_nothing_is_dropped(site):
     """The time for a head is that of the server which runs first, before a name is known."""
     for data in (b"GET /stock HTTP/1.1\r\nHost: localhost\r\n", b"POST /orders HTTP/1.1\r\nHost: localhost\r\nContent-Length: 9\r\n\r\n{"):
-        got, after = told(site, data)
+        got, after = sent(site, data)
         assert got == b"" and after < 8
 
 
@@ -391,22 +391,22 @@ def test_who_sends_nothing_is_dropped(site):
 
 def test_the_contract_stands_beside_the_page(site):
     for name in ("openapi.yaml", "http.md", "commands.md", "refusals.md"):
-        it = ask(site, f"/owner/{name}")
-        assert (it.status, it.fields["content-type"]) == (200, "text/plain; charset=utf-8")
-        assert it.body == (ROOT / "docs" / name).read_bytes()
+        reply = ask(site, f"/owner/{name}")
+        assert (reply.status, reply.fields["content-type"]) == (200, "text/plain; charset=utf-8")
+        assert reply.body == (ROOT / "docs" / name).read_bytes()
     assert b'href="openapi.yaml"' in ask(site, "/owner/").body and b'href="http.md"' in ask(site, "/owner/").body
 
 
 def test_the_site_sets_after_how_many_minutes_an_owner_is_logged_off(site):
-    it = ask(site, "/owner/settings.json")
-    assert it.fields["content-type"] == "application/json" and 1 <= it.value()["idle_minutes"] <= 60
+    reply = ask(site, "/owner/settings.json")
+    assert reply.fields["content-type"] == "application/json" and 1 <= reply.value()["idle_minutes"] <= 60
 
 
 def test_no_log_has_a_key(site):
-    told(site, b"GET /stock HTTP/1.1\r\nHost: localhost\r\ntoll-owner: ACME\r\ntoll_key: SECRETKEY1\r\nConnection: close\r\n\r\n")
-    told(site, b"GET /stock HTTP/1.1\r\nHost: localhost\r\ntoll-owner: ACME\r\ntoll key: SECRETKEY1\r\nConnection: close\r\n\r\n")
+    sent(site, b"GET /stock HTTP/1.1\r\nHost: localhost\r\ntoll-owner: ACME\r\ntoll_key: SECRETKEY1\r\nConnection: close\r\n\r\n")
+    sent(site, b"GET /stock HTTP/1.1\r\nHost: localhost\r\ntoll-owner: ACME\r\ntoll key: SECRETKEY1\r\nConnection: close\r\n\r\n")
     ask(site, "/stock", toll_owner="ACME", toll_key="SECRETKEY1")
-    logs = {it.name: it.read_text() for it in site.folder.glob("*.log")}
+    logs = {log.name: log.read_text() for log in site.folder.glob("*.log")}
     assert not [name for name, text in logs.items() if "SECRETKEY1" in text]
     assert '"ACME"' in logs["toll.log"]
 
@@ -416,21 +416,21 @@ AUTHENTICATED, UNAUTHENTICATED = "toll.log", "unauthenticated-toll.log"
 
 def logged(site, mark, is_there=True):
     """The lines with this mark, by the log that they are in; a request's line comes behind its reply."""
-    def found():
-        return {name: [it for it in (site.folder / name).read_text().splitlines() if mark in it] for name in (AUTHENTICATED, UNAUTHENTICATED)}
+    def lines_now():
+        return {name: [line for line in (site.folder / name).read_text().splitlines() if mark in line] for name in (AUTHENTICATED, UNAUTHENTICATED)}
     if is_there:
-        assert eventually(lambda: any(found().values()))
+        assert eventually(lambda: any(lines_now().values()))
     else:
         time.sleep(0.3)
-    return found()
+    return lines_now()
 
 
-@pytest.mark.parametrize("path, status", [("/stock", 200), *((it, status) for it, status in STATUSES.items() if status in (404, 405, 409))])
+@pytest.mark.parametrize("path, status", [("/stock", 200), *((known, status) for known, status in STATUSES.items() if status in (404, 405, 409))])
 def test_requests_with_a_key_are_in_the_log_that_is_kept(site, path, status):
     address = f"198.51.100.{status % 100}"
     assert ask(site, path, toll_owner="ACME", toll_key="ACMEKEY1", x_address=address).status == status
     lines = logged(site, address)
-    assert [it.split(" [")[0] for it in lines[AUTHENTICATED]] == [f'{address} "ACME"'] and lines[UNAUTHENTICATED] == []
+    assert [line.split(" [")[0] for line in lines[AUTHENTICATED]] == [f'{address} "ACME"'] and lines[UNAUTHENTICATED] == []
     assert f'"GET {path} HTTP/1.1" {status} ' in lines[AUTHENTICATED][0]
 
 
@@ -457,7 +457,7 @@ def test_a_line_of_a_log_is_short_whatever_is_sent(site):
         assert ask(site, "/stock?a-flood" + "\"" * 1900, toll_key=WRONG_KEY, **fields).status == 403
     assert eventually(lambda: len(logged(site, "a-flood")[UNAUTHENTICATED]) == 3)
     lines = logged(site, "a-flood")[UNAUTHENTICATED]
-    assert len(lines) == 3 and max(map(len, lines)) < 500 and {it.split()[1] for it in lines} == {'"-"'}
+    assert len(lines) == 3 and max(map(len, lines)) < 500 and {line.split()[1] for line in lines} == {'"-"'}
     assert "a-flood" not in (site.folder / "error.log").read_text()
 
 
@@ -468,7 +468,7 @@ def test_no_padding_hides_what_an_owner_changed(site, target):
     address, padding = f"203.0.113.{len(target)}", b" " * 150 if target.startswith(b"%s") else b"0" * 150
     head = b"POST " + target % (padding, b"x" * 150) + b" HTTP/1.1\r\nHost: localhost\r\nx-address: " + address.encode()
     key = b"\r\ntoll-owner: ACME\r\ntoll-key: ACMEKEY1\r\nContent-Length: 0\r\nConnection: close\r\n\r\n"
-    reply, _ = told(site, head + key)
+    reply, _ = sent(site, head + key)
     line, = logged(site, address)[AUTHENTICATED]
     assert b" 200 OK" in reply and '"POST /lots/S-1/release?x' in line and len(line) < 500
 
@@ -482,7 +482,7 @@ def test_a_client_that_goes_away_is_logged_with_what_was_done(site, stub):
         assert eventually(lambda: stub.now > before)
     time.sleep(0.5)
     stub.go.set()
-    assert ['"POST /lots/SLOW HTTP/1.1" 200 ' in it for it in logged(site, '"GONE"')[AUTHENTICATED]] == [True]
+    assert ['"POST /lots/SLOW HTTP/1.1" 200 ' in line for line in logged(site, '"GONE"')[AUTHENTICATED]] == [True]
 
 
 # How long a head is
@@ -492,17 +492,17 @@ LONGEST = {"toll_owner": "A" * 16, "toll_key": "k" * 32}
 
 def test_the_longest_requests_of_the_interface_come_to_the_office_unchanged(site, stub):
     """With all that a browser may add."""
-    browser = {f"sec_ch_ua_{it}": "v" * 200 for it in range(26)}
+    browser = {f"sec_ch_ua_{number}": "v" * 200 for number in range(26)}
     for method, path in (("GET", "/trace/forward/" + "L" * 16), ("POST", f"/lots/{'L' * 16}/release"), ("POST", f"/orders/{'O' * 16}/cancel"), ("GET", f"/batches/{'O' * 16}/99")):
         reply = ask(site, f"{path}?{'q' * 1800}", method, b"{" + b" " * 4094 + b"}" if method == "POST" else None, **LONGEST, user_agent="u" * 1900, **browser)
         assert reply.status == 200, reply.body
         head = stub.heads[-1]
         assert (head["toll-owner"], head["toll-key"], len(head["user-agent"])) == (LONGEST["toll_owner"], LONGEST["toll_key"], 1900)
-        assert [head[f"sec-ch-ua-{it}"] for it in range(26)] == ["v" * 200] * 26
+        assert [head[f"sec-ch-ua-{number}"] for number in range(26)] == ["v" * 200] * 26
 
 
 @pytest.mark.parametrize("path, fields, status", [("/stock?" + "q" * 2100, {}, 414), ("/stock", {"user_agent": "u" * 2100}, 400),
-                                                  ("/stock", {f"field_{it}": "v" * 1900 for it in range(6)}, 400)], ids=["line", "field", "fields"])
+                                                  ("/stock", {f"field_{number}": "v" * 1900 for number in range(6)}, 400)], ids=["line", "field", "fields"])
 def test_a_longer_head_is_refused(site, stub, path, fields, status):
     before = len(stub.heads)
     reply = ask(site, path, **LONGEST, **fields)
@@ -521,7 +521,7 @@ def guess(site, address, owner, key=WRONG_KEY):
 
 def test_the_twentieth_wrong_key_within_a_minute_is_answered_slowly(site):
     address = "2001:db8:9::{:x}"  # of one network
-    assert max(after for status, after in [guess(site, address.format(it), "ACME") for it in range(19)]) < 1
+    assert max(after for status, after in [guess(site, address.format(number), "ACME") for number in range(19)]) < 1
     status, after = guess(site, address.format(20), "ACME")
     assert status == 403 and 1 < after < 5
     # nobody else waits: another owner, a right key of this one, and this one's people elsewhere
@@ -540,7 +540,7 @@ def test_who_closes_after_a_wrong_key_waits_all_the_same(site, stub):
             time.sleep(0.1)
 
     def guessed():
-        return sum(1 for it in stub.heads if it["toll-owner"] == "CARL")
+        return sum(1 for head in stub.heads if head["toll-owner"] == "CARL")
 
     for _ in range(40):
         leave("CARL")
@@ -552,27 +552,27 @@ def test_who_closes_after_a_wrong_key_waits_all_the_same(site, stub):
 def responses_of(path, method):
     """Each response that the contract has for a request, by its status."""
     responses = CONTRACT["paths"][path][method]["responses"]
-    at = lambda it: CONTRACT["components"]["responses"][it["$ref"].rpartition("/")[2]] if "$ref" in it else it
-    return {status: at(it) for status, it in responses.items()}
+    at = lambda response: CONTRACT["components"]["responses"][response["$ref"].rpartition("/")[2]] if "$ref" in response else response
+    return {status: at(response) for status, response in responses.items()}
 
 
 def asked_of_the_site(site):
     """What the site answers by itself, as (status, error, retry-after)."""
     replies = [ask(site, "/stock?" + "a" * 9000), ask(site, "/stock", host="evil.example"), ask(site, "/lots/NEVER"),
                ask(site, "/orders", "POST", b"x" * 5000), ask(site, "/stock", long="x" * 40000), ask(site, "/stock", "POST", transfer_encoding="x")]
-    found = {(it.status, it.value()["error"], it.fields.get("retry-after")) for it in replies}
-    head, _, body = told(site, b"GET /stock HTTP/2.0\r\nHost: localhost\r\n\r\n")[0].decode().partition("\r\n\r\n")
-    return found | {(int(head.split()[1]), json.loads(body)["error"], None)}
+    answers = {(reply.status, reply.value()["error"], reply.fields.get("retry-after")) for reply in replies}
+    head, _, body = sent(site, b"GET /stock HTTP/2.0\r\nHost: localhost\r\n\r\n")[0].decode().partition("\r\n\r\n")
+    return answers | {(int(head.split()[1]), json.loads(body)["error"], None)}
 
 
 def test_what_the_site_tells_by_itself_is_in_the_contract(site):
-    found = asked_of_the_site(site)
-    assert found == {(414, "BadRequest", None), (421, "UnknownHost", None), (504, "Unavailable", "1"), (413, "TooLarge", None),
+    answers = asked_of_the_site(site)
+    assert answers == {(414, "BadRequest", None), (421, "UnknownHost", None), (504, "Unavailable", "1"), (413, "TooLarge", None),
                      (400, "BadRequest", None), (501, "Unavailable", None), (505, "Unavailable", None)}
     for path, ways in CONTRACT["paths"].items():
         for method in set(ways) & set(METHODS):
             responses = responses_of(path, method)
-            for status, error, retry_after in [*found, (429, "TooManyRequests", "1"), (502, "Unavailable", "1")]:
+            for status, error, retry_after in [*answers, (429, "TooManyRequests", "1"), (502, "Unavailable", "1")]:
                 said = responses.get(str(status), responses["default"])
                 if str(status) in responses and status in (429, 502, 504):
                     assert "retry-after" in said["headers"]
@@ -581,10 +581,10 @@ def test_what_the_site_tells_by_itself_is_in_the_contract(site):
 
 
 def test_an_office_that_is_away_is_told_by_502(site, tmp_path):
-    it = Proxy(tmp_path, free_port())
-    it.start()
+    proxy = Proxy(tmp_path, free_port())
+    proxy.start()
     try:
-        reply = ask(it, "/stock")
+        reply = ask(proxy, "/stock")
     finally:
-        it.end()
+        proxy.end()
     assert (reply.status, reply.value(), reply.fields["retry-after"]) == (502, {"error": "Unavailable"}, "1")
