@@ -98,17 +98,20 @@ class Repository:
     """A repository with a toolchain that stands in for the real one."""
 
     def __init__(self, folder):
-        self.folder, self.told = folder / "repository", folder / "told"
-        for it in ("repository/tools", "told", "bin"):
-            (folder / it).mkdir(parents=True)
-        for it in ("toll", "tools/build-program"):
-            shutil.copy2(ROOT / it, self.folder / it)
-        self.rt = folder / "bin" / "rt"
+        self.folder, self.notes, self.rt = folder / "repository", folder / "told", folder / "bin" / "rt"
+        self.environment = {**os.environ, "PATH": f"{folder}/bin:{os.environ['PATH']}", "TOLD": str(self.notes)}
+
+    def begin(self):
+        """Makes it, with nothing that is built."""
+        for path in (self.folder / "tools", self.notes, self.rt.parent):
+            path.mkdir(parents=True)
+        for path in ("toll", "tools/build-program"):
+            shutil.copy2(ROOT / path, self.folder / path)
         self.rt.write_text(RT)
         self.rt.chmod(0o755)
-        (self.told / "version").write_text("kit 1")
-        self.environment = {**os.environ, "PATH": f"{folder}/bin:{os.environ['PATH']}", "TOLD": str(self.told)}
+        (self.notes / "version").write_text("kit 1")
         self.list(CRATES)
+        return self
 
     def list(self, text):
         """Writes crates.txt, and each crate that isn't there yet."""
@@ -136,13 +139,13 @@ class Repository:
 
     def noted(self, what="begin"):
         """The crates with which this was done, in order."""
-        return [it.split()[1] for it in self.log().splitlines() if it.split()[0] == what]
+        return [line.split()[1] for line in self.log().splitlines() if line.split()[0] == what]
 
     def log(self):
-        return (self.told / "log").read_text() if (self.told / "log").exists() else ""
+        return (self.notes / "log").read_text() if (self.notes / "log").exists() else ""
 
     def forget(self):
-        (self.told / "log").unlink(missing_ok=True)
+        (self.notes / "log").unlink(missing_ok=True)
 
     def out(self, name):
         return self.folder / "crates" / name / "out"
@@ -156,15 +159,24 @@ class Repository:
 
 @pytest.fixture
 def repository(tmp_path):
-    return Repository(tmp_path)
+    return Repository(tmp_path).begin()
+
+
+@pytest.fixture(scope="module")
+def built_once(tmp_path_factory):
+    """The folder of a repository in which all is built, which no test changes."""
+    folder = tmp_path_factory.mktemp("built")
+    repository = Repository(folder).begin()
+    assert repository.build().returncode == 0
+    repository.forget()
+    return folder
 
 
 @pytest.fixture
-def built(repository):
+def built(built_once, tmp_path):
     """A repository in which all is built."""
-    assert repository.build().returncode == 0
-    repository.forget()
-    return repository
+    shutil.copytree(built_once, tmp_path, symlinks=True, dirs_exist_ok=True)
+    return Repository(tmp_path)
 
 
 def test_toll_builds_the_program_and_runs_it(repository):
@@ -201,13 +213,13 @@ def test_idle_processors_go_to_the_chain(repository):
 
 def test_no_more_runs_than_memory_allows(repository):
     assert repository.build("--jobs", "4", "--memory", "5").returncode == 0
-    told = [it.split()[0] for it in repository.log().splitlines()]
-    assert told == ["begin", "end"] * len(ALL) and set(re.findall(r"begin \w+ (\d)", repository.log())) == {"1"}
+    events = [line.split()[0] for line in repository.log().splitlines()]
+    assert events == ["begin", "end"] * len(ALL) and set(re.findall(r"begin \w+ (\d)", repository.log())) == {"1"}
 
 
 def test_too_little_memory_still_builds_one_after_another(repository):
     assert repository.build("--jobs", "2", "--memory", "0.1").returncode == 0
-    assert [it.split()[0] for it in repository.log().splitlines()] == ["begin", "end"] * len(ALL)
+    assert [line.split()[0] for line in repository.log().splitlines()] == ["begin", "end"] * len(ALL)
 
 
 def test_a_source_that_changed_builds_exactly_what_stands_on_it(built):
@@ -222,11 +234,11 @@ def test_a_line_of_the_list_that_changed_builds_what_stands_on_it(built):
 
 
 def test_a_source_that_was_only_touched_builds_nothing(built):
-    for it in built.folder.glob("crates/*/src/*"):
-        it.touch()
+    for source in built.folder.glob("crates/*/src/*"):
+        source.touch()
     done = built.toll("script")
     assert (done.out, done.err, built.log()) == ("ran script\n", "", "")
-    newest = max(it.stat().st_mtime_ns for it in built.folder.glob("crates/*/src/*"))
+    newest = max(source.stat().st_mtime_ns for source in built.folder.glob("crates/*/src/*"))
     assert (built.out("toll") / "toll").stat().st_mtime_ns > newest
 
 
@@ -238,14 +250,14 @@ def test_wrong_bodies_and_tests_are_none_of_the_programs_text(built):
 
 
 def test_another_toolchain_is_asked_about_each_crate(built):
-    (built.told / "version").write_text("kit 2")
+    (built.notes / "version").write_text("kit 2")
     assert built.build().returncode == 0
     assert sorted(built.noted("same")) == sorted(LIBRARIES) and built.noted() == ["toll"]
 
 
 def test_what_rt_built_by_itself_stays(built):
-    for it in built.folder.glob("crates/*/out/rlib/built-from"):
-        it.unlink()
+    for built_from in built.folder.glob("crates/*/out/rlib/built-from"):
+        built_from.unlink()
     assert built.build().returncode == 0
     assert sorted(built.noted("same")) == sorted(LIBRARIES) and built.noted() == []
 
@@ -264,10 +276,10 @@ def test_a_program_that_something_else_made_is_built(built):
 
 def test_an_edit_meanwhile_is_left_to_the_next_build(repository):
     repository.write("mid_a", "seconds 1\n")
-    it = repository.start("script")
+    process = repository.start("script")
     assert eventually(lambda: repository.has_begun("mid_a"))
     repository.write("low", "fn later\n")
-    assert it.communicate(timeout=PATIENCE)[0] == "ran script\n" and "ANEW" not in repository.log()
+    assert process.communicate(timeout=PATIENCE)[0] == "ran script\n" and "ANEW" not in repository.log()
     repository.forget()
     assert repository.toll("script").returncode == 0 and sorted(repository.noted()) == sorted(ALL)
 
@@ -278,9 +290,9 @@ def test_a_crate_that_fails_stops_what_stands_on_it_and_is_told(repository):
     assert (done.returncode, done.out) == (3, "")
     assert sorted(repository.noted()) == ["low", "mid_a", "mid_b", "short", "wide"]
     log = repository.out("mid_b") / "build.log"
-    told = ["mid_b failed:", "    src/lib.rt:3:1: error[unknown-name]: there is no mid_b", "    note: src/lib.rt:4:1: it is not proved that it returns",
+    lines = ["mid_b failed:", "    src/lib.rt:3:1: error[unknown-name]: there is no mid_b", "    note: src/lib.rt:4:1: it is not proved that it returns",
             "    fn it::ill: no proof: write it", f"    all that was said: {log}"]
-    assert "".join(f"toll: {it}\n" for it in told) in done.err
+    assert "".join(f"toll: {line}\n" for line in lines) in done.err
     assert done.err.endswith("toll: mid_b failed; above it were left: 2\ntoll: the program couldn't be built\n")
     assert "nothing was built" in log.read_text() and repository.is_clean()
     assert (repository.out("mid_b") / "incremental" / "kept.oantt").read_text() == "wrong\n"
@@ -306,11 +318,11 @@ def test_a_library_that_rt_leaves_without_a_stamp_has_failed(repository):
     (signal.SIGINT, "tools/build-program", 130), (signal.SIGTERM, "tools/build-program", 143)])
 def test_ended_by_a_signal_it_leaves_nothing_but_what_was_finished(repository, number, program, status):
     repository.write("mid_a", "seconds 300\n")
-    it = repository.start(program=program)
-    assert eventually(lambda: (repository.told / "pid-mid_a").exists())
-    it.send_signal(number)
-    assert it.wait(20) == status
-    child = int((repository.told / "pid-mid_a").read_text())
+    process = repository.start(program=program)
+    assert eventually(lambda: (repository.notes / "pid-mid_a").exists())
+    process.send_signal(number)
+    assert process.wait(20) == status
+    child = int((repository.notes / "pid-mid_a").read_text())
     assert eventually(lambda: not os.path.exists(f"/proc/{child}")) and repository.is_clean()
     assert (repository.out("mid_a") / "incremental" / "kept.oantt").exists() and not (repository.out("mid_a") / "rlib").exists()
     repository.forget()
@@ -347,10 +359,10 @@ def test_a_signal_at_any_moment_ends_the_build(tmp_path):
 def test_ctrl_c_ends_all_at_once(repository):
     repository.write("low", "seconds 300\n")
     how = {"stdin": subprocess.DEVNULL, "stderr": subprocess.PIPE, "text": True, "start_new_session": True, "preexec_fn": heed_signals}
-    it = subprocess.Popen([repository.folder / "toll", "script"], env=repository.environment, **how)
-    assert eventually(lambda: (repository.told / "pid-low").exists())
-    os.killpg(it.pid, signal.SIGINT)
-    assert "the building was ended; what is proved stays" in it.communicate(timeout=20)[1] and it.returncode == 130
+    process = subprocess.Popen([repository.folder / "toll", "script"], env=repository.environment, **how)
+    assert eventually(lambda: (repository.notes / "pid-low").exists())
+    os.killpg(process.pid, signal.SIGINT)
+    assert "the building was ended; what is proved stays" in process.communicate(timeout=20)[1] and process.returncode == 130
     assert repository.is_clean()
 
 
@@ -365,10 +377,10 @@ def test_of_two_at_once_the_second_waits(repository):
 
 def test_what_a_killed_build_left_goes_with_the_next(repository):
     repository.write("low", "seconds 4\n")
-    it = repository.start(program="tools/build-program")
+    process = repository.start(program="tools/build-program")
     assert eventually(lambda: repository.has_begun("low"))
-    it.kill()
-    it.communicate(timeout=20)
+    process.kill()
+    process.communicate(timeout=20)
     assert not repository.is_clean()
     done = repository.toll("script")
     assert done.out == "ran script\n" and "another build" in done.err  # its rt goes on to its end, and keeps others out
@@ -378,23 +390,23 @@ def test_what_a_killed_build_left_goes_with_the_next(repository):
 def test_it_waits_for_another_rt_in_a_crate(repository):
     lock = os.open(repository.folder / "crates" / "mid_a", os.O_RDONLY)
     fcntl.flock(lock, fcntl.LOCK_EX)
-    it = repository.start("script")
+    process = repository.start("script")
     assert eventually(lambda: "end short" in repository.log())
     time.sleep(0.3)
     assert not repository.has_begun("mid_a")
     os.close(lock)
-    out, err = it.communicate(timeout=PATIENCE)
+    out, err = process.communicate(timeout=PATIENCE)
     assert out == "ran script\n" and err.count("toll: another rt works in crates/mid_a, and what needs that waits for it\n") == 1
 
 
 def test_it_tells_how_far_it_is_and_how_long_it_may_take(repository):
     repository.write("wide", "seconds 1.5\n")
     repository.write("mid_a", "fn it\n" * 3000)
-    told = repository.build("--jobs", "1", "--every", "0.3").err.splitlines()
+    lines = repository.build("--jobs", "1", "--every", "0.3").err.splitlines()
     form = r"toll: \d of 7 crates are proved(, (some \d+ minutes|about a minute) to go)?( \([\w, ]+\))?"
-    assert told[0].startswith("toll: building the program: ") and all(re.fullmatch(form, it) for it in told[1:]), told
-    assert told[1] == "toll: 0 of 7 crates are proved, some 7 minutes to go (low)" and told[-1] == "toll: 7 of 7 crates are proved"
-    assert sum("(wide)" in it for it in told) >= 3
+    assert lines[0].startswith("toll: building the program: ") and all(re.fullmatch(form, line) for line in lines[1:]), lines
+    assert lines[1] == "toll: 0 of 7 crates are proved, some 7 minutes to go (low)" and lines[-1] == "toll: 7 of 7 crates are proved"
+    assert sum("(wide)" in line for line in lines) >= 3
 
 
 def test_it_tells_within_thirty_seconds_by_itself():
@@ -407,7 +419,7 @@ def test_a_wrong_use_has_status_2(repository):
 
 def test_with_no_toolchain_it_says_so(repository):
     repository.rt.unlink()
-    repository.environment["PATH"] = ":".join(it for it in repository.environment["PATH"].split(":") if not os.path.exists(f"{it}/rt"))
+    repository.environment["PATH"] = ":".join(folder for folder in repository.environment["PATH"].split(":") if not os.path.exists(f"{folder}/rt"))
     done = repository.toll("script")
     assert (done.returncode, done.out, done.err) == (3, "", "toll: the toolchain's command rt isn't here, and the program isn't built\n")
 
@@ -495,8 +507,8 @@ def test_an_unproved_build_is_the_tried_module_optimized_and_says_what_it_is(unp
 
 def test_an_unproved_build_of_the_same_text_stays_and_another_is_compiled(unproved):
     assert unproved.build("--unproved").returncode == 0
-    (unproved.told / "pid-try").unlink()
-    assert unproved.build("--unproved").returncode == 0 and not (unproved.told / "pid-try").exists()
+    (unproved.notes / "pid-try").unlink()
+    assert unproved.build("--unproved").returncode == 0 and not (unproved.notes / "pid-try").exists()
     unproved.write("toll", "fn other\n")
     assert unproved.build("--unproved").returncode == 0
     assert (unproved.quick / "toll").read_text().endswith("fn other\n")
@@ -512,9 +524,9 @@ def test_what_cannot_be_compiled_is_told_and_the_last_build_stays(unproved):
 
 def test_an_unproved_build_that_a_signal_ends_leaves_nothing(unproved):
     unproved.write("toll", "seconds 300\n")
-    it = unproved.start("--unproved", program="tools/build-program")
-    assert eventually(lambda: (unproved.told / "pid-try").exists())
-    it.send_signal(signal.SIGTERM)
-    assert it.wait(20) == 143 and not (unproved.quick / "building").exists() and not (unproved.quick / "toll").exists()
-    child = int((unproved.told / "pid-try").read_text())
+    process = unproved.start("--unproved", program="tools/build-program")
+    assert eventually(lambda: (unproved.notes / "pid-try").exists())
+    process.send_signal(signal.SIGTERM)
+    assert process.wait(20) == 143 and not (unproved.quick / "building").exists() and not (unproved.quick / "toll").exists()
+    child = int((unproved.notes / "pid-try").read_text())
     assert eventually(lambda: not os.path.exists(f"/proc/{child}"))

@@ -1,0 +1,127 @@
+"""`hilpoven demo`: a sample week of three owners on the owner's page."""
+import contextlib
+import json
+import os
+import shlex
+import shutil
+import sys
+import tempfile
+from collections.abc import Iterator
+from functools import partial
+
+import click
+
+from ..core import client, rights, settings as site
+from ..core.context import Context
+from ..core.failure import WRONG_USE, Failure, tell_line
+from ..core.scratch import held_back
+from ..demo import companions
+from ..demo.site import Listener, Site
+from ..demo.week import HERE, Week, working_days
+from ..papers import guard
+from ..records.days import today
+from . import hilpoven
+from .giving import give
+from .words import pass_context
+
+SETTINGS = "hilpoven.toml"
+EXAMPLES = ("recall HOUSE W-1102", "list lots --open", "board > board.html")
+QUICK = "/out/quick/toll"  # how the path of a program ends of which nothing is proved
+
+
+@click.command(short_help="shows a sample week on the owner's page")
+@click.option(
+    "--port",
+    type=click.IntRange(0, 65_535),
+    default=0,
+    metavar="PORT",
+    help="The page's port on 127.0.0.1; a free one by default.",
+)
+@pass_context
+def demo(context: Context, port: int) -> None:
+    """Shows a sample week of three owners on the owner's page, to this machine alone.
+
+    It makes an office in a temporary folder, lives through the five working days up to today, prints the page's address
+    and each owner's key, and answers until Ctrl-C. Then the folder is removed. It doesn't touch the office of the
+    settings, and has no TLS, limits or logs: owners need the site that `hilpoven setup` makes.
+
+    Example: hilpoven demo --port 8080
+    """
+    rights.require_operator("demo", "it needs nobody's rights: hilpoven demo")
+    program = program_of(context.settings)
+    with temporary() as folder, week_in(folder, program) as week, listening(week, port) as listener:
+        show(week, listener.port, program)
+        listener.serve_forever()
+
+
+def program_of(settings: site.Settings) -> str:
+    """The program. Of a clone it is the one that was built there: ./toll would begin to prove one, for half an hour."""
+    program, built = site.program(settings), f"{site.CHECKOUT}/crates/toll/out/toll"
+    if program != f"{site.CHECKOUT}/toll":
+        return program
+    if not os.path.isfile(built):
+        raise Failure(
+            "no program is built here", WRONG_USE, "demo/page compiles one in minutes, unproved; ./toll proves one"
+        )
+    return built
+
+
+@contextlib.contextmanager
+def temporary() -> Iterator[str]:
+    """A folder of this user's alone, which is removed at the end, also where this process is killed."""
+    with contextlib.ExitStack() as stack:
+        with held_back():
+            folder = tempfile.mkdtemp(prefix="hilpoven-demo.")
+            stack.enter_context(guard.over(folder))
+        try:
+            yield folder
+        finally:
+            shutil.rmtree(folder, ignore_errors=True)
+
+
+@contextlib.contextmanager
+def week_in(folder: str, program: str) -> Iterator[Week]:
+    """An office in a folder that has lived through the sample week, and its server, until the end of the block."""
+    with open(os.path.join(HERE, SETTINGS)) as lines, open(os.path.join(folder, SETTINGS), "x") as settings:
+        settings.write(f"toll = {json.dumps(program)}\n{lines.read()}")
+    os.environ.pop("HILPOVEN_SETTINGS", None)  # those of another office, if it is set
+    context = Context(site.load(settings.name))
+    tell_line("hilpoven: a sample week begins, which takes some seconds")
+    made = give(context, ["new"])
+    if made.status:
+        raise Failure(f"no sample is made: {made.text.strip()}")
+    with contextlib.closing(client.PlantSocket(context.file)) as plant:
+        server, port = client.begin_server(program, plant, client.BEGINS)
+        try:
+            week = Week(partial(give, context), port, folder, working_days(today()))
+            week.live()
+            yield week
+        finally:
+            client.end_server(server)
+
+
+def listening(week: Week, port: int) -> Listener:
+    """The site of the sample week at a port, with the owners' companions where this version makes them."""
+    served = Site(week.port)
+    if companions.COMMAND not in hilpoven.commands:
+        return Listener(served, port, lambda: None)
+    made = companions.Companions(os.path.join(week.folder, "companions"), week.give)
+    made.make()
+    served.more[companions.PATH] = made.reply
+    return Listener(served, port, made.refresh)
+
+
+def show(week: Week, port: int, program: str) -> None:
+    """Prints the page's address and the owners' keys, and what else can be tried."""
+    unproved = "   (the quick build: NOTHING of it is proved)" if program.endswith(QUICK) else ""
+    tell_line("hilpoven: log in with a name and its key; Ctrl-C ends this and removes all of it")
+    click.echo(f"http://127.0.0.1:{port}/owner/{unproved}")
+    for owner, key in week.keys.items():
+        click.echo(f"{owner} {key}")
+    sys.stdout.flush()
+    typed = "hilpoven" if shutil.which("hilpoven") == sys.argv[0] else shlex.quote(sys.argv[0])
+    settings = shlex.quote(os.path.join(week.folder, SETTINGS))
+    tell_line("hilpoven: the plant's side, in another terminal, for example:")
+    tell_line(f"  export HILPOVEN_SETTINGS={settings}")
+    for words in EXAMPLES:
+        tell_line(f"  {typed} {words}")
