@@ -32,8 +32,8 @@ if __name__ == "__main__":
     if len(sys.argv) != 2:
         sys.exit(__doc__)
     try:
-        found = versions(sys.argv[1])
+        version_of = versions(sys.argv[1])
     except OSError as fault:
         sys.exit(f"the program can't be run: {fault}")
-    if others := ", ".join(f"{file} has {it}" for file, it in found.items() if it != found[VERSION_FILE]):
-        sys.exit(f"{VERSION_FILE} has version {found[VERSION_FILE]}, but {others}")
+    if others := ", ".join(f"{file} has {version}" for file, version in version_of.items() if version != version_of[VERSION_FILE]):
+        sys.exit(f"{VERSION_FILE} has version {version_of[VERSION_FILE]}, but {others}")

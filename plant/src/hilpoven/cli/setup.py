@@ -1,0 +1,82 @@
+"""`hilpoven setup`: from the installed packages to an owner's page."""
+import grp
+import os
+import shlex
+import sys
+
+import click
+
+from .. import HOUSE
+from ..core import rights, settings as site
+from ..core.failure import WRONG_USE, Failure, printable, tell_line
+from ..setup.machine import Machine
+from ..setup.plan import Plan
+from ..setup.steps import Setup, take
+from .words import PATH
+
+MAY_BE_ROOT = {"sudo", "wheel", "admin"}  # groups whose members may become root by sudo
+
+
+@click.command(short_help="sets up an office with its site for owners")
+@click.argument("name", metavar="NAME")
+@click.option("--host", metavar="HOST", required=True, help="The site's host name, such as toll.example.com.")
+@click.option(
+    "--cert", metavar="FILE", required=True, type=PATH, help="The host's certificate, with the chain, as PEM."
+)
+@click.option("--key", metavar="FILE", required=True, type=PATH, help="The certificate's private key, as PEM.")
+@click.option("--owner", metavar="OWNER", default="", help="An owner to begin with, whose key is made and shown once.")
+def setup(name: str, host: str, cert: str, key: str, owner: str) -> None:
+    """Sets up an office with its site for owners: its settings in /etc/toll, with a free port, its folder, its file,
+    its units, and nginx's site with TLS.
+
+    Each step says what it did, or that it was done already, so the same command goes on after a failure. It replaces
+    no file that it didn't write, or that was changed since. Root alone may run it: for members of the group sudo it
+    calls sudo itself.
+
+    Example: hilpoven setup north --host toll.example.com --cert /etc/ssl/toll.pem --key /etc/ssl/private/toll.key
+    """
+    become_root()
+    if owner == HOUSE:
+        raise Failure("HOUSE is the plant itself", WRONG_USE)
+    plan = Plan(name, host.lower(), os.path.abspath(cert), os.path.abspath(key), owner)
+    owner_key, changes = "", 0
+    for done in take(Setup(plan, Machine())):
+        tell_line(printable(f"{'done ' if done.is_new else 'there'}  {done.text}"))
+        changes, owner_key = changes + done.is_new, done.owner_key or owner_key
+    if not changes:
+        tell_line("all of it was right: nothing is changed")
+    click.echo(f"https://{plan.host}/owner/")
+    if owner_key:
+        click.echo(f"{owner} {owner_key}")
+    tell_line(f"next: {next_step(plan)}")
+
+
+def become_root() -> None:
+    """Goes on as root, by sudo where the caller may; fails for everybody else."""
+    if os.geteuid() == 0 and not rights.is_member():
+        return
+    words = ["sudo", "--", os.path.abspath(sys.argv[0]), *sys.argv[1:]]
+    if not rights.is_member() and MAY_BE_ROOT & set(group_names()):
+        sys.stdout.flush()
+        os.execvp("sudo", words)
+    raise Failure("setup is for root alone", WRONG_USE, printable(shlex.join(words)))
+
+
+def group_names() -> list[str]:
+    """The names of the caller's groups."""
+    names = []
+    for number in os.getgroups():
+        try:
+            names.append(grp.getgrgid(number).gr_name)
+        except KeyError:
+            continue
+    return names
+
+
+def next_step(plan: Plan) -> str:
+    """The command behind this one."""
+    by = "sudo -u toll " if "SUDO_UID" in os.environ else ""
+    office = "" if site.only_office() == plan.name else f" --office {plan.name}"
+    if not plan.owner:
+        return f"{by}hilpoven{office} owner add OWNER --random"
+    return f"{by}hilpoven{office} recipe-add {plan.owner} TRIAL 1  (a recipe that {plan.owner} can order on its page)"
