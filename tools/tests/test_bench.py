@@ -42,7 +42,7 @@ def test_a_dense_genealogy_has_all_edges_between_neighbours(across: int, batches
     for row in Dense(across).moves("O"):
         (made if row[2] == PRODUCED else consumed)[row[8:10]].add(row[3:5])
     orders = [offices.batch_name(number) for number in range(1, batches + 1)]
-    assert consumed[orders[0]] == {(HOUSE, WATER)} and all(len(made[it]) == across for it in orders)
+    assert consumed[orders[0]] == {(HOUSE, WATER)} and all(len(made[order]) == across for order in orders)
     assert all(consumed[later] == made[earlier] for earlier, later in zip(orders, orders[1:]))
 
 
@@ -52,7 +52,7 @@ def test_half_of_a_dense_genealogy_is_the_front_of_all() -> None:
 
 
 def test_a_second_file_of_actuals_goes_on_behind_the_first() -> None:
-    first, more, both = (list(offices.records(*it)) for it in ((300,), (100, 300), (400,)))
+    first, more, both = (list(offices.records(*given)) for given in ((300,), (100, 300), (400,)))
     assert first[0] == more[0] and first + more[1:] == both
 
 

@@ -1,36 +1,43 @@
-"""docs/many-plants.md: the site by host name, as the page says it."""
+"""The sites of many plants on a machine, as `hilpoven setup` writes them."""
 import re
 import subprocess
+import sys
 
 import pytest
 from conftest import ROOT
 
-PAGE = (ROOT / "docs" / "many-plants.md").read_text()
-BLOCK = re.search(r"```shell\n(.*?)```", PAGE, re.S)[1]
+sys.path.insert(0, str(ROOT / "plant" / "src"))
+from hilpoven.setup.machine import Machine  # noqa: E402
+from hilpoven.setup.plan import Plan  # noqa: E402
+from hilpoven.setup.site import site_of  # noqa: E402
+
 PLANTS = {"acme": ("acme.example.com", 801), "bolt": ("bolt.example.org", 802)}
+LOGS = {"acme": "toll.log", "bolt": "toll-bolt.log"}
 
 
 @pytest.fixture
 def sites(tmp_path):
     """The folder of nginx's settings, with the sites of two plants."""
-    for it in ("conf.d", "sites-enabled", "ssl", "logs", "temporary"):
-        (tmp_path / it).mkdir()
-    block = BLOCK.replace("/usr/share/doc/toll/examples/nginx.conf", str(ROOT / "packaging" / "nginx.conf")).replace("/etc/nginx", str(tmp_path))
+    for folder in ("conf.d", "sites-enabled", "ssl", "logs", "temporary"):
+        (tmp_path / folder).mkdir()
     for name, (host, port) in PLANTS.items():
-        subprocess.run(["bash", "-euc", block], env={"PATH": "/usr/bin:/bin", "NAME": name, "HOST": host, "PORT": str(port)}, check=True)
+        made = site_of(Machine(nginx=str(tmp_path)), Plan(name, host, "/etc/ssl/x.pem", "/etc/ssl/private/x.key"), port)
+        assert not made.shared
+        for file in (made.machine, made.office):
+            file.put()
     return tmp_path
 
 
 def test_each_plant_has_its_own_name_and_port_and_the_rest_stands_once(sites):
-    common = (sites / "conf.d" / "toll.conf").read_text()
+    common = (sites / "conf.d" / "00-toll.conf").read_text()
     zones = re.findall(r"limit_\w+_zone .* zone=(\w+):", common)
     assert sorted(zones) == ["toll", "toll_at_once", "toll_wrong_keys"] and "toll.example.com" not in common
     for name, (host, port) in PLANTS.items():
-        text = (sites / "sites-enabled" / f"toll-{name}.conf").read_text()
+        text = (sites / "conf.d" / f"toll_{name}.conf").read_text()
         assert re.findall(r"server_name (.*);", text) == [host]
         assert set(re.findall(r"proxy_pass http://127\.0\.0\.1:(\d+)", text)) == {str(port)}
         assert "toll.example.com" not in text and "limit_req_zone" not in text
-        assert {re.sub(r".*/", "", it) for it in re.findall(r"access_log (\S+) toll", text)} == {f"toll-{name}.log", f"unauthenticated-toll-{name}.log"}
+        assert {re.sub(r".*/", "", log) for log in re.findall(r"access_log (\S+) toll", text)} == {LOGS[name], f"unauthenticated-{LOGS[name]}"}
 
 
 def test_nginx_takes_the_sites_of_two_plants(sites):

@@ -1,0 +1,217 @@
+"""`hilpoven follow`, its subcommands and `promote`: a standby that is seconds behind."""
+import os
+import sys
+from datetime import datetime
+from typing import TYPE_CHECKING
+
+import click
+
+from ..core import paths, rights, scratch, settings as site
+from ..core.context import Context
+from ..core.failure import REFUSED, WRONG_USE, Failure, printable, tell, tell_line
+from .groups import Group
+from .words import PATH, Operators, pass_context
+
+if TYPE_CHECKING:
+    from ..standby.follower import Follower
+    from ..standby.promoting import Choice
+
+
+def folder_of(context: Context) -> str:
+    """The folder of this machine that has the office's pieces."""
+    from ..standby import lag
+
+    return lag.folder_of(context.file, context.settings.follow.to)
+
+
+def made_folder(folder: str) -> str:
+    """A folder that nobody else may change, which is made if only its name is missing."""
+    if not os.path.lexists(folder) and os.path.isdir(os.path.dirname(folder)):
+        try:
+            os.mkdir(folder, 0o700)
+        except OSError as error:
+            raise Failure(f"{folder} can't be made: {error.strerror}") from error
+    return paths.private(folder)
+
+
+@click.group("follow", cls=Group, invoke_without_command=True)
+@click.option(
+    "--to",
+    type=Operators(click.STRING),
+    metavar="FOLDER|HOST:FOLDER",
+    help="Where pieces go, instead of FOLLOW or the settings' [follow].",
+)
+@click.option("--check", "is_check", is_flag=True, help="Looks only whether another machine was promoted since.")
+@click.pass_context
+def follow_group(ctx: click.Context, to: str | None, is_check: bool) -> None:
+    """Keeps a standby that is seconds behind, until it is ended.
+
+    It looks at the office ten times a second, while the server runs, and puts what is new into a piece each second:
+    changed pages, and lines of the journal. Pieces go into a folder, or by rsync over ssh into one of another machine.
+    A snapshot begins each day. If the disk is full or the network is lost, the office serves on, and pieces go on when
+    that ends. Only root and the office's user follow; the unit toll-follow@NAME does it.
+
+    Example: hilpoven follow --to standby:/var/lib/toll/NAME/follow
+    """
+    if ctx.invoked_subcommand is not None:
+        return
+    rights.require_operator("follow")
+    context: Context = ctx.obj
+    if to:
+        target = site.target_of(os.getcwd(), to)
+        context.settings = context.settings._replace(follow=context.settings.follow._replace(to=target))
+    if not context.settings.follow.to:
+        raise Failure("no target is named", WRONG_USE, f"give one by --to, or `to` below [follow] in {site.PATH}")
+    context.office()
+    check(context) if is_check else follow(context)
+
+
+def check(context: Context) -> None:
+    """Fails if the target was promoted; what can't be asked is told alone."""
+    from ..standby import chain, follower, remote, sender, timeline
+
+    target, own = context.settings.follow.to, timeline.number_of(context.file)
+    if remote.is_remote(target):
+        try:
+            names = remote.Remote(target, context.settings.follow.rsh).listed()
+        except Failure as failure:
+            if failure.exit_code == WRONG_USE:
+                raise
+            tell_line(f"hilpoven: {printable(failure.message)}")
+            return
+        sender.require_latest(context.file, own, target, names)
+    folder = folder_of(context)
+    if os.path.isdir(folder):
+        follower.require_latest(context.file, own, folder, chain.chains_in(folder))
+    click.echo(printable(f"{context.file} is of timeline {own}, the latest that {target} has"))
+
+
+def follow(context: Context) -> None:
+    """Follows the office, alone in its folder."""
+    folder = made_folder(folder_of(context))
+    try:
+        with scratch.held(folder):
+            follower_of(context, folder).run()
+    except BlockingIOError:
+        raise Failure(f"another follower writes into {folder}", REFUSED) from None
+
+
+def follower_of(context: Context, folder: str) -> "Follower":
+    """The follower of the office into a folder."""
+    from ..standby import remote, timeline
+    from ..standby.book import Book
+    from ..standby.follower import Follower
+    from ..standby.sender import Sender
+
+    settings, file, own = context.settings.follow, context.file, timeline.number_of(context.file)
+    office = f"{os.uname().nodename}:{file}"
+    book = Book(folder, file, context.journal().path, office, own, settings.reserve * 1_000_000)
+    sender = None
+    if remote.is_remote(settings.to):
+        rsh = remote.keeping_connected(settings.rsh, folder)
+        sender = Sender(remote.Remote(settings.to, rsh), folder, file, own, say)
+    say(f"follows {file}, of timeline {own}, to {settings.to}")
+    return Follower(file, context.settings.wait, book, settings.days, say, sender)
+
+
+def say(line: str) -> None:
+    """Writes a line for the operator."""
+    tell_line(printable(line))
+
+
+@follow_group.command("status")
+@click.argument("folder", metavar="[FOLDER]", required=False, type=PATH)
+@pass_context
+def follow_status(context: Context, folder: str | None) -> None:
+    """Shows how many seconds and commands the standby is behind. FOLDER is that of the settings by default.
+
+    On the office's machine it tells what isn't in a piece or not sent yet, on the standby how long the follower was
+    silent. It exits with 1 if that is more than `behind` of the settings, if the follower met a fault, or if another
+    machine was promoted since.
+
+    Example: hilpoven follow status
+    """
+    from ..standby import timeline
+    from ..standby.lag import lag_of
+
+    timeline.require_latest(context.file)
+    lag = lag_of(context.file, folder := folder or folder_of(context))
+    if lag is None:
+        raise Failure(f"nobody follows into {folder}", WRONG_USE, "`hilpoven follow` does")
+    for line in [*(f"ATTENTION: {it}" for it in lag.faults), *lag.lines]:
+        click.echo(printable(line))
+    sys.exit(REFUSED if lag.faults or lag.seconds > context.settings.follow.behind else 0)
+
+
+@follow_group.command("verify")
+@click.argument("folder", metavar="[FOLDER]", required=False, type=PATH)
+@pass_context
+def follow_verify(context: Context, folder: str | None) -> None:
+    """Checks all snapshots and pieces of a folder, that of the settings by default.
+
+    Each has to be there once, whole, in its place, and to follow the one before it. It names each that isn't, and exits
+    with 1 then.
+
+    Example: hilpoven follow verify
+    """
+    from ..standby import chain
+
+    wrong = False
+    chains = chain.chains_in(folder := folder or folder_of(context))
+    if not chains:
+        chain.newest_in(folder)
+    for of in chains:
+        report = chain.Report(of, folder).look()
+        for line in report.wrong:
+            click.echo(printable(line))
+        wrong |= bool(report.wrong)
+        state = "whole" if not report.wrong else f"{report.whole:,} are whole"
+        counts = f"{len(of.snapshots):,} snapshots and {len(of.pieces):,} pieces"
+        click.echo(f"chain {of.name} of timeline {of.timeline}: {counts}, {state}; up to {chain.at_of(of, of.last)}")
+    sys.exit(REFUSED if wrong else 0)
+
+
+@click.command()
+@click.argument("folder", metavar="[FOLDER]", required=False, type=PATH)
+@click.option("--until", metavar="PIECE", type=click.IntRange(0), help="Uses the pieces up to this one alone.")
+@click.option("--check", "is_check", is_flag=True, help="Makes and checks the office, and leaves nothing of it.")
+@pass_context
+def promote(context: Context, folder: str | None, until: int | None, is_check: bool) -> None:
+    """Makes the office of the pieces in a folder, on the standby.
+
+    It looks at all pieces, makes the file and its journal of the newest snapshot and the pieces behind it, and checks
+    the file with SQLite, toll and the sums of the movements. What was in its place is moved aside. Then a new timeline
+    begins: the old machine's office is refused when it comes back and asks the standby. If a piece is damaged or
+    missing, nothing is done, and it says up to which piece --until can go.
+
+    Example: hilpoven promote
+    """
+    from ..register import file as register
+    from ..standby import promoting
+
+    rights.become_owner(context.file)
+    folder, office = folder or folder_of(context), context.unseen_office()
+    if is_check:
+        last, choice = promoting.tried(office, folder, until)
+        tell_of(choice, f"the office of piece {choice.end} is sound; it was made at {last.at}, {age_of(last.at)} ago")
+        return
+    made, choice = promoting.promote(office, folder, context.place, context.journal(), until)
+    register.notes_of(context.journal())
+    last = made.last
+    tell_of(choice, f"{context.file} is the office of piece {choice.end}, made at {last.at}, {age_of(last.at)} ago")
+    aside = f"; what was there is in {made.aside}" if made.aside else ""
+    click.echo(printable(f"timeline {made.timeline} begins{aside}"))
+    tell(f"Serve it: systemctl enable --now {context.place.unit}\nThen lead owners and the plant here.")
+
+
+def tell_of(choice: "Choice", line: str) -> None:
+    """Prints what pieces gave, and which couldn't be used."""
+    for note in choice.notes:
+        say(f"not used: {note}")
+    click.echo(printable(line))
+
+
+def age_of(at: str) -> str:
+    """How long ago a time was."""
+    seconds = (datetime.now().astimezone() - datetime.fromisoformat(at)).total_seconds()
+    return f"{seconds:,.0f} seconds"

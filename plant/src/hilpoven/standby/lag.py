@@ -1,0 +1,74 @@
+"""How far a standby is behind: what its follower says, and what is new since where the follower doesn't look."""
+import contextlib
+import os
+import time
+from dataclasses import dataclass
+
+from ..core.failure import Failure
+from . import capture, chain, remote, state
+from .capture import Gap
+from .state import State
+
+
+BESIDE = (
+    "follow"  # the folder of the pieces beside the office's file, where they go to another machine or come from one
+)
+
+
+def folder_of(file: str, to: str) -> str:
+    """The folder of this machine that has an office's pieces, which go to a target; empty if that isn't set."""
+    return to if to and not remote.is_remote(to) else os.path.join(os.path.dirname(file), BESIDE)
+
+
+@dataclass(frozen=True)
+class Lag:
+    """A standby's follower as it says itself, whether it looks, how many seconds the standby is behind, and how many
+    commands and requests aren't in pieces; `None` if that can't be told."""
+
+    said: State
+    is_silent: bool
+    seconds: float
+    commands: int | None
+
+    @property
+    def lines(self) -> list[str]:
+        """What is told of it."""
+        said, pieces = self.said, "pieces" if self.said.unsent != 1 else "piece"
+        at = time.strftime("%Y-%m-%d %H:%M:%S", time.localtime(said.at))
+        count = "an unknown number of" if self.commands is None else f"{self.commands:,}"
+        of = "command or request" if self.commands == 1 else "commands and requests"
+        lines = [f"{self.seconds:.1f} seconds behind: {count} {of} in no piece; piece {said.piece} is of {at}"]
+        lines += [f"{said.unsent:,} {pieces} still to be sent to {said.to}"] if said.unsent else []
+        return lines
+
+    @property
+    def faults(self) -> list[str]:
+        """What keeps it from going on."""
+        silent = f"its follower hasn't looked for {time.time() - self.said.looked:,.0f} seconds"
+        return [*([silent] if self.is_silent else []), *([self.said.fault] if self.said.fault else [])]
+
+
+def lag_of(file: str, folder: str) -> Lag | None:
+    """How far the pieces in a folder are behind an office's file, which may be on another machine; `None` if nobody
+    follows into it."""
+    said = state.load(folder)
+    if said is None:
+        return None
+    if not said.is_silent:
+        return Lag(said, False, said.behind, said.commits)
+    if not os.path.exists(file):
+        return Lag(said, True, said.behind, said.commits)
+    new = commits_since(file, folder)
+    since = [said.unsent_since] if said.unsent_since else []
+    since += [said.waiting or said.looked] if new != 0 else []
+    return Lag(said, True, time.time() - min(since) if since else 0.0, new)
+
+
+def commits_since(file: str, folder: str) -> int | None:
+    """How many commands and requests a log has behind the last piece; `None` if the log can't tell."""
+    with contextlib.suppress(Failure, Gap, OSError):
+        watch = capture.continued(file, chain.opened(chain.newest_in(folder).newest).header.place)
+        if watch:
+            pages = watch.advance()
+            return pages.commits if pages else 0
+    return None

@@ -1,0 +1,42 @@
+"""What the tests of a standby share: a follower that looks when it is told to, and the office that its pieces give."""
+import contextlib
+import pathlib
+import sqlite3
+import tempfile
+
+from hilpoven.standby import chain, follower
+from hilpoven.standby.book import Book
+
+
+def follower_of(db: pathlib.Path, folder: pathlib.Path, office: str = "here", timeline: int = 1) -> follower.Follower:
+    """A follower of an office's file into a folder, which writes a piece with each look; what it tells is in `told`."""
+    folder.mkdir(mode=0o700, exist_ok=True)
+    told: list[str] = []
+    made = follower.Follower(str(db), 1.0, Book(str(folder), str(db), f"{db}.journal", office, timeline), 7, told.append)
+    made.told = told
+    made.resume()
+    return made
+
+
+def look(made: follower.Follower) -> None:
+    """Looks, and writes what is new."""
+    made.step()
+    made.write_pending()
+
+
+@contextlib.contextmanager
+def built(folder: pathlib.Path, until: int | None = None):
+    """The office that a folder's pieces give, in a folder that goes at the end."""
+    of = chain.newest_in(str(folder))
+    report = chain.Report(of, str(folder)).look()
+    assert report.wrong == []
+    with tempfile.TemporaryDirectory() as room:
+        yield chain.build(chain.pieces_of(of, *(report.route if until is None else report.route_to(until))), room)
+
+
+def rows_of(db: str | pathlib.Path) -> dict[str, list[tuple]]:
+    """All rows of all tables of a file that nobody writes."""
+    with contextlib.closing(sqlite3.connect(db)) as base:
+        assert base.execute("PRAGMA integrity_check").fetchall() == [("ok",)]
+        names = [it for it, in base.execute("SELECT name FROM sqlite_master WHERE type = 'table' ORDER BY name")]
+        return {it: sorted(base.execute(f"SELECT * FROM {it}")) for it in names}
