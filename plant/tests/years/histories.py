@@ -11,7 +11,7 @@ from hilpoven.years.private_server import PrivateServer
 from hilpoven.years.steps import Step
 
 OWNERS = ("ACME", "BOLT")
-KEYS = {it: f"{it}KEY1" for it in OWNERS}
+KEYS = {owner: f"{owner}KEY1" for owner in OWNERS}
 SUBLOTS = ("BAY1", "BAY2", "BAY3")
 UNITS = ("KETTLE", "MIXER", "PRESS")
 CUT = "cut"
@@ -43,8 +43,8 @@ require {owner} MAKE 1 produced {owner} MID 10
 require {owner} MAKE 2 produced {owner} MID 10
 require {owner} MAKE 3 produced {owner} END 10
 """ for owner in OWNERS)
-TAKES = {"HOUSE": [("1", "HOUSE", "WATER")], **{it: [("1", it, "RAW"), ("1", "HOUSE", "WATER"), ("2", "HOUSE", "SOFT"), ("2", it, "MID"), ("3", it, "END")] for it in OWNERS}}
-MAKES = {"HOUSE": [("1", "SOFT")], **{it: [("1", "MID"), ("2", "MID"), ("3", "END")] for it in OWNERS}}
+TAKES = {"HOUSE": [("1", "HOUSE", "WATER")], **{owner: [("1", owner, "RAW"), ("1", "HOUSE", "WATER"), ("2", "HOUSE", "SOFT"), ("2", owner, "MID"), ("3", owner, "END")] for owner in OWNERS}}
+MAKES = {"HOUSE": [("1", "SOFT")], **{owner: [("1", "MID"), ("2", "MID"), ("3", "END")] for owner in OWNERS}}
 TESTS = {"SOFT": ("LIME",), "END": ("DENSITY", "PH")}
 VALUES = {"LIME": ("M5", "0", "6"), "DENSITY": ("1100", "1180", "1300"), "PH": ("M5", "7", "10")}
 RECIPES = {"HOUSE": "SOFTEN", "ACME": "MAKE", "BOLT": "MAKE"}
@@ -134,7 +134,7 @@ class Growing:
 
     def test(self) -> None:
         """A result of a lot."""
-        there = [it for it, material in self.lots.items() if material in TESTS]
+        there = [lot_id for lot_id, material in self.lots.items() if material in TESTS]
         if there:
             owner, lot = self.some(there)
             good = self.random.random() < 0.8
@@ -156,7 +156,7 @@ class Growing:
     def empty(self) -> None:
         """All of a lot goes."""
         if self.lots:
-            owner, lot = self.some([*[it for it in self.lots if self.lots[it] not in ("WATER", "RAW")] * 3, *self.lots])
+            owner, lot = self.some([*[lot_id for lot_id in self.lots if self.lots[lot_id] not in ("WATER", "RAW")] * 3, *self.lots])
             for line in self.server.ask("stock", owner).output.splitlines():
                 there, sublot, *_, amount, _ = line.split()
                 if there == lot and amount != "0":
@@ -178,7 +178,7 @@ class Growing:
         if self.orders:
             owner, order = self.some(self.orders)
             if self.say("open", owner, order, self.some(UNITS)):
-                number = str(1 + sum(it[:2] == (owner, order) for it in self.batches))
+                number = str(1 + sum(batch[:2] == (owner, order) for batch in self.batches))
                 self.batches.append((owner, order, number))
                 self.say("do", owner, order, number, "start")
 
@@ -236,10 +236,10 @@ class Growing:
         for batch in self.batches:
             self.close(*batch)
         lying = {(owner, line.split()[0]) for owner in ("HOUSE", *OWNERS) for line in self.server.ask("stock", owner).output.splitlines() if line.split()[4] != "0"}
-        self.stayed.append([it for it in self.lots if it not in lying])
-        self.lots = {it: material for it, material in self.lots.items() if it in lying}
-        begun = {it[:2] for it in self.batches}
-        self.orders = [it for it in self.orders if it not in begun]
+        self.stayed.append([lot for lot in self.lots if lot not in lying])
+        self.lots = {lot: material for lot, material in self.lots.items() if lot in lying}
+        begun = {batch[:2] for batch in self.batches}
+        self.orders = [order for order in self.orders if order not in begun]
         self.batches, self.actuals = [], []
         self.steps.append(CUT)
         self.begin()
@@ -257,18 +257,18 @@ class Growing:
         for line in filter(None, SETUP.splitlines()):
             assert self.say(*line.split()), line
         self.begin()
-        things = [self.receive] * 4 + [self.work] * 10 + [self.open] * 4 + [self.order, self.test, self.move] * 2 + [
+        acts = [self.receive] * 4 + [self.work] * 10 + [self.open] * 4 + [self.order, self.test, self.move] * 2 + [
             self.dispose, self.empty, self.void, self.end, self.next_day]
         at = set(self.random.sample(range(size // 5, size), cuts))
-        for it in range(size):
-            self.some(things)()
-            if it in at:
+        for moment in range(size):
+            self.some(acts)()
+            if moment in at:
                 self.cut()
 
 
 def named_again(growing: Growing, parts: list[list[Step]], chance: float) -> dict[str, tuple[str, int]]:
     """For some lots that come in the next file the name of a lot of the same owner that stayed behind, and after how many moments."""
-    found: dict[str, tuple[str, int]] = {}
+    again: dict[str, tuple[str, int]] = {}
     free: dict[str, list[tuple[str, int]]] = {}
     for number, part in enumerate(parts):
         for step in part:
@@ -276,23 +276,23 @@ def named_again(growing: Growing, parts: list[list[Step]], chance: float) -> dic
             if not made or (step.words[0] == "actual" and step.words[6] != "produced"):
                 continue
             owner, lot = step.words[made[0]], step.words[made[1]]
-            is_new = not any(lot in it.words for before in parts[:number] for it in before)
-            if number and is_new and lot not in found and free.get(owner) and growing.random.random() < chance:
-                found[lot] = free[owner].pop()
+            is_new = not any(lot in earlier.words for before in parts[:number] for earlier in before)
+            if number and is_new and lot not in again and free.get(owner) and growing.random.random() < chance:
+                again[lot] = free[owner].pop()
         for owner, lot in growing.stayed[number] if number < len(growing.stayed) else ():
-            free.setdefault(owner, []).append((found[lot][0] if lot in found else lot, number + 1))
-    return found
+            free.setdefault(owner, []).append((again[lot][0] if lot in again else lot, number + 1))
+    return again
 
 
 def called_again(again: dict[str, tuple[str, int]]) -> dict[str, str]:
     """Of names by which lots are told over all files, those by which they stand in the one file."""
-    found: dict[str, str] = {}
+    names_again: dict[str, str] = {}
     for lot, (name, number) in again.items():
-        found[f"{name} (office-{number}.db)"] = found.get(name, name)
-        found[name] = lot
-    return found
+        names_again[f"{name} (office-{number}.db)"] = names_again.get(name, name)
+        names_again[name] = lot
+    return names_again
 
 
 def renamed(step: Step, names: dict[str, str]) -> Step:
     """The same step with other names of lots."""
-    return Step(tuple(names.get(it, it) for it in step.words), step.owner, "/".join(names.get(it, it) for it in step.path.split("/")), step.body)
+    return Step(tuple(names.get(word, word) for word in step.words), step.owner, "/".join(names.get(part, part) for part in step.path.split("/")), step.body)

@@ -52,7 +52,7 @@ def try_kills(closed: Plant, folder: pathlib.Path, kills: int) -> int:
         ended.add("nothing is left to do" if "nothing is left to do" in again.out else "begins anew" if "it begins anew" in again.err else "done")
         assert (left == after) == ("nothing is left to do" in again.out), step
         assert office_rows(plant) == after and plant.run("verify").status == 0, step
-        files = [it.split(",")[0] for it in plant.run("years", "files", "--csv").out.splitlines()[1:]]
+        files = [line.split(",")[0] for line in plant.run("years", "files", "--csv").out.splitlines()[1:]]
         assert files == ["office-1.db", "office.db"], step
         assert not (folder / "next.db").exists() and not (folder / "office-2.db").exists(), step
         assert plant.run("journal", "verify").status == 0 and "0 without an answer" in plant.run("journal", "verify").out, step

@@ -32,7 +32,7 @@ def carry(plant: Plant, *more: object):
 
 def names(plant: Plant) -> list[str]:
     """The files of an office's folder, but for its lock and a server's socket."""
-    return sorted(it.name for it in plant.folder.iterdir() if it.suffix not in (".lock", ".sock"))
+    return sorted(path.name for path in plant.folder.iterdir() if path.suffix not in (".lock", ".sock"))
 
 
 def test_an_open_batch_is_told_and_nothing_is_touched(at_work):
@@ -115,7 +115,7 @@ def test_a_plan_does_nothing(ready):
     with ready.serve():
         done = carry(ready, "--plan")
     assert done.status == 0 and "keys C1-1 and so on" in done.out and ready.content() == before and names(ready) == there
-    rows = [it.split() for it in done.out.splitlines()]
+    rows = [line.split() for line in done.out.splitlines()]
     assert ["ACME", "movements", "5", "3", "20,000", "0", "%"] in rows
     assert ["ACME", "O-1", "BRINE-10", "3", "1", "2"] in rows
 
@@ -140,11 +140,11 @@ recipe-add HOUSE CLEAN 1
 order C-1 CLEAN 1
 cancel C-1
 """)
-    stock = {it: ready.toll("stock", it).out for it in ("ACME", "BOLT", "HOUSE")}
+    stock = {owner: ready.toll("stock", owner).out for owner in ("ACME", "BOLT", "HOUSE")}
     keys = ready.rows("SELECT * FROM owners ORDER BY owner")
     done = carry(ready)
     assert done.status == 0, done
-    assert {it: ready.toll("stock", it).out for it in stock} == stock
+    assert {owner: ready.toll("stock", owner).out for owner in stock} == stock
     assert ready.rows("SELECT * FROM owners ORDER BY owner") == keys
     assert ready.toll("orders", "ACME").out.split()[0::4] == ["O-2", "O-3"] and "cancelled" in ready.toll("orders", "ACME").out
     assert ready.rows("SELECT mkey, amount, day FROM moves WHERE lot = 'S-2' ORDER BY 1") == [("C1-4", 1_000_000_000, 261127), ("C1-5", 1_000_000_000, 261127)]
@@ -153,17 +153,17 @@ cancel C-1
         assert server.ask("ACME", "GET", "/lots/B-1")[1]["disposition"] == "released"
 
 
-@pytest.mark.parametrize("left_out, told", [
+@pytest.mark.parametrize("left_out, why", [
     ("results", "latest results differ: only the old file has ACME B-1 DENSITY 1180 102"), ("orders", "orders without a batch differ: only the old file has ACME O-2 BRINE-10 1 0"),
     ("dispositions", "toll tells another stock of HOUSE")])
-def test_a_new_file_that_differs_is_removed(ready, monkeypatch, left_out, told):
+def test_a_new_file_that_differs_is_removed(ready, monkeypatch, left_out, why):
     ready.lay('> ACME POST /orders {"order":"O-2","recipe":"BRINE-10","batches":1}')
     before, there = ready.content(), names(ready)
     monkeypatch.setattr(steps, left_out, lambda base: iter(()))
     done = carry(ready)
-    assert done.status == 3 and told in done.err and "nothing was changed" in done.err
-    assert ready.content() == before and names(ready) == [*there, "office.db.journal"] and ready.lines()[-1]["error"].startswith(told)
-    assert not any(it.startswith(".hilpoven") for it in os.listdir(ready.folder))
+    assert done.status == 3 and why in done.err and "nothing was changed" in done.err
+    assert ready.content() == before and names(ready) == [*there, "office.db.journal"] and ready.lines()[-1]["error"].startswith(why)
+    assert not any(name.startswith(".hilpoven") for name in os.listdir(ready.folder))
 
 
 def test_a_step_that_toll_refuses_is_told_without_a_key(ready, monkeypatch):
@@ -212,7 +212,7 @@ def test_no_key_stands_on_a_command_line(ready, monkeypatch):
     begin = subprocess.Popen.__init__
     monkeypatch.setattr(subprocess.Popen, "__init__", lambda self, words, *rest, **more: begun.append(words) or begin(self, words, *rest, **more))
     assert carry(ready).status == 0
-    assert begun and not any("KEY1" in str(it) for it in begun)
+    assert begun and not any("KEY1" in str(call) for call in begun)
     assert "KEY1" not in ready.journal.read_text()
 
 
@@ -339,10 +339,10 @@ def test_a_lot_whose_name_comes_again_is_told_apart(behind):
     behind.lay("actual K4 ACME O-1 1 1 consumed SALT ACME S-0 BAY2 30 104\nactual K5 ACME O-1 1 2 produced BRINE ACME B-2 TOTE1 30 104\ndo ACME O-1 1 done\nclose ACME O-1 1")
     for _ in range(2):
         done = behind.run("years", "recall", "ACME", "S-0", "--csv")
-        assert [it.split(",")[:6] for it in done.out.splitlines()[1:]] == [["0", "ACME", "S-0", "released", "40", "0"], ["1", "ACME", "B-2", "quarantined", "30", "0"]]
+        assert [line.split(",")[:6] for line in done.out.splitlines()[1:]] == [["0", "ACME", "S-0", "released", "40", "0"], ["1", "ACME", "B-2", "quarantined", "30", "0"]]
         assert "another lot of this name: S-0 (office-1.db)" in done.err
         done = behind.run("years", "recall", "ACME", "S-0", "--in", "office-1.db", "--csv")
-        assert [it.split(",")[:6] for it in done.out.splitlines()[1:]] == [["0", "ACME", "S-0 (office-1.db)", "quarantined", "0", "0"]]
+        assert [line.split(",")[:6] for line in done.out.splitlines()[1:]] == [["0", "ACME", "S-0 (office-1.db)", "quarantined", "0", "0"]]
         assert "another lot of this name: S-0\n" in done.err
         back = behind.run("years", "trace", "ACME", "B-2", "back", "--csv").out.splitlines()[1:]
         assert back == ["0,ACME,B-2", "1,ACME,S-0"]
@@ -351,7 +351,7 @@ def test_a_lot_whose_name_comes_again_is_told_apart(behind):
         ledger = behind.run("years", "lot", "ACME", "S-0").out
         assert "K10  " in ledger and "K11" not in ledger and "origin: receipts" in ledger
         assert "origin: O-1 (office-1.db)/1" in behind.run("years", "lot", "ACME", "B-1").out and "origin: O-1/1" in behind.run("years", "lot", "ACME", "B-2").out
-        rows = [it.split(",") for it in behind.run("years", "statement", "ACME", "--csv").out.splitlines()]
+        rows = [line.split(",") for line in behind.run("years", "statement", "ACME", "--csv").out.splitlines()]
         assert ["SALT", "S-0", "kg", "0", "70", "0", "30", "0", "0", "40"] in rows and ["SALT", "S-0 (office-1.db)", "kg", "0", "5", "0", "0", "5", "0", "0"] in rows
         assert carry(behind).status == 0
 
@@ -360,7 +360,7 @@ def test_unknown_lots_and_files_are_told(behind):
     assert "there is no lot S-7 of ACME in any file" in behind.run("years", "recall", "ACME", "S-7").err
     assert "there are: office-1.db, office.db" in behind.run("years", "trace", "ACME", "S-1", "back", "--in", "office-9.db").err
     done = behind.run("years", "files", "--csv")
-    assert [it.split(",")[0::2] for it in done.out.splitlines()[1:]] == [["office-1.db", "9"], ["office.db", "0"]]
+    assert [line.split(",")[0::2] for line in done.out.splitlines()[1:]] == [["office-1.db", "9"], ["office.db", "0"]]
 
 
 def test_an_office_of_one_file_is_asked_the_same(at_work):
@@ -374,8 +374,8 @@ def test_a_limit_is_told_long_before(plant):
     with contextlib.closing(sqlite3.connect(plant.db)) as base, base:
         for back in range(60):
             day = int((today - datetime.timedelta(back)).strftime("%y%m%d"))
-            base.executemany("INSERT INTO moves SELECT owner, ?, kind, lot_owner, lot, sublot, target, material, ord, number, segment, amount, ? FROM moves WHERE mkey = 'K0'",
-                             ((f"K{back}-{it}", day) for it in range(150)))
+            base.executemany("INSERT INTO moves SELECT owner, ?, kind, lot_owner, lot, sublot, target, material, ord, number, segment, amount, ? FROM moves WHERE owner = 'ACME' AND mkey = 'K0'",
+                             ((f"K{back}-{number}", day) for number in range(150)))
     done = plant.run("status")
     full = today + datetime.timedelta((20_000 - 9_001) * 60 // 9_000)
     assert done.status == 1 and f"ATTENTION: ACME movements: 9,001 of 20,000, 45 %; at this pace full by {full}" in done.out

@@ -11,7 +11,7 @@ from random import Random
 import pytest
 from conftest import Plant
 from hilpoven.core.office import Office
-from hilpoven.records import statement, things
+from hilpoven.records import overviews, statement
 from hilpoven.records.genealogy import Genealogy
 from hilpoven.records.recall import recall_lines
 from hilpoven.records.rows import LotId
@@ -71,11 +71,11 @@ def try_history(plant: Plant, random: Random, size: int, cuts: int, chance: floa
         parts = [list(part) for part in parts_of(growing.steps)]
         again = named_again(growing, parts, chance)
         names = {lot: name for lot, (name, _) in again.items()}
-        given = [[renamed(it, names) for it in part] for part in parts]
+        given = [[renamed(step, names) for step in part] for part in parts]
         for number, part in enumerate(given):
             if number:
                 carry_over(plant)
-                nothing_acts_again(plant, [it for before in given[:number] for it in before])
+                nothing_acts_again(plant, [step for before in given[:number] for step in before])
             with private_server.opened(plant.program, str(plant.db)) as cut:
                 for step in part:
                     assert accepts(cut, step), step
@@ -97,8 +97,8 @@ def parts_of(steps):
 def carry_over(plant: Plant) -> None:
     """Carries the office over: stock, dispositions, latest results and what a release is told are as before."""
     before = told_of_lots(plant, plant.db)
-    told = plant.run("carry-over", plant.folder / "next.db", "--day", 260101)
-    assert told.status == 0, told
+    done = plant.run("carry-over", plant.folder / "next.db", "--day", 260101)
+    assert done.status == 0, done
     assert told_of_lots(plant, plant.db) == before
 
 
@@ -110,13 +110,13 @@ def told_of_lots(plant: Plant, db: pathlib.Path) -> dict:
     for end in ("", "-wal"):
         with contextlib.suppress(FileNotFoundError):
             shutil.copyfile(f"{db}{end}", f"{copy}{end}")
-    found = {}
+    lines_of = {}
     with private_server.opened(plant.program, str(copy)) as asked:
         for owner in EVERYBODY:
-            found[owner] = [it for it in asked.ask("stock", owner).output.splitlines() if it.split()[4] != "0"]
-            for lot in sorted({it.split()[0] for it in found[owner]}):
-                found[owner, lot] = told_of_lot(asked, owner, lot)
-    return found
+            lines_of[owner] = [line for line in asked.ask("stock", owner).output.splitlines() if line.split()[4] != "0"]
+            for lot in sorted({line.split()[0] for line in lines_of[owner]}):
+                lines_of[owner, lot] = told_of_lot(asked, owner, lot)
+    return lines_of
 
 
 def told_of_lot(asked: PrivateServer, owner: str, lot: str) -> object:
@@ -124,20 +124,20 @@ def told_of_lot(asked: PrivateServer, owner: str, lot: str) -> object:
     if owner == "HOUSE":
         return asked.ask("release", lot)
     _, body = asked.request(owner, KEYS[owner], f"/lots/{lot}")
-    latest = {it["test"]: (it["value"], it["day"]) for it in body["results"]}
-    sublots = [(it["sublot"], it["amount"]) for it in body["sublots"] if it["amount"]]
-    status, told = asked.request(owner, KEYS[owner], f"/lots/{lot}/release", ())
-    return body["disposition"], body["material"], latest, sublots, status, told.get("error")
+    latest = {result["test"]: (result["value"], result["day"]) for result in body["results"]}
+    sublots = [(sublot["sublot"], sublot["amount"]) for sublot in body["sublots"] if sublot["amount"]]
+    status, answer = asked.request(owner, KEYS[owner], f"/lots/{lot}/release", ())
+    return body["disposition"], body["material"], latest, sublots, status, answer.get("error")
 
 
 def nothing_acts_again(plant: Plant, steps: list[Step]) -> None:
     """A file of all actuals from before does nothing in the next file."""
-    actuals = [it for it in steps if it.words[:1] == ("actual",)]
+    actuals = [step for step in steps if step.words[:1] == ("actual",)]
     if not actuals:
         return
     names = "key,owner,order,batch,segment,use,material,lot_owner,lot,sublot,amount,day"
     sheet = plant.folder / "before.csv"
-    sheet.write_text("\n".join([names, *(",".join(it.words[1:]) for it in actuals)]) + "\n")
+    sheet.write_text("\n".join([names, *(",".join(actual.words[1:]) for actual in actuals)]) + "\n")
     before = plant.content()
     assert "accepted 0 repeated 0" in plant.toll("import", sheet).out
     assert plant.run("import", sheet).status in (0, 1)
@@ -160,12 +160,12 @@ def compare(plant: Plant, one: pathlib.Path, served: PrivateServer, cuts: int, c
             for way in ("back", "forward"):
                 lines = map(str.split, served.ask("trace", owner, lot, way).output.splitlines())
                 assert sorted(same(traced(cut.base, owner, name, way))) == [(int(steps), *words) for steps, *words in lines]
-            found, expected = things.lot(cut.base, owner, name), things.lot(whole.base, owner, lot)
-            assert (found.facts, found.tables) == (expected.facts, expected.tables)
+            overview, expected = overviews.lot(cut.base, owner, name), overviews.lot(whole.base, owner, lot)
+            assert (overview.facts, overview.tables) == (expected.facts, expected.tables)
         compare_alone(plant, cut)
         for owner in EVERYBODY:
             for first, last in ((statement.FIRST_DAY, statement.LAST_DAY), (260103, 260108)):
-                (lots, of_house), (expected, expected_of_house) = (stated_by_command(it.base, owner, first, last) for it in (cut, whole))
+                (lots, of_house), (expected, expected_of_house) = (stated_by_command(side.base, owner, first, last) for side in (cut, whole))
                 assert sorted(same(lots)) == stated(whole.copy, owner, first, last) == expected
                 assert sorted(same(of_house)) == sorted(expected_of_house)
 
@@ -196,7 +196,7 @@ def compare_alone(plant: Plant, cut: history.History) -> None:
             for lot, in cut.base.execute("SELECT lot FROM lots WHERE owner = ?", (owner,)).fetchall():
                 assert recalled(alone.base, owner, lot) == recalled(cut.base, owner, lot)
                 assert traced(alone.base, owner, lot, "back") == traced(cut.base, owner, lot, "back")
-                assert things.lot(alone.base, owner, lot) == things.lot(cut.base, owner, lot)
+                assert overviews.lot(alone.base, owner, lot) == overviews.lot(cut.base, owner, lot)
 
 
 def typed(words: list[str]) -> tuple:
@@ -214,8 +214,8 @@ def compare_tables(history: sqlite3.Connection, whole: sqlite3.Connection, one: 
             sql = f"SELECT {columns} FROM {table} ORDER BY {order}"
             expected = plain.execute(sql).fetchall()
             assert whole.execute(sql).fetchall() == expected, table
-            found = same(history.execute(sql).fetchall())
-            assert (found if order == "rowid" else sorted(found)) == (expected if order == "rowid" else sorted(expected)), table
+            rows = same(history.execute(sql).fetchall())
+            assert (rows if order == "rowid" else sorted(rows)) == (expected if order == "rowid" else sorted(expected)), table
 
 
 def stated(one: str, owner: str, first: int, last: int) -> list[tuple]:
@@ -224,15 +224,15 @@ def stated(one: str, owner: str, first: int, last: int) -> list[tuple]:
         void = set(base.execute("SELECT owner, mkey FROM voids"))
         lots = {lot: (material, measure) for lot, material, measure in base.execute(
             "SELECT lot, material, measure FROM lots JOIN materials USING (owner, material) WHERE owner = ?", (owner,))}
-        found = {lot: [0] * 7 for lot in lots}
+        amounts = {lot: [0] * 7 for lot in lots}
         for whose, key, kind, lot, amount, day in base.execute("SELECT owner, mkey, kind, lot, amount, day FROM moves WHERE lot_owner = ?", (owner,)):
             if (whose, key) in void or kind == 1:
                 continue
             sign = 1 if kind in (0, 5) else -1
             if day < first:
-                found[lot][0] += sign * amount
+                amounts[lot][0] += sign * amount
             elif day <= last:
-                found[lot][{0: 1, 5: 2, 4: 3, 3: 4, 2: 5}[kind]] += amount
+                amounts[lot][{0: 1, 5: 2, 4: 3, 3: 4, 2: 5}[kind]] += amount
             if day <= last:
-                found[lot][6] += sign * amount
-    return sorted((lots[lot][0], lot, lots[lot][1], *sums) for lot, sums in found.items() if any(sums))
+                amounts[lot][6] += sign * amount
+    return sorted((lots[lot][0], lot, lots[lot][1], *sums) for lot, sums in amounts.items() if any(sums))

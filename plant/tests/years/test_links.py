@@ -58,7 +58,7 @@ class Noted:
         batches = sorted({batch for _, of_file in self.names for batch in of_file})
         for _ in range(self.random.choice((0, 1, 3, 8))):
             of_owner, of_lot = self.random.choice(lots)
-            containers = [it for it in [*lots, *batches] if of_owner in (it[0], "HOUSE") and it != (of_owner, of_lot)]
+            containers = [container for container in [*lots, *batches] if of_owner in (container[0], "HOUSE") and container != (of_owner, of_lot)]
             if not containers:
                 continue
             owner, name, *number = self.random.choice(containers)
@@ -116,9 +116,9 @@ def compare_all(plant: Plant, one: pathlib.Path, served: PrivateServer, noted: N
             for way in WAYS:
                 expected, trace = closure(edges, lot, way), of_one.trace(LotId(*lot), way)
                 assert trace.steps == expected and trace.recorded == closure(recorded, lot, way)
-                told = served.ask("trace", *lot, way).output.split()
-                assert trace.recorded == {(owner, name): int(steps) for steps, owner, name in zip(*[iter(told)] * 3)}
-                assert all(trace.steps[it] <= steps for it, steps in trace.recorded.items())
+                words = served.ask("trace", *lot, way).output.split()
+                assert trace.recorded == {(owner, name): int(steps) for steps, owner, name in zip(*[iter(words)] * 3)}
+                assert all(trace.steps[reached] <= steps for reached, steps in trace.recorded.items())
                 over_all = of_cut.trace(LotId(lot[0], back.get(lot[1], lot[1])), way)
                 assert {(owner, called.get(name, name)): steps for (owner, name), steps in over_all.steps.items()} == expected
                 count += len(trace.noted)
@@ -137,6 +137,6 @@ def compare_newest(plant: Plant, one: pathlib.Path, noted: Noted, file: int) -> 
             answer = office.ask(words)
             lines = below.lines_below(office, noted.journal, words, answer)
             assert all(line.endswith(" *") for line in lines[1:])
-            told, more = ({tuple(it[1:3]): int(it[0]) for it in map(str.split, text) if it[0].isdecimal()} for text in (answer.output.splitlines(), lines[1:]))
-            assert {**told, **more} == closure(edges, lot, words[3] if words[3:] else "forward")
-            assert all(told.get(it, steps + 1) > steps for it, steps in more.items())
+            by_toll, more = ({tuple(cells[1:3]): int(cells[0]) for cells in map(str.split, text) if cells[0].isdecimal()} for text in (answer.output.splitlines(), lines[1:]))
+            assert {**by_toll, **more} == closure(edges, lot, words[3] if words[3:] else "forward")
+            assert all(by_toll.get(reached, steps + 1) > steps for reached, steps in more.items())

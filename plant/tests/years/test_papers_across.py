@@ -19,9 +19,9 @@ def papers_of(plant: Plant, db: pathlib.Path, *words: object) -> dict[str, str]:
     """What is in a paper's folder, but for when and of which files it was made."""
     with tempfile.TemporaryDirectory(dir=plant.folder) as folder:
         made = pathlib.Path(folder) / "made"
-        told = plant.run("papers", *words, made, "--no-pdf", db=db)
-        assert told.status == 0, (words, told)
-        return {str(it.relative_to(made)): MADE.sub("", it.read_text()) for it in made.rglob("*") if it.is_file()}
+        done = plant.run("papers", *words, made, "--no-pdf", db=db)
+        assert done.status == 0, (words, done)
+        return {str(path.relative_to(made)): MADE.sub("", path.read_text()) for path in made.rglob("*") if path.is_file()}
 
 
 def try_papers(program: str, seed: int, each: int) -> None:
@@ -31,16 +31,16 @@ def try_papers(program: str, seed: int, each: int) -> None:
         with history.opened(Office(str(one), program, 10.0)) as whole:
             lots = whole.base.execute("SELECT owner, lot FROM lots ORDER BY rowid").fetchall()
             batches = whole.base.execute("SELECT owner, ord, number FROM batches ORDER BY rowid").fetchall()
-        asked = [(word, *it) for word in ("recall", "lot", "certificate") for it in random.sample(lots, min(each, len(lots)))]
-        asked += [("batch", *it) for it in random.sample(batches, min(each, len(batches)))]
+        asked = [(word, *lot_id) for word in ("recall", "lot", "certificate") for lot_id in random.sample(lots, min(each, len(lots)))]
+        asked += [("batch", *batch_id) for batch_id in random.sample(batches, min(each, len(batches)))]
         asked += [("statement", owner, "--from", first, "--to", last) for owner in EVERYBODY for first, last in ((0, 9_999_999), (260103, 260108))]
         for words in asked:
-            found = papers_of(plant, plant.db, *words)
-            assert found and found == papers_of(plant, one, *words), words
-        told = plant.run("papers", "recall", *lots[0], plant.folder / "told", "--no-pdf")
+            papers = papers_of(plant, plant.db, *words)
+            assert papers and papers == papers_of(plant, one, *words), words
+        done = plant.run("papers", "recall", *lots[0], plant.folder / "told", "--no-pdf")
         page = (plant.folder / "told" / "plant" / "recall.html").read_text()
         with history.opened(Office(str(plant.db), program, 10.0)) as every:
-            assert told.status == 0 and all(f"office-{it.number}.db, sha256 {it.hash}" in page for it in every.parts[:-1])
+            assert done.status == 0 and all(f"office-{part.number}.db, sha256 {part.hash}" in page for part in every.parts[:-1])
 
     memory = "/dev/shm" if pathlib.Path("/dev/shm").is_dir() else None
     with pytest.MonkeyPatch.context() as patched, tempfile.TemporaryDirectory(dir=memory) as folder:

@@ -38,6 +38,9 @@ SELECT owner, lot, {Disposition.sql('disposition')}, CASE
 }
 
 
+LEFT = "SELECT owner FROM old.owners EXCEPT SELECT owner FROM new.owners"
+
+
 @contextlib.contextmanager
 def both(old: str, new: str) -> Iterator[sqlite3.Connection]:
     """Two files, as `old` and `new`."""
@@ -47,10 +50,15 @@ def both(old: str, new: str) -> Iterator[sqlite3.Connection]:
         yield base
 
 
-def difference(base: sqlite3.Connection) -> str:
-    """In what two files differ of that which goes from one to the next; empty if they don't."""
+def difference(base: sqlite3.Connection, without: Iterable[str] = ()) -> str:
+    """In what two files differ of that which goes from one to the next, but for owners that leave; empty if they
+    don't."""
+    base.execute("CREATE TEMP TABLE IF NOT EXISTS leaving (owner TEXT)")
+    base.executemany("INSERT INTO leaving VALUES (?)", [(owner,) for owner in without])
     for what, sql in SAME.items():
-        for old, new in zip_longest(*(sorted_rows(base, sql.format(name)) for name in ("old", "new"))):
+        stays = "" if what == "units" else " WHERE owner NOT IN temp.leaving"
+        both_sides = (f"SELECT * FROM ({sql.format('old')}){stays}", sql.format("new"))
+        for old, new in zip_longest(*(sorted_rows(base, side) for side in both_sides)):
             if old != new:
                 file, row = ("old", old) if new is None or (old is not None and old < new) else ("new", new)
                 cells = row[:1] if what == "owners" else row
@@ -64,10 +72,10 @@ def sorted_rows(base: sqlite3.Connection, sql: str) -> sqlite3.Cursor:
     return base.execute(f"SELECT * FROM ({sql}) ORDER BY {', '.join(map(str, range(1, columns + 1)))}")
 
 
-def require_same(old: str, new: str) -> None:
+def require_same(old: str, new: str, without: Iterable[str] = ()) -> None:
     """Fails if two files differ in what goes from one to the next."""
     with both(old, new) as base:
-        if text := difference(base):
+        if text := difference(base, without):
             raise Failure(text, advice="nothing was changed")
 
 
@@ -77,7 +85,7 @@ def is_fresh(old: str, new: str) -> bool:
         if base.execute(chain.RECORDED).fetchone():
             return False
     with both(old, new) as base:
-        return not difference(base)
+        return not difference(base, [owner for owner, in base.execute(LEFT)])
 
 
 def require_same_stock(old: PrivateServer, new: PrivateServer, owners: Iterable[str]) -> None:

@@ -24,9 +24,10 @@ CREATE TEMP TABLE no_moves (owner TEXT, mkey TEXT);
 CREATE TEMP TABLE unbegun (file INTEGER, owner TEXT, ord TEXT, PRIMARY KEY (file, owner, ord)) WITHOUT ROWID;
 """
 
-# The owners whose rows are read: all of them, or one and HOUSE, whose lots its batches may consume besides its own.
+# The owners whose rows are read, also those that left: all, or one and HOUSE, whose lots its batches may consume.
 ASKED = """
-INSERT INTO asked SELECT owner FROM f.owners WHERE owner = :owner OR :owner IN ('', 'HOUSE') UNION SELECT 'HOUSE'
+INSERT OR IGNORE INTO asked SELECT owner FROM f.owners WHERE owner = :owner OR :owner IN ('', 'HOUSE')
+UNION SELECT 'HOUSE'
 """
 PLAIN = NOT_CARRIED.replace("carried_moves", "f.carried_moves")
 # What each kind of name is, in a file, and whether it went on into the next file as what it was.
@@ -98,16 +99,12 @@ CREATE TEMP TABLE added AS SELECT l.owner, {LOT} AS lot, l.test, l.number, {BEFO
 INSERT INTO results SELECT owner, lot, test, before + number - (copied AND before > 0), value, day, :file FROM added
   WHERE NOT (copied AND before > 0 AND number = 1) ORDER BY rowid;
 DROP TABLE added"""
-# Tables of which the newest file has all rows; no key of an owner is read.
-KEPT = {
-    "owners": "owner, ''",
-    "meta": "*",
-    "units": "*",
-    "materials": "*",
-    "tests": "*",
-    "recipes": "*",
-    "requirements": "*",
-}
+# Tables of which the newest file has all rows, and those that lack there the rows of owners that left; no key is read.
+# A lot of an owner that left and came back may be of a material that it doesn't have now.
+KEPT = {"meta": "*", "units": "*"}
+NEW_OWNER = " WHERE owner NOT IN (SELECT owner FROM main.owners) AND (owner <> 'HOUSE' OR :is_newest)"
+OF_OWNERS = {"tests": NEW_OWNER, "recipes": NEW_OWNER, "requirements": NEW_OWNER, "materials": ""}
+OWNERS = "INSERT OR IGNORE INTO owners SELECT owner, '' FROM f.owners ORDER BY rowid"
 NUMBERED = ("orders", "batches", "lots", "moves", "results")  # tables that say in which file a row came
 
 
@@ -116,12 +113,13 @@ def merge(base: Base, parts: Sequence[Part], owner: str = "") -> None:
     owner other than HOUSE needs only its rows and HOUSE's."""
     with file_as_f(base, parts[-1]):
         tables = dict(base.execute("SELECT name, sql FROM f.sqlite_master WHERE type = 'table'").fetchall())
-    for name in (*KEPT, *NUMBERED, "sublots", "voids"):
+    for name in ("owners", *KEPT, *OF_OWNERS, *NUMBERED, "sublots", "voids"):
         base.execute(tables[name])
     for name in NUMBERED:
         base.execute(f"ALTER TABLE {name} ADD COLUMN file INTEGER")
     base.executescript(FILES)
-    run_over(base, parts[-1], [ASKED], owner)
+    for part in parts:
+        run_over(base, part, [ASKED], owner)
     for part in reversed(parts):
         names = [
             sql.format(kind=kind, names=rows, went_on=went_on)
@@ -134,6 +132,12 @@ def merge(base: Base, parts: Sequence[Part], owner: str = "") -> None:
         run_over(base, part, ADDED.split(";\n"))
     kept = [f"INSERT INTO {table} SELECT {columns} FROM f.{table} ORDER BY rowid" for table, columns in KEPT.items()]
     run_over(base, parts[-1], kept)
+    definitions = [
+        f"INSERT OR IGNORE INTO {table} SELECT * FROM f.{table}{where} ORDER BY rowid"
+        for table, where in OF_OWNERS.items()
+    ]
+    for part in reversed(parts):
+        run_over(base, part, [*definitions, OWNERS], is_newest=part == parts[-1])
 
 
 @contextlib.contextmanager
@@ -146,9 +150,9 @@ def file_as_f(base: Base, part: Part) -> Iterator[None]:
         base.execute("DETACH f")
 
 
-def run_over(base: Base, part: Part, statements: list[str], owner: str = "") -> None:
+def run_over(base: Base, part: Part, statements: list[str], owner: str = "", is_newest: bool = False) -> None:
     """Runs statements with a file as `f`. The first file has no table of receipts that carried stock: it has none."""
-    words = {"file": part.number, "name": part.name, "owner": owner}
+    words = {"file": part.number, "name": part.name, "owner": owner, "is_newest": is_newest}
     with file_as_f(base, part):
         has_carried = base.execute("SELECT 1 FROM f.sqlite_master WHERE name = 'carried_moves'").fetchone()
         with base:

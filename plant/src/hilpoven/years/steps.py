@@ -19,6 +19,16 @@ JUDGED = {Disposition.RELEASED: "release", Disposition.REJECTED: "reject"}
 STOCK = """
 SELECT owner, lot, sublot, material, amount FROM sublots JOIN lots USING (owner, lot) WHERE amount > 0 ORDER BY 1, 2, 3
 """
+# The tables that have rows of owners.
+OF_OWNERS = (
+    *("owners", "materials", "tests", "recipes", "requirements", "orders", "batches", "lots", "sublots", "moves"),
+    *("results", "voids"),
+)
+HELD = """
+SELECT s.lot, s.sublot, s.amount, m.measure FROM sublots AS s JOIN lots AS l USING (owner, lot)
+JOIN materials AS m USING (owner, material) WHERE owner = ? AND s.amount > 0 ORDER BY 1, 2
+"""
+WAITING = f"SELECT ord FROM orders AS o WHERE owner = ? AND cancelled = 0 AND {UNBEGUN} ORDER BY 1"
 OPEN_BATCHES = "SELECT owner, ord, number, unit FROM batches WHERE closed = 0 ORDER BY 1, 2, 3"
 STAYING = """
 SELECT o.owner, o.ord, o.recipe, o.batches, count(b.number), o.batches - count(b.number) AS missing
