@@ -1,43 +1,68 @@
-"""What is on the board, by the tables of a copy, which are compared with `toll`."""
-import textwrap
+"""What is on the board, by the tables of a copy, which are compared with `toll`: what needs somebody comes first."""
 from collections import Counter
-from dataclasses import astuple, dataclass
+from dataclasses import astuple, dataclass, field
+from typing import NamedTuple
 
 from .. import HOUSE
 from ..records import gauge
-from ..records.days import format_day, last_day_within
+from ..records.answers import OrderLine, batch_of, rows_of
 from ..records.genealogy import Genealogy
-from ..records.answers import OrderLine, StockLine, batch_of, rows_of
-from ..records.rows import Batch, Lot, LotId, lots_of, owners_of, read_batches, read_lots, requirements_of, tests_of
-from ..records.schema import Disposition
+from ..records.rows import Batch, owners_of, read_batches, requirements_of
+from ..records.schema import State
 from ..records.tables import LISTINGS
-from ..register import quality
 from ..register.below import MARK
-from ..register.expiry import last_day
 from ..register.notes import Link
 from .agreement import agree, agree_on_all
 from .copies import Source
 
 WAITING = f"""
-SELECT owner, [order], recipe, batches, opened FROM ({LISTINGS['orders'].sql()})
-WHERE status = 'open' AND opened < batches ORDER BY 1, 2
+SELECT listed.owner, listed.[order], listed.recipe, listed.batches, listed.opened
+FROM ({LISTINGS['orders'].sql()}) AS listed JOIN orders AS o ON o.owner = listed.owner AND o.ord = listed.[order]
+WHERE listed.status = 'open' AND listed.opened < listed.batches ORDER BY o.rowid
 """
-SOON = 30  # days within which a lot expires that is shown
-LINE, EDGE = 48, 20  # pixels of a screen of 1,920 by 1,080: of a line, and around those of a row
-ROOM_OF_UNITS, ROOM, LAST_ROOM = 925, 350, 120  # pixels for the rows of one page of a panel
+MOST_ROWS = 10  # of a panel; its counts are of all
+LINE, EDGE = 49, 20  # pixels of a screen of 1,920 by 1,080: of a line, and around those of a row
+COUNTS_OF_LINE = 34  # letters of the counts below a head that are surely in one line
+ROOM_OF_UNITS, ROOM_OF_ORDERS, LAST_ROOM = 913, 236, 69  # pixels for the counts and one page of a panel
 
-LETTERS = 40  # of a reason, which has one line
+# The states of batches that somebody has to see to, the most urgent first, and those of them that are an alarm.
+TROUBLE = (
+    State.ABORTED,
+    State.ABORTING,
+    State.HELD,
+    State.HOLDING,
+    State.STOPPED,
+    State.STOPPING,
+    State.PAUSED,
+    State.PAUSING,
+)
+ALARMS = TROUBLE[:4]
+
+
+class Count(NamedTuple):
+    """How many rows of a panel are in a state, and whether that is an alarm."""
+
+    number: int
+    word: str
+    is_alarm: bool = False
+
+    @property
+    def text(self) -> str:
+        """It in words."""
+        return f"{self.number:,} {self.word}"
 
 
 @dataclass
 class Row:
-    """A row: what it is about, what is said of it, and how much of what is required was consumed and produced."""
+    """A row: what it is about, what is said of it, how much of what is required was consumed and produced, and whether
+    it is an alarm."""
 
     about: str
     beside: str
     below: str
     taken: int | None = None
     made: int | None = None
+    is_alarm: bool = False
 
     @property
     def is_noted(self) -> bool:
@@ -52,22 +77,32 @@ class Row:
 
 @dataclass
 class Panel:
-    """A panel of the board: its head, what is said beside it, its rows, and how much room a page of it has."""
+    """A panel of the board: its head, what is said beside it, its first rows, the most urgent first and then the
+    oldest, how many there are, how much room it has, what it says without rows, and the counts below its head."""
 
     title: str
     beside: str
     rows: list[Row]
+    total: int
     room: int
     empty: str
+    counts: list[Count] = field(default_factory=list)
+
+    @property
+    def lines_of_counts(self) -> int:
+        """How many lines the counts take at the most; an alarm has a sign and a frame besides."""
+        letters = sum(len(count.text) + 2 + 2 * count.is_alarm for count in self.counts)
+        return -(-letters // COUNTS_OF_LINE)
 
     def pages(self) -> list[list[Row]]:
         """The rows in pages."""
         pages: list[list[Row]] = []
+        room = self.room - LINE * self.lines_of_counts
         left = 0
         for row in self.rows:
             if row.height > left:
                 pages.append([])
-                left = self.room
+                left = room
             pages[-1].append(row)
             left -= row.height
         return pages
@@ -75,18 +110,38 @@ class Panel:
 
 def panels(source: Source) -> list[Panel]:
     """All panels: the units', and those beside it."""
-    owners = [HOUSE, *owners_of(source.base)]
-    return [units(source), orders(source, owners), lots(source, owners), limits(source)]
+    from . import board_lots
+
+    owners = [HOUSE, *owners_of(source.newest.base)]
+    return [units(source), board_lots.lots(source, owners), orders(source, owners), limits(source)]
+
+
+def urgency(state: State) -> int:
+    """The place of a state among those that somebody has to see to; all others are behind them."""
+    return TROUBLE.index(state) if state in TROUBLE else len(TROUBLE)
 
 
 def units(source: Source) -> Panel:
-    """What the units run."""
+    """What the units run: batches in trouble first, then those that were opened first."""
     names = [name for name, in source.base.execute("SELECT unit FROM units ORDER BY unit")]
-    running = sorted(read_batches(source.base, "b.closed = 0"), key=lambda batch: batch.unit)
+    opened = sorted(read_batches(source.base, "b.closed = 0 ORDER BY b.rowid"), key=lambda batch: urgency(batch.state))
     links = Genealogy(source.base, source.register.links).links
-    free = [Row(name, "free", "") for name in names if name not in {batch.unit for batch in running}]
-    rows = [*(unit(source, batch, links) for batch in running), *free]
-    return Panel("Units", f"{len(running)} of {len(names)} run", rows, ROOM_OF_UNITS, "There are no units.")
+    taken = {batch.unit for batch in opened}
+    free = [Row(name, "free", "") for name in names if name not in taken]
+    rows = [*(unit(source, batch, links) for batch in opened[:MOST_ROWS]), *free][:MOST_ROWS]
+    running = sum(batch.state == State.RUNNING for batch in opened)
+    counts = [*counts_of(opened), *([Count(len(free), "free")] if free else [])]
+    beside = f"{running} of {len(names)} run"
+    return Panel("Units", beside, rows, len(opened) + len(free), ROOM_OF_UNITS, "There are no units.", counts)
+
+
+def counts_of(batches: list[Batch]) -> list[Count]:
+    """How many batches are in each state but `running`, the most urgent first."""
+    states = Counter(batch.state for batch in batches if batch.state != State.RUNNING)
+    return [
+        Count(states[state], state.word, state in ALARMS)
+        for state in sorted(states, key=lambda state: (urgency(state), state))
+    ]
 
 
 def unit(source: Source, batch: Batch, links: list[Link]) -> Row:
@@ -95,10 +150,10 @@ def unit(source: Source, batch: Batch, links: list[Link]) -> Row:
     answered, requirements = batch_of(source.newest.answer("batch", *map(str, batch.id)))
     agree(f"batch {batch.id}", answered, batch.status)
     agree(f"the requirements of {batch.id}", [astuple(line) for line in requirements], recorded)
-    shares = [share([row[4:] for row in recorded if row[1] == use]) for use in ("consumed", "produced")]
+    taken, made = (share([row[4:] for row in recorded if row[1] == use]) for use in ("consumed", "produced"))
     contained = [link.of_lot for link in links if link.container == batch.id]
     also = f", also {some_of(contained)} {MARK}" if contained else ""
-    return Row(batch.unit, batch.state.word, f"{batch.id}{also}", *shares)
+    return Row(batch.unit, batch.state.word, f"{batch.id}{also}", taken, made, batch.state in ALARMS)
 
 
 def some_of(names: list[str]) -> str:
@@ -114,7 +169,7 @@ def share(requirements: list[tuple[int, int]]) -> int | None:
 
 
 def orders(source: Source, owners: list[str]) -> Panel:
-    """The orders that wait for a batch."""
+    """The orders that wait for a batch, the oldest first."""
     waiting = source.base.execute(WAITING).fetchall()
     names = {row[:2] for row in waiting}
     lines = [(owner, line) for owner in owners for line in rows_of(OrderLine, source.newest.answer("orders", owner))]
@@ -126,84 +181,14 @@ def orders(source: Source, owners: list[str]) -> Panel:
     agree_on_all(answered, {(owner, name): (recipe, batches, "open") for owner, name, recipe, batches, _ in waiting})
     rows = [
         Row(f"{owner} {name}", "", f"{opened} of {batches} opened, {recipe}")
-        for owner, name, recipe, batches, opened in waiting
+        for owner, name, recipe, batches, opened in waiting[:MOST_ROWS]
     ]
-    return Panel("Orders waiting", str(len(rows)), rows, ROOM, "No order waits for a batch.")
-
-
-def lots(source: Source, owners: list[str]) -> Panel:
-    """The lots on hand that are held, those that expire soon, and those that wait for tests, a signature or their
-    release."""
-    code, days = Disposition.QUARANTINED, expiring(source)
-    quarantined = read_lots(source.base, f"l.disposition = {code:d} ORDER BY 1, 2")
-    soon = sorted((lot for lot in lots_of(source.base, days).values() if lot.on_hand), key=lambda lot: days[lot.id])
-    waiting = [lot for lot in quarantined if lot.on_hand and lot.id not in days]
-    answered: Counter[tuple[LotId, str]] = Counter()
-    for owner in owners:
-        for line in rows_of(StockLine, source.newest.answer("stock", owner)):
-            if line.amount and (line.disposition == code.word or LotId(owner, line.lot) in days):
-                answered[LotId(owner, line.lot), line.disposition] += line.amount
-    agree_on_all(
-        {lot: (word, amount) for (lot, word), amount in answered.items()},
-        {lot.id: (lot.disposition.word, lot.on_hand) for lot in (*soon, *waiting)},
-    )
-    genealogy = Genealogy(source.base, source.register.links)
-    held = held_lots(source)
-    rows = [Row(str(lot.id), until(days[lot.id]), what_of(source, lot)) for lot in soon]
-    rows += [
-        Row(str(lot.id), why_linked(genealogy.links_in(lot.id)), waits_for(source, lot))
-        for lot in waiting
-        if str(lot.id) not in {row.about for row in held}
-    ]
-    return Panel("Lots waiting", str(len(held) + len(rows)), [*held, *rows], ROOM, "No lot waits.")
-
-
-def held_lots(source: Source) -> list[Row]:
-    """The lots on hand that the plant's quality holds, each with the reason."""
-    said = quality.statuses(source.base, source.register)
-    held = [lot for lot, it in said.items() if it.state == quality.State.HELD]
-    lots = [lot for lot in lots_of(source.base, held).values() if lot.on_hand] if held else []
-    return [
-        Row(str(lot.id), f"held {MARK}", textwrap.shorten(said[lot.id].reason, LETTERS, placeholder=" .."))
-        for lot in sorted(lots, key=lambda lot: lot.id)
-    ]
-
-
-def expiring(source: Source) -> dict[LotId, int]:
-    """The last days of the lots that are to be used soon, or are past that day."""
-    last = last_day_within(SOON)
-    days = {LotId(*name): last_day(facts) for name, facts in source.register.lots.items()}
-    return {lot: day for lot, day in days.items() if day and day <= last}
-
-
-def until(day: int) -> str:
-    """What is said of a lot's last day."""
-    return f"{'past' if day < last_day_within(0) else 'until'} {format_day(day)} {MARK}"
-
-
-def what_of(source: Source, lot: Lot) -> str:
-    """How much of a lot is on hand, and what it waits for."""
-    waits = f", {waits_for(source, lot)}" if lot.disposition == Disposition.QUARANTINED else ""
-    return f"{lot.on_hand:,} {lot.measure} {lot.disposition.word}{waits}"
-
-
-def why_linked(links: list[Link]) -> str:
-    """Why a lot contains others by links; empty if it contains none."""
-    return f"{some_of(sorted({link.why.value for link in links}))} {MARK}" if links else ""
-
-
-def waits_for(source: Source, lot: Lot) -> str:
-    """What a lot waits for."""
-    tests = [test for test in tests_of(source.base, lot) if test.limits != "within"]
-    own = quality.own_tests(source.register, tests)
-    missing = [*(test.name for test in own), *(["a signature"] if len(own) < len(tests) else [])]
-    if not missing:
-        return "for its release"
-    return f"for {some_of(missing)}"
+    count = len(waiting)
+    return Panel("Orders waiting", f"{count:,}", rows, count, ROOM_OF_ORDERS, "No order waits for a batch.")
 
 
 def limits(source: Source) -> Panel:
-    """Who is near a limit."""
+    """Who is near a limit, the nearest first."""
     near = [each for each in gauge.gauges(source.newest.base) if each.percent >= gauge.FULL]
-    rows = [Row(each.owner or "the plant", f"{each.percent} %", each.what) for each in near]
-    return Panel("Near a limit", str(len(rows)), rows, LAST_ROOM, f"Nobody is at {gauge.FULL} %.")
+    rows = [Row(f"{each.owner or 'the plant'}: {each.what}", f"{each.percent} %", "") for each in near[:MOST_ROWS]]
+    return Panel("Near a limit", str(len(near)), rows, len(near), LAST_ROOM, f"Nobody is at {gauge.FULL} %.")
