@@ -12,6 +12,7 @@ import subprocess
 import sys
 import tempfile
 import time
+import traceback
 from collections.abc import Callable, Iterator
 from typing import NamedTuple
 
@@ -25,8 +26,9 @@ PATIENCE = 60  # seconds
 
 compileall.compile_dir(ROOT / "plant" / "src", quiet=1)  # on a full disk, Python would leave a part of what it compiles
 sys.path.insert(0, str(ROOT / "plant" / "src"))
-from hilpoven.core import rights, settings as site  # noqa: E402
-from hilpoven.cli import hilpoven  # noqa: E402
+from hilpoven.core import client, rights, settings as site  # noqa: E402
+from hilpoven.core.office import Office  # noqa: E402
+from hilpoven.cli import hilpoven, main  # noqa: E402
 
 
 class Told(NamedTuple):
@@ -74,16 +76,17 @@ def program() -> str:
     """The built program: that of TOLL, or of this checkout, where `./toll` builds it first if it isn't built."""
     if not TOLL and subprocess.run([ROOT / "toll", "script"], stdin=subprocess.DEVNULL).returncode:
         pytest.exit("./toll can't be run", 3)
-    found = shutil.which(TOLL or ROOT / "crates" / "toll" / "out" / "toll")
-    if not found:
+    path = shutil.which(TOLL or ROOT / "crates" / "toll" / "out" / "toll")
+    if not path:
         pytest.exit(f"{TOLL} is no program", 3)
-    return os.path.abspath(found)
+    return os.path.abspath(path)
 
 
 class Server:
     """A server of an office, at a port that it takes itself."""
 
     def __init__(self, program: str, db: pathlib.Path) -> None:
+        self.office = Office(str(db), program, PATIENCE)
         self.it = subprocess.Popen([program, "--db", db, "serve", "0", "1000000"], stdout=subprocess.PIPE, stderr=subprocess.PIPE, text=True)
         self.port = int(self.it.stdout.readline().split()[1])
 
@@ -94,6 +97,12 @@ class Server:
             peer.request(method, path, body or None, {"toll-owner": owner, "toll-key": f"{owner}KEY1"})
             reply = peer.getresponse()
             return reply.status, json.loads(reply.read() or b"{}")
+
+    def tell(self, *words: object) -> Told:
+        """What the plant's words are told at the socket beside the file, or by a process if its path is too long for one."""
+        typed = [str(word) for word in words]
+        with contextlib.closing(client.PlantSocket(self.office.file)) as plant:
+            return Told(*(plant.ask(typed) or self.office.ask(typed)))
 
     def end(self) -> str:
         """Ends it, and gives what it wrote on standard error."""
@@ -115,14 +124,7 @@ class Plant:
 
     def run(self, *words: object, stdin: str | None = None, db: pathlib.Path | None = None, options: tuple[str, ...] = ()) -> Told:
         """What the plant's command tells of these words, called within this process."""
-        umask = os.umask(0o077)
-        try:
-            done = CliRunner(mix_stderr=False, env={"TOLL": self.program}).invoke(hilpoven, ["--db", str(db or self.db), *options, *map(str, words)], input=stdin)
-        finally:
-            os.umask(umask)
-        if done.exception and not isinstance(done.exception, SystemExit):
-            raise done.exception
-        return Told(done.exit_code, done.stdout, done.stderr)
+        return called("--db", db or self.db, *options, *words, stdin=stdin, TOLL=self.program)
 
     def settle(self, **more: object) -> None:
         """Has the settings name this office, with a folder of backups, and say what more is given."""
@@ -135,10 +137,7 @@ class Plant:
         the office."""
         with pytest.MonkeyPatch.context() as patch:
             patch.setattr(rights, "STARTED_AS", 1)
-            done = CliRunner(mix_stderr=False, env={"SUDO_UID": "4711", "SUDO_USER": "anna"}).invoke(hilpoven, list(map(str, words)), input=stdin)
-        if done.exception and not isinstance(done.exception, SystemExit):
-            raise done.exception
-        return Told(done.exit_code, done.stdout, done.stderr)
+            return called(*words, stdin=stdin, SUDO_UID="4711", SUDO_USER="anna")
 
     def begun(self, *words: object, **more: object) -> subprocess.Popen:
         """The plant's command, begun as a process of its own."""
@@ -163,41 +162,60 @@ class Plant:
         with self.serve() as server:
             for line in filter(None, lines.splitlines()):
                 if line.startswith("> "):
-                    told = server.ask(*line[2:].split(" ", 3))
-                    assert told[0] == 200, (line, told)
+                    answer = server.ask(*line[2:].split(" ", 3))
+                    assert answer[0] == 200, (line, answer)
                 else:
-                    told = self.toll(*line.split())
-                    assert told == Told(0, "accepted\n"), (line, told)
+                    answer = server.tell(*line.split())
+                    assert answer == Told(0, "accepted\n"), (line, answer)
         return self
 
-    def rows(self, sql: str, db: pathlib.Path | None = None) -> list[tuple]:
-        """Rows of the file with its log, read from a copy."""
+    @contextlib.contextmanager
+    def reading(self, db: pathlib.Path | None = None) -> Iterator[sqlite3.Connection]:
+        """The tables of the file with its log, read from a copy."""
         copy = self.folder / "looked-at.db"
         for end in ("", "-wal"):
             with contextlib.suppress(FileNotFoundError):
                 shutil.copyfile(f"{db or self.db}{end}", f"{copy}{end}")
         try:
             with contextlib.closing(sqlite3.connect(copy)) as base:
-                return base.execute(sql).fetchall()
+                yield base
         finally:
             for end in ("", "-wal", "-shm"):
                 pathlib.Path(f"{copy}{end}").unlink(missing_ok=True)
 
+    def rows(self, sql: str, db: pathlib.Path | None = None) -> list[tuple]:
+        """Rows of the file."""
+        with self.reading(db) as base:
+            return base.execute(sql).fetchall()
+
     def content(self, db: pathlib.Path | None = None) -> dict[str, list[tuple]]:
         """All rows of all tables, but for the keys of owners."""
-        names = [it for it, in self.rows("SELECT name FROM sqlite_master WHERE type = 'table' ORDER BY name", db)]
-        return {it: sorted(self.rows(f"SELECT {'owner' if it == 'owners' else '*'} FROM {it}", db)) for it in names}
+        with self.reading(db) as base:
+            names = [name for name, in base.execute("SELECT name FROM sqlite_master WHERE type = 'table' ORDER BY name")]
+            return {name: sorted(base.execute(f"SELECT {'owner' if name == 'owners' else '*'} FROM {name}")) for name in names}
 
     def lines(self) -> list[dict]:
         """The lines of the journal."""
-        return [json.loads(it) for it in self.journal.read_text().splitlines()] if self.journal.exists() else []
+        return [json.loads(line) for line in self.journal.read_text().splitlines()] if self.journal.exists() else []
 
 
-# The command as a process of its own, and programs that stand in for `toll`
+# The command within this process or as one of its own, and programs that stand in for `toll`
+
+def called(*words: object, stdin: str | None = None, **variables: str) -> Told:
+    """What the plant's command tells of these words, called within this process with these variables of the environment."""
+    umask = os.umask(0o077)
+    try:
+        done = CliRunner(mix_stderr=False, env=variables).invoke(hilpoven, list(map(str, words)), input=stdin)
+    finally:
+        os.umask(umask)
+    if done.exception and not isinstance(done.exception, SystemExit):
+        raise done.exception
+    return Told(done.exit_code, done.stdout, done.stderr)
+
 
 def environment(**more: object) -> dict[str, str]:
     """The environment with these variables."""
-    return {**os.environ, **{name: str(it) for name, it in more.items()}}
+    return {**os.environ, **{name: str(given) for name, given in more.items()}}
 
 
 def command(*words: object, **more: object) -> subprocess.CompletedProcess:
@@ -205,11 +223,33 @@ def command(*words: object, **more: object) -> subprocess.CompletedProcess:
     return subprocess.run([HILPOVEN, *map(str, words)], **{"capture_output": True, "text": True, "timeout": PATIENCE, **more})
 
 
-def is_told(done: subprocess.CompletedProcess, status: int) -> bool:
+def forked(*words: object, **variables: str) -> Callable[[], None]:
+    """What gives a child of `Popen` the plant's command in place of its program, as `preexec_fn`: this process has imported it
+    already, which takes a program most of its time. Its standard streams are a terminal's or files of `Popen`."""
+    def run() -> None:
+        os.closerange(3, os.sysconf("SC_OPEN_MAX"))  # with the pipe on which Popen waits for the program
+        os.environ.update(variables)
+        sys.argv = [str(HILPOVEN), *map(str, words)]
+        sys.stdin, sys.stdout, sys.stderr = open(0, closefd=False), open(1, "w", closefd=False), open(2, "w", 1, closefd=False)
+        status: object = 1
+        try:
+            main()
+        except SystemExit as end:
+            status = end.code
+        except BaseException:
+            traceback.print_exc()
+        finally:
+            sys.stdout.flush()
+            os._exit(status if isinstance(status, int) else 0)
+    return run
+
+
+def is_told(done: subprocess.CompletedProcess | Told, status: int) -> bool:
     """Whether the command ended with this status, and told why in a line, with advice at most under it."""
-    first, *rest = done.stderr.splitlines() or [""]
+    answer = done if isinstance(done, Told) else Told(done.returncode, done.stdout, done.stderr)
+    first, *rest = answer.err.splitlines() or [""]
     is_failure = first.startswith(("hilpoven: ", "Usage: ", "row "))
-    return done.returncode == status and done.stdout == "" and is_failure and len(rest) <= 5 and "Traceback" not in done.stderr
+    return (answer.status, answer.out) == (status, "") and is_failure and len(rest) <= 5 and "Traceback" not in answer.err
 
 
 def script(path: pathlib.Path, text: str) -> pathlib.Path:
@@ -234,8 +274,8 @@ def make_office(path: pathlib.Path, **rows: list[tuple]) -> pathlib.Path:
     tables = re.findall(r'"(CREATE TABLE [^"]*)"', (ROOT / "crates" / "toll_sql" / "src" / "table_kind.rt").read_text())
     assert len(tables) == 14
     with contextlib.closing(sqlite3.connect(path)) as base, base:
-        for it in tables:
-            base.execute(it)
+        for table in tables:
+            base.execute(table)
         for name, lines in {"meta": [("toll", 2)], **rows}.items():
             for line in lines:
                 base.execute(f"INSERT INTO {name} VALUES ({','.join('?' * len(line))})", line)

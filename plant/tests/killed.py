@@ -2,6 +2,7 @@
 
     killed.py STEP COUNT WORDS ..       where it isn't killed, the number of its steps goes into the file COUNT
 """
+import functools
 import os
 import pathlib
 import signal
@@ -19,12 +20,16 @@ step, count, words = int(sys.argv[1]), sys.argv[2], sys.argv[3:]
 seen, mine = 0, os.getpid()
 
 
+@functools.cache
+def is_own(name: str) -> bool:
+    """Whether the functions of a file are the command's, but for those of which there are as many as processes run."""
+    return name.startswith(f"{PACKAGE}/hilpoven") and not name.endswith("/server.py")
+
+
 def note(frame: FrameType, event: str, _: Any) -> None:
     """Counts a step, and dies at the one that was asked for. Processes that were begun go on."""
     global seen
-    name = frame.f_code.co_filename
-    is_step = event in ("call", "c_call") and name.startswith(f"{PACKAGE}/hilpoven") and not name.endswith("/server.py")  # that has as many as processes run
-    if os.getpid() == mine and is_step:
+    if event in ("call", "c_call") and is_own(frame.f_code.co_filename) and os.getpid() == mine:
         seen += 1
         if seen == step:
             os.kill(os.getpid(), signal.SIGKILL)

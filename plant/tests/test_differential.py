@@ -23,7 +23,7 @@ def line(name: str) -> SearchStrategy[list[str]]:
     """A line of words that mostly mean something in the office at work."""
     def word(value: str) -> SearchStrategy[str]:
         pool = ["CARLKEY1", "short"] if (name, value) == ("owner-add", "KEY") else POOL[value]
-        return strategies.integers(0, 19).flatmap(lambda it: strategies.sampled_from(WRONG if it == 0 else pool))
+        return strategies.integers(0, 19).flatmap(lambda chance: strategies.sampled_from(WRONG if chance == 0 else pool))
     return strategies.tuples(*map(word, LINES[name].values)).map(lambda words: [name, *words])
 
 
@@ -34,21 +34,21 @@ DAYS = strategies.lists(strategies.sampled_from(NAMES).flatmap(line), min_size=3
 
 def twin(laid: Plant, folder, name: str) -> Plant:
     """A copy of the office at work."""
-    it = Plant(laid.program, folder)
-    it.db = folder / f"{name}.db"
+    copy = Plant(laid.program, folder)
+    copy.db = folder / f"{name}.db"
     for end in ("", "-wal"):
         if (laid.folder / f"office.db{end}").exists():
-            shutil.copyfile(f"{laid.db}{end}", f"{it.db}{end}")
-    return it
+            shutil.copyfile(f"{laid.db}{end}", f"{copy.db}{end}")
+    return copy
 
 
 def run_day(laid: Plant, folder, day: list[list[str]]) -> None:
     """Gives a day to both, and compares."""
     mine, theirs = twin(laid, folder, "mine"), twin(laid, folder, "theirs")
     for words in day:
-        told, wanted = mine.run(*words), theirs.toll(*words)
-        assert (told.status, told.out) == (wanted.status, wanted.out), words
-        assert wanted.err in told.err
+        done, wanted = mine.run(*words), theirs.toll(*words)
+        assert (done.status, done.out) == (wanted.status, wanted.out), words
+        assert wanted.err in done.err
     assert mine.content() == theirs.content()
     assert mine.rows("SELECT * FROM owners") == theirs.rows("SELECT * FROM owners")
 
@@ -75,6 +75,6 @@ def test_a_day_beside_a_server_comes_to_the_same(laid, tmp_path):
     mine, theirs = twin(laid, tmp_path, "mine"), twin(laid, tmp_path, "theirs")
     with mine.serve():
         for words in day:
-            told, wanted = mine.run(*words), theirs.toll(*words)
-            assert (told.status, told.out) == (wanted.status, wanted.out), words
+            done, wanted = mine.run(*words), theirs.toll(*words)
+            assert (done.status, done.out) == (wanted.status, wanted.out), words
     assert mine.content() == theirs.content()

@@ -25,8 +25,8 @@ def test_a_word_is_a_value_where_toll_reads_it(laid, tmp_path_factory, name, wor
     form, line = LINES[name]
     if word.startswith("-") or word == "help" or not word:
         return
-    told = laid.toll(*(word if it == "{}" else it for it in line))
-    assert told.out.startswith(("refused 1 ", "refused 2 ")) == bool(form.fault(word)), (word, told, form.fault(word))
+    done = laid.toll(*(word if part == "{}" else part for part in line))
+    assert done.out.startswith(("refused 1 ", "refused 2 ")) == bool(form.fault(word)), (word, done, form.fault(word))
 
 
 def test_a_fault_is_a_sentence_behind_the_value():

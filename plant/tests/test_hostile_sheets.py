@@ -59,7 +59,7 @@ def pictured_ods(path):
 def renamed_part(path):
     """An .xlsx whose sheet is a part that isn't named .xml."""
     with zipfile.ZipFile(xlsx(path, ROWS)) as archive:
-        parts = {it: archive.read(it) for it in archive.namelist()}
+        parts = {part_name: archive.read(part_name) for part_name in archive.namelist()}
     parts["xl/worksheets/sheet1.bin"] = sheet_of("<row/>" + " " * 33_000_000).encode()
     del parts["xl/worksheets/sheet1.xml"]
     for name in ("xl/_rels/workbook.xml.rels", "[Content_Types].xml"):
@@ -124,7 +124,7 @@ def many_sheets_of_one_part(path):
     """An .xlsx with 2,000 sheets which are all one part of 5,000 rows."""
     with_workbook(path, lambda text: text.replace("</sheets>", "".join(
         f'<sheet xmlns:r="http://schemas.openxmlformats.org/officeDocument/2006/relationships" name="S{n}" sheetId="{n}" r:id="rId1"/>' for n in range(2, 2_000)) + "</sheets>"))
-    return patched(path, "xl/worksheets/sheet1.xml", sheet_of("".join(f'<row>{"".join(INLINE.format(it) for it in ROWS[1])}</row>' for _ in range(5_000))))
+    return patched(path, "xl/worksheets/sheet1.xml", sheet_of("".join(f'<row>{"".join(INLINE.format(cell) for cell in ROWS[1])}</row>' for _ in range(5_000))))
 
 
 LAUGHS = '<?xml version="1.0"?><!DOCTYPE a [<!ENTITY a0 "ha">' + "".join(f'<!ENTITY a{n} "{f"&a{n - 1};" * 10}">' for n in range(1, 12)) + "]>"
@@ -148,15 +148,15 @@ def xlsx_of(path, body, before="", after=""):
 
 
 def strings_bomb(path):
-    """An .xlsx with a string of 10 MB, which 100,000 cells share."""
+    """An .xlsx with a string of 10 MB, which 9,600 cells share."""
     added(xlsx(path, ROWS), ("xl/strings.xml", f'<sst xmlns="{MAIN}"><si><t>{"x" * 10_000_000}</t></si></sst>'))
     with zipfile.ZipFile(path) as archive:
         types = archive.read("[Content_Types].xml").decode()
     kind = "application/vnd.openxmlformats-officedocument.spreadsheetml.sharedStrings+xml"
     types = re.sub(rf'<Override[^>]*{re.escape(kind)}"[^>]*/>', "", types)
     patched(path, "[Content_Types].xml", types.replace("</Types>", f'<Override PartName="/xl/strings.xml" ContentType="{kind}"/></Types>'))
-    header = f'<row>{"".join(INLINE.format(it) for it in HEADER)}</row>'
-    return patched(path, "xl/worksheets/sheet1.xml", sheet_of(header + ("<row>" + '<c t="s"><v>0</v></c>' * 12 + "</row>") * 8_000))
+    header = f'<row>{"".join(INLINE.format(head) for head in HEADER)}</row>'
+    return patched(path, "xl/worksheets/sheet1.xml", sheet_of(header + ("<row>" + '<c t="s"><v>0</v></c>' * 12 + "</row>") * 800))
 
 
 def styles_bomb(path):
@@ -166,7 +166,7 @@ def styles_bomb(path):
 
 
 def columns_of(attributes):
-    return lambda path: xlsx_of(path, f'<row>{"".join(INLINE.format(it) for it in HEADER)}</row>', f"<cols><col {attributes}/></cols>")
+    return lambda path: xlsx_of(path, f'<row>{"".join(INLINE.format(head) for head in HEADER)}</row>', f"<cols><col {attributes}/></cols>")
 
 
 def ods_repeating(row="1", cell="1", column="1"):
@@ -177,8 +177,8 @@ def ods_repeating(row="1", cell="1", column="1"):
     return lambda path: ods_of(path, body + ods_row(CELL.format("", "y")))
 
 
-HEAD = f'<row>{"".join(INLINE.format(it) for it in HEADER)}</row>'
-ODS_HEAD = ods_row("".join(CELL.format("", it) for it in HEADER))
+HEAD = f'<row>{"".join(INLINE.format(head) for head in HEADER)}</row>'
+ODS_HEAD = ods_row("".join(CELL.format("", head) for head in HEADER))
 UNPACKED = "unpacks to more than 128,000,000 bytes, or 32,000,000 of XML"
 FILES = {
     # archives
@@ -283,7 +283,7 @@ def test_nothing_that_a_parser_prints_is_seen(capfd):
 
 def test_a_long_text_that_many_cells_share_is_refused_by_its_length(tmp_path):
     sheet = read_source(str(strings_bomb(tmp_path / "sheet.xlsx")), ASKED).sheet
-    assert not sheet.records and len(sheet.refused) == 12 * 8_000 and all(len(str(it)) < 200 for it in sheet.refused)
+    assert not sheet.records and len(sheet.refused) == 12 * 800 and all(len(str(refusal)) < 200 for refusal in sheet.refused)
 
 
 def test_pictures_may_be_as_large_as_a_file(tmp_path):
@@ -292,7 +292,7 @@ def test_pictures_may_be_as_large_as_a_file(tmp_path):
 
 
 def test_merged_cells_and_far_ranges_are_no_matter(tmp_path):
-    body = HEAD + "<row>" + "".join(INLINE.format(it) for it in ROWS[1]) + "</row>"
+    body = HEAD + "<row>" + "".join(INLINE.format(cell) for cell in ROWS[1]) + "</row>"
     path = xlsx_of(tmp_path / "sheet.xlsx", body, after='<mergeCells count="1"><mergeCell ref="A3:XFD1048576"/></mergeCells>')
     assert len(read_source(str(path), ASKED).sheet.records) == 1
 
@@ -302,7 +302,7 @@ def test_standard_input_without_an_end_is_refused_in_a_line(tmp_path):
     with open("/dev/zero", "rb") as zero:
         done = command("--db", tmp_path / "office.db", "import", "-", stdin=zero, env={**os.environ, "TOLL": "/bin/true", "TMPDIR": str(tmp_path)})
     assert (done.returncode, done.stdout, done.stderr) == (1, "", "hilpoven: it has more than 64,000,000 bytes\n")
-    assert [it.name for it in tmp_path.iterdir()] == ["office.db"]
+    assert [path.name for path in tmp_path.iterdir()] == ["office.db"]
 
 
 # Lines of a sheet's own
@@ -313,9 +313,9 @@ LINES = "A\n3 receipts: 3 accepted\x1b[2J\u2028\u202e\x85"
 def titled(path, title):
     """An .xlsx with two sheets that hold something, the first of this title."""
     xlsx(path, ROWS)
-    escaped = "".join(it if it.isalnum() or it == " " else f"&#{ord(it)};" for it in title if it != "\x1b")
+    escaped = "".join(letter if letter.isalnum() or letter == " " else f"&#{ord(letter)};" for letter in title if letter != "\x1b")
     with zipfile.ZipFile(path) as archive:
-        parts = {it: archive.read(it).decode() for it in archive.namelist()}
+        parts = {name: archive.read(name).decode() for name in archive.namelist()}
     relation = 'Target="/xl/worksheets/sheet1.xml"'
     assert relation in parts["xl/_rels/workbook.xml.rels"]
     parts["xl/_rels/workbook.xml.rels"] = parts["xl/_rels/workbook.xml.rels"].replace(
@@ -343,5 +343,5 @@ def test_a_title_prints_no_lines_of_its_own(tmp_path):
 def test_a_cell_prints_no_lines_of_its_own(tmp_path, made):
     done = command("to-csv", made(tmp_path / "sheet"))
     lines = done.stderr.splitlines()
-    assert done.returncode == 1 and len(lines) >= 2 and all(re.match(r"row \d+|\d+ refused, nothing is written$", it) for it in lines), lines
+    assert done.returncode == 1 and len(lines) >= 2 and all(re.match(r"row \d+|\d+ refused, nothing is written$", line) for line in lines), lines
     assert not any(map(UNPRINTABLE.search, lines)) and "3 receipts: 3 accepted" in done.stderr

@@ -36,7 +36,7 @@ def commands(group, before=()):
             yield (*before, name), command
 
 
-ALL = [it for it in commands(hilpoven) if it[0][0] not in LEFT_OUT]
+ALL = [named for named in commands(hilpoven) if named[0][0] not in LEFT_OUT]
 
 
 @any_of.composite
@@ -44,12 +44,12 @@ def typed(draw):
     """A subcommand with some of its options and as many words as come."""
     names, command = draw(any_of.sampled_from(ALL))
     words = list(names)
-    options = [it for it in command.params if isinstance(it, click.Option)]
+    options = [parameter for parameter in command.params if isinstance(parameter, click.Option)]
     for option in draw(any_of.lists(any_of.sampled_from(options), max_size=3)) if options else []:
         words.append(option.opts[0])
         words += [] if option.is_flag else [draw(WORD)]
-    places = [it for it in command.params if isinstance(it, click.Argument)]
-    exact = sum(len(it.metavar.split()) if it.nargs == -1 and it.metavar else 1 for it in places)
+    places = [parameter for parameter in command.params if isinstance(parameter, click.Argument)]
+    exact = sum(len(place.metavar.split()) if place.nargs == -1 and place.metavar else 1 for place in places)
     count = draw(any_of.one_of(any_of.just(exact), any_of.integers(0, 4)))
     return words + [draw(WORD) for _ in range(count)]
 
@@ -80,14 +80,14 @@ def test_any_words_are_answered(office, words):
     assert "Traceback" not in text
 
 
-@pytest.mark.parametrize("name", sorted({it[0][0] for it in ALL}))
+@pytest.mark.parametrize("name", sorted({named[0][0] for named in ALL}))
 @pytest.mark.parametrize("word", ["\udcff", "a\nb", "\x1b[2J", "9" * 30])
 def test_each_command_answers_hostile_words_in_all_places(office, name, word):
     for names, command in ALL:
         if names[0] == name and not isinstance(command, click.Group):
-            places = [it for it in command.params if isinstance(it, click.Argument)]
-            count = sum(len(it.metavar.split()) if it.nargs == -1 and it.metavar else 1 for it in places)
-            options = [[it.opts[0], word] for it in command.params if isinstance(it, click.Option) and not it.is_flag]
+            places = [parameter for parameter in command.params if isinstance(parameter, click.Argument)]
+            count = sum(len(place.metavar.split()) if place.nargs == -1 and place.metavar else 1 for place in places)
+            options = [[parameter.opts[0], word] for parameter in command.params if isinstance(parameter, click.Option) and not parameter.is_flag]
             for option in [[], *options]:
                 status, text = invoked(office, [*names, *option, *[word] * count])
                 assert status in STATUSES and not UNPRINTABLE.search(text), (names, option, status, text)

@@ -71,16 +71,16 @@ def test_what_goes_in_is_what_toll_imports(at_work, laid, tmp_path):
     assert at_work.content() == mine
 
 
-@pytest.mark.parametrize("change, told", [
+@pytest.mark.parametrize("change, why", [
     ("key,owner\n", "the header lacks"),
     ("", "there is no header"),
     (HEADER, "there is no row under the header"),
     (HEADER.replace("day", "day,remark") + f"K20,{CONSUMED},1,102,x\n", "'remark' is none of the twelve columns"),
 ])
-def test_a_sheet_that_is_none_gives_nothing(at_work, change, told):
+def test_a_sheet_that_is_none_gives_nothing(at_work, change, why):
     before = at_work.content()
     done = at_work.run("import", sheet(at_work, change))
-    assert done.status in (1, 2) and told in done.err and "nothing of it was given" in done.err and at_work.content() == before
+    assert done.status in (1, 2) and why in done.err and "nothing of it was given" in done.err and at_work.content() == before
 
 
 def test_columns_are_ignored_and_the_header_stands_below_a_title(at_work):
@@ -97,9 +97,9 @@ def workbook(plant, hidden=()):
     book = openpyxl.Workbook()
     rows = [HEADER.strip().split(","), f"K20,{CONSUMED},1,102".split(","), f"K21,{CONSUMED},2,102".split(",")]
     for row in rows:
-        book.active.append([int(it) if it.isdecimal() and at in (3, 4, 10, 11) else it for at, it in enumerate(row)])
-    for it in hidden:
-        book.active.row_dimensions[it].hidden = True
+        book.active.append([int(cell) if cell.isdecimal() and at in (3, 4, 10, 11) else cell for at, cell in enumerate(row)])
+    for number in hidden:
+        book.active.row_dimensions[number].hidden = True
     path = plant.folder / "sheet.xlsx"
     book.save(path)
     return path
@@ -115,9 +115,9 @@ def test_hidden_rows_are_refused_unless_they_are_asked_for(at_work):
 def test_a_workbook_goes_in_by_standard_input(at_work):
     path = workbook(at_work)
     with open(path, "rb") as file:
-        it = at_work.begun("import", "-", stdin=file)
-        out, err = it.communicate(timeout=60)
-    assert (it.returncode, out, err) == (0, "2 actuals: 2 accepted, 0 there already, 0 refused, 0 can't be read\n", "")
+        process = at_work.begun("import", "-", stdin=file)
+        out, err = process.communicate(timeout=60)
+    assert (process.returncode, out, err) == (0, "2 actuals: 2 accepted, 0 there already, 0 refused, 0 can't be read\n", "")
 
 
 def test_check_gives_nothing(at_work):
@@ -145,9 +145,9 @@ def test_results_that_stand_with_value_and_day_are_there_already(at_work):
 def test_the_journal_has_each_key_of_a_sheet(at_work):
     path = sheet(at_work, f"{HEADER}K20,{CONSUMED},1,102\nK21,{CONSUMED},2,102\n", "monday.csv")
     at_work.run("import", path)
-    asked, told = at_work.lines()
+    asked, answered = at_work.lines()
     assert asked["words"] == ["import", "monday.csv"] and asked["keys"] == ["ACME K20", "ACME K21"] and len(asked["sha256"]) == len(asked["sheet_sha256"]) == 64
-    assert told["answer"].endswith("accepted 2 repeated 0 refused 0 bad 0 fault 0\n")
+    assert answered["answer"].endswith("accepted 2 repeated 0 refused 0 bad 0 fault 0\n")
     assert json.loads(at_work.run("journal", "--json").out)[0]["answer"] == "accepted 2 repeated 0 refused 0 bad 0 fault 0"
 
 
@@ -178,11 +178,11 @@ def test_a_signal_ends_an_import_with_what_is_recorded(at_work):
     """The first receipts are recorded, and the third never comes to an answer."""
     path = sheet(at_work, "owner,key,material,lot,sublot,amount,day\n" + "".join(f"ACME,K{n},SALT,S-{n},BAY1,5,102\n" for n in range(30, 40)))
     waiting = script(at_work.folder / "toll", f'case "$*" in *K32*) touch {at_work.folder}/reached; sleep 60;; *) exec {at_work.program} "$@";; esac')
-    it = Plant(str(waiting), at_work.folder).begun("import", "--what", "receipts", path, start_new_session=True)
+    process = Plant(str(waiting), at_work.folder).begun("import", "--what", "receipts", path, start_new_session=True)
     assert eventually((at_work.folder / "reached").exists)
-    os.killpg(it.pid, signal.SIGINT)
-    out, err = it.communicate(timeout=60)
-    assert it.returncode == 130 and out == "10 receipts: 2 accepted, 0 there already, 0 refused, 0 can't be read\n"
+    os.killpg(process.pid, signal.SIGINT)
+    out, err = process.communicate(timeout=60)
+    assert process.returncode == 130 and out == "10 receipts: 2 accepted, 0 there already, 0 refused, 0 can't be read\n"
     assert err == "ended by SIGINT: 8 rows got no answer, and 0 of them are recorded. Import the sheet again: what stands is told as there already\n"
 
 
@@ -210,8 +210,8 @@ def test_many_lines_are_answered_and_noted_as_one_by_one(at_work, laid, tmp_path
     assert done == one.run("import", "--what", "receipts", receipts(one, 40, 100)) and done.out.endswith("36 accepted, 0 there already, 4 refused, 0 can't be read\n")
     assert again == one.run("import", "--what", "receipts", receipts(one, 40, 100))
     assert noted(at_work) == noted(one) and at_work.content() == one.content()
-    asked = [it["id"] for it in at_work.lines() if it["event"] == "asked"]
-    assert asked == [it["of"] for it in at_work.lines() if it["event"] == "told"] and len(asked) == 80
+    asked = [entry["id"] for entry in at_work.lines() if entry["event"] == "asked"]
+    assert asked == [entry["of"] for entry in at_work.lines() if entry["event"] == "told"] and len(asked) == 80
     assert check(str(at_work.journal)).wrong == [] and (is_served or not list(at_work.folder.glob("*.sock")))
 
 
@@ -238,7 +238,7 @@ def at_call(monkeypatch, number, do):
 def test_a_server_that_was_begun_goes_with_its_sheet(at_work, begun_servers):
     assert at_work.run("import", "--what", "receipts", receipts(at_work, 19, 100)).status == 1 and not begun_servers
     assert at_work.run("import", "--what", "receipts", receipts(at_work, 20, 200)).status == 1
-    assert [it.returncode for it in begun_servers] == [-signal.SIGKILL] and not list(at_work.folder.glob("*.sock"))
+    assert [begun_server.returncode for begun_server in begun_servers] == [-signal.SIGKILL] and not list(at_work.folder.glob("*.sock"))
 
 
 def test_lines_go_on_one_by_one_where_the_server_of_the_file_ends(at_work, begun_servers, monkeypatch):
@@ -252,7 +252,7 @@ def test_lines_go_one_by_one_where_no_server_begins(at_work, begun_servers):
     program = at_work.program
     at_work.program = str(script(at_work.folder / "toll", f'case "$*" in *" serve "*) exit 3;; *) exec {program} "$@";; esac'))
     done = at_work.run("import", "--what", "receipts", receipts(at_work, 20, 100))
-    assert done.out.endswith("18 accepted, 0 there already, 2 refused, 0 can't be read\n") and [it.returncode for it in begun_servers] == [3]
+    assert done.out.endswith("18 accepted, 0 there already, 2 refused, 0 can't be read\n") and [begun_server.returncode for begun_server in begun_servers] == [3]
 
 
 def test_a_server_of_another_build_is_left_to_toll(at_work, begun_servers, monkeypatch):
@@ -282,26 +282,26 @@ def test_a_server_that_is_killed_within_a_line_is_reported(at_work, begun_server
         done = at_work.run("import", "--what", "receipts", receipts(at_work, 30, 100))
     assert done.status == 3 and done.out.endswith("9 accepted, 0 there already, 0 refused, 0 can't be read\n"), done
     assert done.err.startswith(f"{fault}: 21 rows got no answer, and 0 of them are recorded. Import the sheet again"), done
-    assert [it["event"] for it in at_work.lines()] == ["asked", "told"] * 10 and at_work.lines()[-1]["status"] == 3
+    assert [entry["event"] for entry in at_work.lines()] == ["asked", "told"] * 10 and at_work.lines()[-1]["status"] == 3
 
 
 def test_a_signal_ends_a_long_sheet_with_what_is_recorded(at_work):
-    it = at_work.begun("import", "--what", "receipts", receipts(at_work, 4_000, 100), start_new_session=True)
+    process = at_work.begun("import", "--what", "receipts", receipts(at_work, 4_000, 100), start_new_session=True)
     assert eventually(lambda: len(at_work.lines()) > 200)
-    os.killpg(it.pid, signal.SIGINT)
-    out, err = it.communicate(timeout=60)
+    os.killpg(process.pid, signal.SIGINT)
+    out, err = process.communicate(timeout=60)
     accepted = int(re.search(r"([\d,]+) accepted", out)[1].replace(",", ""))
-    without, recorded = (int(found.replace(",", "")) for found in re.search(r"SIGINT: ([\d,]+) rows got no answer, and ([\d,]+) of them", err).groups())
-    assert it.returncode == 130 and 80 <= accepted < 3_600 and recorded in (0, 1) and without > 300
+    without, recorded = (int(number.replace(",", "")) for number in re.search(r"SIGINT: ([\d,]+) rows got no answer, and ([\d,]+) of them", err).groups())
+    assert process.returncode == 130 and 80 <= accepted < 3_600 and recorded in (0, 1) and without > 300
     assert len(at_work.rows("SELECT 1 FROM moves WHERE length(mkey) > 2")) == accepted + recorded
     assert len(check(str(at_work.journal)).unanswered) <= 1 and not list(at_work.folder.glob("*.sock"))
 
 
 def test_a_server_that_was_begun_goes_with_a_command_that_is_killed(at_work):
-    it = at_work.begun("import", "--what", "receipts", receipts(at_work, 4_000, 100))
+    process = at_work.begun("import", "--what", "receipts", receipts(at_work, 4_000, 100))
     assert eventually(lambda: len(at_work.lines()) > 100)
-    it.kill()
-    it.communicate()
+    process.kill()
+    process.communicate()
     assert eventually(lambda: at_work.toll("stock", "ACME").status == 0 and not server.greeting(str(at_work.db)))
 
 
@@ -329,7 +329,7 @@ def test_the_hash_is_of_the_bytes_that_were_read(at_work):
             ends.set()
             writer.join()
         (amount,), = at_work.rows(f"SELECT amount FROM moves WHERE mkey = 'K{100 + race}'")
-        noted = [it["sheet_sha256"] for it in at_work.lines() if "sheet_sha256" in it][-1]
+        noted = [entry["sheet_sha256"] for entry in at_work.lines() if "sheet_sha256" in entry][-1]
         assert noted == hashlib.sha256(texts[amount].encode()).hexdigest(), race
 
 
@@ -345,9 +345,9 @@ def test_seventeen_thousand_actuals_go_in_but_for_three(program, tmp_path):
     begun = time.monotonic()
     done = plant.run("import", path)
     took = time.monotonic() - begun
-    told = done.out + done.err
+    text = done.out + done.err
     assert done.out.splitlines()[-1] == "17,000 actuals: 16,997 accepted, 0 there already, 1 refused, 2 can't be read" and done.status == 1
-    assert "row 5000 (OWNER-01 " in done.out and "row 9002, column I (lot)" in told and "row 16500, column L (day)" in told
+    assert "row 5000 (OWNER-01 " in done.out and "row 9002, column I (lot)" in text and "row 16500, column L (day)" in text
     again = plant.run("import", path)
     assert again.out.splitlines()[-1] == "17,000 actuals: 0 accepted, 16,997 there already, 1 refused, 2 can't be read; nothing was new"
     assert took < 60

@@ -26,15 +26,15 @@ DONE = Answer(0, "accepted\n", "")
 def write(path: str, count: int) -> None:
     journal = Journal(path)
     for number in range(count):
-        journal.told(journal.asked("/office.db", ["unit-add", f"U{number}"]), DONE)
+        journal.answered(journal.asked("/office.db", ["unit-add", f"U{number}"]), DONE)
 
 
 @pytest.fixture
 def path(tmp_path):
     """A journal of ten lines."""
-    found = str(tmp_path / "office.journal")
-    write(found, 5)
-    return found
+    journal = str(tmp_path / "office.journal")
+    write(journal, 5)
+    return journal
 
 
 def lines_of(path):
@@ -48,9 +48,9 @@ def put(path, lines):
 
 
 def test_a_journal_that_nobody_touched_is_whole(path):
-    found = check(path)
-    assert (found.lines, found.wrong, found.notes, found.unanswered) == (10, [], [], [])
-    assert found.head == journals.hash_of(lines_of(path)[-1].rstrip(b"\n"))
+    checked = check(path)
+    assert (checked.lines, checked.wrong, checked.notes, checked.unanswered) == (10, [], [], [])
+    assert checked.head == journals.hash_of(lines_of(path)[-1].rstrip(b"\n"))
     assert os.stat(path).st_mode & 0o777 == 0o600
 
 
@@ -105,9 +105,9 @@ def test_a_last_line_that_was_cut_is_found_and_gone_on_behind(path):
     put(path, [*lines[:9], lines[9][:40]])
     assert check(path).wrong == ["line 10 is cut or is none of the journal"]
     write(path, 1)
-    found = check(path)
-    assert (found.lines, found.wrong, found.notes) == (12, [], ["line 10 was cut by a stop of the machine"])
-    assert len(found.unanswered) == 1
+    checked = check(path)
+    assert (checked.lines, checked.wrong, checked.notes) == (12, [], ["line 10 was cut by a stop of the machine"])
+    assert len(checked.unanswered) == 1
     changed = lines_of(path)
     changed[9] = changed[9].replace(b"{", b"[", 1)
     put(path, changed)
@@ -124,25 +124,25 @@ def test_a_last_line_without_its_end_alone_is_found_and_gone_on_behind(path):
 
 def test_what_was_never_answered_is_told(path):
     Journal(path).asked("/office.db", ["unit-add", "PRESS"])
-    found = check(path)
-    assert found.wrong == [] and [it["words"] for it in found.unanswered] == [["unit-add", "PRESS"]]
+    checked = check(path)
+    assert checked.wrong == [] and [entry["words"] for entry in checked.unanswered] == [["unit-add", "PRESS"]]
 
 
 def test_many_who_write_at_once_make_one_chain(tmp_path):
     path = str(tmp_path / "j")
     writers = [multiprocessing.Process(target=write, args=(path, 25)) for _ in range(6)]
-    for it in writers:
-        it.start()
-    for it in writers:
-        it.join()
-    found = check(path)
-    assert (found.lines, found.wrong, found.unanswered) == (300, [], [])
+    for writer in writers:
+        writer.start()
+    for writer in writers:
+        writer.join()
+    checked = check(path)
+    assert (checked.lines, checked.wrong, checked.unanswered) == (300, [], [])
 
 
 def test_a_long_line_is_followed(tmp_path):
     path = str(tmp_path / "j")
     journal = Journal(path)
-    journal.told(journal.asked("/office.db", ["import", "a.csv"], keys=["ACME K"] * 30_000), DONE)
+    journal.answered(journal.asked("/office.db", ["import", "a.csv"], keys=["ACME K"] * 30_000), DONE)
     write(path, 1)
     assert check(path).wrong == []
 
@@ -171,7 +171,7 @@ def test_no_key_of_an_owner_is_noted(at_work):
     at_work.run("owner", "key", "DORA", stdin="DORASKEY2\n")
     assert "KEY" not in at_work.journal.read_text().replace("--key", "")
     keys = {key for key, in at_work.rows("SELECT okey FROM owners")}
-    assert {"CARLSKEY1", "DORASKEY2"} <= keys and all(it not in at_work.journal.read_text() for it in keys)
+    assert {"CARLSKEY1", "DORASKEY2"} <= keys and all(key not in at_work.journal.read_text() for key in keys)
 
 
 def test_where_the_journal_cannot_be_written_nothing_is_done(at_work):
@@ -188,9 +188,9 @@ def test_it_is_told_by_time_with_the_sites_log(at_work):
                    '192.0.2.8 "ACME" [2099-01-01T01:00:00+01:00] "POST /lots/B-1/reject HTTP/1.1" 403 11 0.395\nwhat is no line\n')
     at_work.run("unit-add", "PRESS")
     done = at_work.run("journal", "--site-log", log, "--json")
-    told = [(it["who"], it["what"], it["answer"]) for it in json.loads(done.out)]
-    assert told[0] == ("ACME", "POST /lots/B-1/release", "200") and told[1][1:] == ("unit-add PRESS", "accepted")
-    assert told[2] == ("ACME (claimed)", "POST /lots/B-1/reject", "403") and len(told) == 3
+    events = [(row["who"], row["what"], row["answer"]) for row in json.loads(done.out)]
+    assert events[0] == ("ACME", "POST /lots/B-1/release", "200") and events[1][1:] == ("unit-add PRESS", "accepted")
+    assert events[2] == ("ACME (claimed)", "POST /lots/B-1/reject", "403") and len(events) == 3
     assert len(json.loads(at_work.run("journal", "--site-log", log, "--questions", "--json").out)) == 4
     assert len(json.loads(at_work.run("journal", "--site-log", log, "--word", "B-1", "--json").out)) == 2
     assert len(json.loads(at_work.run("journal", "--site-log", log, "--since", "2050-01-01", "--json").out)) == 1
@@ -212,8 +212,8 @@ def test_turned_over_logs_are_read_too(at_work):
     (at_work.folder / "toll.log").write_text(line.format(3))
     (at_work.folder / "toll.log.1").write_text(line.format(2))
     (at_work.folder / "toll.log.2.gz").write_bytes(gzip.compress(line.format(1).encode()))
-    told = json.loads(at_work.run("journal", "--site-log", at_work.folder / "toll.log", "--json").out)
-    assert [it["time"][:10] for it in told] == ["2001-01-01", "2001-01-02", "2001-01-03"]
+    rows = json.loads(at_work.run("journal", "--site-log", at_work.folder / "toll.log", "--json").out)
+    assert [row["time"][:10] for row in rows] == ["2001-01-01", "2001-01-02", "2001-01-03"]
 
 
 def test_verify_and_head(at_work):
@@ -260,8 +260,8 @@ def test_a_journal_moves_with_its_file(at_work):
     at_work.run("unit-add", "PRESS")
     moved = at_work.folder / "moved"
     moved.mkdir()
-    for it in at_work.folder.glob("office.db*"):
-        it.rename(moved / it.name)
+    for file in at_work.folder.glob("office.db*"):
+        file.rename(moved / file.name)
     assert "PRESS" in at_work.run("journal", "--no-site", db=moved / "office.db").out
     assert at_work.run("unit-add", "OVEN", db=moved / "office.db").out == "accepted\n"
     done = at_work.run("journal", "--no-site", "--csv", db=moved / "office.db")
@@ -273,7 +273,7 @@ def test_entries_about_another_file_are_told_and_left_out(at_work):
     other = at_work.folder / "other.db"
     other.write_text("")
     journal = Journal(str(at_work.journal))
-    journal.told(journal.asked(str(other), ["unit-add", "FORGED"]), DONE)
+    journal.answered(journal.asked(str(other), ["unit-add", "FORGED"]), DONE)
     done = at_work.run("journal", "verify")
     assert done.status == 1 and f"1 lines are about another file, {other}" in done.out
     assert at_work.run("verify").status == 1 and "FORGED" not in at_work.run("journal", "--no-site").out
@@ -314,21 +314,21 @@ def on_terminal(plant, *words):
 
 
 def test_no_word_reaches_a_terminal_as_it_is(at_work):
-    for it in NASTY:
-        subprocess.run([HILPOVEN, "--db", at_work.db, "unit-add", os.fsencode(it)], capture_output=True, env=environment(TOLL=at_work.program))
+    for word in NASTY:
+        subprocess.run([HILPOVEN, "--db", at_work.db, "unit-add", os.fsencode(word)], capture_output=True, env=environment(TOLL=at_work.program))
     log = at_work.folder / "toll.log"
     log.write_text('192.0.2.7 "=cmd|x" [2001-01-01T00:00:00+00:00] "POST /lots/[/x] HTTP/1.1" 403 11 0.395\n')
     for form in ([], ["--csv"], ["--json"]):
         status, text = on_terminal(at_work, "journal", "--site-log", str(log), *form)
-        assert status == 0 and "Traceback" not in text and all(it == "\n" or it.isprintable() for it in text), text
+        assert status == 0 and "Traceback" not in text and all(letter == "\n" or letter.isprintable() for letter in text), text
         assert len(text.splitlines()) == 10 or form == ["--json"]
     assert r"K\n2026-01-01" in text and "[/x]" in text
     status, text = on_terminal(at_work, "unit-add", *NASTY[:2])
-    assert status == 2 and all(it == "\n" or it.isprintable() for it in text)
+    assert status == 2 and all(letter == "\n" or letter.isprintable() for letter in text)
     status, text = on_terminal(at_work, "--office", NASTY[1], "stock")
-    assert status == 2 and all(it == "\n" or it.isprintable() for it in text)
+    assert status == 2 and all(letter == "\n" or letter.isprintable() for letter in text)
     status, text = on_terminal(at_work, f"--{NASTY[1]}", "stock")
-    assert status == 2 and all(it == "\n" or it.isprintable() for it in text)
+    assert status == 2 and all(letter == "\n" or letter.isprintable() for letter in text)
     status, text = on_terminal(at_work, "unit-add", NASTY[0])
     assert status == 1 and not any(line.strip().startswith("2026-01-01") for line in text.splitlines())
 
@@ -367,28 +367,28 @@ def test_csv_has_no_formula_of_anybody(at_work):
     log = at_work.folder / "toll.log"
     log.write_text('192.0.2.7 "=HYPERLINK(1)" [2001-01-01T00:00:00+00:00] "POST /orders HTTP/1.1" 403 11 0.395\n'
                    '192.0.2.7 "+1" [2001-01-01T00:00:01+00:00] "@x HTTP/1.1" 403 11 0.395\n')
-    told = list(csv.reader(io.StringIO(at_work.run("journal", "--questions", "--site-log", log, "--csv").out)))
-    assert told[1][1] == '="=HYPERLINK(1) (claimed)"' and told[2][1] == '="+1 (claimed)"' and told[2][3] == '="@x"'
+    rows = list(csv.reader(io.StringIO(at_work.run("journal", "--questions", "--site-log", log, "--csv").out)))
+    assert rows[1][1] == '="=HYPERLINK(1) (claimed)"' and rows[2][1] == '="+1 (claimed)"' and rows[2][3] == '="@x"'
     at_work.run("unit-add", "1E5")
     at_work.run("unit-add", "MAR-1")
     units = at_work.run("list", "units", "--csv").out.splitlines()
     assert '"=""1E5""",,,,' in units and '"=""MAR-1""",,,,' in units and "KETTLE,ACME," in units[2]
 
 
-@pytest.mark.parametrize("status, who", [*((it, "ACME") for it in (200, 404, 405, 409)),
-                                         *((it, "ACME (claimed)") for it in (400, 403, 413, 429, 503))])
+@pytest.mark.parametrize("status, who", [*((code, "ACME") for code in (200, 304, 404, 405, 409)),
+                                         *((code, "ACME (claimed)") for code in (400, 403, 413, 429, 503))])
 def test_who_only_claims_to_be_an_owner_is_marked(at_work, status, who):
     log = at_work.folder / "toll.log"
     log.write_text(f'192.0.2.7 "ACME" [2001-01-01T00:00:00+00:00] "POST /orders HTTP/1.1" {status} 11 0.395\n'
                    f'192.0.2.7 "ACME" [2001-01-01T00:00:01+00:00] "POST /owner/ HTTP/1.1" {status} 11 0.395\n')
-    assert [it["who"] for it in json.loads(at_work.run("journal", "--site-log", log, "--json").out)] == [who, "ACME (claimed)"]
+    assert [row["who"] for row in json.loads(at_work.run("journal", "--site-log", log, "--json").out)] == [who, "ACME (claimed)"]
 
 
 def test_who_and_word_find_what_they_name(at_work):
     log = at_work.folder / "toll.log"
-    log.write_text("".join(f'192.0.2.7 "{it}" [2001-01-01T00:00:00+00:00] "POST /orders HTTP/1.1" 200 11 0.395\n' for it in ("ACME", "ACME-2")))
-    for it in ("ACME", "ACME-2"):
-        assert [row["who"] for row in json.loads(at_work.run("journal", "--site-log", log, "--who", it, "--json").out)] == [it]
+    log.write_text("".join(f'192.0.2.7 "{owner}" [2001-01-01T00:00:00+00:00] "POST /orders HTTP/1.1" 200 11 0.395\n' for owner in ("ACME", "ACME-2")))
+    for owner in ("ACME", "ACME-2"):
+        assert [row["who"] for row in json.loads(at_work.run("journal", "--site-log", log, "--who", owner, "--json").out)] == [owner]
     sheet = at_work.folder / "sheet.csv"
     sheet.write_text("key,owner,order,batch,segment,use,material,lot_owner,lot,sublot,amount,day\n"
                      "K21,ACME,O-1,1,1,consumed,SALT,ACME,S-1,BAY1,1,102\n")
@@ -414,8 +414,8 @@ def test_an_answer_that_cannot_be_noted_is_given_all_the_same(at_work):
         server.communicate()
     assert (done.returncode, out) == (3, "accepted\n") and "can't be written" in err and "its answer isn't noted" in err
     assert ("OVEN-WITH-NAME-1",) in at_work.rows("SELECT unit FROM units")
-    found = check(str(at_work.journal))
-    assert found.wrong == [] and found.notes == [] and len(found.unanswered) == 1  # nothing of a line is left
+    checked = check(str(at_work.journal))
+    assert checked.wrong == [] and checked.notes == [] and len(checked.unanswered) == 1  # nothing of a line is left
 
 
 def test_time_that_goes_back_is_told(path, monkeypatch):
@@ -429,7 +429,7 @@ def test_a_long_journal_is_not_held_in_memory(tmp_path):
     write(path, 1)
     journal = Journal(path)
     for _ in range(40):
-        journal.told(journal.asked("/office.db", ["import", "a.csv"], keys=["ACME K-1234567"] * 30_000), DONE)
+        journal.answered(journal.asked("/office.db", ["import", "a.csv"], keys=["ACME K-1234567"] * 30_000), DONE)
     tracemalloc.start()
     assert check(path).lines == 82
     assert tracemalloc.get_traced_memory()[1] < os.stat(path).st_size / 2
@@ -439,6 +439,6 @@ def test_a_long_journal_is_not_held_in_memory(tmp_path):
 def test_what_is_handed_out_is_noted(at_work):
     at_work.run("papers", "lot", "ACME", "B-1", at_work.folder / "made", "--no-pdf")
     at_work.run("years", "recall", "ACME", "S-1")
-    assert {it["event"] for it in at_work.lines()} == {"exported"}
-    assert [it["words"] for it in at_work.lines()] == [["papers", "lot-ACME-B-1"], ["years", "recall", "ACME", "S-1"]]
+    assert {entry["event"] for entry in at_work.lines()} == {"exported"}
+    assert [entry["words"] for entry in at_work.lines()] == [["papers", "lot-ACME-B-1"], ["years", "recall", "ACME", "S-1"]]
     assert "papers lot-ACME-B-1" in at_work.run("journal", "--no-site").out and at_work.run("journal", "verify").status == 0

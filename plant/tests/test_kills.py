@@ -71,11 +71,11 @@ def steps(whole: int, kills: int) -> list[int]:
 def fronts(laid: Plant, folder: pathlib.Path, words: list[str]) -> list[dict]:
     """The rows that a command may leave: those from before, those after, and of receipts those between."""
     plant = put(laid, folder)
-    found = [plant.content()]
+    contents = [plant.content()]
     if words[:1] == ["import"] and "receipts" in words:
         plant.toll("receive", "ACME", "K30", "SALT", "S-30", "BAY1", "5", "102")
-        found.append(plant.content())
-    return found
+        contents.append(plant.content())
+    return contents
 
 
 def try_command(laid: Plant, folder: pathlib.Path, name: str, kills: int) -> int:
@@ -91,16 +91,16 @@ def try_command(laid: Plant, folder: pathlib.Path, name: str, kills: int) -> int
         done += not kill_at(plant, step, words, stdin)
         assert plant.content() in [*allowed, after], step
         for journal in folder.glob("*.journal"):
-            found = check(str(journal))
-            assert found.wrong == [] and found.notes == [] and len(found.unanswered) <= 1, step
+            checked = check(str(journal))
+            assert checked.wrong == [] and checked.notes == [] and len(checked.unanswered) <= 1, step
         if name == "backup":
-            assert all(it.name.startswith(("office-", ".hilpoven.")) for it in (folder / "backups").iterdir())
+            assert all(path.name.startswith(("office-", ".hilpoven.")) for path in (folder / "backups").iterdir())
         elif name == "new":
             assert not (folder / "other.db").exists() or plant.toll("stock", "HOUSE", db=folder / "other.db").status == 0
         elif name == "owner" and plant.content() == after:
             assert plant.run("owner", "key", "CARL", stdin=stdin).status == 0
         else:
-            assert plant.run(*[str(folder / it) if it.endswith(".csv") else it for it in words], stdin=stdin).status in (0, 1)
+            assert plant.run(*[str(folder / word) if word.endswith(".csv") else word for word in words], stdin=stdin).status in (0, 1)
             assert plant.content() == after, step
         assert check(str(plant.journal)).wrong == []
     return done
@@ -119,13 +119,13 @@ def test_many_kills_leave_what_toll_left(laid, tmp_path, name):
 
 def old_rows(plant: Plant) -> list[dict]:
     """The rows of each office that was moved aside; of one whose log stands elsewhere, as it is then found."""
-    found = []
+    contents = []
     for folder in plant.folder.glob("office-before-restore-*"):
         if (folder / "office.db").exists():
             if not (folder / "office.db-wal").exists() and pathlib.Path(f"{plant.db}-wal").exists():
                 shutil.copyfile(f"{plant.db}-wal", folder / "office.db-wal")
-            found.append(plant.content(folder / "office.db"))
-    return found
+            contents.append(plant.content(folder / "office.db"))
+    return contents
 
 
 def try_restore(laid: Plant, folder: pathlib.Path, kills: int) -> int:

@@ -19,47 +19,47 @@ def office(laid):
 
 def test_sublots_are_the_stock(office):
     for owner in ("ACME", "BOLT", "HOUSE"):
-        told = [it.split() for it in office.toll("stock", owner).out.splitlines()]
-        assert told == [[it["lot"], it["sublot"], it["material"], it["disposition"], str(it["amount"]), it["measure"]] for it in listed(office, "sublots", "--owner", owner)]
+        lines = [line.split() for line in office.toll("stock", owner).out.splitlines()]
+        assert lines == [[row["lot"], row["sublot"], row["material"], row["disposition"], str(row["amount"]), row["measure"]] for row in listed(office, "sublots", "--owner", owner)]
 
 
 def test_orders_are_those_of_toll(office):
-    told = [it.split() for it in office.toll("orders", "ACME").out.splitlines()]
-    assert told == [[it["order"], it["recipe"], str(it["batches"]), it["status"]] for it in listed(office, "orders", "--owner", "ACME")]
+    lines = [line.split() for line in office.toll("orders", "ACME").out.splitlines()]
+    assert lines == [[row["order"], row["recipe"], str(row["batches"]), row["status"]] for row in listed(office, "orders", "--owner", "ACME")]
 
 
 def test_a_batch_is_that_of_toll(office):
     head, *rows = office.toll("batch", "ACME", "O-1", "1").out.splitlines()
     shown = json.loads(office.run("show", "batch", "ACME", "O-1", "1", "--json").out)
     assert head.split()[1:] == [shown["state"], shown["unit"], shown["closed"]]
-    assert [it.split() for it in rows] == [[str(it[name]) for name in ("segment", "use", "owner", "material", "required", "actual")] for it in shown["requirements"]]
+    assert [row.split() for row in rows] == [[str(requirement[name]) for name in ("segment", "use", "owner", "material", "required", "actual")] for requirement in shown["requirements"]]
 
 
 def test_a_lot_is_that_of_http(at_work):
     with at_work.serve() as server:
         for name in ("S-1", "B-1"):
-            status, told = server.ask("ACME", "GET", f"/lots/{name}")
+            status, reply = server.ask("ACME", "GET", f"/lots/{name}")
             shown = json.loads(at_work.run("show", "lot", "ACME", name, "--json").out)
             assert status == 200
-            assert [told[it] for it in ("material", "measure", "disposition", "origin")] == [shown[it] for it in ("material", "measure", "disposition", "origin")]
-            assert told["sublots"] == [{"amount": it["amount"], "sublot": it["sublot"]} for it in shown["sublots"]]
+            assert [reply[field] for field in ("material", "measure", "disposition", "origin")] == [shown[field] for field in ("material", "measure", "disposition", "origin")]
+            assert reply["sublots"] == [{"amount": sublot["amount"], "sublot": sublot["sublot"]} for sublot in shown["sublots"]]
             results = listed(at_work, "results", "--owner", "ACME", "--lot", name)
-            assert told["results"] == [{it: row[it] for it in ("day", "test", "value")} for row in results]
+            assert reply["results"] == [{field: row[field] for field in ("day", "test", "value")} for row in results]
 
 
 def test_a_ledgers_last_balance_is_on_hand(office):
     for lot in listed(office, "lots"):
         shown = json.loads(office.run("show", "lot", lot["owner"], lot["lot"], "--json").out)
-        assert shown["ledger"][-1]["balance"] == shown["on hand"] == sum(it["amount"] for it in shown["sublots"])
+        assert shown["ledger"][-1]["balance"] == shown["on hand"] == sum(sublot["amount"] for sublot in shown["sublots"])
 
 
 def test_a_voided_actual_does_not_count_in_the_ledger(at_work):
     at_work.lay("void ACME K2\n")
     shown = json.loads(at_work.run("show", "lot", "ACME", "S-1", "--json").out)
-    assert [(it["key"], it["void"], it["balance"]) for it in shown["ledger"]] == [("K1", "", 5000), ("K2", "void", 5000)]
+    assert [(movement["key"], movement["void"], movement["balance"]) for movement in shown["ledger"]] == [("K1", "", 5000), ("K2", "void", 5000)]
     assert shown["on hand"] == 5000
-    assert [it["key"] for it in listed(at_work, "voids")] == ["K2"]
-    assert "K2" not in [it["key"] for it in listed(at_work, "moves", "--owner", "ACME", "--open")]
+    assert [row["key"] for row in listed(at_work, "voids")] == ["K2"]
+    assert "K2" not in [row["key"] for row in listed(at_work, "moves", "--owner", "ACME", "--open")]
 
 
 def test_what_is_missing_for_a_release_is_what_toll_wants(at_work):
@@ -78,7 +78,7 @@ def test_what_is_missing_for_a_release_is_what_toll_wants(at_work):
 def test_a_unit_tells_its_batch(office):
     assert "runs: ACME O-1/1, running" in office.run("show", "unit", "KETTLE").out
     assert "runs: nothing" in office.run("show", "unit", "MIXER").out
-    assert [it["unit"] for it in listed(office, "units", "--open")] == ["KETTLE"]
+    assert [row["unit"] for row in listed(office, "units", "--open")] == ["KETTLE"]
 
 
 def test_an_order_tells_its_batches_and_recipe(office):
@@ -88,14 +88,14 @@ def test_an_order_tells_its_batches_and_recipe(office):
 
 
 def test_what_is_open(office):
-    assert [it["lot"] for it in listed(office, "lots", "--open", "--owner", "ACME")] == ["B-1"]
-    assert [it["batch"] for it in listed(office, "batches", "--open")] == [1]
-    assert [it["order"] for it in listed(office, "orders", "--open")] == ["O-1"]
+    assert [row["lot"] for row in listed(office, "lots", "--open", "--owner", "ACME")] == ["B-1"]
+    assert [row["batch"] for row in listed(office, "batches", "--open")] == [1]
+    assert [row["order"] for row in listed(office, "orders", "--open")] == ["O-1"]
 
 
 def test_an_order_is_done_when_its_batches_are_closed_and_not_before(at_work):
     def status_of_order():
-        (order,) = (it for it in listed(at_work, "orders", "--owner", "ACME") if it["order"] == "O-2")
+        (order,) = (row for row in listed(at_work, "orders", "--owner", "ACME") if row["order"] == "O-2")
         assert (order in listed(at_work, "orders", "--open")) is (order["status"] == "open")
         return order["opened"], order["closed"], order["status"]
     at_work.lay('> ACME POST /orders {"order":"O-2","recipe":"BRINE-10","batches":1}\n')
@@ -164,14 +164,14 @@ def test_a_list_of_what_is_open_says_what_else_there_is(at_work):
     assert at_work.run("list", "lots", "--open", "--lot", "S-1").err == "no lots\n  --open shows lots that are quarantined; without it there are 1: 1 released.\n"
 
 
-@pytest.mark.parametrize("words, told", [
+@pytest.mark.parametrize("words, lines", [
     ("lots --unit KETTLE", ["list lots has no option --unit", "it has --owner, --lot and --material; --unit is of list units and batches"]),
     ("owners --since 101", ["list owners has no option --since", "it has --owner; --since is of list moves, results and voids"]),
     ("moves --kind shipped", ["'shipped' is not one of 'receive', 'split', 'ship'"]), ("moves --since 27.11.2026", ["`27.11.2026` is no day", "2026-11-27"]),
     ("moves --since 2026-02-30", ["`2026-02-30` is no day"]), ("moves --since 99999999", ["`99999999` is no day"]), ("lots --sinse 5", ["No such option: --sinse"])])
-def test_an_option_that_a_list_has_not_is_told(office, words, told):
+def test_an_option_that_a_list_has_not_is_told(office, words, lines):
     done = office.run("list", *words.split())
-    assert done.status == 2 and done.out == "" and all(line in done.err for line in told), done.err
+    assert done.status == 2 and done.out == "" and all(line in done.err for line in lines), done.err
 
 
 def test_a_list_reads_what_stands_in_the_log_alone(at_work):
@@ -181,10 +181,10 @@ def test_a_list_reads_what_stands_in_the_log_alone(at_work):
 
 
 def test_nothing_is_left_beside_the_file(at_work):
-    before = sorted(it.name for it in at_work.folder.iterdir())
+    before = sorted(path.name for path in at_work.folder.iterdir())
     at_work.run("list", "lots")
     at_work.run("show", "lot", "ACME", "B-1")
-    assert sorted(it.name for it in at_work.folder.iterdir()) == sorted({*before, "office.db.lock"})
+    assert sorted(path.name for path in at_work.folder.iterdir()) == sorted({*before, "office.db.lock"})
 
 
 def test_a_server_need_not_open_its_file_anew(at_work):
@@ -219,7 +219,7 @@ MISTAKEN = ["1E5", "007", "1-2", "MAR-1", "TRUE"]
 def test_a_csv_has_no_name_that_a_spreadsheet_changes(at_work):
     at_work.lay("\n".join(f"receive ACME X{number} SALT {name} BAY1 5 101" for number, name in enumerate(MISTAKEN)))
     rows = list(csv.DictReader(io.StringIO(at_work.run("list", "lots", "--owner", "ACME", "--csv").out)))
-    assert sorted(it["lot"] for it in rows if it["lot"].startswith("=")) == sorted(f'="{it}"' for it in MISTAKEN)
+    assert sorted(row["lot"] for row in rows if row["lot"].startswith("=")) == sorted(f'="{name}"' for name in MISTAKEN)
 
 
 def shown(plant, *words):
@@ -228,7 +228,7 @@ def shown(plant, *words):
 
 def test_an_owner_is_shown_with_what_it_has_and_never_its_key(office):
     owner = shown(office, "owner", "ACME")
-    assert [owner[it] for it in ("materials", "recipes", "orders", "lots", "movements", "results")] == [2, 1, 1, 2, 5, 1]
+    assert [owner[what] for what in ("materials", "recipes", "orders", "lots", "movements", "results")] == [2, 1, 1, 2, 5, 1]
     assert owner["materials by name"] == [{"material": "BRINE", "measure": "kg", "lots": 1, "on hand": 980}, {"material": "SALT", "measure": "kg", "lots": 1, "on hand": 4700}]
     assert owner["open batches"] == [{"order": "O-1", "batch": 1, "unit": "KETTLE", "state": "running"}]
     assert "KEY1" not in office.run("show", "owner", "ACME").out and "BOLT" not in office.run("show", "owner", "ACME").out
@@ -253,7 +253,7 @@ def test_a_key_is_shown_with_what_it_recorded(at_work):
     at_work.lay("result ACME B-1 PH 5 102\n> ACME POST /lots/B-1/release\n")
     assert at_work.run("ship", "ACME", "K7", "B-1", "TOTE2", 30, 103, "--to", "NORD", "--document", "LS 1").status == 0
     split = shown(at_work, "key", "ACME", "K6")
-    assert [split[it] for it in ("kind", "lot", "sublot", "target", "material", "amount", "measure", "day")] == ["split", "B-1", "TOTE1", "TOTE2", "BRINE", 80, "kg", 102]
+    assert [split[field] for field in ("kind", "lot", "sublot", "target", "material", "amount", "measure", "day")] == ["split", "B-1", "TOTE1", "TOTE2", "BRINE", 80, "kg", 102]
     shipment = shown(at_work, "key", "ACME", "K7")
     assert (shipment["noted party"], shipment["noted document"]) == ("NORD", "LS 1")
     used = shown(at_work, "key", "ACME", "K3")
@@ -281,12 +281,12 @@ def test_a_batch_says_whether_it_is_closed(at_work):
     assert "  closed: yes\n" in at_work.run("show", "batch", "ACME", "O-1", "1").out and shown(at_work, "batch", "ACME", "O-1", "1")["closed"] == "closed"
 
 
-@pytest.mark.parametrize("words, told", [
+@pytest.mark.parametrize("words, why", [
     ("owner ACMEE", "Nearest of the owners: ACME"), ("recipe ACME BRINE-1", "Nearest of the recipes: BRINE-10"), ("material ACME SLAT", "Nearest of the materials: SALT"),
     ("key ACME K66", "Nearest of the movements of ACME: K6"), ("material ACMEE SALT", "there is no owner ACMEE"), ("key BOLT K6", "there is no movement K6 of BOLT")])
-def test_what_is_not_there_is_told_with_the_nearest(office, words, told):
+def test_what_is_not_there_is_told_with_the_nearest(office, words, why):
     done = office.run("show", *words.split())
-    assert (done.status, done.out) == (1, "") and told in done.err
+    assert (done.status, done.out) == (1, "") and why in done.err
 
 
 def test_an_opened_batch_is_named(at_work):

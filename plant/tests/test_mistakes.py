@@ -136,7 +136,7 @@ MISTAKES = [
 
 
 def test_there_are_enough_of_them():
-    assert len(MISTAKES) >= 80 and len({it[0] for it in MISTAKES}) == len(MISTAKES)
+    assert len(MISTAKES) >= 80 and len({mistake[0] for mistake in MISTAKES}) == len(MISTAKES)
 
 
 @pytest.fixture(scope="module")
@@ -145,14 +145,14 @@ def office(laid):
     return laid, laid.content()
 
 
-@pytest.mark.parametrize("typed, status, told", MISTAKES, ids=[it[0] for it in MISTAKES])
-def test_a_mistake_is_told(office, typed, status, told):
+@pytest.mark.parametrize("typed, status, texts", MISTAKES, ids=[mistake[0] for mistake in MISTAKES])
+def test_a_mistake_is_told(office, typed, status, texts):
     plant, before = office
     done = plant.run(*shlex.split(typed.replace("{db}", str(plant.db))))
     text = done.out + done.err
     assert done.status == status, text
-    for it in told:
-        assert it in text, text
+    for part in texts:
+        assert part in text, text
     assert "Traceback" not in text
     assert plant.content() == before
 
@@ -256,7 +256,7 @@ def test_the_only_office_needs_no_setting(tmp_path, monkeypatch, settings, offic
     from hilpoven.core import settings as site
     monkeypatch.setattr(site, "OFFICES", tmp_path)
     (tmp_path / "hilpoven.toml").write_text(settings)
-    for it in offices:
-        (tmp_path / f"{it}.env").write_text("PORT=801\n")
-    found = site.load(tmp_path / "hilpoven.toml", db=db)
-    assert found.file.removeprefix(f"{tmp_path}/") == file and (found.port, found.keep) == ((801, 48) if file.startswith("/") else (0, 30))
+    for name in offices:
+        (tmp_path / f"{name}.env").write_text("PORT=801\n")
+    loaded = site.load(tmp_path / "hilpoven.toml", db=db)
+    assert loaded.file.removeprefix(f"{tmp_path}/") == file and (loaded.port, loaded.keep) == ((801, 48) if file.startswith("/") else (0, 30))

@@ -23,27 +23,27 @@ def orders(plant):
 
 def texts(plant, *done):
     """All that anybody can read besides the file itself."""
-    return "".join([plant.journal.read_text(), *(text for it in done for text in (it.out, it.err))])
+    return "".join([plant.journal.read_text(), *(text for result in done for text in (result.out, result.err))])
 
 
 def test_each_request_does_what_the_owner_can_do(at_work):
     at_work.lay(RELEASABLE)
     done = [at_work.run("for", "ACME", *words.split(), *BY) for words in (
         "order O-2 BRINE-10 2", "order O-3 BRINE-10 1", "cancel O-2", "release B-1", "reject S-1", "order O-3 BRINE-10 1")]
-    assert [(it.status, it.out, it.err) for it in done] == [(0, "accepted\n", "")] * 5 + [(0, "repeated\n", "")]
+    assert [(result.status, result.out, result.err) for result in done] == [(0, "accepted\n", "")] * 5 + [(0, "repeated\n", "")]
     assert orders(at_work) == [("O-1", "BRINE-10", 3, 0), ("O-2", "BRINE-10", 2, 1), ("O-3", "BRINE-10", 1, 0)]
     assert lots(at_work) == {"B-1": 1, "S-1": 2}
 
 
-@pytest.mark.parametrize("words, refusal, told", [
+@pytest.mark.parametrize("words, refusal, why", [
     ("order O-1 BRINE-10 4", "refused 17 OrderExists", "Another order needs another name"), ("order O-9 BRIN-10 1", "refused 13 UnknownRecipe", "Nearest of the recipes of ACME: BRINE-10"),
     ("cancel O-1", "refused 20 OrderStarted", ""), ("cancel O-9", "refused 18 UnknownOrder", "Nearest of the orders of ACME: O-1"),
     ("release B-1", "refused 36 TestsOpen", "`hilpoven show lot ACME B-1` tells which tests are missing"), ("release W-101", "refused 27 UnknownLot", "HOUSE has a lot W-101."),
     ("release S-1", "refused 32 NotQuarantined", ""), ("reject P-1", "refused 27 UnknownLot", "BOLT has a lot P-1.")])
-def test_a_refusal_is_that_of_toll_with_its_explanation(at_work, words, refusal, told):
+def test_a_refusal_is_that_of_toll_with_its_explanation(at_work, words, refusal, why):
     before = at_work.content()
     done = at_work.run("for", "ACME", *words.split(), *BY)
-    assert (done.status, done.out) == (1, f"{refusal}\n") and told in done.err and at_work.content() == before
+    assert (done.status, done.out) == (1, f"{refusal}\n") and why in done.err and at_work.content() == before
 
 
 def test_an_order_that_was_cancelled_is_told(at_work):
@@ -54,8 +54,8 @@ def test_an_order_that_was_cancelled_is_told(at_work):
 
 def test_the_journal_has_who_asked_and_never_the_key(at_work):
     done = at_work.run("for", "ACME", "reject", "S-1", *BY)
-    asked, told = at_work.lines()
-    assert asked["words"] == ["for", "ACME", "reject", "S-1", "--by", "Jane Doe, mail of 27 November"] and told["answer"] == "accepted\n"
+    asked, answered = at_work.lines()
+    assert asked["words"] == ["for", "ACME", "reject", "S-1", "--by", "Jane Doe, mail of 27 November"] and answered["answer"] == "accepted\n"
     shown = at_work.run("journal", "--no-site", "--word", "S-1")
     assert "for ACME reject S-1 --by Jane Doe, mail of 27 November" in shown.out and "ACMEKEY1" not in texts(at_work, done, shown)
 
@@ -65,14 +65,14 @@ def test_the_key_is_in_no_command_line_and_no_environment(at_work, monkeypatch):
     at_work.program = str(script(at_work.folder / "toll", f'echo "$@" >> {seen}; env >> {seen}; exec {at_work.program} "$@"'))
     assert at_work.run("for", "ACME", "reject", "S-1", *BY).status == 0
     assert "serve 0" in seen.read_text() and "ACMEKEY1" not in seen.read_text()
-    assert not list(at_work.folder.glob("*.sock")) and not [it.name for it in at_work.folder.iterdir() if it.name.startswith(".")]
+    assert not list(at_work.folder.glob("*.sock")) and not [path.name for path in at_work.folder.iterdir() if path.name.startswith(".")]
 
 
 @pytest.mark.parametrize("words", ["ACME reject S-1", "ACME\r\ntoll-key:X reject S-1", "acme reject S-1", "BOLT; reject S-1", "HOUSE reject W-101", "ACME reject ../lots/S-1", "ACME reject S-1?a",
                                    "ACME order O-5 BRINE-10 1.5", "ACME order O-5 BRINE-10 100", "ACME order O-5 \"} 1", "ACME order O-5", "ACME release S-1 B-1", "ACME eat S-1", "NOBODY reject S-1"])
 def test_words_that_are_none_ask_nothing(at_work, monkeypatch, words):
     monkeypatch.setattr(client, "begin_server", lambda *_, **__: pytest.fail("a server was begun"))
-    before, typed = at_work.content(), [it.replace("\v", " ") for it in words.split(" ")]
+    before, typed = at_work.content(), [word.replace("\v", " ") for word in words.split(" ")]
     done = at_work.run("for", *typed, *(BY if words != "ACME reject S-1" else ()))
     assert done.status == (1 if "NOBODY" in words else 2) and done.out == "" and "\r" not in done.err
     assert at_work.content() == before and not at_work.journal.exists()
@@ -157,17 +157,17 @@ def test_a_program_that_takes_the_port_meanwhile_gets_nothing(at_work, monkeypat
         assert peer.recv(100) == b""
 
 
-@pytest.mark.parametrize("reply, status, told", [
+@pytest.mark.parametrize("reply, status, why", [
     (b"", 3, "fault Lost"), (b"HTTP/1.1 503 x\r\n\r\n{\"error\":\"Unavailable\"}", 3, "fault Unavailable"), (b"HTTP/1.1 403 x\r\n\r\n{\"error\":\"Forbidden\"}", 3, "the server replies 403 Forbidden"),
     (b"HTTP/1.1 409 x\r\n\r\n{\"code\":1,\"error\":\"\\u001b[2J\"}", 3, "the server replies 409"), (b"HTTP/1.1 200 x\r\n\r\n{", 3, "fault Lost")])
-def test_a_reply_that_is_none_is_told_and_noted(at_work, monkeypatch, reply, status, told):
+def test_a_reply_that_is_none_is_told_and_noted(at_work, monkeypatch, reply, status, why):
     ours, theirs = socket.socketpair()
     theirs.sendall(reply)
     theirs.shutdown(socket.SHUT_WR)
     monkeypatch.setattr(server, "connected", lambda *_: ours)
     at_work.settle(port=1)
     done = at_work.run("for", "ACME", "reject", "S-1", *BY)
-    assert done.status == status and told in done.err and "\x1b" not in done.err and lots(at_work)["S-1"] == 1
+    assert done.status == status and why in done.err and "\x1b" not in done.err and lots(at_work)["S-1"] == 1
     asked, answered = at_work.lines()
     assert answered["of"] == asked["id"] and answered["status"] == 3 and "ACMEKEY1" not in texts(at_work, done)
     assert b"toll-key: ACMEKEY1\r\n" in theirs.recv(4096)
@@ -205,4 +205,4 @@ def test_a_kill_leaves_no_server_and_no_copy(at_work):
     process.kill()
     process.communicate()
     assert eventually(lambda: not os.path.exists(f"/proc/{begun}/cmdline") or open(f"/proc/{begun}/cmdline", "rb").read() == b"")
-    assert not [it.name for it in at_work.folder.iterdir() if it.name.startswith(".hilpoven")]
+    assert not [path.name for path in at_work.folder.iterdir() if path.name.startswith(".hilpoven")]

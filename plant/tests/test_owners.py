@@ -42,10 +42,10 @@ def test_without_a_key_one_is_made(at_work, words, first):
 def test_at_a_terminal_a_key_is_typed_twice_or_made(at_work, typed, key):
     """Enter alone makes one, which is shown; a typed one never is."""
     words = [sys.executable, "-B", HILPOVEN, "--db", at_work.db, "owner", "key", "ACME"]
-    status, shown = at_terminal(words, [it for it in typed if it is not None], environment(TOLL=at_work.program))
-    (found,), = key_of(at_work, "ACME")
-    assert re.fullmatch(key, found) and (found in shown) == (typed[0] == "") and ("TYPEDKEY" in shown) is False
-    assert (status == 0) == (found != "ACMEKEY1")
+    status, shown = at_terminal(words, [line for line in typed if line is not None], environment(TOLL=at_work.program))
+    (kept,), = key_of(at_work, "ACME")
+    assert re.fullmatch(key, kept) and (kept in shown) == (typed[0] == "") and ("TYPEDKEY" in shown) is False
+    assert (status == 0) == (kept != "ACMEKEY1")
 
 
 def at_terminal(words, lines, env):
@@ -68,7 +68,7 @@ def test_status_names_the_owners_whose_keys_are_short(at_work):
     at_work.run("owner", "add", "CARL", stdin="")
     at_work.run("owner", "add", "DORA", stdin="A" * 19 + "\n")
     at_work.run("owner", "add", "EVE", stdin="A" * 20 + "\n")
-    line, = [it for it in at_work.run("status").out.splitlines() if it.startswith("keys:")]
+    line, = [line for line in at_work.run("status").out.splitlines() if line.startswith("keys:")]
     assert line == "keys: those of ACME, BOLT, DORA have fewer than 20 letters; `hilpoven owner key NAME` makes longer ones"
     for owner in ("ACME", "BOLT", "DORA"):
         at_work.run("owner", "key", owner, stdin="")
@@ -96,7 +96,7 @@ def test_the_key_stands_on_no_command_line(at_work):
     assert key_of(at_work, "CARL") == [("CARLSKEY1",)] and given != "CARLSKEY1"
 
 
-@pytest.mark.parametrize("words, stdin, told", [
+@pytest.mark.parametrize("words, stdin, why", [
     (("owner", "add", "carl"), "CARLSKEY1\n", "NAME: `carl` has lower-case letters"),
     (("owner", "add", "CARL"), "short\n", "the key has 5 letters"),
     (("owner", "add", "CARL"), "with space\n", "the key has something else than letters and digits"),
@@ -105,10 +105,10 @@ def test_the_key_stands_on_no_command_line(at_work):
     (("owner", "key", "CRAL"), "CARLSKEY1\n", "there is no owner CRAL"),
     (("owner", "key", "HOUSE"), "CARLSKEY1\n", "HOUSE is the plant"),
 ])
-def test_what_is_wrong_is_told_and_changes_nothing(at_work, words, stdin, told):
+def test_what_is_wrong_is_told_and_changes_nothing(at_work, words, stdin, why):
     before = at_work.rows("SELECT * FROM owners")
     done = at_work.run(*words, stdin=stdin)
-    assert done.status == 2 and told in done.err and at_work.rows("SELECT * FROM owners") == before
+    assert done.status == 2 and why in done.err and at_work.rows("SELECT * FROM owners") == before
     assert stdin.strip() not in done.err + done.out or not stdin.strip()
 
 
@@ -128,13 +128,13 @@ def test_a_link_is_changed_where_it_leads_and_locked_there(at_work):
 
 @pytest.mark.skipif(os.geteuid() != 0, reason="only root takes the rights of others")
 def test_what_root_does_is_done_with_the_rights_of_the_files_owner(reachable):
-    for it in [reachable.folder, *reachable.folder.iterdir()]:
-        os.chown(it, 4711, 4712)
+    for path in [reachable.folder, *reachable.folder.iterdir()]:
+        os.chown(path, 4711, 4712)
     for words, stdin in ((["owner", "key", "ACME"], "ACMEKEY9\n"), (["unit-add", "PRESS"], ""), (["import", "--what", "receipts", "-"], RECEIPTS)):
         done = command("--db", reachable.db, *words, input=stdin, env=environment(TOLL=reachable.program))
         assert done.returncode == 0, done.stderr
-    assert {(os.stat(it).st_uid, os.stat(it).st_gid) for it in reachable.folder.iterdir()} == {(4711, 4712)}
-    assert {(it["user"], it["login"]) for it in reachable.lines() if it["event"] == "asked"} == {("4711", journals.login())}
+    assert {(os.stat(path).st_uid, os.stat(path).st_gid) for path in reachable.folder.iterdir()} == {(4711, 4712)}
+    assert {(entry["user"], entry["login"]) for entry in reachable.lines() if entry["event"] == "asked"} == {("4711", journals.login())}
 
 
 def test_owner_add_as_toll_has_it_tells_that_the_key_was_seen(at_work):

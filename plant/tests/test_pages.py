@@ -15,7 +15,7 @@ TABLES = (ROOT / "docs" / "tables.md").read_text()
 
 def test_the_lines_are_those_of_the_page():
     lines = re.findall(r"^    ([a-z-]+(?: [A-Z-]+)+)$", COMMANDS, re.M)
-    assert lines == [it.usage() for it in grammar.LINES.values()]
+    assert lines == [line.usage() for line in grammar.LINES.values()]
 
 
 def test_the_words_of_values_are_those_of_the_page():
@@ -27,14 +27,14 @@ def test_the_words_of_values_are_those_of_the_page():
 def test_each_refusal_means_what_the_page_says():
     rows = re.findall(r"^\| (\d+) \| (\w+) \| (.*?) \|", REFUSALS, re.M)
     assert len(rows) == 42
-    assert [(int(number), word, means) for number, word, means in rows] == [(it["number"], word, it["means"]) for word, it in meanings.table("refusals").items()]
+    assert [(int(number), word, means) for number, word, means in rows] == [(refusal["number"], word, refusal["means"]) for word, refusal in meanings.table("refusals").items()]
 
 
 def test_each_limit_is_that_of_the_page():
     rows = dict(re.findall(r"^\| (.+?) \| ([\d,]+) \|$", REFUSALS.split("## How many")[1], re.M))
-    told = {what.split()[0]: int(most.replace(",", "")) for what, most in rows.items() if not what.startswith(("owners", "units", "actuals"))}
-    assert told == {what: most for what, (most, _) in gauge.OF_OWNER.items()}
-    assert [int(rows[it]) for it in ("owners besides HOUSE", "units", "actuals of a batch")] == [gauge.OWNERS, gauge.UNITS, gauge.ACTUALS]
+    limits = {what.split()[0]: int(most.replace(",", "")) for what, most in rows.items() if not what.startswith(("owners", "units", "actuals"))}
+    assert limits == {what: most for what, (most, _) in gauge.OF_OWNER.items()}
+    assert [int(rows[head]) for head in ("owners besides HOUSE", "units", "actuals of a batch")] == [gauge.OWNERS, gauge.UNITS, gauge.ACTUALS]
 
 
 @pytest.mark.parametrize("column, listing, shown", [("disposition", "lots", "disposition"), ("state", "batches", "state"), ("kind", "moves", "kind"), ("role", "requirements", "use")])
@@ -47,7 +47,7 @@ def test_numbers_stand_for_the_words_of_the_page(column, listing, shown):
 def test_what_can_be_done_in_a_state_is_what_the_page_says():
     table = COMMANDS.split("| state | done |")[1].split("\n\n")[0].splitlines()
     heads = ["done", *re.findall(r"\w+", table[0])]
-    page = {cells[0]: {head for head, cell in zip(heads, cells[1:]) if cell} for cells in ([it.strip() for it in row.split("|")[1:-1]] for row in table[2:])}
+    page = {cells[0]: {head for head, cell in zip(heads, cells[1:]) if cell} for cells in ([part.strip() for part in row.split("|")[1:-1]] for row in table[2:])}
     assert len(page) == 12 and page == {state.word: set(commands) for state, commands in schema.FOLLOWING.items()}
     closable = re.search(r"23 BadState unless it is (.*)\.", COMMANDS)[1]
     assert re.findall(r"idle|complete|stopped|aborted|\w+ed\b", closable) == ["idle", "complete", "stopped", "aborted"] == [
@@ -59,23 +59,23 @@ def test_each_advice_names_commands_that_are_there():
     from hilpoven.cli import hilpoven as group
 
     for kind in ("refusals", "faults"):
-        for word, it in meanings.table(kind).items():
-            for told in re.findall(r"`hilpoven ([^`]*)`", it["look"]):
-                names = told.split()
+        for word, meaning in meanings.table(kind).items():
+            for advice in re.findall(r"`hilpoven ([^`]*)`", meaning["look"]):
+                names = advice.split()
                 command = group.commands[names[0]]
                 if hasattr(command, "commands"):
-                    assert names[1] in command.commands, (word, told)
+                    assert names[1] in command.commands, (word, advice)
                     command = command.commands[names[1]]
-                known = {option for it in command.params for option in it.opts}
-                assert set(re.findall(r"--[a-z-]+", told)) <= known, (word, told)
+                known = {option for parameter in command.params for option in parameter.opts}
+                assert set(re.findall(r"--[a-z-]+", advice)) <= known, (word, advice)
 
 
 def commands_of(group, names=()):
     """All commands below a group, each with the words that call it."""
-    for name, it in group.commands.items():
-        yield (*names, name), it
-        if hasattr(it, "commands"):
-            yield from commands_of(it, (*names, name))
+    for name, command in group.commands.items():
+        yield (*names, name), command
+        if hasattr(command, "commands"):
+            yield from commands_of(command, (*names, name))
 
 
 def test_each_command_has_an_example_of_itself():
@@ -90,7 +90,7 @@ def test_each_command_has_an_example_of_itself():
 def test_the_clerks_page_says_of_each_command_what_its_mistake_can_still_be():
     part = (ROOT / "docs" / "hilpoven.md").read_text().split("## I recorded it wrongly")[1].split("\n## ")[0]
     first = " ".join(re.findall(r"^\| (.+?) \|", part, re.M))
-    assert {it.name for it in grammar.LINES.values() if not it.is_question} <= set(re.findall(r"`([a-z-]+)`", first))
+    assert {line.name for line in grammar.LINES.values() if not line.is_question} <= set(re.findall(r"`([a-z-]+)`", first))
 
 
 def test_the_version_is_the_newest_of_the_changes():
@@ -98,8 +98,8 @@ def test_the_version_is_the_newest_of_the_changes():
 
 
 def test_each_value_in_an_advice_is_one_of_a_line():
-    for it in meanings.table("refusals").values():
-        assert set(re.findall(r"\{([A-Z-]+)\}", it["look"])) <= set(grammar.FORMS)
+    for refusal in meanings.table("refusals").values():
+        assert set(re.findall(r"\{([A-Z-]+)\}", refusal["look"])) <= set(grammar.FORMS)
 
 
 def test_every_example_of_help_is_a_command():

@@ -34,6 +34,7 @@ to-csv {folder}/sheet.csv
 to-csv - {folder}/made
 import {folder}/sheet.csv
 board --out {folder}/made
+companion --out {folder}
 labels ACME S-1 --out {folder}/made
 labels ACME S-1 --force --out -
 carry-over {folder}/next.db
@@ -51,23 +52,25 @@ restore -- -
 
 def words_of(command: click.Command, names: tuple[str, ...] = ()):
     """All parameters of a command and its subcommands."""
-    for it in command.params:
-        yield " ".join([*names, it.name or ""]), it
-    for name, it in getattr(command, "commands", {}).items():
-        yield from words_of(it, (*names, name))
+    for parameter in command.params:
+        yield " ".join([*names, parameter.name or ""]), parameter
+    for name, subcommand in getattr(command, "commands", {}).items():
+        yield from words_of(subcommand, (*names, name))
 
 
 def test_each_word_that_names_a_path_is_an_operators():
-    found = {name: it.type for name, it in words_of(hilpoven)}
-    assert not [name for name, it in found.items() if isinstance(it, click.Path)]
-    named = {name for name, it in found.items() if isinstance(it, cli_words.Operators)}
-    papers = {f"papers {it} folder" for it in ("recall", "batch", "certificate", "delivery-note", "lot", "statement")}
-    assert named == {"db", "new file", "backup folder", "backup keep", "backup days", "to-csv source", "to-csv target", "board target", "labels target",
-                     "carry-over new", "import path", "journal site_logs", "drill end folder", "drill paper folder", *papers}
+    types = {name: parameter.type for name, parameter in words_of(hilpoven)}
+    assert all(isinstance(types.pop(f"setup {file}"), cli_words.Operators) for file in ("cert", "key"))
+    assert not [name for name, kind in types.items() if isinstance(kind, click.Path)]
+    named = {name for name, kind in types.items() if isinstance(kind, cli_words.Operators)}
+    papers = {f"papers {paper} folder" for paper in ("recall", "batch", "certificate", "delivery-note", "lot", "statement", "settlement", "takeout")}
+    assert named == {"db", "new file", "backup folder", "backup keep", "backup days", "to-csv source", "to-csv target", "board target", "companion out", "labels target",
+                     "carry-over new", "import path", "count import counted_sheet", "follow to", "follow status folder", "follow verify folder", "promote folder",
+                     "journal site_logs", "drill end folder", "drill paper folder", *papers}
 
 
 def test_a_shell_completes_paths():
-    assert [it.type for it in cli_words.PATH.shell_complete(click.Context(hilpoven), hilpoven.params[0], "")] == ["file"]
+    assert [offered.type for offered in cli_words.PATH.shell_complete(click.Context(hilpoven), hilpoven.params[0], "")] == ["file"]
 
 
 @pytest.mark.parametrize("started, caller, is_member", [
@@ -98,7 +101,7 @@ def test_a_member_works_by_names_and_streams(at_work):
     assert "<html" in at_work.as_member("board").out
     made = at_work.as_member("backup").out.splitlines()[0]
     assert at_work.as_member("restore", os.path.basename(made)).status == 0
-    assert [it["words"][0] for it in at_work.lines() if it["event"] != "told"] == ["unit-add", "import", "board", "backup", "restore"]
+    assert [entry["words"][0] for entry in at_work.lines() if entry["event"] != "told"] == ["unit-add", "import", "board", "backup", "restore"]
 
 
 def test_a_member_makes_the_office_of_the_settings(plant):
@@ -145,12 +148,12 @@ def test_no_output_goes_over_an_offices_files(at_work, sheet, name, more):
     with sqlite3.connect(at_work.folder / "old") as base:
         base.execute("CREATE TABLE t (a)")
     before, kept = at_work.content(), at_work.journal.read_bytes()
-    there = {it: (os.lstat(it).st_ino, os.lstat(it).st_mode) for it in at_work.folder.iterdir()}
+    there = {path: (os.lstat(path).st_ino, os.lstat(path).st_mode) for path in at_work.folder.iterdir()}
     for words in (["to-csv", sheet, at_work.folder / name, *more], ["board", "--out", at_work.folder / name, *more]):
         done = at_work.run(*words)
         assert done.status == 2 and done.err.startswith("hilpoven: "), done
     assert at_work.content() == before and at_work.journal.read_bytes() == kept
-    assert {it: (os.lstat(it).st_ino, os.lstat(it).st_mode) for it in at_work.folder.iterdir()} == there
+    assert {path: (os.lstat(path).st_ino, os.lstat(path).st_mode) for path in at_work.folder.iterdir()} == there
 
 
 def test_other_files_are_replaced_only_where_that_is_asked_for(at_work, sheet):
@@ -195,7 +198,7 @@ def test_the_office_is_found_once(at_work):
     link = at_work.folder / "link.db"
     link.symlink_to(other.db)
     reader, writer = os.pipe()
-    it = subprocess.Popen([HILPOVEN, "--db", link, "import", "-"], stdin=reader, stdout=subprocess.PIPE, stderr=subprocess.PIPE,
+    process = subprocess.Popen([HILPOVEN, "--db", link, "import", "-"], stdin=reader, stdout=subprocess.PIPE, stderr=subprocess.PIPE,
                           env=environment(TOLL=at_work.program))
     os.close(reader)
     os.write(writer, SHEET[:20].encode())
@@ -204,7 +207,7 @@ def test_the_office_is_found_once(at_work):
     link.symlink_to(at_work.db)
     os.write(writer, SHEET[20:].encode())
     os.close(writer)
-    it.communicate(timeout=60)
+    process.communicate(timeout=60)
     assert not at_work.journal.exists() and ("K20",) not in at_work.rows("SELECT mkey FROM moves") and len(other.lines()) > 2
 
 
@@ -225,5 +228,5 @@ def test_papers_for_a_member_are_a_tar(at_work):
         done = subprocess.run(words, stdout=out, stderr=subprocess.PIPE, text=True, env=environment(SUDO_UID=4711, PYTHONPATH=ROOT / "plant" / "src"))
     assert (done.returncode, done.stderr) == (0, "")
     with tarfile.open(at_work.folder / "x.tar") as tar:
-        assert any(it.name.endswith("plant/recall.html") for it in tar.getmembers())
-    assert check(str(at_work.journal)).wrong == [] and [it["words"] for it in at_work.lines()] == [["papers", "recall-HOUSE-W-101"]]
+        assert any(member.name.endswith("plant/recall.html") for member in tar.getmembers())
+    assert check(str(at_work.journal)).wrong == [] and [entry["words"] for entry in at_work.lines()] == [["papers", "recall-HOUSE-W-101"]]

@@ -45,9 +45,9 @@ def test_a_wrong_entry_is_put_right(at_work, name):
         for line in lines:
             words, _, wanted = line.partition(" = ")
             if words.startswith("> "):
-                status, told = server.ask(*words[2:].split(" ", 3))
-                assert (told["error"] == wanted) if wanted else status == 200, (words, told)
+                status, reply = server.ask(*words[2:].split(" ", 3))
+                assert (reply["error"] == wanted) if wanted else status == 200, (words, reply)
             else:
                 assert at_work.run(*words.split()).out == f"{wanted or 'accepted'}\n", words
-    found = [" ".join(it.split()) for it in at_work.toll("stock", "ACME").out.splitlines()]
-    assert set(stock) <= set(found)
+    stock_lines = [" ".join(line.split()) for line in at_work.toll("stock", "ACME").out.splitlines()]
+    assert set(stock) <= set(stock_lines)

@@ -59,14 +59,14 @@ def test_a_user_reads_what_it_means_and_what_to_do(at_work, word):
     before, line = WAYS[word]
     if before:
         at_work.lay("\n".join(before))
-    rows, told = at_work.content(), at_work.toll(*line.split())
-    it = meanings.table("refusals")[word]
-    assert told.out == f"refused {it['number']} {word}\n"
+    rows, answer = at_work.content(), at_work.toll(*line.split())
+    refusal = meanings.table("refusals")[word]
+    assert answer.out == f"refused {refusal['number']} {word}\n"
     done = at_work.run(*line.split())
-    assert (done.status, done.out) == (1, told.out) and at_work.content() == rows
-    lines = [it.strip() for it in done.err.splitlines()]
+    assert (done.status, done.out) == (1, answer.out) and at_work.content() == rows
+    lines = [line.strip() for line in done.err.splitlines()]
     means = f"{word}: {meanings.meaning('refusals', word)}."
-    assert means in lines and meanings.meaning("refusals", word) in it["means"]
+    assert means in lines and meanings.meaning("refusals", word) in refusal["means"]
     look = lines[lines.index(means) + 1]
     assert look and look.endswith(".") and "{" not in look
 

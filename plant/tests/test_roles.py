@@ -10,18 +10,19 @@ from hilpoven.core import on_behalf, rights, settings as site
 
 # Users and groups that each Debian has: daemon, 1, is in the group daemon, and man, 6, in the group man.
 DAEMON, MAN = 1, 6
-QUESTIONS = {"orders", "stock", "batch", "trace", "recall", "status", "verify", "labels", "board", "to-csv", "complete", "note list", "party list", "drill paper", "journal verify",
-             "journal head", "years files", "years recall", "years trace", "years lot", "years statement"}
+QUESTIONS = {"orders", "stock", "batch", "trace", "recall", "status", "verify", "labels", "board", "companion", "to-csv", "count sheet", "complete", "note list", "party list", "drill paper", "journal verify",
+             "journal head", "follow status", "follow verify", "years files", "years recall", "years trace", "years lot", "years statement"}
 GROUPS_OF_QUESTIONS = {"list", "show", "papers"}  # of which no subcommand records anything
 OF_EACH_ROLE = {
-    "record": ["ship ACME K9 S-1 BAY1 5 103", "use ACME O-1 1 HOUSE W-101 TANK 5 103", "import -", "note not-linked ACME K1", "link ACME B-1 S-1 --why use", "do ACME O-1 1 hold",
+    "record": ["ship ACME K9 S-1 BAY1 5 103", "count import -", "use ACME O-1 1 HOUSE W-101 TANK 5 103", "import -", "note not-linked ACME K1", "link ACME B-1 S-1 --why use", "do ACME O-1 1 hold",
                "for ACME order O-9 BRINE-10 1 --by mail"],
     "quality": ["reject W-101", "release W-101", "sign ACME S-1", "hold ACME S-1 --reason wet", "describe lot ACME S-1 --expires 271127", "drill start S-1",
                 "for ACME release S-1 --by mail", "for ACME reject S-1 --by mail"],
     "master_data": ["unit-add PRESS", "material new ACME GLUE kg", "material-add ACME GLUE kg", "require ACME BRINE-10 1 consumed ACME SALT 3", "party add ACME N --name N --role customer",
-                    "describe owner ACME --name Acme", "describe material ACME BRINE --name Brine", "describe test ACME BRINE PH --decimals 2"],
+                    "describe owner ACME --name Acme", "describe material ACME BRINE --name Brine", "describe test ACME BRINE PH --decimals 2",
+                    "describe recipe ACME BRINE-10 --allowance 1.5"],
     "keys": ["owner key ACME", "owner add NEW", "owner-add NEW NEWKEY12"],
-    "restore": ["restore office.db", "backup", "carry-over", "new", "register rebuild"],
+    "restore": ["restore office.db", "restore --at 2026-11-27", "promote", "backup", "carry-over", "new", "register rebuild"],
 }
 
 
@@ -52,7 +53,7 @@ def words_of(group, before=()):
 
 
 def test_each_subcommand_has_a_role_or_changes_nothing():
-    names = set(words_of(hilpoven))
+    names = set(words_of(hilpoven)) - {"demo", "setup"}  # which no member gives
     assert set(roles.ROLES) <= names and set(roles.ROLES.values()) == set(site.Roles._fields)
     assert set(on_behalf.PATHS) <= set(roles.ROLES)  # whose roles `for` asks for
     assert {name for name in names - set(roles.ROLES) - {"for"} if name.split()[0] not in GROUPS_OF_QUESTIONS} == QUESTIONS
@@ -63,8 +64,8 @@ def test_a_member_of_another_group_gives_no_command_of_a_role(at_work, role):
     settle(at_work, **{role: ["man"]})
     before, there, lines = at_work.content(), sorted(at_work.folder.iterdir()), at_work.lines()
     for text in OF_EACH_ROLE[role]:
-        told = by(at_work, DAEMON, *text.split())
-        assert told.status == 2 and told.out == "" and f" is for the members of man alone, by the role {role} of the settings" in told.err, (text, told)
+        done = by(at_work, DAEMON, *text.split())
+        assert done.status == 2 and done.out == "" and f" is for the members of man alone, by the role {role} of the settings" in done.err, (text, done)
     assert at_work.content() == before and sorted(at_work.folder.iterdir()) == there and at_work.lines() == lines
 
 
@@ -78,7 +79,7 @@ def test_a_member_of_the_group_may_and_so_may_root(at_work):
         assert by(at_work, DAEMON, *words).status == 0
 
 
-WITHDRAWN = {"master_data": ["describe test ACME BRINE PH --decimals 2", "describe owner ACME --name Acme", "party add ACME N --name N --role customer"],
+WITHDRAWN = {"master_data": ["describe test ACME BRINE PH --decimals 2", "describe recipe ACME BRINE-10 --allowance 1.5", "describe owner ACME --name Acme", "party add ACME N --name N --role customer"],
              "quality": ["describe lot ACME S-1 --expires 271127", "drill start S-1"], "record": ["link ACME B-1 S-1 --why rework", "note not-linked ACME K1"]}
 
 
@@ -88,8 +89,8 @@ def test_a_note_is_withdrawn_by_whoever_may_make_it(at_work, role):
     for text in WITHDRAWN[role]:
         assert by(at_work, MAN, *text.split()).status == 0
         name = at_work.lines()[-1]["id"]
-        told = by(at_work, DAEMON, "note", "withdraw", name, "--reason", "wrong")
-        assert told.status == 2 and f"is for the members of man alone, by the role {role} of the settings" in told.err and at_work.lines()[-1]["id"] == name
+        done = by(at_work, DAEMON, "note", "withdraw", name, "--reason", "wrong")
+        assert done.status == 2 and f"is for the members of man alone, by the role {role} of the settings" in done.err and at_work.lines()[-1]["id"] == name
         assert by(at_work, MAN, "note", "withdraw", name, "--reason", "wrong").out.startswith("noted ")
 
 
@@ -104,16 +105,16 @@ def test_whom_the_system_doesn_t_know_is_in_no_group(at_work, user):
     {"_HILPOVEN_COMPLETE": "bash_complete", "COMP_WORDS": "hilpoven reject W-101", "COMP_CWORD": "2"}])
 def test_the_environment_decides_nothing(at_work, environment):
     settle(at_work, quality=["man"])
-    told = by(at_work, DAEMON, "reject", "W-101", **environment)
-    assert told.out.strip() == "" and at_work.rows("SELECT disposition FROM lots WHERE lot = 'W-101'") == [(1,)]
+    done = by(at_work, DAEMON, "reject", "W-101", **environment)
+    assert done.out.strip() == "" and at_work.rows("SELECT disposition FROM lots WHERE lot = 'W-101'") == [(1,)]
 
 
 def test_words_before_and_behind_the_subcommand_change_nothing(at_work):
     settle(at_work, quality=["man"], keys=["man"], record=["man"])
     for text in ("--wait 0 reject W-101", "--office office reject W-101", "reject --lot W-101", "reject -- W-101", "owner key --random ACME", "owner --help key ACME", "drill start --help",
                  "result ACME B-1 PH 7 103", "import --what results -", "import --check -"):
-        told = by(at_work, DAEMON, *text.split())
-        assert told.status in (0, 2) and at_work.lines() == [] and "accepted" not in told.out, (text, told)
+        done = by(at_work, DAEMON, *text.split())
+        assert done.status in (0, 2) and at_work.lines() == [] and "accepted" not in done.out, (text, done)
 
 
 def test_the_caller_of_sudo_is_who_signs(at_work):
@@ -129,5 +130,5 @@ def test_wrong_roles_let_nobody_in(at_work, text, why):
     at_work.settle()
     path = site.load.__defaults__[0]
     path.write_text(path.read_text() + text)
-    told = by(at_work, MAN, "reject", "W-101")
-    assert told.status == 2 and why in told.err and at_work.lines() == []
+    done = by(at_work, MAN, "reject", "W-101")
+    assert done.status == 2 and why in done.err and at_work.lines() == []

@@ -95,15 +95,15 @@ ALIKE = [
 
 def asked(plant):
     """The words of the commands in the journal."""
-    return [" ".join(it["words"]) for it in plant.lines() if it["event"] == "asked"]
+    return [" ".join(entry["words"]) for entry in plant.lines() if entry["event"] == "asked"]
 
 
 @pytest.mark.parametrize("typed, given", TYPED)
 def test_the_program_gets_the_words_that_the_text_stands_for(at_work, typed, given):
     at_work.lay("> ACME POST /lots/B-1/reject\n> BOLT POST /lots/P-1/release" if "reject" in typed else "")
-    told = at_work.run(*shlex.split(typed))
+    done = at_work.run(*shlex.split(typed))
     assert asked(at_work) == [given]
-    assert told.out in ("accepted\n", "refused 42 Rejected\n") and told.status == (told.out != "accepted\n"), told
+    assert done.out in ("accepted\n", "refused 42 Rejected\n") and done.status == (done.out != "accepted\n"), done
 
 
 def commands(group, before=""):
@@ -113,9 +113,9 @@ def commands(group, before=""):
 
 
 def test_every_command_that_has_a_lot_is_among_them():
-    with_lot = [name for name, command in commands(hilpoven) if any(re.search(r"\bLOT\b", it.make_metavar()) for it in command.params if isinstance(it, click.Argument))]
-    typed = [it for it, _ in [*TYPED, *ALIKE, *REFUSED]]
-    assert len(with_lot) > 20 and [name for name in with_lot if not any(it.startswith(f"{name} ") for it in typed)] == []
+    with_lot = [name for name, command in commands(hilpoven) if any(re.search(r"\bLOT\b", parameter.make_metavar()) for parameter in command.params if isinstance(parameter, click.Argument))]
+    typed = [line for line, _ in [*TYPED, *ALIKE, *REFUSED]]
+    assert len(with_lot) > 20 and [name for name in with_lot if not any(line.startswith(f"{name} ") for line in typed)] == []
 
 
 @pytest.fixture(scope="module")
@@ -128,31 +128,31 @@ def office(laid):
 def test_what_differs_from_the_text_is_refused(office, typed, words):
     plant, content = office
     count = len(plant.lines())
-    told = plant.run(*shlex.split(typed))
-    assert told.status == 2 and told.out == "" and all(it in told.err for it in words), told
+    done = plant.run(*shlex.split(typed))
+    assert done.status == 2 and done.out == "" and all(word in done.err for word in words), done
     assert len(plant.lines()) == count and plant.content() == content
 
 
 @pytest.mark.parametrize("typed, status, words", OTHERS)
 def test_what_is_no_such_text_is_told_as_before(office, typed, status, words):
     plant, content = office
-    told = plant.run(*shlex.split(typed))
-    assert told.status == status and words in told.err and plant.content() == content, told
+    done = plant.run(*shlex.split(typed))
+    assert done.status == status and words in done.err and plant.content() == content, done
 
 
 @pytest.mark.parametrize("typed, same", ALIKE)
 def test_questions_take_it(office, typed, same):
     plant, _ = office
-    told, wanted = (plant.run(*shlex.split(it)) for it in (typed, same))
-    assert (told.status, told.out, told.err) == (0, wanted.out, wanted.err) and told.out
+    done, wanted = (plant.run(*shlex.split(line)) for line in (typed, same))
+    assert (done.status, done.out, done.err) == (0, wanted.out, wanted.err) and done.out
 
 
 def test_notes_take_it(at_work):
     for words in ("link ACME/B-1/TOTE1 ACME/S-1/BAY1 --why rework", "link ACME B-1 HOUSE/W-101/TANK --why use", "link ACME --batch O-1 1 HOUSE/W-101/TANK --why use",
                   "receive K9 BRINE ACME/B-1R/BAY9 5 102 --of ACME/B-1/TOTE1 --why return", "use ACME O-1 1 HOUSE/W-101/TANK 1 102", "drill start ACME/S-1/BAY1",
                   "hold ACME/S-1/BAY1 --reason 'wet bag' --day 102"):
-        told = at_work.run(*shlex.split(words))
-        assert told.status == 0, (words, told)
+        done = at_work.run(*shlex.split(words))
+        assert done.status == 0, (words, done)
     notes = [line.split(",")[4] for line in at_work.run("note", "list", "--csv").out.splitlines()[1:]]
     assert notes[:5] == [
         "lot ACME B-1 contains some of lot ACME S-1 (rework)",
@@ -168,9 +168,9 @@ def test_papers_take_it_beside_their_folder(at_work):
         folder = at_work.folder / f"a/b/{number}"  # which has the form of one, with capitals or without
         folder.parent.mkdir(parents=True, exist_ok=True)
         options = [] if "--no-pdf" in words else ["--no-pdf"]
-        told = at_work.run("papers", words[0], *options, *(it.format(folder) for it in words[1:]))
-        assert told == Told(0, "", "") and folder.is_dir(), told
-    assert [it["words"] for it in at_work.lines()] == [["papers", "lot-ACME-S-1"], ["papers", "lot-ACME-S-1"], ["papers", "recall-HOUSE-W-101"]]
+        done = at_work.run("papers", words[0], *options, *(word.format(folder) for word in words[1:]))
+        assert done == Told(0, "", "") and folder.is_dir(), done
+    assert [entry["words"] for entry in at_work.lines()] == [["papers", "lot-ACME-S-1"], ["papers", "lot-ACME-S-1"], ["papers", "recall-HOUSE-W-101"]]
 
 
 def test_a_folder_of_that_form_is_a_folder(at_work):
@@ -217,18 +217,18 @@ def test_the_lots_of_a_sheet_take_it(at_work, what):
     sheet = at_work.folder / "sheet.csv"
     sheet.write_text("\n".join([header, *(row for row, _ in rows)]))
     assert at_work.run("to-csv", "--what", what, sheet).out.splitlines() == [header, *(wanted.replace(" ", ",") for _, wanted in rows)]
-    told = at_work.run("import", "--what", what, sheet)
-    assert told.status == 0 and f"{len(rows)} accepted" in told.out, told
+    done = at_work.run("import", "--what", what, sheet)
+    assert done.status == 0 and f"{len(rows)} accepted" in done.out, done
 
 
-@pytest.mark.parametrize("row, told", [
+@pytest.mark.parametrize("row, why", [
     ("BOLT,K8,ACME/S-1/BAY1,,5,102", "row 2, column A (owner): it is BOLT, and in the scanned text ACME/S-1/BAY1 it is ACME"),
     (",K8,ACME/S-1/BAY1,BAY2,5,102", "row 2, column D (sublot): it is BAY2, and in the scanned text ACME/S-1/BAY1 it is BAY1"),
     ("ACME,K8,1/2/2026,BAY1,5,102", "row 2, column C (lot): '1/2/2026' is no name"),
     (",K8,ACME/s-1/BAY1,,5,102", "row 2, column C (lot): 's-1' has lower-case letters"),
     (",K8,S-1,,5,102", "row 2, column A (owner): it is empty")])
-def test_a_row_that_differs_from_the_text_is_refused(at_work, row, told):
+def test_a_row_that_differs_from_the_text_is_refused(at_work, row, why):
     sheet, content = at_work.folder / "sheet.csv", at_work.content()
     sheet.write_text(f"owner,key,lot,sublot,amount,day\n{row}\n")
     done = at_work.run("import", "--what", "shipments", sheet)
-    assert done.status == 1 and told in done.err and at_work.content() == content, done
+    assert done.status == 1 and why in done.err and at_work.content() == content, done

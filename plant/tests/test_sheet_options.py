@@ -105,15 +105,15 @@ def test_a_header_that_is_named_finds_the_separator_and_the_row(at_work):
     assert receipts(at_work, path, *named).status == 0 and recorded(at_work) == [("K50", 100, 261127)]
 
 
-@pytest.mark.parametrize("options, told", [
+@pytest.mark.parametrize("options, why", [
     (["--column", "amount"], "'amount' is no column and its header"), (["--column", "amount="], "is no column and its header"), (["--column", "weight=A"], "'weight' is none of owner"),
     (["--column", "amount=A", "--column", "Amount=B"], "names two headers of amount"), (["--column", "amount=A", "--column", "day=a"], "'a' is the header of two columns"),
     (["--column", "amount=A", "--column", "day=B", "--rows", "9"], "no header is 'B', which --column day names"),
     (["--rows", "8-5"], "'8-5' is no row and no rows"), (["--rows", "0"], "'0' is no row"), (["--rows", "a-b"], "'a-b' is no row"), (["--rows", "9-"], "no row of --rows holds anything"),
     (["--rows", "9999999"], "is no row"), (["--rows", "\x1b[2J"], "'\\x1b[2J' is no row"), (["--rows", "-3"], "'-3' is no row")])
-def test_wrong_options_are_told_and_nothing_is_recorded(at_work, made, options, told):
+def test_wrong_options_are_told_and_nothing_is_recorded(at_work, made, options, why):
     done = receipts(at_work, made(GOOD), *options)
-    assert done.status == 2 and told in done.err and "\x1b" not in done.err and recorded(at_work) == [], done.err
+    assert done.status == 2 and why in done.err and "\x1b" not in done.err and recorded(at_work) == [], done.err
 
 
 def test_a_header_that_stands_there_beside_the_named_one_is_told_twice(at_work, made):

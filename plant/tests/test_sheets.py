@@ -3,24 +3,30 @@ import resource
 import zipfile
 
 import pytest
-from conftest import command, is_told
+from conftest import Told, called, command, is_told
 
 openpyxl = pytest.importorskip("openpyxl", reason="python3-openpyxl is missing")
 
 HEADER = ["key", "owner", "order", "batch", "segment", "use", "material", "lot_owner", "lot", "sublot", "amount", "day"]
-GOOD = "".join(f"{','.join(it)}\n" for it in [HEADER, *(["K%d" % n, "ACME", "O", "1", "1", "consumed", "M", "ACME", "A", "S1", "4", "11"] for n in range(4))])
-ROWS = [it.split(",") for it in GOOD.splitlines()]
+GOOD = "".join(f"{','.join(row)}\n" for row in [HEADER, *(["K%d" % n, "ACME", "O", "1", "1", "consumed", "M", "ACME", "A", "S1", "4", "11"] for n in range(4))])
+ROWS = [line.split(",") for line in GOOD.splitlines()]
 MEMORY, SECONDS = 1_000_000_000, 30
 MAIN = "http://schemas.openxmlformats.org/spreadsheetml/2006/main"
 
 
 def to_csv(*words):
-    """What the command tells, which is ended where it takes more memory or time of the processor than this."""
+    """What the command tells, called within this process."""
+    return called("to-csv", *words)
+
+
+def bounded_to_csv(*words):
+    """What the command tells as a process, which is ended where it takes more memory or time of the processor than this."""
     def bounded():
         resource.setrlimit(resource.RLIMIT_AS, (MEMORY, MEMORY))
         resource.setrlimit(resource.RLIMIT_CPU, (SECONDS, SECONDS))
 
-    return command("to-csv", *words, preexec_fn=bounded, timeout=10 * SECONDS)
+    done = command("to-csv", *words, preexec_fn=bounded, timeout=10 * SECONDS)
+    return Told(done.returncode, done.stdout, done.stderr)
 
 
 def xlsx(path, rows, hidden_rows=(), hidden_columns=(), state="visible"):
@@ -28,10 +34,10 @@ def xlsx(path, rows, hidden_rows=(), hidden_columns=(), state="visible"):
     sheet = book.active
     for row in rows:
         sheet.append(row)
-    for it in hidden_rows:
-        sheet.row_dimensions[it].hidden = True
-    for it in hidden_columns:
-        sheet.column_dimensions[it].hidden = True
+    for hidden_row in hidden_rows:
+        sheet.row_dimensions[hidden_row].hidden = True
+    for hidden_row in hidden_columns:
+        sheet.column_dimensions[hidden_row].hidden = True
     if state != "visible":
         book.create_sheet("empty")
     sheet.sheet_state = state
@@ -63,7 +69,7 @@ def ods_of(path, body, display="true"):
 
 def ods(path, rows, hidden_rows=(), hidden_columns=(), state="visible"):
     columns = "".join(f'<table:table-column{hidden("collapse", place in hidden_columns)}/>' for place in "ABCDEFGHIJKL")
-    body = columns + "".join(f'<table:table-row{hidden("filter", number in hidden_rows)}>{"".join(CELL.format("", it) for it in row)}</table:table-row>'
+    body = columns + "".join(f'<table:table-row{hidden("filter", number in hidden_rows)}>{"".join(CELL.format("", cell) for cell in row)}</table:table-row>'
                              for number, row in enumerate(rows, 1))
     return ods_of(path, body, "true" if state == "visible" else "false")
 
@@ -82,44 +88,44 @@ def sheet(request, tmp_path):
 
 def test_a_sheet_that_hides_nothing_is_taken(sheet):
     done = to_csv(sheet(ROWS))
-    assert (done.returncode, done.stdout, done.stderr) == (0, GOOD, "")
+    assert (done.status, done.out, done.err) == (0, GOOD, "")
 
 
 def test_hidden_rows_are_refused_unless_asked_for(sheet, tmp_path):
     made = sheet(ROWS, hidden_rows=(2, 3, 5))
     done = to_csv(made, tmp_path / "made.csv")
-    assert done.returncode == 1 and not (tmp_path / "made.csv").exists()
-    assert done.stderr.splitlines() == ["row 2: it and those down to row 3 are hidden; --hidden takes it", "row 5: it is hidden; --hidden takes it",
+    assert done.status == 1 and not (tmp_path / "made.csv").exists()
+    assert done.err.splitlines() == ["row 2: it and those down to row 3 are hidden; --hidden takes it", "row 5: it is hidden; --hidden takes it",
                                         "2 refused, nothing is written"]
     asked = to_csv("--hidden", made)
-    assert (asked.returncode, asked.stdout) == (0, GOOD)
-    assert asked.stderr.splitlines() == ["row 2: it and those down to row 3 are hidden; taken all the same", "row 5: it is hidden; taken all the same"]
+    assert (asked.status, asked.out) == (0, GOOD)
+    assert asked.err.splitlines() == ["row 2: it and those down to row 3 are hidden; taken all the same", "row 5: it is hidden; taken all the same"]
 
 
 def test_hidden_columns_are_refused_unless_asked_for(sheet):
     made = sheet(ROWS, hidden_columns=("B", "L"))
     done = to_csv(made)
-    assert done.returncode == 1 and done.stdout == ""
-    assert done.stderr.splitlines() == ["row 1, column B: its column is hidden; --hidden takes it", "row 1, column L: its column is hidden; --hidden takes it",
+    assert done.status == 1 and done.out == ""
+    assert done.err.splitlines() == ["row 1, column B: its column is hidden; --hidden takes it", "row 1, column L: its column is hidden; --hidden takes it",
                                         "2 refused, nothing is written"]
-    assert to_csv("--hidden", made).stdout == GOOD
+    assert to_csv("--hidden", made).out == GOOD
 
 
 def test_hidden_rows_that_are_empty_are_no_matter(sheet):
-    assert to_csv(sheet([*ROWS, [""] * 12], hidden_rows=(6, 7))).stdout == GOOD
+    assert to_csv(sheet([*ROWS, [""] * 12], hidden_rows=(6, 7))).out == GOOD
 
 
 def test_a_hidden_sheet_is_refused_unless_it_is_named(tmp_path, sheet):
     made = sheet(ROWS, state="hidden")
     assert is_told(to_csv(made), 1)
-    assert to_csv("--sheet", "Sheet" if made.suffix == ".xlsx" else "Actuals", made).stdout == GOOD
+    assert to_csv("--sheet", "Sheet" if made.suffix == ".xlsx" else "Actuals", made).out == GOOD
 
 
 def test_a_row_of_no_height_is_hidden(tmp_path):
-    body = "".join(f'<row r="{n}"{height}>{"".join(INLINE.format(it) for it in row)}</row>'
+    body = "".join(f'<row r="{n}"{height}>{"".join(INLINE.format(cell) for cell in row)}</row>'
                    for n, (row, height) in enumerate(zip(ROWS, ["", "", ' ht="0" customHeight="1"', "", ""]), 1))
     made = patched(xlsx(tmp_path / "sheet.xlsx", ROWS), "xl/worksheets/sheet1.xml", sheet_of(body))
-    assert to_csv(made).stderr.splitlines()[0] == "row 3: it is hidden; --hidden takes it"
+    assert to_csv(made).err.splitlines()[0] == "row 3: it is hidden; --hidden takes it"
 
 
 # Too much
@@ -127,7 +133,7 @@ def test_a_row_of_no_height_is_hidden(tmp_path):
 def patched(path, part, text):
     """The workbook with another text in place of a part."""
     with zipfile.ZipFile(path) as archive:
-        parts = {it: archive.read(it) for it in archive.namelist()}
+        parts = {part_name: archive.read(part_name) for part_name in archive.namelist()}
     with zipfile.ZipFile(path, "w", zipfile.ZIP_DEFLATED) as archive:
         for name, content in {**parts, part: text.encode()}.items():
             archive.writestr(name, content)
@@ -155,7 +161,7 @@ XLSX_BODIES = {
 def test_an_xlsx_that_is_too_much_is_told_is_told(tmp_path, name):
     made = patched(xlsx(tmp_path / "sheet.xlsx", ROWS), "xl/worksheets/sheet1.xml", sheet_of(XLSX_BODIES[name]))
     assert made.stat().st_size < 2_000_000
-    assert is_told(to_csv(made), 1)
+    assert is_told(bounded_to_csv(made), 1)
 
 
 def test_a_far_cell_that_is_empty_is_no_matter(tmp_path):
@@ -163,7 +169,7 @@ def test_a_far_cell_that_is_empty_is_no_matter(tmp_path):
     book = openpyxl.load_workbook(made)
     book.active["XFD1048576"].number_format = "0.00"
     book.save(made)
-    assert to_csv(made).stdout == GOOD
+    assert bounded_to_csv(made).out == GOOD
 
 
 def ods_row(cells, times=1):
@@ -184,23 +190,23 @@ ODS_BODIES = {
 def test_an_ods_that_is_too_much_is_told_is_told(tmp_path, name):
     made = ods_of(tmp_path / "sheet.ods", ODS_BODIES[name])
     assert made.stat().st_size < 1_000_000
-    assert is_told(to_csv(made), 1)
+    assert is_told(bounded_to_csv(made), 1)
 
 
 @pytest.mark.parametrize("text", [
     ";" * 9_000_000, "\n".join(["1"] * 150_000), ";" * 300 + "1", "\n".join([";".join("1" * 200)] * 6_000)], ids=["bytes", "rows", "columns", "cells"])
 def test_a_text_that_is_too_much_is_told_is_told(tmp_path, text):
     (tmp_path / "sheet.csv").write_text(f"{';'.join(HEADER)}\n{text}\n")
-    assert is_told(to_csv(tmp_path / "sheet.csv"), 1)
+    assert is_told(bounded_to_csv(tmp_path / "sheet.csv"), 1)
 
 
 def test_a_file_that_is_as_large_as_an_import_is_taken(sheet):
     rows = [HEADER, *([f"K{n}", "ACME", "O", "1", "1", "consumed", "M", "ACME", "A", "S1", "4", "11"] for n in range(10_000))]
-    done = to_csv(sheet(rows))
-    assert done.returncode == 0 and done.stdout.count("\n") == 10_001
+    done = bounded_to_csv(sheet(rows))
+    assert done.status == 0 and done.out.count("\n") == 10_001
 
 
 @pytest.mark.parametrize("content", [b"PK\x03\x04 and no more", b"PK", b"\xd0\xcf\x11\xe0old", b"\0\0\0\0"])
 def test_what_is_no_sheet_is_told_is_told(tmp_path, content):
     (tmp_path / "sheet").write_bytes(content)
-    assert is_told(to_csv(tmp_path / "sheet"), 3)
+    assert is_told(bounded_to_csv(tmp_path / "sheet"), 3)

@@ -12,6 +12,8 @@ OWN = {"hilpoven", "hilpoven.cli", "hilpoven.cli.groups", "hilpoven.cli.roles", 
        "hilpoven.core.grammar", "hilpoven.core.lock", "hilpoven.core.office", "hilpoven.core.rights", "hilpoven.core.scanned", "hilpoven.core.scratch", "hilpoven.core.settings"}
 QUESTION = OWN | {"hilpoven.cli.lines", "hilpoven.core.asking", "hilpoven.core.meanings", "hilpoven.core.names"}
 NOTED = QUESTION | {"hilpoven.cli.line_notes", "hilpoven.register", "hilpoven.register.kinds", "hilpoven.register.likeness"}
+DATED = NOTED | {"hilpoven.cli.day_checks", "hilpoven.journal", "hilpoven.journal.log", "hilpoven.records", "hilpoven.records.days"}
+TABLES = {"bz2", "csv", "lzma", "pathlib", "random", "shutil", "sqlite3", "tempfile", "urllib.parse", "zlib"}  # to read which days the office has
 LISTING = OWN | {"hilpoven.cli.listing", "hilpoven.core.snapshot", "hilpoven.output", "hilpoven.output.table", "hilpoven.records", "hilpoven.records.schema", "hilpoven.records.tables"}
 
 
@@ -26,13 +28,14 @@ def loaded(plant, *words):
 @pytest.mark.parametrize("words, own, more", [
     (["--version"], OWN, set()), (["stock", "ACME"], QUESTION, set()),
     (["unit-add", "NEW"], QUESTION | {"hilpoven.journal", "hilpoven.journal.log"}, set()),
-    (["receive", "ACME", "K99", "SALT", "S-99", "BAY1", "5", "102"], NOTED | {"hilpoven.journal", "hilpoven.journal.log"}, set()),
+    (["receive", "ACME", "K99", "SALT", "S-99", "BAY1", "5", "--today"], DATED, set()),
+    (["receive", "ACME", "K99", "SALT", "S-99", "BAY1", "5", "102"], None, TABLES),
     (["list", "units"], LISTING, {"sqlite3"}), (["list", "lots"], None, {"sqlite3"}),
     (["show", "lot", "ACME", "S-1"], None, {"sqlite3"})])
 def test_a_command_imports_what_it_needs_alone(at_work, words, own, more):
     modules = loaded(at_work, *words)
     assert modules & HEAVY <= more, words
-    assert own is None or {it for it in modules if it.split(".")[0] == "hilpoven"} == own, words
+    assert own is None or {module for module in modules if module.split(".")[0] == "hilpoven"} == own, words
 
 
 def test_python_runs_the_package(at_work):
@@ -43,4 +46,4 @@ def test_python_runs_the_package(at_work):
 
 def test_click_is_for_the_command_line_alone():
     package = ROOT / "plant" / "src" / "hilpoven"
-    assert {it.parent.name for it in package.rglob("*.py") if "import click" in it.read_text()} == {"cli"}
+    assert {path.parent.name for path in package.rglob("*.py") if "import click" in path.read_text()} == {"cli"}

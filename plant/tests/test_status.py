@@ -95,7 +95,7 @@ def test_what_is_nearly_full_is_told_first(at_work):
     at_work.lay("\n".join(f"unit-add U{number}" for number in range(160)))
     done = at_work.run("status")
     assert done.status == 1 and "ATTENTION: units: 162 of 200, 81 %" in done.out
-    table = [it for it in done.out.splitlines() if "%" in it and "ATTENTION" not in it]
+    table = [line for line in done.out.splitlines() if "%" in line and "ATTENTION" not in line]
     assert table[0].split() == ["(plant)", "units", "162", "200", "81", "%"]
 
 
@@ -117,10 +117,10 @@ def test_an_offices_own_settings_are_those_of_its_units(at_work):
 
 
 def test_settings_that_are_none_are_told(at_work):
-    for text, told in (("nonsense = 1\n", "nonsense is no setting"), ("port = \"x\"\n", "port is to be a whole number"), ("file = \n", "hilpoven.toml")):
+    for text, why in (("nonsense = 1\n", "nonsense is no setting"), ("port = \"x\"\n", "port is to be a whole number"), ("file = \n", "hilpoven.toml")):
         (at_work.folder / "hilpoven.toml").write_text(text)
         done = at_work.run("status")
-        assert done.status == 2 and told in done.err
+        assert done.status == 2 and why in done.err
 
 
 @pytest.mark.long
@@ -132,10 +132,10 @@ def test_a_full_office_is_told_in_five_seconds_and_its_server_goes_on(program, t
     with plant.serve() as server:
         server.ask("OWNER-01", "GET", "/orders")
         begun = time.monotonic()
-        it = plant.begun("status")
-        out, err = it.communicate()
+        process = plant.begun("status")
+        out, err = process.communicate()
         took = time.monotonic() - begun
-        assert it.returncode == 1 and out.count("100 %") > 64, err
+        assert process.returncode == 1 and out.count("100 %") > 64, err
         server.ask("OWNER-01", "GET", "/orders")
         assert "opened anew" not in server.end()
     assert took < 5, took

@@ -8,7 +8,7 @@ import subprocess
 import termios
 
 import pytest
-from conftest import HILPOVEN, environment
+from conftest import HILPOVEN, forked
 from hilpoven.records.tables import LISTINGS
 
 WIDTH = 80
@@ -19,7 +19,8 @@ def on_terminal(plant, *words, width=WIDTH):
     """The status, and the lines that a terminal gets of both streams; what overwrites a line is a line of its own."""
     ours, theirs = pty.openpty()
     fcntl.ioctl(theirs, termios.TIOCSWINSZ, struct.pack("HHHH", 24, width, 0, 0))
-    process = subprocess.Popen([HILPOVEN, "--db", plant.db, *map(str, words)], stdin=theirs, stdout=theirs, stderr=theirs, env=environment(TOLL=plant.program, TERM="xterm-256color"))
+    command = forked("--db", plant.db, *words, TOLL=plant.program, TERM="xterm-256color")
+    process = subprocess.Popen([HILPOVEN], stdin=theirs, stdout=theirs, stderr=theirs, preexec_fn=command)
     os.close(theirs)
     text = b""
     while piece := read(ours):
@@ -47,7 +48,7 @@ split ACME {LONG}2 {LONG} {LONG} {LONG}2 999999999 9999999
 
 
 @pytest.mark.parametrize("width, words", [
-    *((width, ["list", it]) for it in LISTINGS for width in (40, WIDTH)), *((WIDTH, it.split()) for it in (
+    *((width, ["list", name]) for name in LISTINGS for width in (40, WIDTH)), *((WIDTH, line.split()) for line in (
         f"show lot ACME {LONG}", "show lot ACME B-1", "show batch ACME O-1 1", f"show key ACME {LONG}", "show owner ACME", "show recipe ACME BRINE-10", f"show material ACME {LONG}", "journal", "status --all", "--help", "import --help", "years files"))])
 def test_no_line_is_wider_than_the_terminal(wide, words, width):
     wide.run("receive", "ACME", LONG[:-1] + "3", LONG, LONG, LONG, 1, 102)
@@ -78,7 +79,7 @@ def test_a_sheet_shows_how_far_it_has_come(at_work):
     path.write_text("owner,key,material,lot,sublot,amount,day\n" + "".join(f"ACME,K{n},SALT,S-{n},BAY1,5,102\n" for n in range(100, 150)))
     status, lines = on_terminal(at_work, "import", "--what", "receipts", path)
     assert status == 0 and lines[-1] == "50 receipts: 50 accepted, 0 there already, 0 refused, 0 can't be read"
-    bars = [it for it in lines if it.startswith("receipts  [")]
+    bars = [line for line in lines if line.startswith("receipts  [")]
     assert bars[0] == f"receipts  [{' ' * 40}]  0/50" and bars[-1] == f"receipts  [{'#' * 40}]  50/50" and max(map(len, bars)) < WIDTH
     again = at_work.run("import", "--what", "receipts", path)
     assert again.err == "" and "\r" not in again.out and "\x1b" not in again.out

@@ -13,7 +13,7 @@ from collections.abc import Callable
 from concurrent.futures import ThreadPoolExecutor
 
 import pytest
-from conftest import HILPOVEN, PATIENCE, Plant, command, copied, environment, script
+from conftest import HILPOVEN, PATIENCE, Plant, command, copied, environment, forked, script
 from hilpoven.cli.prompting import Dialogue
 from hilpoven.core import settings as site
 from hilpoven.core.context import Context
@@ -30,9 +30,13 @@ class Terminal:
     def __init__(self, plant: Plant, *words: object, env: dict[str, str] = {}, **streams: object) -> None:
         self.screen, theirs = pty.openpty()
         fcntl.ioctl(theirs, termios.TIOCSWINSZ, struct.pack("HHHH", 24, 80, 0, 0))
-        started = [HILPOVEN, "--db", plant.db, *map(str, words)]
-        self.process = subprocess.Popen(started, **{"stdin": theirs, "stdout": theirs, "stderr": theirs, **streams}, start_new_session=True,
-                                        env=environment(**{"TOLL": plant.program, "TERM": "xterm", **env}), preexec_fn=lambda: fcntl.ioctl(theirs, termios.TIOCSCTTY, 0))
+        child = forked("--db", plant.db, *words, **{"TOLL": plant.program, "TERM": "xterm", **env})
+
+        def started() -> None:
+            fcntl.ioctl(theirs, termios.TIOCSCTTY, 0)
+            child()
+
+        self.process = subprocess.Popen([HILPOVEN], **{"stdin": theirs, "stdout": theirs, "stderr": theirs, **streams}, start_new_session=True, preexec_fn=started)
         os.close(theirs)
         self.text, self.seen = "", 0
 
@@ -90,7 +94,7 @@ def typed(plant: Plant, line: str, steps: list[Step] = [], **more: object) -> tu
 
 def asked_of(plant: Plant) -> list[str]:
     """The commands in the journal."""
-    return [" ".join(it["words"]) for it in plant.lines() if it["event"] == "asked"]
+    return [" ".join(entry["words"]) for entry in plant.lines() if entry["event"] == "asked"]
 
 
 def day_in(zone: str) -> str:
@@ -157,8 +161,8 @@ def test_a_value_is_asked_again_by_its_name(at_work):
                                            ([*ACTUAL, (CONFIRM, INTERRUPT)], 130), ([*ACTUAL, (CONFIRM, END)], 1), ([*ACTUAL, (CONFIRM, "n")], 1)])
 def test_nothing_is_done_if_somebody_goes_or_says_no(at_work, steps, status):
     before = at_work.content()
-    told = typed(at_work, "actual", steps)
-    assert (told[0], told[1].splitlines()[-1]) == (status, SAID_NO)
+    ended = typed(at_work, "actual", steps)
+    assert (ended[0], ended[1].splitlines()[-1]) == (status, SAID_NO)
     assert at_work.content() == before and at_work.lines() == [] and not list(at_work.folder.glob(".hilpoven.*"))
 
 
@@ -172,10 +176,10 @@ def test_a_signal_from_elsewhere_does_nothing_either(at_work):
 
 @pytest.mark.parametrize("stream", ["stdin", "stderr"])
 def test_without_a_terminal_it_is_the_usage(at_work, stream):
-    with open(at_work.folder / "told", "w+") as told:
-        status, text = typed(at_work, "ship ACME", **{stream: told})
-        told.seek(0)
-        text += told.read()
+    with open(at_work.folder / "told", "w+") as file:
+        status, text = typed(at_work, "ship ACME", **{stream: file})
+        file.seek(0)
+        text += file.read()
     assert status == 2 and "ship: KEY, LOT, SUBLOT, AMOUNT, DAY are missing\n  usage: hilpoven ship OWNER KEY" in text
 
 
@@ -185,10 +189,10 @@ def test_a_key_of_an_owner_is_not_asked(at_work):
 
 
 def test_answers_that_go_elsewhere_leave_the_questions_on_the_terminal(at_work):
-    with open(at_work.folder / "told", "w+") as told:
-        status, text = typed(at_work, "stock", [("OWNER: ", "2")], stdout=told)
-        told.seek(0)
-        assert (status, told.read()) == (0, at_work.toll("stock", "BOLT").out) and text.endswith("hilpoven stock BOLT\n")
+    with open(at_work.folder / "told", "w+") as file:
+        status, text = typed(at_work, "stock", [("OWNER: ", "2")], stdout=file)
+        file.seek(0)
+        assert (status, file.read()) == (0, at_work.toll("stock", "BOLT").out) and text.endswith("hilpoven stock BOLT\n")
 
 
 def test_a_new_name_is_no_number_of_a_choice(at_work):
@@ -284,7 +288,7 @@ def test_a_bound_is_asked_for_and_shown_in_quotes(at_work):
         ("VALUE (limits 1,100 to 1,250): ", "<"), "VALUE: `<` is empty; ", ("): ", "<1200"), "what is below 1,200 may be outside\n", ("): ", "<7.5"), "VALUE: `<7.5` has decimals",
         ("): ", "<900"), "VALUE: <900 is out of the limits\n", ("DAY (", "103"), "hilpoven result ACME B-1 DENSITY '<900' 103\n", (CONFIRM, "")])
     assert status == 0 and asked_of(at_work) == ["result ACME B-1 DENSITY 900 103"]
-    assert [it["notes"][0]["bound"] for it in at_work.lines() if "notes" in it] == ["below"]
+    assert [entry["notes"][0]["bound"] for entry in at_work.lines() if "notes" in entry] == ["below"]
     status, text = typed(at_work, "result ACME B-1 DENSITY 900", [("DAY (", "103"), "DAY: lot ACME B-1 has the result <900 of DENSITY on day 103: 900 couldn't be told from it\n", ("DAY (", "104"), (CONFIRM, "")])
     assert status == 0 and at_work.rows("SELECT value, day FROM results WHERE test = 'DENSITY' AND value = 900") == [(900, 103), (900, 104)]
 
@@ -356,15 +360,15 @@ def test_a_label_is_of_the_lot_and_not_of_the_order(at_work):
 def test_names_in_lower_case_are_taken_as_capitals_and_told(at_work):
     status, text = typed(at_work, "receive acme k9 salt s-9 Bay3 5 103")
     notes = ["OWNER: acme is read as ACME", "KEY: k9 is read as K9", "MATERIAL: salt is read as SALT", "LOT: s-9 is read as S-9", "SUBLOT: Bay3 is read as BAY3"]
-    assert (status, text) == (0, "".join(f"  {it}\n" for it in notes) + "accepted\n")
+    assert (status, text) == (0, "".join(f"  {note}\n" for note in notes) + "accepted\n")
     assert asked_of(at_work) == ["receive ACME K9 SALT S-9 BAY3 5 103"]
 
 
-@pytest.mark.parametrize("line, told", [("stock a_b", "OWNER: `a_b` has lower-case letters and `_`"), ("trace ACME B-1 BACK", "WAY: `BACK` is none of"),
+@pytest.mark.parametrize("line, why", [("stock a_b", "OWNER: `a_b` has lower-case letters and `_`"), ("trace ACME B-1 BACK", "WAY: `BACK` is none of"),
                                         ("stock ß", "OWNER: `ß` has `ß`"), ("stock ı", "OWNER: `ı` has `ı`"), ("owner-add CARL short", "KEY: the key has 5 letters")])
-def test_what_is_no_name_in_capitals_either_stays(at_work, line, told):
+def test_what_is_no_name_in_capitals_either_stays(at_work, line, why):
     status, text = typed(at_work, line)
-    assert status == 1 and told in text and "is read as" not in text
+    assert status == 1 and why in text and "is read as" not in text
 
 
 def test_an_owner_s_key_and_a_script_s_words_stay(at_work):
@@ -386,8 +390,8 @@ def next_receipt(amount: int, *more: str) -> list[object]:
 
 
 def test_the_next_key_is_behind_the_greatest_and_told(at_work):
-    told = at_work.run(*next_receipt(5))
-    assert told == (0, "accepted\n", "  KEY: next is K7\n")
+    done = at_work.run(*next_receipt(5))
+    assert done == (0, "accepted\n", "  KEY: next is K7\n")
     assert at_work.toll("receive", "ACME", "K41", "SALT", "S-9", "BAY9", 1, 103).status == 0
     assert at_work.toll("receive", "ACME", "K-99", "SALT", "S-9", "BAY9", 2, 103).status == 0
     assert at_work.run("receive", "ACME", "next", "SALT", "S-9", "BAY9", 6, 103).err == "  KEY: next is K42\n"
@@ -404,19 +408,19 @@ def test_the_settings_say_what_keys_begin_with(at_work):
                                          ("time_zone", "Mars/Base"), ("time_zone", "../../etc/passwd"), ("time_zone", "/etc/localtime"), ("time_zone", 1)])
 def test_wrong_settings_are_told(at_work, name, value):
     at_work.settle(**{name: value})
-    told = at_work.run("stock", "ACME")
-    assert told.status == 2 and f"hilpoven.toml: {name} " in told.err
+    done = at_work.run("stock", "ACME")
+    assert done.status == 2 and f"hilpoven.toml: {name} " in done.err
 
 
 def test_a_key_of_16_letters_has_no_next(at_work):
     assert at_work.toll("receive", "ACME", f"K{'9' * 15}", "SALT", "S-9", "BAY9", 1, 103).status == 0
-    told = at_work.run(*next_receipt(5))
-    assert told.status == 2 and "ACME has no next key" in told.err and "key_prefix" in told.err and len(received(at_work)) == 1
+    done = at_work.run(*next_receipt(5))
+    assert done.status == 2 and "ACME has no next key" in done.err and "key_prefix" in done.err and len(received(at_work)) == 1
 
 
 def test_a_line_that_cannot_be_read_takes_no_key(at_work):
-    told = at_work.run(*next_receipt(0))
-    assert told.status == 1 and told.out == "refused 2 BadAmount\n" and "KEY" not in told.err
+    done = at_work.run(*next_receipt(0))
+    assert done.status == 1 and done.out == "refused 2 BadAmount\n" and "KEY" not in done.err
     assert at_work.run("void", "ACME", "next").out == "refused 1 BadName\n"
 
 
@@ -425,8 +429,8 @@ def test_a_key_of_an_earlier_file_is_not_free(plant):
     assert plant.run("carry-over", plant.folder / "next.db", "--day", 102).status == 0
     assert plant.rows("SELECT mkey FROM moves") == [("C1-1",)]
     assert plant.run(*next_receipt(5)).err.startswith("  KEY: next is K9\n")
-    told = plant.run("receive", "ACME", "next", "SALT", "S-1", "BAY1", 5, 101)
-    assert told.status == 1 and "the same movement of ACME is recorded with key K8 and 1 more; nothing is done" in told.err
+    done = plant.run("receive", "ACME", "next", "SALT", "S-1", "BAY1", 5, 101)
+    assert done.status == 1 and "the same movement of ACME is recorded with key K8 and 1 more; nothing is done" in done.err
 
 
 def test_a_key_that_somebody_took_meanwhile_is_passed_over(at_work):
@@ -434,32 +438,32 @@ def test_a_key_that_somebody_took_meanwhile_is_passed_over(at_work):
     other = f'"{at_work.program}" --db "{at_work.db}" receive ACME K7 SALT S-8 BAY8 1 103 > "{done}"'
     first = script(at_work.folder / "first", f'[ "$3" = receive ] && [ ! -e "{done}" ] && {other}\nexec "{at_work.program}" "$@"')
     at_work.program = str(first)
-    told = at_work.run(*next_receipt(5))
-    assert told == (0, "accepted\n", "  KEY: next is K7\n  KEY: K7 was taken meanwhile\n  KEY: next is K8\n")
-    assert [it["answer"] for it in at_work.lines() if it["event"] == "told"] == ["refused 35 KeyConflict\n", "accepted\n"]
+    answer = at_work.run(*next_receipt(5))
+    assert answer == (0, "accepted\n", "  KEY: next is K7\n  KEY: K7 was taken meanwhile\n  KEY: next is K8\n")
+    assert [entry["answer"] for entry in at_work.lines() if entry["event"] == "told"] == ["refused 35 KeyConflict\n", "accepted\n"]
 
 
 def test_the_same_that_somebody_recorded_meanwhile_is_no_repetition(at_work):
     done = at_work.folder / "done"
     other = f'"{at_work.program}" --db "{at_work.db}" receive ACME K7 SALT S-9 BAY9 5 103 > "{done}"'
     at_work.program = str(script(at_work.folder / "first", f'[ "$3" = receive ] && [ ! -e "{done}" ] && {other}\nexec "{at_work.program}" "$@"'))
-    told = at_work.run(*next_receipt(5))
-    assert told.status == 1 and told.out == "" and "recorded with key K7; nothing is done" in told.err and received(at_work) == [("ACME", "K7", 5)]
+    answer = at_work.run(*next_receipt(5))
+    assert answer.status == 1 and answer.out == "" and "recorded with key K7; nothing is done" in answer.err and received(at_work) == [("ACME", "K7", 5)]
 
 
 def test_clerks_at_once_get_keys_of_their_own(at_work):
     env = environment(TOLL=at_work.program)
     with ThreadPoolExecutor(4) as clerks:
-        told = list(clerks.map(lambda amount: command("--db", at_work.db, *next_receipt(amount), env=env), range(1, 9)))
-    assert [it.stdout for it in told] == ["accepted\n"] * 8, told
-    assert sorted(it[1] for it in received(at_work)) == [*(f"K{number}" for number in range(10, 15)), "K7", "K8", "K9"]
+        answers = list(clerks.map(lambda amount: command("--db", at_work.db, *next_receipt(amount), env=env), range(1, 9)))
+    assert [answer.stdout for answer in answers] == ["accepted\n"] * 8, answers
+    assert sorted(row[1] for row in received(at_work)) == [*(f"K{number}" for number in range(10, 15)), "K7", "K8", "K9"]
 
 
 def test_the_same_again_without_a_terminal_is_not_done(at_work):
     assert at_work.run(*next_receipt(5)).status == 0
     there = at_work.lines()
-    told = at_work.run(*next_receipt(5))
-    assert told == (1, "", "hilpoven: the same movement of ACME is recorded with key K7; nothing is done\n  if this is another one, give its key: --key K8\n")
+    done = at_work.run(*next_receipt(5))
+    assert done == (1, "", "hilpoven: the same movement of ACME is recorded with key K7; nothing is done\n  if this is another one, give its key: --key K8\n")
     assert at_work.lines() == there and received(at_work) == [("ACME", "K7", 5)]
     assert at_work.run(*next_receipt(6)).status == 0
     assert at_work.run("receive", "ACME", "K20", "SALT", "S-9", "BAY9", 5, 103) == (0, "accepted\n", "")
@@ -469,8 +473,8 @@ def test_the_same_again_without_a_terminal_is_not_done(at_work):
 def test_the_same_again_is_asked_at_a_terminal(at_work, answer, status, count):
     assert at_work.run(*next_receipt(5)).status == 0
     question = "The same movement of ACME is recorded with key K7. Is this another one? [y/N] "
-    told = typed(at_work, " ".join(map(str, next_receipt(5))), [(question, answer), *([(question, "")] if answer == "what" else [])])
-    assert told[0] == status and len(received(at_work)) == count and (SAID_NO in told[1]) == (count == 1)
+    ended = typed(at_work, " ".join(map(str, next_receipt(5))), [(question, answer), *([(question, "")] if answer == "what" else [])])
+    assert ended[0] == status and len(received(at_work)) == count and (SAID_NO in ended[1]) == (count == 1)
 
 
 def test_what_was_voided_is_not_the_same(at_work):
@@ -491,10 +495,10 @@ def test_notes_stand_beside_the_movement_with_its_key(at_work):
 def test_today_is_the_plant_s_day(at_work, zone):
     at_work.settle(time_zone=zone)
     days = [day_in(zone)]
-    told = at_work.run("receive", "ACME", "K9", "SALT", "S-9", "BAY9", 5, "--today")
+    done = at_work.run("receive", "ACME", "K9", "SALT", "S-9", "BAY9", 5, "--today")
     days.append(day_in(zone))
     (day,), = at_work.rows("SELECT day FROM moves WHERE mkey = 'K9'")
-    assert told == (0, "accepted\n", f"  DAY: --today is {day}\n") and str(day) in days
+    assert done == (0, "accepted\n", f"  DAY: --today is {day}\n") and str(day) in days
 
 
 def test_enter_is_today_where_days_are_dates(plant):
@@ -507,8 +511,8 @@ def test_enter_is_today_where_days_are_dates(plant):
 
 
 def test_one_day_is_said_once(at_work):
-    told = at_work.run("scrap", "ACME", "K9", "S-1", "BAY1", 5, "--day", 103, "--today")
-    assert told.status == 2 and "--today and --day both say the day" in told.err
+    done = at_work.run("scrap", "ACME", "K9", "S-1", "BAY1", 5, "--day", 103, "--today")
+    assert done.status == 2 and "--today and --day both say the day" in done.err
     assert "1 more than its 6 values" in at_work.run("scrap", "ACME", "K9", "S-1", "BAY1", 5, 103, "--today").err
     assert "no option --today" in at_work.run("release", "--today", "W-101").err
 
@@ -518,9 +522,9 @@ def test_one_day_is_said_once(at_work):
 def completed(plant: Plant, line: str) -> list[str]:
     """What the shell gets for the last word of a line."""
     words = ["hilpoven", *line.split(" ")]
-    told = plant.run("complete", len(words) - 1, *words)
-    assert told.status == 0 and told.err == ""
-    return [it.removeprefix("plain,") for it in told.out.splitlines() if it]
+    done = plant.run("complete", len(words) - 1, *words)
+    assert done.status == 0 and done.err == ""
+    return [line.removeprefix("plain,") for line in done.out.splitlines() if line]
 
 
 @pytest.mark.parametrize("line, names", [
@@ -529,7 +533,7 @@ def completed(plant: Plant, line: str) -> list[str]:
     ("actual K9 ACME O-1 1 1 consumed ", "SALT WATER"), ("actual K9 ACME O-1 1 1 consumed WATER ", "HOUSE"), ("actual K9 ACME O-1 1 1 consumed WATER HOUSE ", "W-101"),
     ("actual K9 ACME O-1 1 2 produced BRINE ACME ", "B-1"), ("void ACME ", "K2 K3 K4"), ("receive --key n", "next"), ("split ACME K9 B-1 TOTE1 t", "TOTE2 TANK TOTE1"), ("receive ACME K9 SALT S-9 b", "BAY1 BAY2"), ("release ", ""),
     ("reject ", "W-101"), ("show lot BOLT ", "P-1"), ("show unit ", "KETTLE MIXER"), ("list moves --owner A", "ACME"), ("show batch ACME O-1 ", "1"), ("show order ACME ", "O-1"),
-    ("trace ACME B-1 ", "back forward"), ("unit-add ", ""), ("nothing ", ""), ("--office ../x stock ", ""), ("com", "")])
+    ("trace ACME B-1 ", "back forward"), ("unit-add ", ""), ("nothing ", ""), ("--office ../x stock ", ""), ("com", "companion")])
 def test_names_of_the_office_complete(at_work, line, names):
     at_work.settle()
     assert completed(at_work, line) == names.split()

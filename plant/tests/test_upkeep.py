@@ -13,7 +13,9 @@ import time
 import pytest
 from conftest import Plant, command, environment
 from hilpoven.core import backups, settings as site
+from hilpoven.core.grammar import LINES
 from hilpoven.journal.query import check
+from hilpoven.records import accepted
 
 
 def test_new_makes_an_office_and_nothing_else_does(plant):
@@ -21,7 +23,7 @@ def test_new_makes_an_office_and_nothing_else_does(plant):
     done = plant.run("new", plant.db)
     assert done.status == 0 and plant.db.exists() and plant.db.stat().st_mode & 0o777 == 0o600
     assert plant.run("unit-add", "KETTLE").out == "accepted\n"
-    assert [it.get("words") for it in plant.lines() if it["event"] == "asked"] == [["new"], ["unit-add", "KETTLE"]]
+    assert [entry.get("words") for entry in plant.lines() if entry["event"] == "asked"] == [["new"], ["unit-add", "KETTLE"]]
 
 
 def test_new_leaves_a_log_that_stands_alone(plant):
@@ -44,8 +46,8 @@ def test_the_newest_are_kept_and_others_are_let_be(at_work):
     folder = at_work.folder / "backups"
     folder.mkdir()
     others = ["office-x-20200101-000000.db", "other-20200101-000000.db", "office-20200101-000000.db.txt"]
-    for it in [*others, "office-20200101-000000.db", "office-20200102-000000.db", "office-20200103-000000.db"]:
-        (folder / it).write_text("")
+    for name in [*others, "office-20200101-000000.db", "office-20200102-000000.db", "office-20200103-000000.db"]:
+        (folder / name).write_text("")
     made = at_work.run("backup", folder, "--keep", "2").out.splitlines()[0]
     assert set(os.listdir(folder)) == {*others, "office-20200103-000000.db", os.path.basename(made), f"{os.path.basename(made)}.journal"}
 
@@ -53,8 +55,8 @@ def test_the_newest_are_kept_and_others_are_let_be(at_work):
 def test_the_last_of_each_day_is_kept(at_work):
     folder = at_work.folder / "backups"
     folder.mkdir()
-    for it in ("20200101-000000", "20200101-120000", "20200102-000000", "20200103-000000", "20200103-000001"):
-        (folder / f"office-{it}.db").write_text("")
+    for moment in ("20200101-000000", "20200101-120000", "20200102-000000", "20200103-000000", "20200103-000001"):
+        (folder / f"office-{moment}.db").write_text("")
     at_work.run("backup", folder, "--keep", "1", "--days", "3")
     assert sorted(os.listdir(folder))[:2] == ["office-20200102-000000.db", "office-20200103-000001.db"] and len(os.listdir(folder)) == 4
 
@@ -80,14 +82,14 @@ def test_a_signal_leaves_nothing(at_work, number):
     slow.write_text(f"#!/bin/sh\ntouch {at_work.folder}/looking; exec sleep 60\n")
     slow.chmod(0o700)
     at_work.program = str(slow)
-    it = at_work.begun("backup", folder)
+    process = at_work.begun("backup", folder)
     for _ in range(200):
         if (at_work.folder / "looking").exists():
             break
         time.sleep(0.05)
-    it.send_signal(number)
-    it.communicate(timeout=20)
-    assert it.returncode == 128 + number and os.listdir(folder) == []
+    process.send_signal(number)
+    process.communicate(timeout=20)
+    assert process.returncode == 128 + number and os.listdir(folder) == []
 
 
 def test_a_copy_that_toll_refuses_is_no_backup_and_removes_none(at_work):
@@ -147,8 +149,8 @@ def test_restore_looks_at_the_backup_first(at_work):
     other = at_work.folder / "other.db"
     with sqlite3.connect(other) as base:
         base.execute("CREATE TABLE t (a)")
-    for it in (cut, text, other):
-        assert at_work.run("restore", it).status == 3
+    for path in (cut, text, other):
+        assert at_work.run("restore", path).status == 3
     assert at_work.content() == before and at_work.db.exists()
     assert not list(at_work.folder.glob("*before-restore*"))
 
@@ -179,6 +181,43 @@ def test_verify_finds_a_sublot_that_does_not_add_up(at_work):
     assert done.status == 3 and "sublot HOUSE W-101 TANK holds 9301, and its movements come to 9300" in done.out
 
 
+@pytest.mark.parametrize("words, row", [
+    ("unit-add PRESS", "units WHERE unit = 'PRESS'"),
+    ("owner-add COLT COLTKEY1", "owners WHERE owner = 'COLT'"),
+    ("material-add ACME SUGAR kg", "materials WHERE material = 'SUGAR'"),
+    ("recipe-add ACME BRINE-20 1", "recipes WHERE recipe = 'BRINE-20'"),
+])
+def test_verify_finds_that_a_row_of_an_accepted_command_is_missing(at_work, words, row):
+    assert at_work.run("unit-add", "OVEN").status == at_work.run(*words.split()).status == at_work.run("verify").status == 0
+    with sqlite3.connect(at_work.db) as base:
+        base.execute(f"DELETE FROM {row}")
+    done = at_work.run("verify")
+    assert done.status == 3 and "rows that the journal's accepted commands added are missing, first " + words.split()[0] in done.out
+
+
+def test_verify_finds_that_a_recorded_movement_is_missing(at_work):
+    assert at_work.run("receive", "HOUSE", "R-77", "WATER", "W-77", "TANK", "500", "261127").status == 0
+    with sqlite3.connect(at_work.db) as base:
+        for table in ("lots", "sublots", "moves"):
+            base.execute(f"DELETE FROM {table} WHERE owner = 'HOUSE' AND lot = 'W-77'")
+    done = at_work.run("verify")
+    assert done.status == 3 and "are missing, first receive HOUSE R-77 of 20" in done.out
+
+
+@pytest.mark.parametrize("line", sorted(accepted.ROWS))
+def test_each_line_that_adds_a_row_is_looked_for(at_work, line):
+    entries = [{"event": "asked", "id": "1", "time": "T", "words": [line, *LINES[line].values]}, {"event": "told", "of": "1", "answer": "accepted\n"}]
+    rows = accepted.added_rows(entries)
+    with contextlib.closing(sqlite3.connect(at_work.db)) as base:
+        assert accepted.lacking(base, rows) == [f"1 of 1 rows that the journal's accepted commands added are missing, first {rows[0]} of T"]
+
+
+def test_verify_asks_for_no_row_from_before_a_restore(at_work):
+    made = backed_up(at_work)
+    assert at_work.run("unit-add", "PRESS").status == at_work.run("restore", made).status == 0
+    assert ("PRESS",) not in at_work.rows("SELECT unit FROM units") and at_work.run("verify").status == 0
+
+
 def test_verify_finds_damage_and_a_changed_journal(at_work):
     at_work.run("unit-add", "PRESS")
     at_work.journal.write_text(at_work.journal.read_text().replace("PRESS", "OVEN"))
@@ -207,14 +246,14 @@ def test_what_a_kill_left_goes_with_the_next(at_work):
 
 def names_in(folder) -> list[str]:
     """The names of the backups in a folder."""
-    return sorted(it.name for it in folder.glob("*.db"))
+    return sorted(path.name for path in folder.glob("*.db"))
 
 
 def test_a_new_backup_is_never_removed(at_work):
     at_work.settle()
     folder = at_work.folder / "backups"
-    for it in ("office-20300101-000000.db", "office-20310101-000000.db", "office-20200101-000000.db.journal"):
-        (folder / it).write_text("")
+    for name in ("office-20300101-000000.db", "office-20310101-000000.db", "office-20200101-000000.db.journal"):
+        (folder / name).write_text("")
     first = at_work.run("backup", "--keep", "1", folder).out.splitlines()[0]
     assert set(os.listdir(folder)) == {os.path.basename(first), f"{os.path.basename(first)}.journal"}
     second = at_work.run("backup", "--keep", "1", folder).out.splitlines()[0]
@@ -229,9 +268,9 @@ def test_backups_are_removed_in_the_order_in_which_they_were_made(at_work, monke
         monkeypatch.setattr(time, "time", lambda: (year - 1970) * 365.25 * 86400)
         made.append(os.path.basename(at_work.run("backup").out.splitlines()[0]))
     assert names_in(folder) == sorted(made[2:])
-    assert {it.name for it in folder.iterdir()} == {*made[2:], *(f"{it}.journal" for it in made[2:])}
+    assert {path.name for path in folder.iterdir()} == {*made[2:], *(f"{name}.journal" for name in made[2:])}
     monkeypatch.undo()
-    assert [it["words"] for it in at_work.lines() if it.get("words", [""])[0] == "prune"] == [["prune", made[0]], ["prune", made[1]]]
+    assert [entry["words"] for entry in at_work.lines() if entry.get("words", [""])[0] == "prune"] == [["prune", made[0]], ["prune", made[1]]]
 
 
 def test_a_backup_of_the_future_wants_attention(at_work, monkeypatch):
@@ -253,9 +292,9 @@ def test_the_journal_notes_each_backup_with_its_hash_and_lies_beside_it(at_work)
     at_work.settle()
     at_work.run("unit-add", "PRESS")
     made = at_work.run("backup").out.splitlines()[0]
-    entry = next(it for it in at_work.lines() if it.get("words", [""])[0] == "backup")
+    entry = next(entry for entry in at_work.lines() if entry.get("words", [""])[0] == "backup")
     assert entry["backup"] == os.path.basename(made) and entry["sha256"] == hashlib.sha256(open(made, "rb").read()).hexdigest()
-    kept = [json.loads(it) for it in open(f"{made}.journal")]
+    kept = [json.loads(line) for line in open(f"{made}.journal")]
     assert kept == at_work.lines()[:len(kept)] and kept[-1] == entry
 
 
@@ -264,8 +303,8 @@ def test_a_journal_that_is_gone_comes_back_with_a_backup(at_work):
     at_work.run("unit-add", "PRESS")
     made = at_work.run("backup").out.splitlines()[0]
     lines = at_work.lines()[:3]
-    for it in at_work.folder.glob("office.db*"):
-        it.unlink()
+    for path in at_work.folder.glob("office.db*"):
+        path.unlink()
     assert at_work.run("restore", os.path.basename(made)).status == 0
     assert at_work.lines()[:3] == lines and at_work.run("journal", "verify").status == 0
     assert at_work.run("unit-add", "OVEN").out == "accepted\n"

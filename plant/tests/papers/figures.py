@@ -133,20 +133,20 @@ WHERE m.lot_owner = :owner AND m.day BETWEEN :first AND :last""",
 def read_csv(file: pathlib.Path) -> list[list[str]]:
     """The rows of a table beside a paper, whose names are formulas of texts."""
     rows = list(csv.reader(io.StringIO(file.read_bytes().decode(), newline="")))[1:]
-    return [[it[2:-1] if it[:2] == '="' and it[-1] == '"' else it for it in row] for row in rows]
+    return [[cell[2:-1] if cell[:2] == '="' and cell[-1] == '"' else cell for cell in row] for row in rows]
 
 
 def words_of_table(file: pathlib.Path) -> set[str]:
     """The words that a table has on paper: numbers without commas, and days as dates where they are some."""
     rows = read_csv(file)
     names = next(csv.reader(io.StringIO(file.read_bytes().decode(), newline="")))
-    cells = {date_of(cell) if name == "day" else cell for row in rows for name, cell in zip(names, row)}
-    return {word for it in cells for word in it.replace(",", "").split()}
+    cells = {date_of(cell) if name.endswith("day") else cell for row in rows for name, cell in zip(names, row)}
+    return {word for cell in cells for word in cell.replace(",", "").split()}
 
 
 def as_texts(rows: list[tuple]) -> list[list[str]]:
     """The rows of a query as CSV has them."""
-    return sorted([str(it) for it in row] for row in rows)
+    return sorted([str(cell) for cell in row] for row in rows)
 
 
 class Cells(html.parser.HTMLParser):

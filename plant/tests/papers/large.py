@@ -26,13 +26,13 @@ receive ACME K1 SALT S-1 BAY1 500000 261101
         while made < DESCENDANTS:
             batch, count = batch + 1, min(OF_BATCH, DESCENDANTS - made)
             rows = [f"C{batch},ACME,O-1,{batch},1,consumed,SALT,ACME,{taken[0]},{taken[1]},10,261102"]
-            rows += [f"P{batch}-{it},ACME,O-1,{batch},1,produced,SALT,ACME,L{batch:02d}-{it:03d},TOTE1,{1000 + it},261103" for it in range(count)]
+            rows += [f"P{batch}-{number},ACME,O-1,{batch},1,produced,SALT,ACME,L{batch:02d}-{number:03d},TOTE1,{1000 + number},261103" for number in range(count)]
             sheet.write_text(HEADER + "\n".join(rows) + "\n")
             for words in (("open", "ACME", "O-1", "KETTLE"), ("do", "ACME", "O-1", batch, "start"), ("import", sheet), ("do", "ACME", "O-1", batch, "done"),
                           ("close", "ACME", "O-1", batch)):
                 assert plant.toll(*words).status == 0, words
-            for it in range(0, count, 20):
-                assert server.ask("ACME", "POST", f"/lots/L{batch:02d}-{it:03d}/release")[0] == 200
+            for at in range(0, count, 20):
+                assert server.ask("ACME", "POST", f"/lots/L{batch:02d}-{at:03d}/release")[0] == 200
             assert plant.toll("ship", "ACME", f"S{batch}", f"L{batch:02d}-000", "TOTE1", 50, 261104).status == 0
             made, taken = made + count, (f"L{batch:02d}-000", "TOTE1")
     return plant
@@ -47,7 +47,7 @@ def with_owners(plant: Plant, count: int = 64) -> Plant:
     """So many owners, each of which has a batch that took water of HOUSE; half of the batches are closed."""
     water, lot, tank = long_name("WATER-", 1), long_name("W-", 1), long_name("TANK-", 1)
     plant.lay(f"material-add HOUSE {water} liters\nreceive HOUSE K1 {water} {lot} {tank} {MOST} 261101\nrelease {lot}")
-    owners, lines = [long_name("OWNER-", it) for it in range(count)], []
+    owners, lines = [long_name("OWNER-", number) for number in range(count)], []
     for number, owner in enumerate(owners):
         material, recipe, unit = long_name("MATERIAL-", number), long_name("RECIPE-", number), long_name("UNIT-", number)
         lines.append(f"""owner-add {owner} {owner.replace("-", "")}KEY1
@@ -58,7 +58,7 @@ recipe-add {owner} {recipe} 1
 require {owner} {recipe} 1 consumed HOUSE {water} {MOST}
 require {owner} {recipe} 1 produced {owner} {material} {MOST}""")
     plant.lay("\n".join(lines))
-    keys = {it: it.replace("-", "") for it in owners}
+    keys = {owner: owner.replace("-", "") for owner in owners}
     order_all(plant, owners, keys)
     for number, owner in enumerate(owners):
         order, made = long_name("ORDER-", number), long_name("LOT-", number)
@@ -89,8 +89,8 @@ def with_amounts(plant: Plant) -> Plant:
     owner = long_name("OWNER-", 1)
     plant.lay(f"owner-add {owner} OWNERKEY1\nmaterial-add {owner} {material} kilogram\nreceive {owner} K0 {material} {lot} {sublot} {MOST} 261101")
     with contextlib.closing(sqlite3.connect(plant.db)) as base, base:
-        names = [it[1] for it in base.execute("PRAGMA table_info(moves)")]
-        columns = ", ".join({"mkey": "'K' || n.value"}.get(it, f"m.{it}") for it in names)
+        names = [column[1] for column in base.execute("PRAGMA table_info(moves)")]
+        columns = ", ".join({"mkey": "'K' || n.value"}.get(name, f"m.{name}") for name in names)
         base.execute(f"INSERT INTO moves SELECT {columns} FROM moves AS m, (WITH RECURSIVE n(value) AS (SELECT 1 UNION ALL SELECT value + 1 FROM n "
                      f"WHERE value < {MOVEMENTS - 1}) SELECT value FROM n) AS n WHERE m.mkey = 'K0'")
         base.execute("UPDATE sublots SET amount = ?", (MOVEMENTS * MOST,))

@@ -24,9 +24,15 @@ class Papers:
         """The folder of a paper."""
         self.count += 1
         folder = self.plant.folder / f"papers{self.count}"
-        told = self.plant.run("papers", *words, folder, *(() if self.prints else ("--no-pdf",)))
-        assert (told.status, told.err) == (0, ""), (words, told)
+        done = self.plant.run("papers", *words, folder, *(() if self.prints else ("--no-pdf",)))
+        assert (done.status, done.err) == (0, ""), (words, done)
+        assert set(folder.rglob("*.pdf")) == {page.with_suffix(".pdf") for page in folder.rglob("*.html") if self.prints}
         return folder
+
+    def pages(self, folder: pathlib.Path, paper: str) -> list[set[str]]:
+        """The words of a paper's page, and of its PDF where it was printed."""
+        pdf = folder / f"{paper}.pdf"
+        return [figures.words_of_page(folder / f"{paper}.html"), *([figures.words_of_pdf(pdf)] if pdf.exists() else [])]
 
     def rows(self, sql: str, **words: Any) -> list[tuple]:
         """The rows of a query over the file."""
@@ -39,34 +45,32 @@ class Papers:
 
     def look_at_table(self, folder: pathlib.Path, name: str, wanted: list[tuple], columns: int = 99) -> None:
         """A table beside a paper has these rows, and the paper has what stands in them."""
-        found = [it[:columns] for it in figures.read_csv(folder / f"{name}.csv")]
-        assert sorted(found) == figures.as_texts(wanted), (folder, name)
+        rows = [row[:columns] for row in figures.read_csv(folder / f"{name}.csv")]
+        assert sorted(rows) == figures.as_texts(wanted), (folder, name)
 
     def look_at_page(self, folder: pathlib.Path, paper: str, without: tuple[str, ...] = ()) -> None:
         """Each figure and name of the tables is on the page and on the paper."""
-        wanted = {word for it in folder.glob("*.csv") if it.stem not in without for word in figures.words_of_table(it)}
-        pages = [figures.words_of_page(folder / f"{paper}.html"), *([figures.words_of_pdf(folder / f"{paper}.pdf")] if self.prints else [])]
-        for words in pages:
+        wanted = {word for path in folder.glob("*.csv") if path.stem not in without for word in figures.words_of_table(path)}
+        for words in self.pages(folder, paper):
             assert wanted <= words, (folder, wanted - words)
 
     def look_for_figures(self, folder: pathlib.Path, paper: str, known: set[str]) -> None:
         """No figure is on a page that isn't in its tables, or known otherwise."""
-        cells = {word for it in folder.glob("*.csv") for row in figures.read_csv(it) for cell in row for word in re.findall(r"\d+", cell)}
-        pages = [figures.words_of_page(folder / f"{paper}.html"), *([figures.words_of_pdf(folder / f"{paper}.pdf")] if self.prints else [])]
-        for words in pages:
-            numbers = {it for it in words if it.isdecimal() and int(it) >= FIGURE}
+        cells = {word for path in folder.glob("*.csv") for row in figures.read_csv(path) for cell in row for word in re.findall(r"\d+", cell)}
+        for words in self.pages(folder, paper):
+            numbers = {word for word in words if word.isdecimal() and int(word) >= FIGURE}
             assert numbers <= cells | known, (folder, numbers - cells - known)
 
     def foreign(self, owner: str) -> set[str]:
         """The names that an owner's papers may not have: those of others, and of HOUSE what the owner's batches had nothing to do with."""
-        others = [it for it in self.office.owners if it != owner]
-        touched = {it for it, in self.rows("SELECT lot FROM moves WHERE owner = :owner AND lot_owner = 'HOUSE'", owner=owner)}
-        found = {*others, *(it for whose in others for it in [*self.office.materials[whose], *self.office.lots[whose], *self.office.batches[whose]])}
-        found |= {it for it in self.office.lots[HOUSE] if it not in touched} | set(self.office.batches[HOUSE])
-        found |= {word for whose, words in self.office.noted.items() if whose != owner for word in words}
-        found |= {test for (whose, _), test in self.office.tests.items() if whose != owner}
-        found |= {it for it, in self.rows("SELECT unit FROM batches WHERE owner <> :owner EXCEPT SELECT unit FROM batches WHERE owner = :owner", owner=owner)}
-        return found | {f"{it}KEY1" for it in self.office.owners}
+        others = [other for other in self.office.owners if other != owner]
+        touched = {lot for lot, in self.rows("SELECT lot FROM moves WHERE owner = :owner AND lot_owner = 'HOUSE'", owner=owner)}
+        names = {*others, *(name for whose in others for name in [*self.office.materials[whose], *self.office.lots[whose], *self.office.batches[whose]])}
+        names |= {lot for lot in self.office.lots[HOUSE] if lot not in touched} | set(self.office.batches[HOUSE])
+        names |= {word for whose, words in self.office.noted.items() if whose != owner for word in words}
+        names |= {test for (whose, _), test in self.office.tests.items() if whose != owner}
+        names |= {unit for unit, in self.rows("SELECT unit FROM batches WHERE owner <> :owner EXCEPT SELECT unit FROM batches WHERE owner = :owner", owner=owner)}
+        return names | {f"{other}KEY1" for other in self.office.owners}
 
     def look_for_others(self, folder: pathlib.Path, owner: str) -> None:
         """No name of others is in an owner's folder, in no file, in no text of a PDF and in nothing that is told of it."""
@@ -76,27 +80,27 @@ class Papers:
             if file.suffix == ".pdf":
                 texts += [figures.text_of_pdf(file), figures.metadata_of_pdf(file)]
             for text in texts:
-                found = foreign & set(re.findall(r"[A-Z0-9-]+", text))
-                assert not found, (file, found)
+                strangers = foreign & set(re.findall(r"[A-Z0-9-]+", text))
+                assert not strangers, (file, strangers)
                 assert "office.db" not in text, file
 
     def recall(self, owner: str, lot: str) -> None:
         """The papers of a recall."""
         folder, key = self.make("recall", owner, lot), {"owner": owner, "lot": lot}
-        told = self.plant.toll("recall", owner, lot).out
-        assert (folder / "plant" / "recall.txt").read_text() == told
+        text = self.plant.toll("recall", owner, lot).out
+        assert (folder / "plant" / "recall.txt").read_text() == text
         wanted = {name: self.rows(sql, **key) for name, sql in figures.RECALL.items()}
-        lines = [it.split() for it in told.splitlines()[1:]]
-        rows = [(str(it[0]), it[1], it[2], it[4], str(it[12]), str(it[10])) for it in wanted["lots"]]
-        assert sorted(map(tuple, lines)) == sorted(rows) and all(it[13] == 0 for it in wanted["lots"])
-        concerned = {it[1] for it in wanted["lots"]} | {it[1] for it in wanted["flows"]}
-        owners = sorted(it.name for it in (folder / "owners").iterdir()) if (folder / "owners").exists() else []
+        lines = [line.split() for line in text.splitlines()[1:]]
+        rows = [(str(row[0]), row[1], row[2], row[4], str(row[12]), str(row[10])) for row in wanted["lots"]]
+        assert sorted(map(tuple, lines)) == sorted(rows) and all(row[13] == 0 for row in wanted["lots"])
+        concerned = {row[1] for row in wanted["lots"]} | {flow[1] for flow in wanted["flows"]}
+        owners = sorted(path.name for path in (folder / "owners").iterdir()) if (folder / "owners").exists() else []
         assert owners == sorted(concerned - {HOUSE})
         self.part_of_recall(folder / "plant", wanted)
-        for it in owners:
-            self.part_of_recall(folder / "owners" / it, wanted, it)
-            self.look_for_others(folder / "owners" / it, it)
-            self.look_for_figures(folder / "owners" / it, "recall", set())
+        for whose in owners:
+            self.part_of_recall(folder / "owners" / whose, wanted, whose)
+            self.look_for_others(folder / "owners" / whose, whose)
+            self.look_for_figures(folder / "owners" / whose, "recall", set())
 
     def part_of_recall(self, folder: pathlib.Path, wanted: dict[str, list[tuple]], owner: str = "") -> None:
         """The paper of one reader has the rows of that reader."""
@@ -104,11 +108,11 @@ class Papers:
         columns = {"released": 5, "running": 4, **({"shipments": 8} if self.office.noted else {})}
         for name, rows in wanted.items():
             if owner:
-                rows = [it if name == "flows" else (*it[:place[name]], *it[place[name] + 1:]) for it in rows if it[place[name]] == owner]
+                rows = [row if name == "flows" else (*row[:place[name]], *row[place[name] + 1:]) for row in rows if row[place[name]] == owner]
             self.look_at_table(folder, name, rows, columns.get(name, 99) - bool(owner and name in columns))
-        batches = {(it[0], *([] if owner else [it[1]]), it[2], it[3]) for it in wanted["flows"] if not owner or it[1] == owner}
-        found = [tuple(it[:3 if owner else 4]) for it in figures.read_csv(folder / "batches.csv")]
-        assert sorted(found) == sorted(tuple(map(str, it)) for it in batches)
+        batches = {(flow[0], *([] if owner else [flow[1]]), flow[2], flow[3]) for flow in wanted["flows"] if not owner or flow[1] == owner}
+        read = [tuple(row[:3 if owner else 4]) for row in figures.read_csv(folder / "batches.csv")]
+        assert sorted(read) == sorted(tuple(map(str, batch)) for batch in batches)
         self.look_at_recipients(folder, wanted["shipments"], owner)
         self.look_at_page(folder, "recall", ("flows", "contacts"))
 
@@ -127,66 +131,66 @@ class Papers:
                 sums[0], sums[1] = sums[0] + 1, sums[1] + amount
                 sums[2] |= {facts["document"]} if "document" in facts else set()
         first = 1 if owner else 0  # an owner's tables don't name it
-        found = figures.read_csv(folder / "without_recipient.csv")
-        assert sorted(it[:7 - first] for it in found) == figures.as_texts([(it[0], *it[1 + first:]) for it in unknown])
-        found = [(*([owner] if owner else []), *it) for it in figures.read_csv(folder / "recipients.csv")]
-        self.recipients += len(found)
-        assert {(it[0], it[1], it[6], it[9]): [int(it[7]), int(it[8]), set(filter(None, it[10].split("; ")))] for it in found} == received
+        read = figures.read_csv(folder / "without_recipient.csv")
+        assert sorted(row[:7 - first] for row in read) == figures.as_texts([(shipment[0], *shipment[1 + first:]) for shipment in unknown])
+        read = [(*([owner] if owner else []), *row) for row in figures.read_csv(folder / "recipients.csv")]
+        self.recipients += len(read)
+        assert {(row[0], row[1], row[6], row[9]): [int(row[7]), int(row[8]), set(filter(None, row[10].split("; ")))] for row in read} == received
         contacts = figures.read_csv(folder / "contacts.csv")
-        assert sorted((*([owner] if owner else []), *it)[:2] for it in contacts) == sorted({it[:2] for it in received})
+        assert sorted((*([owner] if owner else []), *contact)[:2] for contact in contacts) == sorted({recipient[:2] for recipient in received})
 
     def batch(self, owner: str, order: str) -> None:
         """The record of a batch."""
         folder, key = self.make("batch", owner, order, 1), {"owner": owner, "order": order, "number": 1}
         for name, sql in figures.BATCH.items():
             self.look_at_table(folder, name, self.rows(sql, **key))
-        told = [it.split() for it in self.plant.toll("batch", owner, order, 1).out.splitlines()[1:]]
-        assert sorted(told) == sorted(it[:6] for it in figures.read_csv(folder / "requirements.csv"))
-        self.look_at(folder, "batch", owner)
+        lines = [line.split() for line in self.plant.toll("batch", owner, order, 1).out.splitlines()[1:]]
+        assert sorted(lines) == sorted(row[:6] for row in figures.read_csv(folder / "requirements.csv"))
+        self.look_at_paper(folder, "batch", owner)
 
     def certificate(self, owner: str, lot: str) -> None:
         """The certificate of a lot: it says that it isn't released unless it is."""
         folder = self.make("certificate", owner, lot)
         self.look_at_table(folder, "tests", self.rows(figures.TESTS, owner=owner, lot=lot))
         (disposition,), = self.rows("SELECT disposition FROM lots WHERE owner = :owner AND lot = :lot", owner=owner, lot=lot)
-        for text in [(folder / "certificate.html").read_text(), *([figures.text_of_pdf(folder / "certificate.pdf")] if self.prints else [])]:
+        for text in [(folder / "certificate.html").read_text(), *map(figures.text_of_pdf, folder.glob("*.pdf"))]:
             assert ("not released" in text, "This lot is released" in text) == (disposition != 1, disposition == 1)
-        self.look_at(folder, "certificate", owner)
+        self.look_at_paper(folder, "certificate", owner)
 
     def lot(self, owner: str, lot: str) -> None:
         """The card of a lot."""
         folder, key = self.make("lot", owner, lot), {"owner": owner, "lot": lot}
         for name, sql in figures.LOT.items():
             self.look_at_table(folder, name, self.rows(sql, **key), 11)
-        first, = [it for it in self.rows(figures.RECALL["lots"], **key) if it[0] == 0]
-        beside = {way: {(it.split()[1], it.split()[2]) for it in self.plant.toll("trace", owner, lot, way).out.splitlines() if it.split()[0] == "1"} for way in ("back", "forward")}
-        found = figures.read_csv(folder / "beside.csv")
-        assert {(way, *it) for way, lots in (("made of", beside["back"]), ("went into", beside["forward"])) for it in lots} == set(map(tuple, found))
-        assert [it[11] for it in figures.read_csv(folder / "ledger.csv")][-1:] == [str(first[12])]
+        first, = [row for row in self.rows(figures.RECALL["lots"], **key) if row[0] == 0]
+        beside = {way: {(line.split()[1], line.split()[2]) for line in self.plant.toll("trace", owner, lot, way).out.splitlines() if line.split()[0] == "1"} for way in ("back", "forward")}
+        read = figures.read_csv(folder / "beside.csv")
+        assert {(way, *lot_id) for way, lots in (("made of", beside["back"]), ("went into", beside["forward"])) for lot_id in lots} == set(map(tuple, read))
+        assert [row[11] for row in figures.read_csv(folder / "ledger.csv")][-1:] == [str(first[12])]
         page = figures.words_of_page(folder / "lot.html")
-        assert {str(it) for it in first[7:14]} <= page
+        assert {str(figure) for figure in first[7:14]} <= page
         near = [(whose, name) for whose, name in {*beside["back"], *beside["forward"]} if owner in (whose, HOUSE)]
         held = {str(sum(amount for _, amount in self.rows(figures.LOT["sublots"], owner=whose, lot=name))) for whose, name in near}
-        self.look_at(folder, "lot", owner, {str(it) for it in first[7:14]} | held)
+        self.look_at_paper(folder, "lot", owner, {str(figure) for figure in first[7:14]} | held)
 
     def statement(self, owner: str, first: int, last: int) -> None:
         """The statement of an owner."""
         folder, key = self.make("statement", owner, "--from", first, "--to", last), {"owner": owner, "first": first, "last": last}
         wanted = {name: self.rows(sql, **key) for name, sql in figures.STATEMENT.items()}
-        wanted["lots"] = [it for it in wanted["lots"] if any(it[3:])]
+        wanted["lots"] = [row for row in wanted["lots"] if any(row[3:])]
         sums: dict[tuple, list[int]] = {}
-        for it in wanted["lots"]:
-            sums[it[:2]] = [a + b for a, b in zip(sums.get(it[:2], [0] * 8), it[3:])]
-            assert it[3] + it[4] + it[5] - it[6] - it[7] - it[8] == it[9]
-        wanted["sums"] = [(*it, *amounts) for it, amounts in sums.items()]
+        for row in wanted["lots"]:
+            sums[row[:2]] = [a + b for a, b in zip(sums.get(row[:2], [0] * 8), row[3:])]
+            assert row[3] + row[4] + row[5] - row[6] - row[7] - row[8] == row[9]
+        wanted["sums"] = [(*head, *amounts) for head, amounts in sums.items()]
         for name, rows in wanted.items():
             self.look_at_table(folder, name, rows)
         if last == 9_999_999:
-            stock = [it.split() for it in self.plant.toll("stock", owner).out.splitlines()]
-            assert sum(int(it[4]) for it in stock) == sum(it[9] for it in wanted["lots"])
-        self.look_at(folder, "statement", owner, {str(first), str(last)})
+            stock = [line.split() for line in self.plant.toll("stock", owner).out.splitlines()]
+            assert sum(int(line[4]) for line in stock) == sum(row[9] for row in wanted["lots"])
+        self.look_at_paper(folder, "statement", owner, {str(first), str(last)})
 
-    def look_at(self, folder: pathlib.Path, paper: str, owner: str, known: set[str] = frozenset()) -> None:
+    def look_at_paper(self, folder: pathlib.Path, paper: str, owner: str, known: set[str] = frozenset()) -> None:
         """A paper of one reader has what its tables have; an owner's has nothing of others."""
         self.look_at_page(folder, paper, ("beside",))
         if owner != HOUSE:

@@ -1,9 +1,11 @@
 """Offices that are filled by chance, of which papers are made."""
+import contextlib
 import pathlib
 import random
 import string
+from collections.abc import Iterator
 
-from conftest import Plant
+from conftest import Plant, Server
 
 HOUSE = "HOUSE"
 HEADER = "key,owner,order,batch,segment,use,material,lot_owner,lot,sublot,amount,day"
@@ -24,6 +26,7 @@ class Filled:
         self.lots: dict[str, dict[str, str]] = {}
         self.batches: dict[str, list[str]] = {}
         self.count = 0
+        self.server: Server | None = None
         self.noted: dict[str, set[str]] = {}  # the words of what is noted of each owner
         self.fill()
 
@@ -35,21 +38,33 @@ class Filled:
         """A day: mostly a date, and now and then a number that is none."""
         return self.chance.choice((261101, 261107, 261112, 261119, 261126, 261130, 7, 999_999))
 
+    @contextlib.contextmanager
+    def served(self) -> Iterator[None]:
+        """A server answers meanwhile, which takes a fraction of a process for each command."""
+        with self.plant.serve() as self.server:
+            yield
+        self.server = None
+
     def tell(self, *words: object) -> str:
         """What a command is told; a refusal is part of the day."""
-        told = self.plant.toll(*words)
-        assert told.status in (0, 1), (words, told)
-        return told.out
+        done = self.server.tell(*words) if self.server else self.plant.toll(*words)
+        assert done.status in (0, 1), (words, done)
+        return done.out
 
     def ask(self, requests: list[tuple[str, str, str]]) -> None:
-        """Asks a server: who, the path and the body of each."""
-        with self.plant.serve() as server:
-            for owner, path, body in requests:
-                server.ask(owner, "POST", path, body)
+        """Asks the server: who, the path and the body of each."""
+        assert self.server
+        for owner, path, body in requests:
+            self.server.ask(owner, "POST", path, body)
 
     def fill(self) -> None:
         """All of it."""
         self.tell("unit-add", "U0")
+        with self.served():
+            self.fill_served()
+
+    def fill_served(self) -> None:
+        """What owners and the plant do while a server answers."""
         for owner in self.owners:
             self.tell("owner-add", owner, f"{owner}KEY1")
         for owner in [HOUSE, *self.owners]:
@@ -115,22 +130,23 @@ class Filled:
     def actuals_of(self, owner: str, order: str, turn: int) -> list[str]:
         """Records of a batch: what it takes of lots, and the lots that it makes."""
         given = [(whose, lot, material) for whose in sorted({owner, HOUSE}) for lot, material in self.lots[whose].items()]
-        found = []
+        records = []
         for number in range(self.chance.randint(2, 5)):
             whose, lot, material = self.chance.choice(given)
-            found.append(f"C{turn}X{number},{owner},{order},1,{self.chance.randint(1, 2)},consumed,{material},{whose},{lot},S0,{self.chance.randint(10_000, 30_000)},{self.day()}")
+            records.append(f"C{turn}X{number},{owner},{order},1,{self.chance.randint(1, 2)},consumed,{material},{whose},{lot},S0,{self.chance.randint(10_000, 30_000)},{self.day()}")
         for number in range(self.lots_of_batch):
             lot, material = self.name(), self.chance.choice(self.materials[owner])
             self.lots[owner][lot] = material
-            found.append(f"P{turn}X{number},{owner},{order},1,{self.chance.randint(1, 2)},produced,{material},{owner},{lot},S0,{self.chance.randint(100_000, 900_000)},{self.day()}")
-        return found
+            records.append(f"P{turn}X{number},{owner},{order},1,{self.chance.randint(1, 2)},produced,{material},{owner},{lot},S0,{self.chance.randint(100_000, 900_000)},{self.day()}")
+        return records
 
     def work(self, turn: int) -> None:
         """A round: each owner's batch does something, some of it is taken back, lots are released, divided, shipped and scrapped."""
-        records = [it for owner in [HOUSE, *self.owners] for it in self.actuals_of(owner, self.open_batch(owner), turn)]
+        records = [record for owner in [HOUSE, *self.owners] for record in self.actuals_of(owner, self.open_batch(owner), turn)]
         sheet = self.plant.folder / "actuals.csv"
         sheet.write_text("\n".join([HEADER, *records]) + "\n")
-        self.tell("import", sheet)
+        done = self.plant.toll("import", sheet)
+        assert done.status in (0, 1), done
         for record in self.chance.sample(records, len(records) // 5):
             key, owner = record.split(",")[:2]
             self.tell("void", owner, key)
@@ -147,7 +163,7 @@ class Filled:
                 self.tell("do", owner, order, 1, "done")
                 self.tell("close", owner, order, 1)
         self.tell("reject", self.chance.choice(list(self.lots[HOUSE])))
-        self.ask([(it, f"/lots/{self.chance.choice(list(self.lots[it]))}/reject", "") for it in self.owners])
+        self.ask([(owner, f"/lots/{self.chance.choice(list(self.lots[owner]))}/reject", "") for owner in self.owners])
 
 
 class WithParties(Filled):
@@ -171,9 +187,9 @@ class WithParties(Filled):
 
     def run(self, *words: object) -> str:
         """What the plant's command tells; a refusal is part of the day."""
-        told = self.plant.run(*words)
-        assert told.status in (0, 1), (words, told)
-        return told.out
+        done = self.plant.run(*words)
+        assert done.status in (0, 1), (words, done)
+        return done.out
 
     def set_up(self, owner: str) -> None:
         """The parties of an owner, before its materials."""
@@ -198,7 +214,7 @@ class WithParties(Filled):
         if words[0] == "receive":
             facts["supplier_lot"] = self.word(owner)
             more += ["--supplier-lot", facts["supplier_lot"]]
-        told = self.run(*words, *more)
-        if told == "accepted\n":
+        done = self.run(*words, *more, "--yes")  # some of its days are no dates
+        if done == "accepted\n":
             self.facts[owner, key] = facts
-        return told
+        return done

@@ -29,8 +29,8 @@ def by(at_work, monkeypatch):
 def record(plant, number, name, *options):
     """The page of a batch's record, its steps without their times, and who recorded each actual."""
     folder = plant.folder / name
-    told = plant.run("papers", "batch", "ACME", "O-1", number, folder, *options)
-    assert (told.status, told.err) == (0, ""), told
+    done = plant.run("papers", "batch", "ACME", "O-1", number, folder, *options)
+    assert (done.status, done.err) == (0, ""), done
     steps = figures.read_csv(folder / "steps.csv") if (folder / "steps.csv").exists() else []
     now = f"{datetime.datetime.now(datetime.timezone.utc):%Y}"
     assert all(re.fullmatch(r"\d{4}-\d\d-\d\d \d\d:\d\d:\d\d", time) and time[:3] == now[:3] for time, *_ in steps)
@@ -66,7 +66,7 @@ def test_the_step_that_opened_a_batch_is_known_if_the_journal_has_all_of_them(at
 
 @pytest.mark.parametrize("count", (21,))  # with which the signature needs another page
 def test_no_signature_is_alone_on_a_page(at_work, count):
-    at_work.lay("\n".join(f"actual N{it} ACME O-1 1 1 consumed SALT ACME S-1 BAY1 1 103" for it in range(count)))
+    at_work.lay("\n".join(f"actual N{number} ACME O-1 1 1 consumed SALT ACME S-1 BAY1 1 103" for number in range(count)))
     assert at_work.run("papers", "batch", "ACME", "O-1", 1, at_work.folder / "made").status == 0
     *_, last = figures.text_of_pdf(at_work.folder / "made" / "batch.pdf").rstrip("\f").split("\f")
     assert "Signature" in last and f"N{count - 1} " in last

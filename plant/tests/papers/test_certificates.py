@@ -58,7 +58,7 @@ class Page(html.parser.HTMLParser):
 def note(plant: Plant, *notes: facts.Note) -> None:
     """Notes something, as commands do."""
     journal = Journal(str(plant.journal), str(plant.db))
-    journal.note(journal.file, ["note"], notes=[to_json(it) for it in notes])
+    journal.note(journal.file, ["note"], notes=[to_json(fact) for fact in notes])
 
 
 def as_word(value: int) -> str:
@@ -104,11 +104,11 @@ class Certified:
         rows = [self.add_test(owner, material, lot, f"T{at}") for at in range(self.chance.choice((0, 1, 1, 2, 4)))]
         self.laid.append(f"receive {owner} R{number} {material} {lot} S1 90000 261101")
         is_released = all(row[-1] == "pass" for row in rows)
-        name, days = self.maybe(owner), {it: self.chance.choice([*DATES, None]) for it in ("made", "expires", "retest")}
+        name, days = self.maybe(owner), {event: self.chance.choice([*DATES, None]) for event in ("made", "expires", "retest")}
         self.notes += [facts.MaterialFacts(owner, material, name), facts.LotFacts(owner, lot, **days)]
         noted = self.owners[owner]
         wanted = {"material": f"{name} ({material})" if name else material, "lot": lot, "owner": f"{noted.name} ({owner})", "owner's address": noted.address, "comes from": "receipts",
-                  **{word: DATES.get(days[it], "") for it, word in (("made", "made"), ("expires", "expires"), ("retest", "to be tested again"))}}
+                  **{word: DATES.get(days[event], "") for event, word in (("made", "made"), ("expires", "expires"), ("retest", "to be tested again"))}}
         self.releases += [f"> {owner} POST /lots/{lot}/release"] if is_released else []
         if is_released and self.chance.random() < 0.6:
             key, amount, document, party = f"K{number}", self.chance.randint(1, 90_000), self.text(owner), self.parties[owner]
@@ -124,7 +124,7 @@ class Certified:
         high, full_name, unit, method = low + self.chance.randint(1, 20_000), self.maybe(owner), self.maybe(owner), self.maybe(owner)
         self.laid.append(f"test-add {owner} {material} {name} {as_word(low)} {as_word(high)}")
         self.notes.append(facts.TestFacts(owner, material, name, full_name, unit, decimals, method))
-        low_text, high_text, *values = (f"{Decimal(it).scaleb(-decimals):,.{decimals}f}" for it in (low, high, low, high, high + 1, (low + high) // 2))
+        low_text, high_text, *values = (f"{Decimal(measured).scaleb(-decimals):,.{decimals}f}" for measured in (low, high, low, high, high + 1, (low + high) // 2))
         row = [name, full_name, method, low_text, high_text]
         if self.chance.random() < 0.2:
             return [*row, "", unit, "", "no result"]
@@ -139,8 +139,8 @@ class Certified:
     def look(self, number: int, asked: tuple[str, str, str]) -> None:
         """A certificate says what is wanted, and has nothing that is noted of another owner."""
         (owner, lot, key), folder = asked, self.plant.folder / f"made{number}"
-        told = self.plant.run("papers", "certificate", owner, lot, *(("--shipment", key) if key else ()), folder, "--no-pdf")
-        assert (told.status, told.err) == (0, ""), told
+        done = self.plant.run("papers", "certificate", owner, lot, *(("--shipment", key) if key else ()), folder, "--no-pdf")
+        assert (done.status, done.err) == (0, ""), done
         title, wanted, rows, is_released = self.wanted[asked]
         page, has_methods = Page(folder / "certificate.html"), any(row[2] for row in rows)
         assert (page.title, page.facts) == (title, wanted)
@@ -167,8 +167,8 @@ def settle(plant: Plant, **lines: str) -> None:
 
 def certificate(plant: Plant, name: str, *options: object) -> str:
     """The page of the certificate of lot B-1."""
-    told = plant.run("papers", "certificate", "ACME", "B-1", *options, plant.folder / name)
-    assert (told.status, told.err) == (0, ""), told
+    done = plant.run("papers", "certificate", "ACME", "B-1", *options, plant.folder / name)
+    assert (done.status, done.err) == (0, ""), done
     return (plant.folder / name / "certificate.html").read_text()
 
 
@@ -178,7 +178,7 @@ def test_a_letterhead_and_a_number_are_on_paper_and_the_same_paper_has_the_same_
     numbers = [re.search(r"No\. (ACME-B-1-[0-9A-F]{8})<", certificate(at_work, name, *options))[1] for name, *options in (("first",), ("again", "--no-pdf"))]
     assert numbers[0] == numbers[1]
     text = figures.text_of_pdf(at_work.folder / "first" / "certificate.pdf")
-    assert all(it in " ".join(text.split()) for it in (*list(PLANT.values())[:3], f"No. {numbers[0]}", "page 1 of 1")) and "Approved by Anna Berg" in text
+    assert all(part in " ".join(text.split()) for part in (*list(PLANT.values())[:3], f"No. {numbers[0]}", "page 1 of 1")) and "Approved by Anna Berg" in text
     assert b"/Subtype /Image" in (at_work.folder / "first" / "certificate.pdf").read_bytes()
     assert at_work.run("result", "ACME", "B-1", "PH", 3, 103).status == 0
     later = certificate(at_work, "later", "--no-pdf")
@@ -192,8 +192,8 @@ def test_a_logo_that_is_no_picture_is_not_used(at_work, content, why):
     if content is not None:
         (at_work.folder / "logo.png").write_bytes(content)
     settle(at_work, **PLANT, logo="logo.png")
-    told = at_work.run("papers", "certificate", "ACME", "B-1", at_work.folder / "made", "--no-pdf")
-    assert told.status == 2 and why in told.err and "name another file in the settings" in told.err and not (at_work.folder / "made").exists()
+    done = at_work.run("papers", "certificate", "ACME", "B-1", at_work.folder / "made", "--no-pdf")
+    assert done.status == 2 and why in done.err and "name another file in the settings" in done.err and not (at_work.folder / "made").exists()
 
 
 def test_texts_of_facts_are_texts_on_a_certificate(at_work):

@@ -36,8 +36,8 @@ def labels(hostile, request) -> tuple[str, pathlib.Path]:
 def made(plant: Plant, *words: object) -> pathlib.Path:
     """The labels that these words make, in a new file."""
     target = plant.folder / f"labels{len(list(plant.folder.glob('labels*.pdf')))}.pdf"
-    told = plant.run("labels", *words, "--out", target)
-    assert (told.status, told.out, told.err) == (0, "", ""), told
+    done = plant.run("labels", *words, "--out", target)
+    assert (done.status, done.out, done.err) == (0, "", ""), done
     return target
 
 
@@ -80,7 +80,7 @@ def look_at_words(path: pathlib.Path, size: str, count: int) -> None:
     """The words of each label end before its code, and before the next label."""
     done = subprocess.run(["pdftotext", "-bbox", path, "-"], capture_output=True, text=True, check=True)
     form = r'<word xMin="([\d.]+)" yMin="([\d.]+)" xMax="([\d.]+)" yMax="([\d.]+)">([^<]*)'
-    millimetres = [(*(float(it) * 25.4 / 72 for it in found[:4]), found[4]) for found in re.findall(form, done.stdout)]
+    millimetres = [(*(float(edge) * 25.4 / 72 for edge in box[:4]), box[4]) for box in re.findall(form, done.stdout)]
     assert len(millimetres) == count
     for left, top, right, bottom, word in millimetres:
         column, row = (left - 4.65) // 101.6, (top - 15.15) // 38.1
@@ -116,7 +116,7 @@ def test_what_is_read_goes_into_commands(at_work):
     moves = at_work.rows("SELECT owner, mkey, lot_owner, lot, sublot, amount FROM moves WHERE mkey LIKE 'K2_' ORDER BY mkey")
     assert moves == [("ACME", "K20", "ACME", "S-1", "BAY1", 5), ("ACME", "K21", "ACME", "S-1", "BAY1", 6), ("ACME", "K22", "HOUSE", "W-101", "TANK", 7),
                      ("ACME", "K23", "ACME", "B-1", "TOTE2", 8)]
-    words = [" ".join(it["words"]) for it in at_work.lines() if it["event"] == "asked"]
+    words = [" ".join(entry["words"]) for entry in at_work.lines() if entry["event"] == "asked"]
     assert words[0] == "ship ACME K20 S-1 BAY1 5 102" and words[2] == "actual K22 ACME O-1 1 1 consumed WATER HOUSE W-101 TANK 7 102"
 
 
@@ -127,7 +127,7 @@ def text_of(path: pathlib.Path) -> str:
 
 def test_a_label_has_its_sublot_and_nothing_else(at_work):
     day = datetime.date.today()
-    texts = [f"owner ACME lot S-1 sublot BAY1 material SALT amount 4,700 kg ✓ released when printed, {it}" for it in (day, datetime.date.today())]
+    texts = [f"owner ACME lot S-1 sublot BAY1 material SALT amount 4,700 kg ✓ released when printed, {date}" for date in (day, datetime.date.today())]
     assert text_of(made(at_work, "ACME", "S-1")) in texts
     path = made(at_work, "ACME", "B-1", "--size", ROLL)
     assert path.stat().st_mode & 0o777 == 0o600
@@ -135,7 +135,7 @@ def test_a_label_has_its_sublot_and_nothing_else(at_work):
     assert "900 kg ◇ quarantined when printed" in text and "80 kg ◇ quarantined" in text and text.count("BRINE") == 2
     info = subprocess.run(["pdfinfo", path], capture_output=True, text=True, check=True).stdout
     assert not {"BOLT", "PIGMENT", "HOUSE", "WATER"} & set(re.findall(r"\w+", f"{text} {info}")) and "office" not in info
-    assert [it["words"] for it in at_work.lines()] == [["labels", "ACME", "S-1"], ["labels", "ACME", "B-1"]]
+    assert [entry["words"] for entry in at_work.lines()] == [["labels", "ACME", "S-1"], ["labels", "ACME", "B-1"]]
 
 
 def test_a_label_says_that_its_lot_is_held(at_work):
@@ -156,13 +156,13 @@ def test_it_makes_labels_of_what_holds_something_or_is_named(at_work):
     assert at_work.lines()[-1]["words"] == ["labels", "ACME", "B-1", "TOTE2"]
 
 
-@pytest.mark.parametrize("words, status, told", [
+@pytest.mark.parametrize("words, status, why", [
     (["ACME", "B-9"], 1, "there is no lot ACME B-9"), (["BOLT", "B-1"], 1, "there is no lot BOLT B-1"), (["ACNE", "B-1"], 1, "there is no owner ACNE"),
     (["ACME", "B-1", "TOTE9"], 1, "there is no sublot TOTE9 of lot ACME B-1"), (["ACME", "B-1", "tote1"], 2, "`tote1` has lower-case letters"),
     (["BOLT", "ACME/B-1/TOTE1"], 2, "OWNER is BOLT"), (["ACME/B-1/TOTE1", "TOTE2"], 2, "SUBLOT is TOTE2"), (["ACME", "B-1", "--size", "10x10"], 2, "10x10")])
-def test_what_can_not_be_labelled_is_told(at_work, words, status, told):
+def test_what_can_not_be_labelled_is_told(at_work, words, status, why):
     done = at_work.run("labels", *words, "--out", at_work.folder / "labels.pdf")
-    assert done.status == status and told in done.err and not (at_work.folder / "labels.pdf").exists(), done
+    assert done.status == status and why in done.err and not (at_work.folder / "labels.pdf").exists(), done
 
 
 def test_a_lot_without_stock_has_no_labels(at_work):
@@ -182,16 +182,16 @@ def test_labels_go_to_standard_output_or_to_a_new_file(at_work):
     assert done.returncode == 0 and done.stdout.startswith(b"%PDF-") and done.stderr == b""
     target = at_work.folder / "labels.pdf"
     target.write_text("kept")
-    told = at_work.run("labels", "ACME", "S-1", "--out", target)
-    assert told.status == 2 and "is there already" in told.err and target.read_text() == "kept"
+    refused = at_work.run("labels", "ACME", "S-1", "--out", target)
+    assert refused.status == 2 and "is there already" in refused.err and target.read_text() == "kept"
     assert at_work.run("labels", "ACME", "S-1", "--out", target, "--force").status == 0 and target.read_bytes().startswith(b"%PDF-")
 
 
-@pytest.mark.parametrize("module, told", [("weasyprint", "WeasyPrint isn't here"), ("segno", "segno isn't here")])
-def test_without_the_package_of_papers_it_is_told(at_work, monkeypatch, module, told):
+@pytest.mark.parametrize("module, why", [("weasyprint", "WeasyPrint isn't here"), ("segno", "segno isn't here")])
+def test_without_the_package_of_papers_it_is_told(at_work, monkeypatch, module, why):
     import importlib.util
 
-    found = importlib.util.find_spec
-    monkeypatch.setattr(importlib.util, "find_spec", lambda name, *more: None if name == module else found(name, *more))
+    find_spec = importlib.util.find_spec
+    monkeypatch.setattr(importlib.util, "find_spec", lambda name, *more: None if name == module else find_spec(name, *more))
     done = at_work.run("labels", "ACME", "S-1", "--out", at_work.folder / "labels.pdf")
-    assert done.status == 3 and told in done.err and "hilpoven-papers" in done.err and at_work.lines() == []
+    assert done.status == 3 and why in done.err and "hilpoven-papers" in done.err and at_work.lines() == []

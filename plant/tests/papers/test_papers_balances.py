@@ -47,9 +47,9 @@ def test_a_row_that_was_changed_by_hand_is_told_by_its_lot(shipped, tmp_path, wh
             pathlib.Path(f"{plant.db}{end}").write_bytes(pathlib.Path(f"{shipped.db}{end}").read_bytes())
     change(plant.db, sql)
     for words in PAPERS[lot]:
-        told = plant.run("papers", *words, tmp_path / "made", "--no-pdf")
-        assert told.status == 1 and told.err.startswith(f"hilpoven: the balance of {lot} doesn't close: "), (words, told)
-        assert "no paper is made" in told.err.splitlines()[0] and not (tmp_path / "made").exists()
+        done = plant.run("papers", *words, tmp_path / "made", "--no-pdf")
+        assert done.status == 1 and done.err.startswith(f"hilpoven: the balance of {lot} doesn't close: "), (words, done)
+        assert "no paper is made" in done.err.splitlines()[0] and not (tmp_path / "made").exists()
         assert not list(tmp_path.glob(".hilpoven.*"))
 
 
@@ -62,14 +62,14 @@ def test_a_program_that_tells_something_else_is_not_believed(shipped, tmp_path, 
     liar.write_text(f"#!/bin/sh\n'{shipped.program}' \"$@\" | sed '{LIES[what]}'\n")
     liar.chmod(0o700)
     lied = Plant(str(liar), shipped.folder)
-    told = lied.run("papers", "recall", "HOUSE", "W-101", tmp_path / "made", "--no-pdf")
-    assert told.status == 1 and "toll tells" in told.err and told.err.count("\n") == 1, told
-    assert "ACME B-1" in told.err or "HOUSE W-101" in told.err
+    done = lied.run("papers", "recall", "HOUSE", "W-101", tmp_path / "made", "--no-pdf")
+    assert done.status == 1 and "toll tells" in done.err and done.err.count("\n") == 1, done
+    assert "ACME B-1" in done.err or "HOUSE W-101" in done.err
     assert not (tmp_path / "made").exists() and sorted(os.listdir(tmp_path)) == ["liar"]
 
 
 def test_a_refusal_of_what_is_not_there_names_what_is_near(shipped, tmp_path):
     for words, near in ((("recall", "ACME", "B-2"), "B-1"), (("lot", "ACNE", "B-1"), "ACME"), (("batch", "ACME", "O-1", 7), "list batches"),
                         (("certificate", "ACME", "b-1"), "lower-case"), (("statement", "ACME", "--from", "2026-11-01", "--to", "5"), "is a date")):
-        told = shipped.run("papers", *words, tmp_path / "made", "--no-pdf")
-        assert told.status in (1, 2) and near in told.err and not (tmp_path / "made").exists(), (words, told)
+        done = shipped.run("papers", *words, tmp_path / "made", "--no-pdf")
+        assert done.status in (1, 2) and near in done.err and not (tmp_path / "made").exists(), (words, done)

@@ -18,9 +18,9 @@ NOBODY = 65534
 PATIENCE = 60  # seconds
 
 
-def lines_of(told: str) -> list[str]:
+def lines_of(text: str) -> list[str]:
     """The lines that tell what is wrong, without those that advise."""
-    return [it for it in told.splitlines() if not it.startswith("  ")]
+    return [line for line in text.splitlines() if not line.startswith("  ")]
 
 
 def left(plant: Plant) -> list[str]:
@@ -28,11 +28,11 @@ def left(plant: Plant) -> list[str]:
     with nothing in it is what a kill leaves before anything was copied."""
     ends = time.monotonic() + 5
     while time.monotonic() < ends:
-        found = [it for it in os.listdir(plant.folder) if it.startswith("made") or it.startswith(".hilpoven.") and has_files(plant.folder / it)]
-        if not any(it.startswith(".") for it in found):
+        names = [name for name in os.listdir(plant.folder) if name.startswith("made") or name.startswith(".hilpoven.") and has_files(plant.folder / name)]
+        if not any(name.startswith(".") for name in names):
             break
         time.sleep(0.05)
-    return sorted(found)
+    return sorted(names)
 
 
 def has_files(folder: pathlib.Path) -> bool:
@@ -45,8 +45,8 @@ def has_files(folder: pathlib.Path) -> bool:
 
 def test_papers_are_for_their_user_alone(at_work):
     assert at_work.run(*RECALL, at_work.folder / "made", "--no-pdf").status == 0
-    for it in [at_work.folder / "made", *(at_work.folder / "made").rglob("*")]:
-        assert it.stat().st_mode & 0o077 == 0, it
+    for path in [at_work.folder / "made", *(at_work.folder / "made").rglob("*")]:
+        assert path.stat().st_mode & 0o077 == 0, path
 
 
 def test_a_tar_has_the_same_files(at_work):
@@ -55,25 +55,25 @@ def test_a_tar_has_the_same_files(at_work):
     with open(at_work.folder / "x.tar", "wb") as out:
         subprocess.run([HILPOVEN, "--db", at_work.db, *RECALL, "--no-pdf", "--tar"], stdout=out, env={**os.environ, "TOLL": at_work.program}, check=True)
     with tarfile.open(at_work.folder / "x.tar") as tar:
-        names = {it.name.removeprefix("recall-HOUSE-W-101/") for it in tar.getmembers() if it.isfile()}
-    assert names == {str(it.relative_to(at_work.folder / "made")) for it in (at_work.folder / "made").rglob("*") if it.is_file()}
+        names = {member.name.removeprefix("recall-HOUSE-W-101/") for member in tar.getmembers() if member.isfile()}
+    assert names == {str(path.relative_to(at_work.folder / "made")) for path in (at_work.folder / "made").rglob("*") if path.is_file()}
 
 
 def test_where_papers_go_is_told_once(at_work):
     for words in ((), ("made", "--tar")):
-        told = at_work.run(*RECALL, *words)
-        assert told.status == 2 and lines_of(told.err) == ["hilpoven: either FOLDER or --tar says where the papers go"]
+        done = at_work.run(*RECALL, *words)
+        assert done.status == 2 and lines_of(done.err) == ["hilpoven: either FOLDER or --tar says where the papers go"]
     (at_work.folder / "made").mkdir()
     for folder, why in ((at_work.folder / "made", "is there already"), (at_work.folder / "absent" / "made", "is no folder")):
-        told = at_work.run(*RECALL, folder)
-        assert told.status == 2 and why in told.err and len(lines_of(told.err)) == 1
+        done = at_work.run(*RECALL, folder)
+        assert done.status == 2 and why in done.err and len(lines_of(done.err)) == 1
 
 
 def test_without_weasyprint_nothing_is_made(at_work, monkeypatch):
-    found = importlib.util.find_spec
-    monkeypatch.setattr(importlib.util, "find_spec", lambda name, *more: None if name == "weasyprint" else found(name, *more))
-    told = at_work.run(*RECALL, at_work.folder / "made")
-    assert told.status == 3 and lines_of(told.err) == ["hilpoven: WeasyPrint isn't here, which makes the PDF"] and left(at_work) == []
+    find_spec = importlib.util.find_spec
+    monkeypatch.setattr(importlib.util, "find_spec", lambda name, *more: None if name == "weasyprint" else find_spec(name, *more))
+    done = at_work.run(*RECALL, at_work.folder / "made")
+    assert done.status == 3 and lines_of(done.err) == ["hilpoven: WeasyPrint isn't here, which makes the PDF"] and left(at_work) == []
     assert at_work.run(*RECALL, at_work.folder / "made", "--no-pdf").status == 0 and not list(at_work.folder.rglob("*.pdf"))
 
 
@@ -92,11 +92,11 @@ def test_without_room_nothing_is_made(at_work, most):
         signal.signal(signal.SIGXFSZ, signal.SIG_IGN)
     at_work.folder.joinpath("target").mkdir()
     with at_work.begun(*RECALL, at_work.folder / "target" / "made", preexec_fn=no_room) as made:
-        told = made.communicate()[1]
+        error = made.communicate()[1]
     if made.returncode == 0:
-        assert most == 200_000 and told == ""
+        assert most == 200_000 and error == ""
         return
-    assert made.returncode == 3 and len(lines_of(told)) == 1 and told.startswith("hilpoven: "), told
+    assert made.returncode == 3 and len(lines_of(error)) == 1 and error.startswith("hilpoven: "), error
     assert left(at_work) == [] and os.listdir(at_work.folder / "target") == []
 
 
@@ -107,34 +107,32 @@ def test_a_full_disk_leaves_nothing(at_work):
         pytest.skip("nothing can be mounted here")
     try:
         with at_work.begun(*RECALL, room / "made") as made:
-            told = made.communicate()[1]
-        assert made.returncode == 3 and lines_of(told) == [told.splitlines()[0]] and "No space left" in told, told
+            error = made.communicate()[1]
+        assert made.returncode == 3 and lines_of(error) == [error.splitlines()[0]] and "No space left" in error, error
         assert os.listdir(room) == [] and left(at_work) == []
     finally:
         subprocess.run(["umount", room], check=True)
 
 
-def test_without_rights_nothing_is_made(at_work):
+def test_without_rights_nothing_is_made(reachable):
     if os.geteuid() != 0:
         pytest.skip("only root can become another user")
-    target = at_work.folder / "locked"
+    target = reachable.folder / "locked"
     target.mkdir(mode=0o755)
-    for it in [at_work.folder, *at_work.folder.glob("office.db*")]:
-        os.chown(it, NOBODY, NOBODY)
-    for parent in at_work.folder.parents[:3]:
-        os.chmod(parent, 0o755)
-    with at_work.begun(*RECALL, target / "made", user=NOBODY) as made:
-        told = made.communicate()[1]
-    assert made.returncode == 3 and len(lines_of(told)) == 1 and "can't write in" in told and "--tar" in told, told
-    assert left(at_work) == [] and os.listdir(target) == []
+    for path in [reachable.folder, *reachable.folder.glob("office.db*")]:
+        os.chown(path, NOBODY, NOBODY)
+    with reachable.begun(*RECALL, target / "made", user=NOBODY) as made:
+        error = made.communicate()[1]
+    assert made.returncode == 3 and len(lines_of(error)) == 1 and "can't write in" in error and "--tar" in error, error
+    assert left(reachable) == [] and os.listdir(target) == []
 
 
 def test_a_lock_that_is_taken_is_told(at_work):
     with subprocess.Popen(["flock", f"{at_work.db}.lock", "sleep", "60"]) as holder:
         time.sleep(0.3)
-        told = at_work.run(*RECALL, at_work.folder / "made", options=("--wait", "0"))
+        done = at_work.run(*RECALL, at_work.folder / "made", options=("--wait", "0"))
         subprocess.run(["kill", *subprocess.run(["pgrep", "-P", str(holder.pid)], capture_output=True, text=True).stdout.split(), str(holder.pid)], check=True)
-    assert told.status == 3 and "somebody else has the lock" in told.err and len(lines_of(told.err)) == 1 and left(at_work) == []
+    assert done.status == 3 and "somebody else has the lock" in done.err and len(lines_of(done.err)) == 1 and left(at_work) == []
 
 
 def kill_at(plant: Plant, step: int, words: list[str]) -> int:
@@ -148,17 +146,17 @@ def kill_at(plant: Plant, step: int, words: list[str]) -> int:
 
 def try_kills(plant: Plant, kills: int, *more: str) -> int:
     """Kills a recall at so many steps: nothing of it is left, or all of it is made; how often it was killed."""
-    before = sorted(it.name for it in plant.folder.iterdir())
+    before = sorted(path.name for path in plant.folder.iterdir())
     whole, done = kill_at(plant, 0, [*RECALL, "whole", *more]), 0
-    made = sorted(it.name for it in (plant.folder / "whole").rglob("*"))
+    made = sorted(path.name for path in (plant.folder / "whole").rglob("*"))
     shutil.rmtree(plant.folder / "whole")
     for step in sorted({1 + at * (whole - 1) // (kills - 1) for at in range(kills)}):
         done += not kill_at(plant, step, [*RECALL, "made", *more])
         assert left(plant) in ([], ["made"]), step
         if (plant.folder / "made").exists():
-            assert sorted(it.name for it in (plant.folder / "made").rglob("*")) == made, step
+            assert sorted(path.name for path in (plant.folder / "made").rglob("*")) == made, step
             shutil.rmtree(plant.folder / "made")
-        rest = {it.name for it in plant.folder.iterdir()} - {"count", "office.db.lock", "office.db.journal", *(it.name for it in plant.folder.glob(".hilpoven.*"))}
+        rest = {path.name for path in plant.folder.iterdir()} - {"count", "office.db.lock", "office.db.journal", *(path.name for path in plant.folder.glob(".hilpoven.*"))}
         assert rest <= set(before), (step, rest)
     return done
 
@@ -181,8 +179,8 @@ def test_a_signal_leaves_nothing(at_work, number, after):
             time.sleep(0.01)
         time.sleep(after)
         made.send_signal(number)
-        told = made.communicate()[1]
-    assert made.returncode in (0, -number, 128 + number) and told == "", told
+        error = made.communicate()[1]
+    assert made.returncode in (0, -number, 128 + number) and error == "", error
     assert left(at_work) == (["made"] if made.returncode == 0 else [])
 
 
@@ -194,8 +192,8 @@ def test_no_key_is_in_a_copy(at_work, monkeypatch):
 
     def look(office):
         rooms = list(at_work.folder.glob(".hilpoven.*"))
-        seen.extend(it for room in rooms for it in room.rglob("*") if it.is_file())
-        assert seen and all(b"ACMEKEY1" not in it.read_bytes() and b"BOLTKEY1" not in it.read_bytes() for it in seen)
+        seen.extend(path for room in rooms for path in room.rglob("*") if path.is_file())
+        assert seen and all(b"ACMEKEY1" not in path.read_bytes() and b"BOLTKEY1" not in path.read_bytes() for path in seen)
         return taken(office)
 
     monkeypatch.setattr(copies, "version", look)

@@ -43,14 +43,14 @@ def test_a_lot_with_5000_descendants_is_on_paper_in_ten_seconds(plant):
 def test_64_owners_with_long_names_have_a_paper_each(plant):
     with_owners(plant)
     made_in(plant, "recall", "HOUSE", long_name("W-", 1))
-    owners = sorted(it.name for it in (plant.folder / "made" / "owners").iterdir())
-    assert owners == [long_name("OWNER-", it) for it in range(64)]
+    owners = sorted(path.name for path in (plant.folder / "made" / "owners").iterdir())
+    assert owners == [long_name("OWNER-", number) for number in range(64)]
     for number, owner in enumerate(owners):
         folder = plant.folder / "made" / "owners" / owner
         text = figures.text_of_pdf(folder / "recall.pdf") + (folder / "recall.html").read_text() + figures.metadata_of_pdf(folder / "recall.pdf")
         assert set(re.findall(r"OWNER-\d+", text)) == {owner} and set(re.findall(r"LOT-\d+", text)) == {long_name("LOT-", number)}
     text = figures.text_of_pdf(plant.folder / "made" / "plant" / "recall.pdf")
-    assert set(re.findall(r"\bLOT-\d+", text)) == {long_name("LOT-", it) for it in range(64)}
+    assert set(re.findall(r"\bLOT-\d+", text)) == {long_name("LOT-", number) for number in range(64)}
     assert plant.run("board", "--out", plant.folder / "board.html").status == 0
 
 
@@ -59,7 +59,7 @@ def test_the_largest_amounts_stand_whole(plant):
     with_amounts(plant)
     for words, paper in ((("recall", owner, lot), "plant/recall.pdf"), (("statement", owner, "--from", 261101, "--to", 261101), "statement.pdf")):
         folder = plant.folder / words[0]
-        told = plant.run("papers", *words, folder)
-        assert (told.status, told.err) == (0, ""), told
+        done = plant.run("papers", *words, folder)
+        assert (done.status, done.err) == (0, ""), done
         text = figures.text_of_pdf(folder / paper)
         assert "20,000,000,000,000" in text and owner in text and lot in text

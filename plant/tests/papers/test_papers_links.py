@@ -6,6 +6,7 @@ import figures
 import pytest
 from conftest import Plant, copied, script
 from hilpoven.journal.log import Journal
+from hilpoven.papers import printing
 from hilpoven.register.below import HEADING
 from hilpoven.register.notes import Link, Why, to_json
 
@@ -76,8 +77,8 @@ def laid_week(program, tmp_path_factory) -> Plant:
     """The office behind this week, which no test changes."""
     plant = Plant(program, tmp_path_factory.mktemp("week")).lay(BEGUN)
     for note, lines in zip(NOTES, (MADE, REWORKED, "")):
-        told = plant.run(*note)
-        assert told.status == 0 and "accepted" in told.out, told
+        done = plant.run(*note)
+        assert done.status == 0 and "accepted" in done.out, done
         plant.lay(lines)
     return plant
 
@@ -144,15 +145,15 @@ def test_a_link_that_is_withdrawn_adds_nothing(week):
 
 def test_what_toll_tells_otherwise_than_the_tables_is_told(week):
     liar = Plant(str(script(week.folder / "liar", f"'{week.program}' \"$@\" | sed '$s/^ *1/     9/'")), week.folder)
-    told = liar.run("recall", "ACME", "C-1")
-    assert told.status == 1 and HEADING not in told.out and "toll tells other lots than the tables" in told.err
+    done = liar.run("recall", "ACME", "C-1")
+    assert done.status == 1 and HEADING not in done.out and "toll tells other lots than the tables" in done.err
 
 
 def years_rows(plant: Plant, *words: object) -> list[list[str]]:
     """The rows of a table over all files."""
-    told = plant.run("years", *words, "--csv")
-    assert told.status == 0, told
-    return [[cell.strip('"=') for cell in line.split(",")] for line in told.out.splitlines()]
+    done = plant.run("years", *words, "--csv")
+    assert done.status == 0, done
+    return [[cell.strip('"=') for cell in line.split(",")] for line in done.out.splitlines()]
 
 
 @pytest.mark.parametrize("is_carried", [False, True])
@@ -179,7 +180,7 @@ def test_a_recall_on_paper_marks_what_links_add(week):
     made = week.folder / "made"
     assert week.run("papers", "recall", "ACME", "C-1", made, "--no-pdf").status == 0
     assert (made / "plant" / "recall.txt").read_text() == week.run("recall", "ACME", "C-1").out
-    assert sorted(it.name for it in (made / "owners").iterdir()) == ["ACME"]
+    assert sorted(path.name for path in (made / "owners").iterdir()) == ["ACME"]
     for folder in (made / "plant", made / "owners" / "ACME"):
         rows = {name: figures.read_csv(folder / f"{name}.csv") for name in ("lots", "running", "shipments", "released", "batches", "sublots", "links")}
         marked = {name: sorted(cell for row in of for cell in row if cell.startswith(("BU-", "O-1")) and ":" not in cell and "*" in row) for name, of in rows.items()}
@@ -199,23 +200,24 @@ def test_an_open_batch_that_contains_a_lot_by_a_link_is_to_be_held(week):
     assert "ACME O-1/3, also AF-1 *" in week.run("board").out
 
 
-def test_many_links_with_long_reasons_stand_whole_on_paper(week):
+def test_many_links_with_long_reasons_stand_whole_on_paper(week, monkeypatch):
+    monkeypatch.setattr(printing, "LONG", 20)  # WeasyPrint takes half a second for a row of so long a word
     journal = Journal(str(week.journal), str(week.db))
-    for number in range(70):
+    for number in range(22):
         link = Link("ACME", "BU-3", "", 0, "ACME", "C-1", Why.REWORK, None, f"N{number} ąß <b>&= {'x' * 160}")
         journal.note(journal.file, ["link"], notes=[to_json(link)])
     assert week.run("papers", "recall", "ACME", "C-1", week.folder / "made").status == 0
     for folder in (week.folder / "made" / "plant", week.folder / "made" / "owners" / "ACME"):
         text = figures.text_of_pdf(folder / "recall.pdf")
-        assert {f"N{number}" for number in range(70)} <= set(text.split()) and text.count("ąß") == 70 and text.count("x") >= 70 * 160
-        assert figures.read_csv(folder / "links.csv")[-1][-1].startswith("N69 ąß <b>&= x")
+        assert {f"N{number}" for number in range(22)} <= set(text.split()) and text.count("ąß") == 22 and text.count("x") >= 22 * 160
+        assert figures.read_csv(folder / "links.csv")[-1][-1].startswith("N21 ąß <b>&= x")
 
 
 def test_cards_records_statements_and_the_board_show_links(week):
     def made(*words: object) -> pathlib.Path:
         folder = week.folder / "-".join(map(str, words))
-        told = week.run("papers", *words, folder, "--no-pdf")
-        assert told.status == 0, told
+        done = week.run("papers", *words, folder, "--no-pdf")
+        assert done.status == 0, done
         return folder
 
     links = {words: [row[-2] for row in figures.read_csv(made(*words) / "links.csv")] for words in (

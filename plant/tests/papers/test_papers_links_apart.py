@@ -18,20 +18,21 @@ LINKS = 12
 class Linked:
     """An office with links of each owner, whose reasons are words that nothing else has."""
 
-    def __init__(self, program: str, folder: pathlib.Path, seed: int, prints: bool) -> None:
-        self.office = Filled(program, folder, seed)
+    def __init__(self, program: str, folder: pathlib.Path, seed: int, prints: bool, kind: type[Filled] = Filled) -> None:
+        self.office = kind(program, folder, seed)
         self.papers, self.random = Papers(self.office, prints), Random(seed)
         self.links: list[Link] = []
         journal, lots = Journal(str(self.office.plant.journal), str(self.office.plant.db)), self.papers.rows("SELECT owner, lot FROM lots")
         batches = self.papers.rows("SELECT owner, ord, number FROM batches")
+        after = {"after": "office-1.db"} if (self.office.plant.folder / "office-1.db").exists() else {}
         for number in range(LINKS):
             of_owner, of_lot = self.random.choice([lot for lot in lots if lot[0] == HOUSE] if number % 2 else lots)
-            containers = [it for it in [*lots, *batches] if of_owner in (it[0], HOUSE) and it != (of_owner, of_lot)]
+            containers = [container for container in [*lots, *batches] if of_owner in (container[0], HOUSE) and container != (of_owner, of_lot)]
             owner, name, *batch = self.random.choice(containers)
             lot, order, batch_number = ("", name, batch[0]) if batch else (name, "", 0)
             amount = self.random.choice((None, 7_000_000 + number))
             link = Link(owner, lot, order, batch_number, of_owner, of_lot, self.random.choice(list(Why)), amount, f"REASON-{number}-{owner}")
-            journal.note(journal.file, ["link"], notes=[to_json(link)])
+            journal.note(journal.file, ["link"], notes=[to_json(link)], **after)
             self.links.append(link)
         with reading(self.office.plant.db) as base:
             self.edges = recorded_edges(base) | linked_edges(base, self.links)
@@ -46,17 +47,17 @@ class Linked:
     def recall(self, owner: str, lot: str) -> int:
         """Looks at the papers of a recall; how many owners got one."""
         folder = self.papers.make("recall", owner, lot)
-        expected = {whose: {(str(steps), name) for (it, name), steps in closure(self.edges, (owner, lot), "forward").items() if it == whose}
+        expected = {whose: {(str(steps), name) for (of_owner, name), steps in closure(self.edges, (owner, lot), "forward").items() if of_owner == whose}
                     for whose in [HOUSE, *self.office.owners]}
         rows = figures.read_csv(folder / "plant" / "lots.csv")
         assert {(row[0], row[1], row[2]) for row in rows} == {(steps, whose, name) for whose, lots in expected.items() for steps, name in lots}
-        told = self.office.plant.toll("recall", owner, lot).out
-        assert (folder / "plant" / "recall.txt").read_text().startswith(told)
+        text = self.office.plant.toll("recall", owner, lot).out
+        assert (folder / "plant" / "recall.txt").read_text().startswith(text)
         owners = sorted((folder / "owners").iterdir()) if (folder / "owners").exists() else []
-        for it in owners:
-            assert {(row[0], row[1]) for row in figures.read_csv(it / "lots.csv")} == expected[it.name]
-            self.look_for_others(it, it.name)
-            self.papers.look_at_page(it, "recall", ("flows",))
+        for owner_folder in owners:
+            assert {(row[0], row[1]) for row in figures.read_csv(owner_folder / "lots.csv")} == expected[owner_folder.name]
+            self.look_for_others(owner_folder, owner_folder.name)
+            self.papers.look_at_page(owner_folder, "recall", ("flows",))
         return len(owners)
 
     def look_for_others(self, folder: pathlib.Path, owner: str) -> None:
@@ -80,7 +81,7 @@ def try_office(program: str, folder: pathlib.Path, seed: int) -> None:
     """Makes papers of recalls and others over an office with links."""
     linked = Linked(program, folder / "office", seed, prints=seed % 10 == 0)
     contained = sorted({link.contained for link in linked.links}, key=str)
-    house = [it for it in contained if it.owner == HOUSE]
+    house = [lot for lot in contained if lot.owner == HOUSE]
     for lot in [*linked.random.sample(house, min(len(house), 2)), linked.random.choice(contained)]:
         linked.recall(*lot)
     for owner in linked.office.owners[:2]:

@@ -5,7 +5,7 @@ import pytest
 from hilpoven.papers import pictures
 from hilpoven.papers.pictures import OVERLAP, SHEET, SMALLEST
 
-ACROSS, DOWN = (it / SMALLEST for it in SHEET)
+ACROSS, DOWN = (side / SMALLEST for side in SHEET)
 
 
 def svg(wide, high):
@@ -15,8 +15,8 @@ def svg(wide, high):
 
 def parts_of(wide, high):
     """The parts of a picture of this size: each with its width and height on paper, and with what it shows."""
-    found = [re.search(r'width="([\d.]+)pt" height="([\d.]+)pt" viewBox="([^"]*)"', it) for it in pictures.sheets(svg(wide, high))]
-    return [(float(it[1]), float(it[2]), tuple(map(float, it[3].split()))) for it in found]
+    matches = [re.search(r'width="([\d.]+)pt" height="([\d.]+)pt" viewBox="([^"]*)"', sheet) for sheet in pictures.sheets(svg(wide, high))]
+    return [(float(match[1]), float(match[2]), tuple(map(float, match[3].split()))) for match in matches]
 
 
 @pytest.mark.parametrize("wide, high, count", [

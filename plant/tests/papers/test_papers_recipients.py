@@ -1,12 +1,11 @@
 """Who has it: recalls, certificates, delivery notes and lot cards with what the plant noted, as they were looked at."""
 import csv
-import os
 import re
 import shutil
 
 import figures
 import pytest
-from test_papers_texts import GOLDEN, SHIPPED, told
+from test_papers_texts import SHIPPED, look_at_texts
 
 SCRIPT = "<script>alert('x')</script> & \"Söhne\" {{ 1 }} %s"
 NOTES = (
@@ -17,10 +16,10 @@ NOTES = (
     ("receive", "ACME", "K10", "SALT", "S-2", "BAY1", 70, 261101, "--from", "SALINE", "--supplier-lot", "SAL/26/7", "--document", "D 1001"),
     ("receive", "HOUSE", "K10", "WATER", "W-102", "TANK", 70, 261101, "--from", "SPRING", "--document", "D 1002"),
 )
-PAPERS = {
-    "recall-with-recipients": ("recall HOUSE W-101", "plant/recall.pdf"), "recall-of-owner-with-recipients": ("recall HOUSE W-101", "owners/ACME/recall.pdf"),
-    "certificate-of-shipment": ("certificate ACME B-1 --shipment K8", "certificate.pdf"), "delivery-note": ("delivery-note ACME K8 --with K9", "delivery.pdf"),
-    "lot-with-supplier": ("lot ACME S-2", "lot.pdf"), "lot-with-recipients": ("lot ACME B-1", "lot.pdf"),
+PAPERS = {  # by what is made: the PDFs, each with its text
+    "recall HOUSE W-101": {"plant/recall.pdf": "recall-with-recipients", "owners/ACME/recall.pdf": "recall-of-owner-with-recipients"},
+    "certificate ACME B-1 --shipment K8": {"certificate.pdf": "certificate-of-shipment"}, "delivery-note ACME K8 --with K9": {"delivery.pdf": "delivery-note"},
+    "lot ACME S-2": {"lot.pdf": "lot-with-supplier"}, "lot ACME B-1": {"lot.pdf": "lot-with-recipients"},
 }
 
 
@@ -41,19 +40,14 @@ def made(plant, *words):
     return folder
 
 
-@pytest.mark.parametrize("name", PAPERS)
-def test_a_paper_with_notes_reads_as_it_was_looked_at(noted, name):
-    words, file = PAPERS[name]
-    assert noted.run("papers", *words.split(), noted.folder / "made").status == 0
-    found, golden = told(noted.folder / "made" / file), GOLDEN / f"{name}.txt"
-    if "HILPOVEN_GOLDEN" in os.environ:
-        golden.write_text(found)
-    assert found == golden.read_text()
+@pytest.mark.parametrize("words", PAPERS)
+def test_a_paper_with_notes_reads_as_it_was_looked_at(noted, words):
+    look_at_texts(noted, words, PAPERS[words])
 
 
 def test_what_is_not_noted_is_told_first(noted):
     page = (made(noted, "recall", "HOUSE", "W-101") / "plant" / "recall.html").read_text()
-    order = [page.index(it) for it in ("Who has it", "Nobody noted who has 1 of 3 shipments", "hilpoven note movement ACME K7 --to PARTY", "Nord Foods Ltd", "What to do first")]
+    order = [page.index(part) for part in ("Who has it", "Nobody noted who has 1 of 3 shipments", "hilpoven note movement ACME K7 --to PARTY", "Nord Foods Ltd", "What to do first")]
     assert order == sorted(order)
     assert noted.run("note", "movement", "ACME", "K7", "--to", "NORD").status == 0
     assert noted.run("papers", "recall", "HOUSE", "W-101", noted.folder / "again", "--no-pdf").status == 0
@@ -80,7 +74,7 @@ def noted_again(plant):
 def test_without_notes_a_paper_says_nothing_of_them(at_work):
     at_work.lay(SHIPPED)
     folder = made(at_work, "recall", "HOUSE", "W-101")
-    assert sorted(it.stem for it in (folder / "plant").glob("*.csv")) == ["batches", "flows", "lots", "released", "running", "shipments", "sublots", "sums"]
+    assert sorted(path.stem for path in (folder / "plant").glob("*.csv")) == ["batches", "flows", "lots", "released", "running", "shipments", "sublots", "sums"]
     for file in folder.rglob("*.*"):
         assert "noted" not in file.read_text() and "Who has it" not in file.read_text(), file
 
@@ -89,16 +83,17 @@ def test_without_notes_a_paper_says_nothing_of_them(at_work):
 def test_a_text_is_a_text_on_paper_and_in_tables(noted, text):
     assert noted.run("party", "add", "ACME", "NORD", "--name", text, "--address", text, "--contact", text, "--phone", text, "--role", "customer").status == 0
     assert noted.run("note", "movement", "ACME", "K8", "--document", text).status == 0
+    is_read = text != SCRIPT and text.isascii()  # back from a PDF, letter by letter
     for number, words in enumerate((("recall", "HOUSE", "W-101"), ("certificate", "ACME", "B-1", "--shipment", "K8"), ("delivery-note", "ACME", "K8"), ("lot", "ACME", "B-1"))):
-        folder = noted.folder / f"made{number}"
-        assert noted.run("papers", *words, folder, *(() if number == 0 else ("--no-pdf",))).status == 0
+        folder, is_printed = noted.folder / f"made{number}", number == (0 if is_read else 2)
+        assert noted.run("papers", *words, folder, *(() if is_printed else ("--no-pdf",))).status == 0
         for file in folder.rglob("*.html"):
             assert "<script>alert" not in file.read_text() and " ".join(text.split()) in " ".join(figures.text_of_page(file).split()), file
         for file in folder.rglob("*.csv"):
             with open(file, newline="") as rows:
                 cells = [cell for row in csv.reader(rows) for cell in row]
             assert not any(cell[:1] in ("=", "+", "-", "@") and not re.fullmatch(r'="[^"]*(""[^"]*)*"|-?[0-9]+', cell) for cell in cells), (file, cells)
-    if text != SCRIPT and text.isascii():
+    if is_read:
         assert text[:20] in figures.text_of_pdf(noted.folder / "made0" / "plant" / "recall.pdf")
     page = noted.folder / "board.html"
     assert noted.run("board", "--out", page).status == 0 and text not in page.read_text()
@@ -106,12 +101,12 @@ def test_a_text_is_a_text_on_paper_and_in_tables(noted, text):
 
 def test_a_long_table_with_any_letters_is_whole_on_paper(noted):
     sheet = noted.folder / "shipments.csv"
-    rows = [f"ACME,N{it},B-1,TOTE1,1,261107,NORD,{'Łódź ' if it % 2 else ''}L{it:03d} {'y' * 150}" for it in range(70)]
+    rows = [f"ACME,N{number},B-1,TOTE1,1,261107,NORD,{'Łódź ' if number % 2 else ''}L{number:03d} {'y' * 40}" for number in range(70)]
     sheet.write_text("\n".join(["owner,key,lot,sublot,amount,day,to,document", *rows]) + "\n")
     assert noted.run("import", "--what", "shipments", sheet).status == 0
     assert noted.run("papers", "recall", "HOUSE", "W-101", noted.folder / "made").status == 0
     text = figures.text_of_pdf(noted.folder / "made" / "plant" / "recall.pdf")
-    assert all(f"L{it:03d}" in text for it in range(70)) and "Łódź" in text and "?" not in text
+    assert all(f"L{number:03d}" in text for number in range(70)) and "Łódź" in text and "?" not in text
 
 
 def test_a_delivery_note_is_for_one_recipient_and_one_document(noted):

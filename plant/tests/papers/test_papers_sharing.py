@@ -25,38 +25,38 @@ actual 1-3 PLANT 1E5 1 1 produced SALT PLANT 1-2 1E6 10 103
 """
 
 
-def told(plant, *words, **more):
+def run_recall(plant, *words, **more):
     """What the command tells as a process of its own."""
     return command("--db", plant.db, *RECALL, *words, env=environment(TOLL=plant.program), **more)
 
 
 def test_an_owner_who_is_named_plant_has_papers_of_its_own(at_work):
-    assert told(at_work.lay(NAMES), at_work.folder / "made", "--no-pdf").returncode == 0
+    assert at_work.lay(NAMES).run(*RECALL, at_work.folder / "made", "--no-pdf").status == 0
     made = at_work.folder / "made"
-    assert sorted(str(it.relative_to(made)) for it in made.glob("*/*") if it.is_dir()) == ["owners/ACME", "owners/PLANT"]
+    assert sorted(str(path.relative_to(made)) for path in made.glob("*/*") if path.is_dir()) == ["owners/ACME", "owners/PLANT"]
     assert (made / "plant" / "recall.txt").exists() and not (made / "owners" / "PLANT" / "recall.txt").exists()
-    names = [str(it.relative_to(made)).lower() for it in made.rglob("*")]
+    names = [str(path.relative_to(made)).lower() for path in made.rglob("*")]
     assert len(set(names)) == len(names)
 
 
 def test_names_are_texts_to_a_spreadsheet(at_work):
-    assert told(at_work.lay(NAMES), at_work.folder / "made", "--no-pdf").returncode == 0
-    found = set()
+    assert at_work.lay(NAMES).run(*RECALL, at_work.folder / "made", "--no-pdf").status == 0
+    cells = set()
     for file in (at_work.folder / "made" / "owners" / "PLANT").glob("*.csv"):
         with open(file, newline="") as text:
-            found |= {cell for row in csv.reader(text) for cell in row}
-    assert {'="1-2"', '="1E6"', '="1E5/1"', '="SALT"', '="HOUSE"'} <= found
-    assert not {"1-2", "1E6", "1E5/1", "SALT", "HOUSE"} & found
+            cells |= {cell for row in csv.reader(text) for cell in row}
+    assert {'="1-2"', '="1E6"', '="1E5/1"', '="SALT"', '="HOUSE"'} <= cells
+    assert not {"1-2", "1E6", "1E5/1", "SALT", "HOUSE"} & cells
 
 
 @pytest.mark.parametrize("parent", ["/proc", "/proc/self"])
 def test_where_nothing_can_be_written_it_is_told(at_work, parent):
-    assert is_told(told(at_work, f"{parent}/made", "--no-pdf"), 3)
+    assert is_told(at_work.run(*RECALL, f"{parent}/made", "--no-pdf"), 3)
 
 
 @pytest.mark.parametrize("words", [[], ["a", "b"], ["a", "--tar"], ["--tar", "--all"], ["."]])
 def test_a_wrong_use_is_told(at_work, words):
-    assert is_told(told(at_work, *words), 2)
+    assert is_told(at_work.run(*RECALL, *words), 2)
 
 
 @pytest.mark.parametrize("name", ["text.db", "empty.db", "other.db"])
@@ -66,14 +66,14 @@ def test_what_is_no_office_is_told(at_work, name):
     (folder / "empty.db").write_text("")
     with sqlite3.connect(folder / "other.db") as other:
         other.execute("CREATE TABLE t (a)")
-    done = command("--db", folder / name, *RECALL, folder / "made", "--no-pdf", env=environment(TOLL=at_work.program))
+    done = at_work.run(*RECALL, folder / "made", "--no-pdf", db=folder / name)
     assert is_told(done, 2 if name == "empty.db" else 3) and not (folder / "made").exists()
 
 
 def test_without_sudo_papers_are_one_users(at_work):
-    assert told(at_work, at_work.folder / "made", "--no-pdf", umask=0).returncode == 0
-    for it in [at_work.folder / "made", *(at_work.folder / "made").rglob("*")]:
-        assert os.stat(it).st_mode & 0o077 == 0, it
+    assert run_recall(at_work, at_work.folder / "made", "--no-pdf", umask=0).returncode == 0
+    for path in [at_work.folder / "made", *(at_work.folder / "made").rglob("*")]:
+        assert os.stat(path).st_mode & 0o077 == 0, path
 
 
 def test_a_tar_belongs_to_whoever_unpacks_it(at_work):
@@ -81,8 +81,8 @@ def test_a_tar_belongs_to_whoever_unpacks_it(at_work):
         done = subprocess.run([HILPOVEN, "--db", at_work.db, *RECALL, "--no-pdf", "--tar"], stdout=out, stderr=subprocess.PIPE, env=environment(TOLL=at_work.program))
     assert (done.returncode, done.stderr) == (0, b"")
     with tarfile.open(at_work.folder / "x.tar") as tar:
-        assert {(it.uid, it.gid, it.uname, it.gname, it.mode & 0o077) for it in tar.getmembers()} == {(0, 0, "", "", 0)}
+        assert {(member.uid, member.gid, member.uname, member.gname, member.mode & 0o077) for member in tar.getmembers()} == {(0, 0, "", "", 0)}
         tar.extractall(at_work.folder / "unpacked")
-    assert told(at_work, at_work.folder / "made", "--no-pdf").returncode == 0
-    for it in (at_work.folder / "made" / "owners").rglob("*.csv"):
-        assert (at_work.folder / "unpacked" / "recall-HOUSE-W-101" / it.relative_to(at_work.folder / "made")).read_bytes() == it.read_bytes()
+    assert run_recall(at_work, at_work.folder / "made", "--no-pdf").returncode == 0
+    for path in (at_work.folder / "made" / "owners").rglob("*.csv"):
+        assert (at_work.folder / "unpacked" / "recall-HOUSE-W-101" / path.relative_to(at_work.folder / "made")).read_bytes() == path.read_bytes()

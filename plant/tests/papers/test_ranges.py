@@ -20,7 +20,7 @@ def lots(sheet: Sheet) -> list[tuple]:
 
 
 def test_lots_that_count_on_are_one_row_with_their_sum():
-    rows = [("released", f"L-1-{it:03d}", "S1", it) for it in range(199)]
+    rows = [("released", f"L-1-{number:03d}", "S1", number) for number in range(199)]
     assert lots(table(*rows)) == [("L-1-000 to L-1-198: 199 lots", "S1", 199 * 198 // 2)]
     assert on_paper(table(*rows), 0).joined == 199 and on_paper(table(*rows), 199).rows == table(*rows).rows
 
@@ -35,11 +35,11 @@ def test_names_that_count_on(names, ranges):
 
 
 def test_rows_that_differ_otherwise_are_apart():
-    mixed = [("rejected" if it == 5 else "released", f"L{it}", "S1", 1) for it in range(10)]
+    mixed = [("rejected" if number == 5 else "released", f"L{number}", "S1", 1) for number in range(10)]
     assert lots(table(*mixed)) == [("L0 to L4: 5 lots", "S1", 5), ("L6 to L9: 4 lots", "S1", 4), ("L5", "S1", 1)]
-    assert lots(table(*(("released", "L1", f"S{it}", 1) for it in range(5)))) == [("L1", "S0 to S4: 5 sublots", 5)]
-    assert lots(table(*(("released", f"L{it}", f"S{it + 8}", 1) for it in range(4)))) == [("L0 to L3: 4 lots", "S8 to S11", 4)]
-    assert lots(table(*(("released", f"L{it}", f"S{it // 3}", 1) for it in range(6)))) == [("L0 to L2: 3 lots", "S0", 3), ("L3 to L5: 3 lots", "S1", 3)]
+    assert lots(table(*(("released", "L1", f"S{number}", 1) for number in range(5)))) == [("L1", "S0 to S4: 5 sublots", 5)]
+    assert lots(table(*(("released", f"L{number}", f"S{number + 8}", 1) for number in range(4)))) == [("L0 to L3: 4 lots", "S8 to S11", 4)]
+    assert lots(table(*(("released", f"L{number}", f"S{number // 3}", 1) for number in range(6)))) == [("L0 to L2: 3 lots", "S0", 3), ("L3 to L5: 3 lots", "S1", 3)]
     assert on_paper(Sheet("tests", HEADS, table(*mixed).rows), 0).rows == table(*mixed).rows  # nothing of it is summed
 
 
@@ -57,8 +57,8 @@ def all_of(text: str, count: int = 1) -> list[str]:
                         unique_by=lambda row: row[1:3]))
 def test_no_lot_is_lost_and_sums_are_those_of_the_rows(rows):
     sheet = on_paper(table(*rows), 0)
-    found = []
+    names_on_paper = []
     for word, _, lot, sublot, *_ in sheet.rows:
         count = max(len(all_of(lot)), len(all_of(sublot)))
-        found += [(word, *names) for names in zip(all_of(lot, count), all_of(sublot, count), strict=True)]
-    assert sorted(found) == sorted(row[:3] for row in rows) and sum(row[4] for row in sheet.rows) == sum(row[3] for row in rows)
+        names_on_paper += [(word, *names) for names in zip(all_of(lot, count), all_of(sublot, count), strict=True)]
+    assert sorted(names_on_paper) == sorted(row[:3] for row in rows) and sum(row[4] for row in sheet.rows) == sum(row[3] for row in rows)

@@ -20,7 +20,7 @@ def test_each_kind_comes_in_goes_out_or_splits():
 @pytest.mark.parametrize("code", [Kind, Role, State, Disposition])
 def test_sql_says_the_word_of_each_number(code):
     with contextlib.closing(sqlite3.connect(":memory:")) as base:
-        assert [base.execute(f"SELECT {code.sql(str(int(it)))}").fetchone()[0] for it in code] == [it.word for it in code]
+        assert [base.execute(f"SELECT {code.sql(str(int(member)))}").fetchone()[0] for member in code] == [member.word for member in code]
         assert base.execute(f"SELECT {code.sql('99')}").fetchone() == (None,)
 
 
@@ -35,7 +35,7 @@ def test_a_number_that_stands_for_nothing_is_damage(at_work, damage):
 def test_states_have_the_numbers_that_toll_stores():
     text = (ROOT / "crates" / "toll_base" / "src" / "state.rt").read_text()
     names = re.search(r"pub enum State \{(.*?)\}", text, re.S)[1].replace(",", "").split()
-    assert [it.lower() for it in names] == [it.word for it in State]
+    assert [name.lower() for name in names] == [state.word for state in State]
 
 
 def test_lines_of_toll_are_read_whole():

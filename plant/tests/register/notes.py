@@ -25,9 +25,9 @@ def links(plant: Plant) -> list[tuple[str, str]]:
 
 def noted(plant: Plant, *words: object) -> str:
     """Makes a note, and gives its name."""
-    told = plant.run(*words)
-    assert told.status == 0 and NOTED.fullmatch(told.out), told
-    return NOTED.fullmatch(told.out)[1]
+    done = plant.run(*words)
+    assert done.status == 0 and NOTED.fullmatch(done.out), done
+    return NOTED.fullmatch(done.out)[1]
 
 
 def cut_off(plant: Plant) -> None:

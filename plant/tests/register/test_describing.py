@@ -42,6 +42,9 @@ def test_what_is_described_is_shown(settled):
     assert settled.run("describe", "material", "HOUSE", "WATER").out == "material WATER of HOUSE\n  name: Soft water\n"
     assert settled.run(*PH).out == "test PH of ACME BRINE\n  name: Acidity\n  unit: pH\n  method: ISO 10523\n  limits: -5 to 9\n"
     assert settled.run("describe", "lot", "ACME", "B-1").out == "lot B-1 of ACME\n  made: 2026-11-01\n  expires: 2027-11-01\n  retest: 2027-05-01\n"
+    assert settled.run("describe", "recipe", "ACME", "BRINE-10").out == "recipe BRINE-10 of ACME\n\nNothing is noted of it.\n"
+    assert settled.run("describe", "recipe", "ACME", "BRINE-10", "--allowance", "1.5").status == 0
+    assert settled.run("describe", "recipe", "ACME", "BRINE-10").out == "recipe BRINE-10 of ACME\n  allowance: 1.5 %\n"
     assert settled.run("describe", "lot", "ACME", "S-1").out == "lot S-1 of ACME\n\nNothing is noted of it.\n"
     assert "  noted expires: 2027-11-01\n" in settled.run("show", "lot", "ACME", "B-1").out
     listed = {name: rows_of(settled.run("list", name, "--csv").out) for name in ("owners", "materials", "tests", "lots")}
@@ -55,35 +58,37 @@ def test_what_is_described_is_shown(settled):
     (("owner", "ACM", "--name", "A"), 1, "there is no owner ACM\n  Nearest of the owners: ACME"), (("owner", "ACME", "--name", " "), 2, "is empty"),
     (("material", "ACME", "BRIN", "--name", "A"), 1, "there is no material ACME BRIN\n  Nearest of the materials: BRINE"), (("material", "ACM", "BRINE"), 1, "there is no owner ACM"),
     (("test", "ACME", "BRINE", "PHH", "--unit", "A"), 1, "there is no test ACME BRINE PHH\n  Nearest of the tests: PH"), (("test", "ACME", "SUGAR", "PH"), 1, "there is no material ACME SUGAR"),
-    *((("test", "ACME", "BRINE", "PH", "--decimals", it), 2, "--decimals") for it in ("0", "10", "-1", "2.0", "x")),
+    *((("test", "ACME", "BRINE", "PH", "--decimals", decimals), 2, "--decimals") for decimals in ("0", "10", "-1", "2.0", "x")),
+    (("recipe", "ACME", "BRINE-1", "--allowance", "2"), 1, "there is no recipe ACME BRINE-1\n  Nearest of the recipes: BRINE-10"),
+    *((("recipe", "ACME", "BRINE-10", "--allowance", percent), 2, "is no percentage from 0.1 to 100, such as 1.5") for percent in ("0", "0.0", "100.1", "1.55", "-1", "1,5", "²", "1%")),
     (("lot", "ACME", "B-9", "--made", "261101"), 1, "there is no lot B-9 of ACME"), (("lot", "BOLT", "B-1"), 1, "there is no lot B-1 of BOLT"),
-    *((("lot", "ACME", "B-1", "--expires", it), 2, "is no date; a date is YYMMDD, such as 271127") for it in ("271301", "2027-11-01", "101", "0271101", "²71101", "٢٧١١٠١")),
+    *((("lot", "ACME", "B-1", "--expires", date), 2, "is no date; a date is YYMMDD, such as 271127") for date in ("271301", "2027-11-01", "101", "0271101", "²71101", "٢٧١١٠١")),
     (("lot", "ACME", "B-1", "--made", "261102", "--expires", "261101"), 1, "lot ACME B-1 expires on 261101, and was made on 261102"), (("lot", "ACME"), 2, "LOT"), (("day",), 2, "there is no command describe day")])
 def test_what_cannot_be_described_is_refused(settled, words, status, why):
-    told = settled.run("describe", *words)
-    assert told.status == status and why in told.err and told.out == "" and settled.lines() == []
+    done = settled.run("describe", *words)
+    assert done.status == status and why in done.err and done.out == "" and settled.lines() == []
 
 
 @pytest.mark.parametrize("text", HOSTILE)
 def test_no_text_is_more_than_a_line_that_can_be_seen(settled, text):
     for words in (("owner", "ACME", "--name"), ("owner", "ACME", "--address"), ("material", "ACME", "BRINE", "--name"), *((*PH[1:], option) for option in ("--name", "--unit", "--method"))):
-        told = settled.run("describe", *words, text)
-        assert told.status == 2 and text not in told.err
-    told = settled.run("test-add", "ACME", "SUGAR", "PH", 1, 2, "--unit", text)
-    assert told.status == 2 and settled.lines() == []
+        done = settled.run("describe", *words, text)
+        assert done.status == 2 and text not in done.err
+    done = settled.run("test-add", "ACME", "SUGAR", "PH", 1, 2, "--unit", text)
+    assert done.status == 2 and settled.lines() == []
 
 
 def test_decimals_stay_once_they_are_noted(described):
-    told = described.run(*PH, "--decimals", 3)
-    assert told.status == 1 and "test PH of ACME BRINE has values with 2 decimals: -0.05 would be read as -0.005" in told.err
+    done = described.run(*PH, "--decimals", 3)
+    assert done.status == 1 and "test PH of ACME BRINE has values with 2 decimals: -0.05 would be read as -0.005" in done.err
     assert described.run(*PH, "--decimals", 2, "--unit", "pH (25 °C)").status == 0
     name = described.lines()[0]["id"]
     for note in (name, described.lines()[-1]["id"]):
         assert described.run("note", "withdraw", note, "--reason", "it has three").status == 0
-    told = described.run(*PH, "--decimals", 3)
-    assert told.status == 0 and told.err == "  The limits are read as -0.005 to 0.009; toll has -5 to 9.\n"
-    told = described.run("describe", "test", "ACME", "BRINE", "DENSITY", "--decimals", 1)
-    assert told.err == "  The limits are read as 110.0 to 125.0, and 1 result so too; toll has 1,100 to 1,250.\n"
+    done = described.run(*PH, "--decimals", 3)
+    assert done.status == 0 and done.err == "  The limits are read as -0.005 to 0.009; toll has -5 to 9.\n"
+    done = described.run("describe", "test", "ACME", "BRINE", "DENSITY", "--decimals", 1)
+    assert done.err == "  The limits are read as 110.0 to 125.0, and 1 result so too; toll has 1,100 to 1,250.\n"
 
 
 def test_decimals_may_change_while_all_values_are_zero(settled):
@@ -96,13 +101,13 @@ def test_decimals_may_change_while_all_values_are_zero(settled):
 
 def test_a_test_is_added_with_limits_as_they_are_measured(settled):
     settled.lay("material-add ACME SUGAR kg\n")
-    told = settled.run("test-add", "ACME", "SUGAR", "PH", "-0.5", "8.50", "--decimals", 2, "--unit", "pH", "--method", "ISO 10523")
-    assert told == (0, "accepted\n", "  LOW: -0.5 is given as M50\n  HIGH: 8.50 is given as 850\n")
+    done = settled.run("test-add", "ACME", "SUGAR", "PH", "-0.5", "8.50", "--decimals", 2, "--unit", "pH", "--method", "ISO 10523")
+    assert done == (0, "accepted\n", "  LOW: -0.5 is given as M50\n  HIGH: 8.50 is given as 850\n")
     assert settled.rows("SELECT low, high FROM tests WHERE material = 'SUGAR'") == [(-50, 850)]
     assert notes(settled) == [{"kind": "test", "owner": "ACME", "material": "SUGAR", "test": "PH", "unit": "pH", "decimals": 2, "method": "ISO 10523"}]
     assert [(row["low"], row["noted_low"], row["noted_high"]) for row in rows_of(settled.run("list", "tests", "--csv").out) if row["material"] == "SUGAR"] == [("-50", "-0.50", "8.50")]
-    told = settled.run("test-add", "ACME", "SUGAR", "X", "1.005", 2, "--decimals", 2)
-    assert told.status == 2 and "`1.005` has 3 decimals, and the test has 2" in told.err
+    done = settled.run("test-add", "ACME", "SUGAR", "X", "1.005", 2, "--decimals", 2)
+    assert done.status == 2 and "`1.005` has 3 decimals, and the test has 2" in done.err
     assert settled.run("test-add", "ACME", "BRINE", "X", 1, 2, "--decimals", 1).out.startswith("refused ")  # the material has lots
     assert ("ACME", "BRINE", "X") not in {(row["owner"], row["material"], row["test"]) for row in rows_of(settled.run("list", "tests", "--csv").out)}
     assert "its command was refused" in settled.run("note", "list").out
@@ -117,28 +122,28 @@ def test_a_material_is_added_with_limits_as_they_are_measured(settled):
     assert [line["notes"] for line in settled.lines() if "notes" in line] == [[{"kind": "test", "owner": "ACME", "material": "SUGAR", "test": "PH", "decimals": 2}]]
     before = settled.lines()
     for words in (NEW, (*NEW, "--decimals", "PH", 2)):
-        told = settled.run(*words)
-        assert told.status == 0 and [line.rsplit(": ")[1] for line in told.out.splitlines()] == ["there already"] * 3
+        done = settled.run(*words)
+        assert done.status == 0 and [line.rsplit(": ")[1] for line in done.out.splitlines()] == ["there already"] * 3
     for test, there, other in ((("PH", 650, 850), "6.50 to 8.50", "650.00 to 850.00"), (("PURITY", "9.8", "10.0", "--decimals", "PURITY", 1), "98 to 100", "9.8 to 10.0"),
                                (("PH", "0.650", "0.850", "--decimals", "PH", 3), "6.50 to 8.50", "0.650 to 0.850")):
-        told = settled.run(*NEW[:5], "--test", *test)
-        assert told.status == 1 and told.out == "" and f"ACME SUGAR {test[0]} is there already with {there}, and not with {other}" in told.err
+        done = settled.run(*NEW[:5], "--test", *test)
+        assert done.status == 1 and done.out == "" and f"ACME SUGAR {test[0]} is there already with {there}, and not with {other}" in done.err
     assert settled.lines() == before
 
 
 @pytest.mark.parametrize("more, why", [
     ((), "LOW: `6.50` has decimals"), (("--decimals", "PH", 1), "`6.50` has 2 decimals, and the test has 1"), (("--decimals", "PHH", 2), "--decimals PHH: there is no --test PHH beside it"),
-    *((("--decimals", "PH", it), "--decimals") for it in (0, 10, "x", "2.0"))])
+    *((("--decimals", "PH", decimals), "--decimals") for decimals in (0, 10, "x", "2.0"))])
 def test_limits_that_cannot_be_read_add_no_material(settled, more, why):
-    told = settled.run(*NEW, *more)
-    assert told.status == 2 and why in told.err and told.out == "" and settled.lines() == [] and settled.rows("SELECT * FROM materials WHERE material = 'SUGAR'") == []
+    done = settled.run(*NEW, *more)
+    assert done.status == 2 and why in done.err and done.out == "" and settled.lines() == [] and settled.rows("SELECT * FROM materials WHERE material = 'SUGAR'") == []
 
 
 @pytest.mark.parametrize("typed, value, listed", [("0.07", 7, "0.07"), ("-0.05", -5, "-0.05"), ("M0.05", -5, "-0.05"), ("0", 0, "0.00"), ("7.02", 702, "7.02"), ("1000", 100_000, "1000.00")])
 def test_a_result_is_recorded_as_it_was_measured(described, typed, value, listed):
-    told = described.run(*RESULT, typed, 103)
+    done = described.run(*RESULT, typed, 103)
     word = f"M{-value}" if value < 0 else str(value)
-    assert told.out == "accepted\n" and told.err == ("" if word == typed else f"  VALUE: {typed} is given as {word}\n")
+    assert done.out == "accepted\n" and done.err == ("" if word == typed else f"  VALUE: {typed} is given as {word}\n")
     assert results(described) == [(value, listed)] and described.lines()[-2]["words"] == [*RESULT, word, "103"]
 
 
@@ -147,13 +152,13 @@ def test_a_result_is_recorded_as_it_was_measured(described, typed, value, listed
     ("<0.05", "what is below 0.05 may be outside"), (">0.05", "what is above 0.05 may be outside"), (">0.09", "may be outside"), ("<<1", "is no number"), ("<", "is no number"), ("\x1b[2J", "is no number")])
 def test_a_value_that_cannot_be_recorded_is_told(described, typed, why):
     before = described.lines()
-    told = described.run(*RESULT, typed, 103)
-    assert told.status in (1, 2) and why in told.err and told.out == "" and "\x1b" not in told.err and described.lines() == before and results(described) == []
+    done = described.run(*RESULT, typed, 103)
+    assert done.status in (1, 2) and why in done.err and done.out == "" and "\x1b" not in done.err and described.lines() == before and results(described) == []
 
 
 def test_values_are_as_toll_has_them_where_no_decimals_are_noted(described):
-    told = described.run("result", "ACME", "B-1", "DENSITY", "1.180", 103)
-    assert told.out == "refused 2 BadAmount\n" and "VALUE: `1.180` has something between its thousands" in told.err
+    done = described.run("result", "ACME", "B-1", "DENSITY", "1.180", 103)
+    assert done.out == "refused 2 BadAmount\n" and "VALUE: `1.180` has something between its thousands" in done.err
     assert described.run("result", "ACME", "B-1", "DENSITY", 1180, 103).err == ""
     assert described.run("result", "ACME", "B-9", "PH", 7, 103).out == "refused 27 UnknownLot\n"
     assert "there is no lot ACME B-9" in described.run("result", "ACME", "B-9", "PH", "7.02", 103).err
@@ -167,12 +172,12 @@ def test_a_name_that_is_none_is_told_with_any_value(described, word):
     for at in range(3):
         for value in ("7.02", "<5"):
             words = [*names[:at], word, *names[at + 1 :], value, 103]
-            told = described.run("result", *words)
-            assert told.status in (1, 2) and told.out in ("", "refused 1 BadName\n", "refused 2 BadAmount\n")
-            assert word.isprintable() or word not in told.err
+            done = described.run("result", *words)
+            assert done.status in (1, 2) and done.out in ("", "refused 1 BadName\n", "refused 2 BadAmount\n")
+            assert word.isprintable() or word not in done.err
     for at in range(3):
-        told = described.run("test-add", *["ACME", "BRINE", "X"][:at], word, *["ACME", "BRINE", "X"][at + 1 :], "0.01", 2, "--decimals", 2)
-        assert told.status in (1, 2) and "accepted" not in told.out
+        done = described.run("test-add", *["ACME", "BRINE", "X"][:at], word, *["ACME", "BRINE", "X"][at + 1 :], "0.01", 2, "--decimals", 2)
+        assert done.status in (1, 2) and "accepted" not in done.out
 
 
 @pytest.fixture
@@ -182,8 +187,8 @@ def lead(settled):
 
 
 def test_a_bound_is_recorded_as_its_number_and_shown_with_its_sign(lead):
-    told = lead.run("result", "ACME", "G-1", "LEAD", "<5", 103)
-    assert told == (0, "accepted\n", "  VALUE: <5 is given as 5\n")
+    done = lead.run("result", "ACME", "G-1", "LEAD", "<5", 103)
+    assert done == (0, "accepted\n", "  VALUE: <5 is given as 5\n")
     assert notes(lead) == [{"kind": "result", "owner": "ACME", "lot": "G-1", "test": "LEAD", "value": 5, "day": 103, "bound": "below"}]
     assert lead.run("result", "ACME", "G-1", "PURITY", ">99", 103).status == 0
     shown = lead.run("show", "lot", "ACME", "G-1").out
@@ -199,8 +204,8 @@ def test_a_bound_and_a_result_that_could_not_be_told_apart_are_refused(lead, fir
     lead.run("result", "ACME", "G-1", "LEAD", 60, 102)
     assert lead.run("result", "ACME", "G-1", "LEAD", first, 103).status == 0
     before = lead.lines()
-    told = lead.run("result", "ACME", "G-1", "LEAD", then, 103)
-    assert told.status == 1 and f"has the result {first} of LEAD on day 103: {then} couldn't be told from it" in told.err and lead.lines() == before
+    done = lead.run("result", "ACME", "G-1", "LEAD", then, 103)
+    assert done.status == 1 and f"has the result {first} of LEAD on day 103: {then} couldn't be told from it" in done.err and lead.lines() == before
     assert lead.run("result", "ACME", "G-1", "LEAD", first, 103).out == "accepted\n"
 
 
@@ -231,12 +236,12 @@ ACME,B-9,PH,5,105
 def test_a_sheet_has_results_as_they_were_measured(described):
     sheet = described.folder / "results.csv"
     sheet.write_text(SHEET)
-    told = described.run("import", "--what", "results", sheet)
-    assert told.out.splitlines() == ["row 14 (ACME B-9 PH): refused 27 UnknownLot: the owner has no lot of this name", "13 results: 6 accepted, 0 there already, 1 refused, 6 can't be read"]
-    assert [line.split(": ", 1)[0] for line in told.err.splitlines()] == ["6 values are given to toll as whole numbers, such as 0.07 as 7 (row 2)", *(f"row {row}, column D (value)" for row in (6, 7, 8, 10, 11, 13))]
+    done = described.run("import", "--what", "results", sheet)
+    assert done.out.splitlines() == ["row 14 (ACME B-9 PH): refused 27 UnknownLot: the owner has no lot of this name", "13 results: 6 accepted, 0 there already, 1 refused, 6 can't be read"]
+    assert [line.split(": ", 1)[0] for line in done.err.splitlines()] == ["6 values are given to toll as whole numbers, such as 0.07 as 7 (row 2)", *(f"row {row}, column D (value)" for row in (6, 7, 8, 10, 11, 13))]
     assert results(described) == [(7, "0.07"), (700, "7.00"), (-5, "-0.05"), (-2, "-0.02"), (702, ">7.02")] and results(described, "DENSITY")[-1] == (900, "<900")
-    told = described.run("import", "--what", "results", sheet)
-    assert told.out.splitlines()[-1] == "13 results: 0 accepted, 6 there already, 1 refused, 6 can't be read; nothing was new" and len(results(described)) == 5
+    done = described.run("import", "--what", "results", sheet)
+    assert done.out.splitlines()[-1] == "13 results: 0 accepted, 6 there already, 1 refused, 6 can't be read; nothing was new" and len(results(described)) == 5
 
 
 def test_a_workbook_has_numbers_as_they_are_shown(described):
@@ -247,9 +252,9 @@ def test_a_workbook_has_numbers_as_they_are_shown(described):
         book.active.cell(book.active.max_row, 4).number_format = form
     path = described.folder / "sheet.xlsx"
     book.save(path)
-    told = described.run("import", "--what", "results", path)
-    assert [value for value, _ in results(described)] == [702, 700, -5, 750, 123_450], told
-    reasons = [line.split(": ")[1] for line in told.err.splitlines() if line.startswith("row")]
+    done = described.run("import", "--what", "results", path)
+    assert [value for value, _ in results(described)] == [702, 700, -5, 750, 123_450], done
+    reasons = [line.split(": ")[1] for line in done.err.splitlines() if line.startswith("row")]
     assert [reason.startswith(words) for reason, words in zip(reasons, ("it is the number 7.02, shown as", "it is the number 0.333", "toll would take <0.01 of PH for"), strict=True)] == [True] * 3, reasons
 
 
@@ -257,16 +262,16 @@ def test_a_workbook_has_numbers_as_they_are_shown(described):
 def test_values_of_a_sheet_without_signs_and_decimals_are_read_as_before(lead, cell):
     sheet = lead.folder / "results.csv"
     sheet.write_text(f"owner,lot,test,value,day\nACME,G-1,LEAD,{cell},103\n")
-    converted, told = lead.run("to-csv", "--what", "results", sheet), lead.run("import", "--what", "results", sheet)
+    converted, done = lead.run("to-csv", "--what", "results", sheet), lead.run("import", "--what", "results", sheet)
     reasons, none_left = converted.err.replace("1 refused, nothing is written\n", ""), f"hilpoven: {sheet}: nothing of it was given: no row can be read\n"
-    assert (converted.status == 0) == (told.status == 0) and told.err == reasons + (none_left if told.status else "")
+    assert (converted.status == 0) == (done.status == 0) and done.err == reasons + (none_left if done.status else "")
 
 
 def test_to_csv_knows_no_decimals(described):
     sheet = described.folder / "results.csv"
     sheet.write_text("owner,lot,test,value,day\nACME,B-1,PH,<5,103\nACME,B-1,PH,7.02,103\n")
-    told = described.run("to-csv", "--what", "results", sheet)
-    assert told.status == 1 and "'<5' is no whole number" in told.err and "'7.02' is no whole number" in told.err
+    done = described.run("to-csv", "--what", "results", sheet)
+    assert done.status == 1 and "'<5' is no whole number" in done.err and "'7.02' is no whole number" in done.err
 
 
 def test_papers_have_values_as_they_were_measured(described):
@@ -296,7 +301,7 @@ def test_an_owners_papers_have_nothing_that_is_noted_of_others(described):
                           (("recall", "HOUSE", "W-101"), "owners")):
         folder = described.folder / f"made-{words[0]}"
         assert described.run("papers", *words, folder, "--no-pdf").status == 0
-        texts = [it.read_text() for it in (folder / owners).rglob("*") if it.is_file()]
+        texts = [path.read_text() for path in (folder / owners).rglob("*") if path.is_file()]
         assert texts and not any(secret in text or "2028-02-29" in text or "280229" in text for text in texts), words
     folder = described.folder / "of-house"
     assert described.run("papers", "lot", "HOUSE", "W-101", folder, "--no-pdf").status == 0
@@ -308,7 +313,7 @@ def test_lists_of_an_office_without_facts_are_as_before(laid, plant):
     heads = {name: next(csv.reader(io.StringIO(plant.run("list", name, "--csv").out))) for name in ("owners", "materials", "tests", "results", "lots")}
     assert plant.run("link", "ACME", "B-1", "S-1", "--why", "rework").status == 0
     for name, head in heads.items():
-        assert next(csv.reader(io.StringIO(plant.run("list", name, "--csv").out))) == head and not any("noted" in it for it in head)
+        assert next(csv.reader(io.StringIO(plant.run("list", name, "--csv").out))) == head and not any("noted" in column for column in head)
 
 
 def test_a_member_describes_and_names_no_path(described):

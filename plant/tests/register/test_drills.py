@@ -26,9 +26,9 @@ def under_way(plant: Plant) -> bool:
 def refused(plant: Plant, *words: object, status: int = 1) -> str:
     """Why a command does nothing."""
     there = plant.lines()
-    told = plant.run(*words)
-    assert (told.status, told.out) == (status, "") and plant.lines() == there, told
-    return told.err
+    done = plant.run(*words)
+    assert (done.status, done.out) == (status, "") and plant.lines() == there, done
+    return done.err
 
 
 def test_a_drill_begins_is_under_way_and_ends_by_the_clock_of_the_journal(settled):
@@ -37,8 +37,8 @@ def test_a_drill_begins_is_under_way_and_ends_by_the_clock_of_the_journal(settle
     assert begun.status == 0 and under_way(settled)
     ended = settled.run("drill", "end", settled.folder / "made", "--no-pdf")
     first, last, exported = settled.lines()
-    assert [it["event"] for it in (first, last, exported)] == ["note", "note", "exported"] and first["words"] == START
-    moments = [f"{it['time'][:19].replace('T', ' ')} UTC" for it in (first, last)]
+    assert [entry["event"] for entry in (first, last, exported)] == ["note", "note", "exported"] and first["words"] == START
+    moments = [f"{entry['time'][:19].replace('T', ' ')} UTC" for entry in (first, last)]
     assert begun.out == f"the drill over lot ACME B-1 began on {moments[0]}\n" and ended.out.startswith("the drill over lot ACME B-1 took 0:00:0")
     page = (settled.folder / "made" / "drill.html").read_text()
     assert all(f"<dd>{moment}</dd>" in page for moment in moments) and not under_way(settled)
@@ -87,7 +87,7 @@ def test_a_drill_that_is_cancelled_was_none(settled):
 
 def test_a_drill_whose_end_is_withdrawn_goes_on_and_one_whose_begin_is_was_none(settled):
     assert settled.run(*START).status == settled.run("drill", "end", settled.folder / "made", "--no-pdf").status == 0
-    first, last = (it["id"] for it in settled.lines()[:2])
+    first, last = (entry["id"] for entry in settled.lines()[:2])
     assert settled.run("note", "withdraw", last, "--reason", "not all was found").status == 0 and under_way(settled)
     assert "is under way" in refused(settled, *START)
     assert settled.run("note", "withdraw", first, "--reason", "a try").status == 0 and not under_way(settled)
@@ -96,17 +96,17 @@ def test_a_drill_whose_end_is_withdrawn_goes_on_and_one_whose_begin_is_was_none(
 
 def test_of_drills_that_begin_at_once_one_does(settled):
     begun = [settled.begun(*START) for _ in range(6)]
-    told = [(*it.communicate(), it.returncode) for it in begun]
-    assert sorted(status for *_, status in told) == [0, 1, 1, 1, 1, 1], told
-    assert all("is under way, begun by" in error for _, error, status in told if status) and under_way(settled)
+    ended = [(*process.communicate(), process.returncode) for process in begun]
+    assert sorted(status for *_, status in ended) == [0, 1, 1, 1, 1, 1], ended
+    assert all("is under way, begun by" in error for _, error, status in ended if status) and under_way(settled)
     assert settled.run("drill", "end", settled.folder / "made", "--no-pdf").status == 0 and not under_way(settled)
 
 
 def test_a_paper_that_fails_is_made_again(settled):
     assert settled.run(*START).status == 0
     liar = Plant(str(script(settled.folder / "liar", f"'{settled.program}' \"$@\" | sed 's/quarantined/rejected   /'")), settled.folder)
-    told = liar.run("drill", "end", settled.folder / "made", "--no-pdf")
-    assert told.status and "`hilpoven drill paper` makes the paper of a drill that ended" in told.err, told
+    failed = liar.run("drill", "end", settled.folder / "made", "--no-pdf")
+    assert failed.status and "`hilpoven drill paper` makes the paper of a drill that ended" in failed.err, failed
     assert not (settled.folder / "made").exists() and not under_way(settled)
     for words in ([], ["--of", settled.lines()[0]["id"]]):
         done = settled.run("drill", "paper", settled.folder / f"made-{len(words)}", "--no-pdf", *words)
@@ -118,11 +118,11 @@ def test_a_member_gets_the_paper_by_standard_output_and_names_no_path(settled):
     settled.settle()
     assert settled.as_member(*START).status == 0
     for word in ("end", "paper"):
-        told = settled.as_member("drill", word, settled.folder / "made", "--no-pdf")
-        assert told.status == 2 and told.err.startswith("hilpoven: FOLDER") and not (settled.folder / "made").exists(), told
+        done = settled.as_member("drill", word, settled.folder / "made", "--no-pdf")
+        assert done.status == 2 and done.err.startswith("hilpoven: FOLDER") and not (settled.folder / "made").exists(), done
     assert under_way(settled)
     assert settled.as_member("drill", "end", "--tar", "--no-pdf").status == 0
-    assert [it["login"] for it in settled.lines()] == ["anna", "anna", "anna"] and not under_way(settled)
+    assert [entry["login"] for entry in settled.lines()] == ["anna", "anna", "anna"] and not under_way(settled)
 
 
 def test_the_tar_is_a_folder_of_the_drill_s_name(settled):
@@ -142,7 +142,7 @@ def test_a_clock_that_was_set_back_and_a_time_that_is_none_are_told(settled):
         for line in lines:
             text.append(json.dumps({**line, "before": before}))
             before = hashlib.sha256(text[-1].encode()).hexdigest()
-        settled.journal.write_text("".join(f"{it}\n" for it in text))
+        settled.journal.write_text("".join(f"{entry}\n" for entry in text))
         pathlib.Path(file.path_of(str(settled.db))).unlink(missing_ok=True)
         folder = settled.folder / f"made-{len(time)}"
         assert settled.run("drill", "paper", folder, "--no-pdf").status == 0

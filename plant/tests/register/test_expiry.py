@@ -9,7 +9,7 @@ from test_parties import RELEASED, rows_of
 SHIP = ("ship", "ACME", "K70", "B-1", "TOTE1", 5)
 ACTUAL = ("actual", "K71", "ACME", "O-1", 1, 1, "consumed", "SALT", "ACME", "S-1", "BAY1", 3)
 TODAY = datetime.date(2026, 12, 20)
-PAST, OTHER = "Lot ACME B-1 expired on 2026-11-30, as the plant noted.", "Lot ACME S-1 was to be tested again by 2026-11-30, as the plant noted."
+PAST, OTHER = "Lot ACME B-1 expired on 2026-11-20, as the plant noted.", "Lot ACME S-1 was to be tested again by 2026-11-20, as the plant noted."
 
 
 def day(after: int) -> int:
@@ -29,8 +29,8 @@ def aged(settled):
     """An office at work with a released lot that expires on 30 November 2026, and one that is to be tested again by then."""
     settled.lay(f"{RELEASED}actual K30 ACME O-1 1 2 produced BRINE ACME B-2 TOTE3 5 102\n")
     for lot in ("B-1", "B-2"):
-        assert settled.run("describe", "lot", "ACME", lot, "--expires", 261130).status == 0
-    assert settled.run("describe", "lot", "ACME", "S-1", "--retest", 261130, "--expires", 271130).status == 0
+        assert settled.run("describe", "lot", "ACME", lot, "--expires", 261120).status == 0
+    assert settled.run("describe", "lot", "ACME", "S-1", "--retest", 261120, "--expires", 271130).status == 0
     return settled
 
 
@@ -42,50 +42,50 @@ def refuses(plant, **lines) -> None:
 
 
 def test_the_commands_warn_by_the_day_that_is_given(aged):
-    assert aged.run(*SHIP, 261130) == (0, "accepted\n", "") and aged.run(*ACTUAL, 261130) == (0, "accepted\n", "")
-    assert aged.run("ship", "ACME", "K72", "B-1", "TOTE1", 5, 261201) == (0, "accepted\n", f"  {PAST}\n")
-    assert aged.run("actual", "K73", *ACTUAL[2:], 261201) == (0, "accepted\n", f"  {OTHER}\n")
-    assert "may be used until 2026-11-30, and day 102 is no date" in aged.run("ship", "ACME", "K74", "B-1", "TOTE1", 5, 102).err
-    assert aged.run("scrap", "ACME", "K75", "B-1", "TOTE1", 5, 261201).err == ""
-    assert aged.run("actual", "K76", "ACME", "O-1", 1, 2, "produced", "BRINE", "ACME", "B-2", "TOTE3", 5, 261201) == (0, "accepted\n", "")
-    assert "expired" in aged.run("use", "ACME", "O-1", 1, "ACME", "S-1", "BAY1", 5, 271201).err
+    assert aged.run(*SHIP, 261120) == (0, "accepted\n", "") and aged.run(*ACTUAL, 261120) == (0, "accepted\n", "")
+    assert aged.run("ship", "ACME", "K72", "B-1", "TOTE1", 5, 261121) == (0, "accepted\n", f"  {PAST}\n")
+    assert aged.run("actual", "K73", *ACTUAL[2:], 261121) == (0, "accepted\n", f"  {OTHER}\n")
+    assert "may be used until 2026-11-20, and day 102 is no date" in aged.run("ship", "ACME", "K74", "B-1", "TOTE1", 5, 102).err
+    assert aged.run("scrap", "ACME", "K75", "B-1", "TOTE1", 5, 261121).err == ""
+    assert aged.run("actual", "K76", "ACME", "O-1", 1, 2, "produced", "BRINE", "ACME", "B-2", "TOTE3", 5, 261121) == (0, "accepted\n", "")
+    assert "expired" in aged.run("use", "ACME", "O-1", 1, "ACME", "S-1", "BAY1", 5, 271201, "--yes").err
 
 
 def test_the_settings_may_refuse_them(aged):
     refuses(aged, ship="refuse", actual="refuse")
     before = aged.content()
-    for words, why in ((SHIP, "lot ACME B-1 expired on 2026-11-30, and the settings refuse it"), (ACTUAL, "lot ACME S-1 was to be tested again by 2026-11-30")):
-        told = aged.run(*words, 261201)
-        assert told.status == 1 and told.out == "" and why in told.err and "hilpoven describe lot ACME" in told.err
+    for words, why in ((SHIP, "lot ACME B-1 expired on 2026-11-20, and the settings refuse it"), (ACTUAL, "lot ACME S-1 was to be tested again by 2026-11-20")):
+        done = aged.run(*words, 261121)
+        assert done.status == 1 and done.out == "" and why in done.err and "hilpoven describe lot ACME" in done.err
         assert aged.run(*words, 103).status == 1  # which is no date
-    assert aged.content() == before and aged.run("scrap", "ACME", "K75", "B-1", "TOTE1", 5, 261201).out == "accepted\n"
-    assert aged.run("describe", "lot", "ACME", "S-1", "--retest", 270530).status == 0 and aged.run(*ACTUAL, 261201).out == "accepted\n"
+    assert aged.content() == before and aged.run("scrap", "ACME", "K75", "B-1", "TOTE1", 5, 261121).out == "accepted\n"
+    assert aged.run("describe", "lot", "ACME", "S-1", "--retest", 270530).status == 0 and aged.run(*ACTUAL, 261121).out == "accepted\n"
 
 
 def test_each_command_has_a_setting_of_its_own(aged):
     refuses(aged, ship="refuse")
-    assert aged.run(*SHIP, 261201).status == 1 and aged.run(*ACTUAL, 261201).out == "accepted\n"
+    assert aged.run(*SHIP, 261121).status == 1 and aged.run(*ACTUAL, 261121).out == "accepted\n"
 
 
 def test_what_is_recorded_already_is_repeated(aged):
-    assert aged.run(*SHIP, 261201).out == "accepted\n"
+    assert aged.run(*SHIP, 261121).out == "accepted\n"
     refuses(aged, ship="refuse")
-    assert aged.run(*SHIP, 261201).out == "repeated\n" and aged.run("ship", "ACME", "K72", "B-1", "TOTE1", 5, 261201).status == 1
+    assert aged.run(*SHIP, 261121).out == "repeated\n" and aged.run("ship", "ACME", "K72", "B-1", "TOTE1", 5, 261121).status == 1
 
 
 @pytest.mark.parametrize("text, why", [("expiry = true\n", "expiry is to be a table: [expiry]"), ("[expiry]\nship = true\n", "ship is to be a text"), ('[expiry]\nship = "stop"\n', "ship is to be"),
                                        ('[expiry]\nscrap = "warn"\n', "scrap is no line of [expiry]")])
 def test_what_the_settings_cannot_say_is_told(aged, text, why):
     (aged.folder / "hilpoven.toml").write_text(text)
-    told = aged.run("list", "lots")
-    assert told.status == 2 and why in told.err
+    done = aged.run("list", "lots")
+    assert done.status == 2 and why in done.err
 
 
-SHIPMENTS = "owner,key,lot,sublot,amount,day\nACME,K70,B-1,TOTE1,5,261130\nACME,K71,B-1,TOTE1,5,261201\nACME,K72,B-1,TOTE1,5,103\n"
+SHIPMENTS = "owner,key,lot,sublot,amount,day\nACME,K70,B-1,TOTE1,5,261120\nACME,K71,B-1,TOTE1,5,261121\nACME,K72,B-1,TOTE1,5,103\n"
 ACTUALS = """key,owner,order,batch,segment,use,material,lot_owner,lot,sublot,amount,day
-K80,ACME,O-1,1,1,consumed,SALT,ACME,S-1,BAY1,3,261130
-K81,ACME,O-1,1,1,consumed,SALT,ACME,S-1,BAY1,3,261201
-K82,ACME,O-1,1,2,produced,BRINE,ACME,B-2,TOTE3,3,261201
+K80,ACME,O-1,1,1,consumed,SALT,ACME,S-1,BAY1,3,261120
+K81,ACME,O-1,1,1,consumed,SALT,ACME,S-1,BAY1,3,261121
+K82,ACME,O-1,1,2,produced,BRINE,ACME,B-2,TOTE3,3,261121
 """
 
 
@@ -94,13 +94,13 @@ def test_sheets_warn_and_refuse_as_the_commands_do(aged, what, text, rows, colum
     sheet = aged.folder / "sheet.csv"
     sheet.write_text(text)
     refuses(aged, ship="refuse", actual="refuse")
-    told = aged.run("import", "--what", what, sheet)
-    assert told.status == 1 and told.out == f"3 {what}: {3 - len(rows)} accepted, 0 there already, 0 refused, {len(rows)} can't be read\n"
-    assert [line.split(":")[0] for line in told.err.splitlines()] == [f"row {row}, column {column} (day)" for row in rows]
+    done = aged.run("import", "--what", what, sheet)
+    assert done.status == 1 and done.out == f"3 {what}: {3 - len(rows)} accepted, 0 there already, 0 refused, {len(rows)} can't be read\n"
+    assert [line.split(":")[0] for line in done.err.splitlines()] == [f"row {row}, column {column} (day)" for row in rows]
     refuses(aged)
-    told = aged.run("import", "--what", what, sheet)
-    assert told.status == 0 and told.out == f"3 {what}: {len(rows)} accepted, {3 - len(rows)} there already, 0 refused, 0 can't be read\n"
-    assert [line.split(":")[0] for line in told.err.splitlines()] == [f"row {row}, column {column} (day)" for row in rows]
+    done = aged.run("import", "--what", what, sheet)
+    assert done.status == 0 and done.out == f"3 {what}: {len(rows)} accepted, {3 - len(rows)} there already, 0 refused, 0 can't be read\n"
+    assert [line.split(":")[0] for line in done.err.splitlines()] == [f"row {row}, column {column} (day)" for row in rows]
 
 
 def test_lots_that_expire_are_listed_while_something_is_on_hand(at_noon):
@@ -122,6 +122,6 @@ def test_the_board_has_lots_that_expire_soon(at_noon):
         assert settled.run("describe", "lot", "ACME", lot, "--expires", last).status == 0
     page = settled.run("board").out
     rows = re.findall(r'<span class="about">(ACME [SB]-1)</span><span>(.*?) 20..-..-.. \*</span></p>\s*<p class="below">(.*?)</p>', page)
-    assert rows == [("ACME B-1", "past", "980 kg quarantined, for PH"), ("ACME S-1", "until", "4,700 kg released")] and "* noted by the plant" in page
+    assert rows == [("ACME B-1", "past", "980 kg quarantined, no PH yet"), ("ACME S-1", "until", "4,700 kg released")] and "* noted by the plant" in page
     assert settled.run("describe", "lot", "ACME", "S-1", "--expires", day(40)).status == 0
     assert "ACME S-1" not in settled.run("board").out

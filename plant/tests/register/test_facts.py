@@ -23,14 +23,14 @@ CLOSED = [("do", "ACME", "O-1", 1, "done"), ("close", "ACME", "O-1", 1)]
 def note(plant: Plant, *notes: facts.Note, words: tuple[object, ...] = ("note",)) -> str:
     """Notes something, as a command does; the name of the first note."""
     journal = Journal(str(plant.journal), str(plant.db))
-    return journal.note(journal.file, list(map(str, words)), notes=[to_json(it) for it in notes])
+    return journal.note(journal.file, list(map(str, words)), notes=[to_json(fact) for fact in notes])
 
 
 def beside(plant: Plant, words: str, *notes: facts.Note) -> None:
     """Notes something beside a line of `toll`, and gives it the line."""
     journal = Journal(str(plant.journal), str(plant.db))
-    entry = journal.asked(journal.file, words.split(), notes=[to_json(it) for it in notes])
-    journal.told(entry, Context(load(), str(plant.db)).office().ask(words.split()))
+    entry = journal.asked(journal.file, words.split(), notes=[to_json(fact) for fact in notes])
+    journal.answered(entry, Context(load(), str(plant.db)).office().ask(words.split()))
 
 
 def described(plant: Plant, lot: str, owner: str = "ACME"):
@@ -144,7 +144,7 @@ def test_facts_go_on_over_a_carry_over_with_what_they_are_about(settled):
     context = Context(load(), str(settled.db))
     with history.opened(context.office()) as whole:
         over_all = standing_over_all(context.journal(), whole)
-    assert {lot: (it.made, it.expires) for (_, lot), it in over_all.lots.items()} == {"B-1": (None, 271101), "S-2 (office-1.db)": (260101, 270101)}
+    assert {lot: (lot_facts.made, lot_facts.expires) for (_, lot), lot_facts in over_all.lots.items()} == {"B-1": (None, 271101), "S-2 (office-1.db)": (260101, 270101)}
     assert over_all.bounds == {("ACME", "B-1", "PH", 5, 103): Bound.BELOW}
     whole = json.loads(settled.run("years", "lot", "ACME", "B-1", "--json").out)
     assert [test["noted latest"] for test in whole["tests"]] == ["1180", "<0.05"] and whole["noted expires"] == "2027-11-01"
@@ -153,12 +153,12 @@ def test_facts_go_on_over_a_carry_over_with_what_they_are_about(settled):
 @pytest.mark.parametrize("value", [
     {"kind": "owner", "owner": "ACME", "name": "a\nb"}, {"kind": "owner", "owner": "ACME", "name": "x" * 201}, {"kind": "owner", "owner": "ACME", "name": 5}, {"kind": "owner", "name": "x"},
     {"kind": "owner", "owner": "ACME", "address": "\x1b[2J"}, {"kind": "material", "owner": "ACME", "name": "x"}, {"kind": "material", "owner": "ACME", "material": "brine"},
-    {"kind": "test", "owner": "ACME", "material": "BRINE", "decimals": 2}, *({"kind": "test", "owner": "ACME", "material": "BRINE", "test": "PH", "decimals": it} for it in (-1, 10, True, "2", 2.0, 10**400)),
+    {"kind": "test", "owner": "ACME", "material": "BRINE", "decimals": 2}, *({"kind": "test", "owner": "ACME", "material": "BRINE", "test": "PH", "decimals": decimals} for decimals in (-1, 10, True, "2", 2.0, 10**400)),
     {"kind": "test", "owner": "ACME", "material": "BRINE", "test": "PH", "unit": "\u202e"}, {"kind": "test", "owner": "ACME", "material": "BRINE", "test": "PH", "limits": 1},
     {"kind": "lot", "owner": "ACME", "expires": 271101}, {"kind": "lot", "owner": "ACME", "lot": "", "expires": 271101},
-    *({"kind": "lot", "owner": "ACME", "lot": "B-1", "expires": it} for it in (271301, 101, 0, -1, True, "271101", 20271101, 10**400, [])),
-    *({"kind": "result", "owner": "ACME", "lot": "B-1", "test": "PH", "day": 103, "bound": "below", **it} for it in ({}, {"value": True}, {"value": "5"}, {"value": 1_000_000_001}, {"value": 5.0})),
-    *({"kind": "result", "owner": "ACME", "lot": "B-1", "test": "PH", "value": 5, **it} for it in ({"day": 103}, {"bound": "below"}, {"day": -1, "bound": "below"}, {"day": 103, "bound": "<"}, {"day": 103, "bound": ["below"]})),
+    *({"kind": "lot", "owner": "ACME", "lot": "B-1", "expires": date} for date in (271301, 101, 0, -1, True, "271101", 20271101, 10**400, [])),
+    *({"kind": "result", "owner": "ACME", "lot": "B-1", "test": "PH", "day": 103, "bound": "below", **members} for members in ({}, {"value": True}, {"value": "5"}, {"value": 1_000_000_001}, {"value": 5.0})),
+    *({"kind": "result", "owner": "ACME", "lot": "B-1", "test": "PH", "value": 5, **members} for members in ({"day": 103}, {"bound": "below"}, {"day": -1, "bound": "below"}, {"day": 103, "bound": "<"}, {"day": 103, "bound": ["below"]})),
     {"kind": "drill-start", "owner": "ACME"},
 ])
 def test_what_no_command_notes_is_no_note(value):

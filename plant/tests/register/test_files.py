@@ -21,8 +21,8 @@ def over_all(plant: Plant) -> list[tuple[str, str]]:
 
 def carry(plant: Plant) -> None:
     """Carries the office over."""
-    told = plant.run("carry-over", plant.folder / "next.db", "--day", 261127)
-    assert told.status == 0, told
+    done = plant.run("carry-over", plant.folder / "next.db", "--day", 261127)
+    assert done.status == 0, done
 
 
 @pytest.fixture
@@ -52,12 +52,12 @@ def test_another_lot_of_the_name_has_no_link_of_the_first_one(second):
 
 
 def test_a_later_note_speaks_of_a_lot_of_an_earlier_file(second):
-    told = second.run("receive", "ACME", "K30", "SALT", "S-8R", "BAY1", 5, 102, "--of", "S-8", "--why", "return")
-    assert told.out == "accepted\n" and len(links(second)) == 2 and ("ACME S-8R", "ACME S-8") in over_all(second)
+    done = second.run("receive", "ACME", "K30", "SALT", "S-8R", "BAY1", 5, 102, "--of", "S-8", "--why", "return")
+    assert done.out == "accepted\n" and len(links(second)) == 2 and ("ACME S-8R", "ACME S-8") in over_all(second)
 
 
 def test_a_note_of_an_earlier_file_is_withdrawn_in_a_later_one(second):
-    name = next(it["id"] for it in second.lines() if it["event"] == "note")
+    name = next(entry["id"] for entry in second.lines() if entry["event"] == "note")
     noted(second, "note", "withdraw", name, "--reason", "no")
     assert links(second) == [("ACME B-1", "HOUSE W-101")]
     assert second.run("carry-over", second.folder / "next.db", "--day", 261128).status == 0
@@ -65,10 +65,10 @@ def test_a_note_of_an_earlier_file_is_withdrawn_in_a_later_one(second):
 
 
 def test_a_key_that_an_earlier_file_has_is_repeated_and_its_note_stands(second):
-    told = second.run(*GONE.split(), "--of", "S-1", "--why", "return")
-    assert told.out == "repeated\n" and ("ACME S-8", "ACME S-1") in over_all(second)
-    told = second.run("receive", "ACME", "K8", "SALT", "S-8", "BAY1", 6, 101, "--of", "B-1", "--why", "return")
-    assert told.status == 1 and ("ACME S-8", "ACME B-1") not in over_all(second)
+    done = second.run(*GONE.split(), "--of", "S-1", "--why", "return")
+    assert done.out == "repeated\n" and ("ACME S-8", "ACME S-1") in over_all(second)
+    done = second.run("receive", "ACME", "K8", "SALT", "S-8", "BAY1", 6, 101, "--of", "B-1", "--why", "return")
+    assert done.status == 1 and ("ACME S-8", "ACME B-1") not in over_all(second)
 
 
 def test_a_command_that_was_cut_off_in_an_earlier_file_is_looked_for_there(settled):

@@ -17,9 +17,9 @@ from hypothesis import strategies as any_of
 NAME = any_of.from_regex(r"[A-Z0-9][A-Z0-9-]{0,4}", fullmatch=True)
 TEXT = any_of.text(any_of.characters(whitelist_categories=["L", "N", "P"]), max_size=20)
 SOME_TEXT = TEXT.filter(bool)
-DATE = any_of.none() | any_of.integers(20, 99).map(lambda it: it * 10_000 + 228)
+DATE = any_of.none() | any_of.integers(20, 99).map(lambda year: year * 10_000 + 228)
 OF_NOTE = any_of.from_regex(r"[0-9a-f]{16}(\.[2-9])?", fullmatch=True)
-LINKS = any_of.builds(Link, NAME, NAME.map(lambda it: f"A{it}"), any_of.just(""), any_of.just(0), any_of.just("HOUSE"), NAME, any_of.sampled_from(Why),
+LINKS = any_of.builds(Link, NAME, NAME.map(lambda letters: f"A{letters}"), any_of.just(""), any_of.just(0), any_of.just("HOUSE"), NAME, any_of.sampled_from(Why),
                       any_of.none() | any_of.integers(1, 1_000_000_000), TEXT)
 OF_BATCHES = any_of.builds(Link, NAME, any_of.just(""), NAME, any_of.integers(1, 99), any_of.just("HOUSE"), NAME, any_of.sampled_from(Why))
 NOTES = any_of.one_of(LINKS, OF_BATCHES, any_of.builds(Party, NAME, NAME, SOME_TEXT, TEXT, TEXT, TEXT, any_of.lists(any_of.sampled_from(Role), max_size=2).map(tuple)),
@@ -73,7 +73,7 @@ def add(journal, step, count, note, asked):
     elif step == "command":
         asked.append(journal.asked(journal.file, ["receive", "ACME", "K", "SALT", "S-1", "BAY1", "5", "101"], notes=[to_json(note)]))
     elif step in ("accepted", "refused") and asked:
-        journal.told(asked.pop(count % len(asked)), Answer(0, "accepted\n", "") if step == "accepted" else Answer(1, "refused 35 KeyConflict\n", ""))
+        journal.answered(asked.pop(count % len(asked)), Answer(0, "accepted\n", "") if step == "accepted" else Answer(1, "refused 35 KeyConflict\n", ""))
     elif step == "withdrawn":
         names = list(folded_anew(journal).notes)
         journal.note(journal.file, ["note"], notes=[to_json(Withdrawal("ACME", names[count % len(names)] if names else "0" * 16, "no"))])
@@ -90,7 +90,7 @@ def add(journal, step, count, note, asked):
         with open(journal.path, "ab") as more:
             more.write(lines[count % len(lines)])
     else:
-        journal.told(journal.asked(journal.file, ["unit-add", "PRESS"]), Answer(0, "accepted\n", ""))
+        journal.answered(journal.asked(journal.file, ["unit-add", "PRESS"]), Answer(0, "accepted\n", ""))
 
 
 @settings(max_examples=40, deadline=None)
@@ -110,7 +110,7 @@ def test_the_register_is_what_a_fold_from_the_first_line_gives_at_each_step(tmp_
 
 
 def test_a_journal_without_a_note_makes_no_file(journal):
-    journal.told(journal.asked(journal.file, ["unit-add", 'A "notes": [{"kind": "link"}]']), Answer(0, "accepted\n", ""))
+    journal.answered(journal.asked(journal.file, ["unit-add", 'A "notes": [{"kind": "link"}]']), Answer(0, "accepted\n", ""))
     assert file.notes_of(journal).notes == {} and file.rebuild(journal).notes == {}
     assert not os.path.exists(file.path_of(journal.file))
 

@@ -38,12 +38,12 @@ def test_a_recall_of_64_full_owners_with_1000_links_takes_5_seconds(program, tmp
     offices.at_the_limits(types.SimpleNamespace(plant=plant.toll, db=plant.db), gauge.OWNERS)
     note_links(plant)
     with plant.serve():
-        told = plant.toll("recall", "HOUSE", "W-1").out
+        text = plant.toll("recall", "HOUSE", "W-1").out
         before, began = resource.getrusage(resource.RUSAGE_CHILDREN), time.monotonic()
         with plant.begun("recall", "HOUSE", "W-1") as begun:
             out, err = begun.communicate()
         clock, after = time.monotonic() - began, resource.getrusage(resource.RUSAGE_CHILDREN)
     processors = after.ru_utime + after.ru_stime - before.ru_utime - before.ru_stime
     print(f"{clock:.1f} s by the clock, {processors:.1f} s of processors")
-    assert begun.returncode == 0 and err == "" and out.startswith(told) and out.removeprefix(told).startswith(HEADING) and out.count("*\n") > 100
+    assert begun.returncode == 0 and err == "" and out.startswith(text) and out.removeprefix(text).startswith(HEADING) and out.count("*\n") > 100
     assert clock < SECONDS or os.getloadavg()[0] > len(os.sched_getaffinity(0)) and processors < SECONDS

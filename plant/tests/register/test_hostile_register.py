@@ -70,23 +70,23 @@ def as_tables_with_a_trigger(path, folder):
 @pytest.mark.parametrize("words", [("recall", "ACME", "S-1"), ("trace", "ACME", "B-1", "back"), ("list", "moves")])
 def test_a_lost_journal_is_told_wherever_its_notes_would_stand(linked, words):
     (linked.folder / "office.db.journal").unlink()
-    told = linked.run(*words)
-    assert "isn't used, and notes are read from the journal" in told.err and "1 of its notes aren't there" in told.err
+    done = linked.run(*words)
+    assert "isn't used, and notes are read from the journal" in done.err and "1 of its notes aren't there" in done.err
 
 
 @pytest.mark.parametrize("become", [as_link, as_dangling_link, as_pipe, as_device, as_folder, as_database, as_office, as_tables_with_a_trigger])
 def test_what_is_no_register_is_told_and_left_alone(linked, become):
     path = file.path_of(str(linked.db))
     become(path, linked.folder)
-    before = os.lstat(path).st_ino, linked.db.read_bytes(), {it.name for it in linked.folder.iterdir()}
+    before = os.lstat(path).st_ino, linked.db.read_bytes(), {entry.name for entry in linked.folder.iterdir()}
     assert links(linked) == ONE
-    told = linked.run("note", "list")
-    assert told.status == 0 and "rework" in told.out and "isn't used, and notes are read from the journal" in told.err
-    told = linked.run("verify")
-    assert told.status == 1 and "register: it isn't used" in told.out
-    told = linked.run("register", "rebuild")
-    assert told.status == 1 and "can't be made anew" in told.err
-    assert (os.lstat(path).st_ino, linked.db.read_bytes(), {it.name for it in linked.folder.iterdir()} - {"looked-at.db"}) == before
+    done = linked.run("note", "list")
+    assert done.status == 0 and "rework" in done.out and "isn't used, and notes are read from the journal" in done.err
+    done = linked.run("verify")
+    assert done.status == 1 and "register: it isn't used" in done.out
+    done = linked.run("register", "rebuild")
+    assert done.status == 1 and "can't be made anew" in done.err
+    assert (os.lstat(path).st_ino, linked.db.read_bytes(), {entry.name for entry in linked.folder.iterdir()} - {"looked-at.db"}) == before
     assert not (linked.folder / "other").exists() or (linked.folder / "other").read_text() == "kept"
 
 
@@ -109,8 +109,8 @@ def test_rows_that_the_journal_doesn_t_have_are_told(linked):
     base.execute("INSERT INTO notes (name, noted) VALUES (?, ?)", ("0" * 16, text.replace("S-1", "S-2")))
     base.commit()
     base.close()
-    told = linked.run("verify")
-    assert told.status == 1 and "register: its notes aren't those of the journal" in told.out
+    done = linked.run("verify")
+    assert done.status == 1 and "register: its notes aren't those of the journal" in done.out
     base = sqlite3.connect(path)
     base.execute("UPDATE notes SET noted = '[1]'")
     base.commit()
@@ -123,8 +123,8 @@ def test_a_register_with_notes_that_the_journal_lost_is_kept(linked):
     kept = linked.journal.read_bytes()
     linked.journal.unlink()
     linked.run("unit-add", "PRESS")
-    told = linked.run("note", "list")
-    assert "and 1 of its notes aren't there" in told.err and linked.run("register", "rebuild").status == 1
+    done = linked.run("note", "list")
+    assert "and 1 of its notes aren't there" in done.err and linked.run("register", "rebuild").status == 1
     linked.journal.write_bytes(kept)
     assert links(linked) == ONE and linked.run("verify").status == 0
 
@@ -155,8 +155,8 @@ def test_what_no_command_notes_is_told_and_counts_for_nothing(linked, value):
     journal.add({"event": "note", "id": "0" * 16, "file": journal.file, "words": ["link", "\x1b[2J\ud800"], "notes": [{"kind": "not-linked", "owner": "ACME", "key": "K1"}, value]})
     assert links(linked) == ONE and register_of(linked).not_linked == {("ACME", "K1")}
     for words in (["note", "list"], ["journal", "--no-site"], ["verify"], ["note", "withdraw", "0" * 16 + ".2", "--reason", "no"]):
-        told = linked.run(*words)
-        assert told.status in (0, 1) and "\x1b" not in told.out + told.err and len(told.out) < 5_000
+        done = linked.run(*words)
+        assert done.status in (0, 1) and "\x1b" not in done.out + done.err and len(done.out) < 5_000
     assert "register: 1 note " in linked.run("verify").out
 
 
@@ -165,7 +165,7 @@ def test_a_line_of_another_office_s_file_counts_for_nothing(linked, tmp_path):
     other.write_text("")
     journal = Journal(str(linked.journal), str(linked.db))
     note = {"kind": "link", "owner": "ACME", "lot": "B-1", "of_owner": "HOUSE", "of_lot": "W-101", "why": "use"}
-    journal.told("0" * 16, Answer(0, "", ""))
+    journal.answered("0" * 16, Answer(0, "", ""))
     with open(journal.path, "a") as lines:
         lines.write(json.dumps({"before": "0" * 64, "event": "note", "id": "1" * 16, "file": str(other), "words": [], "notes": [note]}) + "\n")
     assert links(linked) == ONE
@@ -174,9 +174,9 @@ def test_a_line_of_another_office_s_file_counts_for_nothing(linked, tmp_path):
 def test_an_office_that_was_moved_has_its_notes(linked, tmp_path):
     moved = tmp_path / "moved"
     moved.mkdir()
-    for it in list(linked.folder.glob("office.db*")):
-        if it.suffix != ".sock":
-            os.rename(it, moved / it.name)
+    for path in list(linked.folder.glob("office.db*")):
+        if path.suffix != ".sock":
+            os.rename(path, moved / path.name)
     linked.db, linked.journal = moved / "office.db", moved / "office.db.journal"
     assert links(linked) == ONE
     noted(linked, "link", "ACME", "B-1", "W-101", "--of-owner", "HOUSE", "--why", "use")

@@ -43,8 +43,8 @@ def test_a_link_of_a_batch_and_of_the_plant_s_lot(settled):
 ])
 def test_a_link_of_what_isn_t_there_is_refused(settled, words, status, why):
     there = settled.lines()
-    told = settled.run("link", *words.split(), "--why", "rework")
-    assert told.status == status and told.out == "" and why in told.err, told
+    done = settled.run("link", *words.split(), "--why", "rework")
+    assert done.status == status and done.out == "" and why in done.err, done
     assert settled.lines() == there and not os.path.exists(file.path_of(str(settled.db)))
 
 
@@ -52,8 +52,8 @@ def test_a_link_of_what_isn_t_there_is_refused(settled, words, status, why):
 def test_a_text_that_is_no_line_is_a_wrong_use(settled, text):
     for words in (["link", "ACME", "B-1", "S-1", "--why", "use", "--reason", text], [*RETURNED, "--reason", text], [*USED, "--reason", text],
                   ["note", "withdraw", "0" * 16, "--reason", text]):
-        told = settled.run(*words)
-        assert told.status == 2 and text not in told.err, told
+        done = settled.run(*words)
+        assert done.status == 2 and text not in done.err, done
     assert settled.lines() == []
 
 
@@ -64,19 +64,19 @@ def test_a_withdrawn_note_doesn_t_stand_and_its_withdrawal_can_be_withdrawn(sett
     assert settled.run("note", "withdraw", first, "--reason", "again").status == 1
     noted(settled, "note", "withdraw", second, "--reason", "it was S-1 after all")
     assert links(settled) == [("ACME B-1", "ACME S-1")]
-    told = settled.run("note", "withdraw", first[:-1], "--reason", "no")
-    assert told.status == 1 and f"Nearest of the notes: {first}" in told.err
+    done = settled.run("note", "withdraw", first[:-1], "--reason", "no")
+    assert done.status == 1 and f"Nearest of the notes: {first}" in done.err
     assert settled.run("note", "withdraw", first, "--reason", " ").status == 2
 
 
 def test_a_use_is_a_scrap_and_a_link_in_one_line(settled):
-    told = settled.run(*USED)
-    assert told == (0, "accepted\n", "") and links(settled) == [("ACME O-1/1", "HOUSE W-101")]
-    asked = [it for it in settled.lines() if it["event"] == "asked"]
+    done = settled.run(*USED)
+    assert done == (0, "accepted\n", "") and links(settled) == [("ACME O-1/1", "HOUSE W-101")]
+    asked = [entry for entry in settled.lines() if entry["event"] == "asked"]
     assert len(asked) == 1 and asked[0]["words"][0] == "scrap" and asked[0]["notes"][0]["amount"] == 5
     assert settled.run(*USED).out == "repeated\n" and len(links(settled)) == 1
     assert settled.run(*USED, "--key", "MORE").out == "accepted\n"
-    assert [it for it, in settled.rows("SELECT amount FROM moves WHERE kind = 3")] == [5, 5]
+    assert [amount for amount, in settled.rows("SELECT amount FROM moves WHERE kind = 3")] == [5, 5]
 
 
 @pytest.mark.parametrize("words, status, why", [
@@ -87,8 +87,8 @@ def test_a_use_is_a_scrap_and_a_link_in_one_line(settled):
     ("ACME O-1 1 HOUSE W-101 TANK 5,0 103", 1, "AMOUNT: `5,0`"),
 ])
 def test_a_use_that_is_refused_leaves_no_link(settled, words, status, why):
-    told = settled.run("use", *words.split())
-    assert told.status == status and why in told.err and links(settled) == []
+    done = settled.run("use", *words.split())
+    assert done.status == status and why in done.err and links(settled) == []
     assert settled.rows("SELECT * FROM moves WHERE kind = 3") == []
 
 
@@ -114,17 +114,17 @@ def test_a_note_of_a_command_whose_answer_was_cut_off_counts_if_it_was_done(sett
 @pytest.mark.parametrize("words, why", [(["--of", "B-7", "--why", "return"], "there is no lot B-7 of ACME"), (["--of", "B-1"], "--of needs --why"), (["--why", "use"], "--why needs --of"),
                                         (["--of", "P-1", "--of-owner", "BOLT", "--why", "use"], "none of BOLT"), (["--of", "B-1R", "--why", "use"], "there is no lot B-1R")])
 def test_a_receipt_with_a_wrong_link_is_asked_of_nobody(settled, words, why):
-    told = settled.run(*RETURNED[:8], *words)
-    assert told.status in (1, 2) and why in told.err and settled.lines() == []
+    done = settled.run(*RETURNED[:8], *words)
+    assert done.status in (1, 2) and why in done.err and settled.lines() == []
     assert settled.rows("SELECT * FROM lots WHERE lot = 'B-1R'") == []
 
 
 @pytest.mark.parametrize("key, lot, is_told", [("K9", "B-1R", True), ("K9", "B-1-RW", True), ("K9", "B-1-2", True), ("CORR-1", "B-7", True), ("K9", "B-12", False), ("K9", "B-7", False),
                                                ("K9", "B-1-12", False), ("K9", "Q-1R", False), ("CORRECT", "B-7", False), ("CORR-1", "B-1", False)])
 def test_a_receipt_that_looks_like_a_return_is_told(settled, key, lot, is_told):
-    told = settled.run("receive", "ACME", key, "BRINE", lot, "BAY1", 5, 103)
-    assert ("no recall of that lot has it" in told.err) == is_told, told
-    assert not is_told or f"hilpoven note not-linked ACME {key}" in told.err
+    done = settled.run("receive", "ACME", key, "BRINE", lot, "BAY1", 5, 103)
+    assert ("no recall of that lot has it" in done.err) == is_told, done
+    assert not is_told or f"hilpoven note not-linked ACME {key}" in done.err
 
 
 def on_terminal(plant: Plant, typed: str, *words: object) -> str:
@@ -156,27 +156,27 @@ def test_status_lists_receipts_at_which_a_trace_may_end(settled):
     for key, lot in (("K20", "B-20"), ("K21", "B-21"), ("K22", "B-22"), ("K23", "B-20")):
         settled.run("receive", "ACME", key, "BRINE", lot, "BAY1", 5, 103)
     settled.run("receive", "ACME", "K24", "SALT", "S-24", "BAY1", 5, 103)
-    told = settled.run("status")
-    assert "3 receipts of what batches make" in told.out and "K23" not in told.out and "S-24" not in told.out
+    done = settled.run("status")
+    assert "3 receipts of what batches make" in done.out and "K23" not in done.out and "S-24" not in done.out
     noted(settled, "link", "ACME", "B-20", "B-1", "--why", "rework")
     noted(settled, "note", "not-linked", "ACME", "K21")
-    told = settled.run("status")
-    assert "1 receipt of what batches make" in told.out and "B-22" in told.out
+    done = settled.run("status")
+    assert "1 receipt of what batches make" in done.out and "B-22" in done.out
     assert settled.run("note", "not-linked", "ACME", "K3").status == 1
     assert "receipts of what" not in settled.run("status", "--prometheus").out
 
 
 def test_status_tells_a_journal_that_can_t_be_read(settled):
     settled.journal.symlink_to("/dev/zero")
-    told = settled.run("status")
-    assert told.status == 1 and "ATTENTION: the journal" in told.out and "opens" in told.out
+    done = settled.run("status")
+    assert done.status == 1 and "ATTENTION: the journal" in done.out and "opens" in done.out
 
 
 def test_the_journal_shows_notes_in_words_and_finds_their_lots(settled):
     settled.run(*RETURNED)
     noted(settled, "link", "ACME", "B-1", "S-1", "--why", "rework")
-    told = settled.run("journal", "--no-site", "--csv").out
-    assert "noted: lot ACME B-1R contains some of lot ACME B-1 (return),accepted" in told and "noted: lot ACME B-1 contains some of lot ACME S-1 (rework),noted" in told
+    text = settled.run("journal", "--no-site", "--csv").out
+    assert "noted: lot ACME B-1R contains some of lot ACME B-1 (return),accepted" in text and "noted: lot ACME B-1 contains some of lot ACME S-1 (rework),noted" in text
     assert settled.run("journal", "--no-site", "--word", "B-1", "--csv").out.count("\n") == 3
 
 
@@ -191,8 +191,8 @@ def test_a_new_office_doesn_t_begin_with_the_notes_of_another(settled):
     noted(settled, "link", "ACME", "B-1", "S-1", "--why", "rework")
     for end in ("", "-wal"):
         os.unlink(f"{settled.db}{end}")
-    told = settled.run("new", settled.db)
-    assert told.status == 2 and "notes of the office that was here" in told.err and not settled.db.exists()
+    done = settled.run("new", settled.db)
+    assert done.status == 2 and "notes of the office that was here" in done.err and not settled.db.exists()
     settled.journal.rename(settled.folder / "kept.journal")
     assert settled.run("new", settled.db).status == 0
 

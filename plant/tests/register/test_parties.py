@@ -49,9 +49,9 @@ def test_a_later_note_of_a_party_counts_and_both_stay(at_work):
     assert at_work.run(*NORD).out.startswith("noted ")
     assert at_work.run("party", "add", "ACME", "NORD", "--name", "Nord Foods plc", "--role", "customer", "--role", "carrier").status == 0
     assert at_work.run("party", "add", "HOUSE", "NORD", "--name", "The plant's own", "--role", "supplier").status == 0
-    assert [(it["owner"], it["name"], it["roles"], it["phone"]) for it in parties(at_work)] == [
+    assert [(party["owner"], party["name"], party["roles"], party["phone"]) for party in parties(at_work)] == [
         ("ACME", "Nord Foods plc", "customer, carrier", ""), ("HOUSE", "The plant's own", "supplier", "")]
-    assert [it["owner"] for it in parties(at_work, "HOUSE")] == ["HOUSE"]
+    assert [party["owner"] for party in parties(at_work, "HOUSE")] == ["HOUSE"]
     assert json.loads(at_work.run("party", "list", "ACME", "--json").out)[0]["party"] == "NORD"
     names = [note["name"] for line in at_work.lines() if line["event"] == "note" for note in line["notes"]]
     assert names == ["Nord Foods Ltd", "Nord Foods plc", "The plant's own"]
@@ -63,19 +63,19 @@ def test_a_later_note_of_a_party_counts_and_both_stay(at_work):
     (("ACME", "NORD", "--name", "N"), 2, "--role"), (("ACME", "NORD", "--role", "customer"), 2, "--name"),
     (("ACME", "NORD", "--name", " ", "--role", "customer"), 2, "is empty"), (("ACME", "NORD", "--name", "N", "--role", "friend"), 2, "friend")])
 def test_what_is_no_party_is_refused(at_work, words, status, why):
-    told = at_work.run("party", "add", *words)
-    assert told.status == status and why in told.err and told.out == "" and parties(at_work) == [] and at_work.lines() == []
+    done = at_work.run("party", "add", *words)
+    assert done.status == status and why in done.err and done.out == "" and parties(at_work) == [] and at_work.lines() == []
 
 
 @pytest.mark.parametrize("text", HOSTILE)
 def test_no_text_is_more_than_a_line_that_can_be_seen(noting, text):
     before = len(noting.lines())
     for option in ("--name", "--address", "--contact", "--phone"):
-        told = noting.run("party", "add", "ACME", "X", "--role", "customer", *(() if option == "--name" else ("--name", "X")), option, text)
-        assert told.status == 2 and text not in told.err
+        done = noting.run("party", "add", "ACME", "X", "--role", "customer", *(() if option == "--name" else ("--name", "X")), option, text)
+        assert done.status == 2 and text not in done.err
     for words in ((*SHIP, "--document", text), (*RECEIVE, "--supplier-lot", text), (*SHIP, "--to", text)):
-        told = noting.run(*words)
-        assert told.status == 2 and text not in told.err
+        done = noting.run(*words)
+        assert done.status == 2 and text not in done.err
     assert len(noting.lines()) == before and noting.rows("SELECT 1 FROM moves WHERE mkey IN ('K7', 'K8')") == []
 
 
@@ -83,7 +83,7 @@ def test_two_hundred_letters_of_any_script_are_a_text(noting):
     text = ("Łódź 北京 שלום <b>&amp; " * 20)[:200]
     assert noting.run(*SHIP, "--to", "NORD", "--document", text).status == 0 and noted(noting, "K7") == ("NORD", "", text)
     assert noting.run("party", "add", "ACME", "LONG", "--name", text, "--address", text, "--role", "customer").status == 0
-    assert [it["name"] for it in parties(noting) if it["party"] == "LONG"] == [text]
+    assert [party["name"] for party in parties(noting) if party["party"] == "LONG"] == [text]
 
 
 @pytest.mark.parametrize("words, why", [
@@ -92,14 +92,14 @@ def test_two_hundred_letters_of_any_script_are_a_text(noting):
     (("receive", "BOLT", "K8", "PIGMENT", "P-2", "BAY1", "70", "261104", "--from", "SALINE"), "there is no party SALINE of BOLT")])
 def test_a_party_that_cannot_stand_there_is_refused_before_anything_is_done(noting, words, why):
     before, lines = noting.content(), noting.lines()
-    told = noting.run(*words)
-    assert told.status == 1 and why in told.err and "hilpoven party add" in told.err and told.out == ""
+    done = noting.run(*words)
+    assert done.status == 1 and why in done.err and "hilpoven party add" in done.err and done.out == ""
     assert noting.content() == before and noting.lines() == lines
 
 
 def test_what_is_noted_of_a_movement_stands_in_the_commands_own_line(noting):
-    told = noting.run(*SHIP, "--to", "NORD", "--document", "LS 4711")
-    assert told == (0, "accepted\n", "")
+    done = noting.run(*SHIP, "--to", "NORD", "--document", "LS 4711")
+    assert done == (0, "accepted\n", "")
     asked, answered = noting.lines()[-2:]
     assert asked["words"] == list(SHIP) and asked["notes"] == [{"kind": "movement", "owner": "ACME", "key": "K7", "party": "NORD", "document": "LS 4711"}]
     assert answered["of"] == asked["id"] and noted(noting, "K7") == ("NORD", "", "LS 4711")
@@ -128,24 +128,24 @@ def test_the_settings_may_require_a_recipient(noting):
     noting.settle()
     path = noting.folder / "hilpoven.toml"
     path.write_text(path.read_text() + "[require]\nrecipient = true\n")
-    told = noting.run(*SHIP)
-    assert told.status == 2 and "--to PARTY is missing" in told.err and noting.rows("SELECT 1 FROM moves WHERE mkey = 'K7'") == []
+    done = noting.run(*SHIP)
+    assert done.status == 2 and "--to PARTY is missing" in done.err and noting.rows("SELECT 1 FROM moves WHERE mkey = 'K7'") == []
     assert noting.run(*SHIP, "--to", "NORD").status == 0 and noting.run(*RECEIVE).status == 0
     sheet = noting.folder / "shipments.csv"
     sheet.write_text("owner,key,lot,sublot,amount,day\nACME,K20,B-1,TOTE1,1,261104\n")
-    told = noting.run("import", "--what", "shipments", sheet)
-    assert told.status == 1 and "the header lacks to" in told.err
+    done = noting.run("import", "--what", "shipments", sheet)
+    assert done.status == 1 and "the header lacks to" in done.err
     sheet.write_text("owner,key,lot,sublot,amount,day,to\nACME,K20,B-1,TOTE1,1,261104,\nACME,K21,B-1,TOTE1,1,261104,NORD\n")
-    told = noting.run("import", "--what", "shipments", sheet)
-    assert told.status == 1 and "row 2, column G (to): it is empty" in told.err and "1 accepted" in told.out and noted(noting, "K21") == ("NORD", "", "")
+    done = noting.run("import", "--what", "shipments", sheet)
+    assert done.status == 1 and "row 2, column G (to): it is empty" in done.err and "1 accepted" in done.out and noted(noting, "K21") == ("NORD", "", "")
 
 
 @pytest.mark.parametrize("text, why", [("require = true\n", "require is to be a table"), ("[require]\nrecipient = 1\n", "recipient is to be true or false"),
                                        ("[require]\nsender = true\n", "sender is nothing to require")])
 def test_what_the_settings_cannot_require_is_told(at_work, text, why):
     (at_work.folder / "hilpoven.toml").write_text(text)
-    told = at_work.run("party", "list")
-    assert told.status == 2 and why in told.err
+    done = at_work.run("party", "list")
+    assert done.status == 2 and why in done.err
 
 
 SHIPMENTS = """Owner;Key;Lot;Sublot;Amount;Day;To;Document
@@ -161,17 +161,17 @@ ACME;K25;B-9;TOTE1;9;261104;NORD;LS 4714
 def test_a_sheet_of_shipments_goes_in_with_what_is_noted(noting):
     sheet, before = noting.folder / "shipments.csv", noting.content()
     sheet.write_text(SHIPMENTS)
-    told = noting.run("import", "--what", "shipments", "--check", sheet)
-    assert told.status == 1 and told.out == "3 rows can be given, 3 can't be read\n" and noting.content() == before
-    told = noting.run("import", "--what", "shipments", sheet)
-    assert told.out.splitlines() == ["row 7 (ACME K25): refused 27 UnknownLot: the owner has no lot of this name",
+    done = noting.run("import", "--what", "shipments", "--check", sheet)
+    assert done.status == 1 and done.out == "3 rows can be given, 3 can't be read\n" and noting.content() == before
+    done = noting.run("import", "--what", "shipments", sheet)
+    assert done.out.splitlines() == ["row 7 (ACME K25): refused 27 UnknownLot: the owner has no lot of this name",
                                      "6 shipments: 2 accepted, 0 there already, 1 refused, 3 can't be read"]
-    assert told.err.splitlines() == [
+    assert done.err.splitlines() == [
         "row 3, column G (to): VAN of ACME is a carrier, and no customer: it gets no shipment", "row 5, column G (to): there is no party SUD of ACME",
         "row 6, column H (document): 4713 is digits alone, as a sheet makes them of 1E5 or 007; --digits document takes it as it stands"]
     assert noted(noting, "K20") == ("NORD", "", "LS 4711") and noted(noting, "K22") == ("", "", "")
-    told = noting.run("import", "--what", "shipments", "--digits", "document", sheet)
-    assert told.out.splitlines()[-1] == "6 shipments: 1 accepted, 2 there already, 1 refused, 2 can't be read" and noted(noting, "K24") == ("NORD", "", "4713")
+    done = noting.run("import", "--what", "shipments", "--digits", "document", sheet)
+    assert done.out.splitlines()[-1] == "6 shipments: 1 accepted, 2 there already, 1 refused, 2 can't be read" and noted(noting, "K24") == ("NORD", "", "4713")
 
 
 def test_a_sheet_that_is_given_again_notes_what_was_missing(noting):
@@ -179,8 +179,8 @@ def test_a_sheet_that_is_given_again_notes_what_was_missing(noting):
     sheet.write_text("owner,key,material,lot,sublot,amount,day\nACME,K30,SALT,S-30,BAY1,5,102\n")
     assert noting.run("import", "--what", "receipts", sheet).status == 0 and noted(noting, "K30") == ("", "", "")
     sheet.write_text("owner,key,material,lot,sublot,amount,day,from,supplier_lot,document\nACME,K30,SALT,S-30,BAY1,5,102,SALINE,SAL/7,D 1\n")
-    told = noting.run("import", "--what", "receipts", sheet)
-    assert told.out == "1 receipt: 0 accepted, 1 there already, 0 refused, 0 can't be read; nothing was new\n" and noted(noting, "K30") == ("SALINE", "SAL/7", "D 1")
+    done = noting.run("import", "--what", "receipts", sheet)
+    assert done.out == "1 receipt: 0 accepted, 1 there already, 0 refused, 0 can't be read; nothing was new\n" and noted(noting, "K30") == ("SALINE", "SAL/7", "D 1")
 
 
 def test_a_workbook_has_texts_as_they_were_typed(noting):
@@ -190,9 +190,9 @@ def test_a_workbook_has_texts_as_they_were_typed(noting):
         book.active.append(["ACME", key, "B-1", "TOTE1", 5, 102, "NORD", document])
     path = noting.folder / "sheet.xlsx"
     book.save(path)
-    told = noting.run("import", "--what", "shipments", path)
-    assert told.out == "5 shipments: 2 accepted, 0 there already, 0 refused, 3 can't be read\n"
-    assert [line.split(": ")[1][:24] for line in told.err.splitlines()] == ["it is a formula without ", "4711 is held as a number", "it has a line end; a tex"]
+    done = noting.run("import", "--what", "shipments", path)
+    assert done.out == "5 shipments: 2 accepted, 0 there already, 0 refused, 3 can't be read\n"
+    assert [line.split(": ")[1][:24] for line in done.err.splitlines()] == ["it is a formula without ", "4711 is held as a number", "it has a line end; a tex"]
     assert noted(noting, "K23")[2] == "'=cmd|' /C calc'!A0" and noted(noting, "K24")[2] == "007"
 
 
@@ -225,8 +225,8 @@ def test_a_member_notes_parties_and_movements(noting):
     sheet = "owner,key,lot,sublot,amount,day,to\nACME,K20,B-1,TOTE1,5,261104,SUED\n"
     assert noting.as_member("import", "--what", "shipments", "-", stdin=sheet).status == 0
     assert noting.as_member("import", "--what", "shipments", noting.folder / "x.csv").status == 2
-    told = noting.as_member("papers", "delivery-note", "ACME", "K7", noting.folder / "note")
-    assert told.status == 2 and not (noting.folder / "note").exists()
+    done = noting.as_member("papers", "delivery-note", "ACME", "K7", noting.folder / "note")
+    assert done.status == 2 and not (noting.folder / "note").exists()
 
 
 def test_what_is_known_later_is_noted_later(noting):
@@ -248,8 +248,8 @@ def test_what_is_known_later_is_noted_later(noting):
 def test_what_cannot_be_noted_of_a_movement_is_refused(noting, words, status, why):
     assert noting.run(*SHIP).status == 0 and noting.run(*RECEIVE).status == 0
     lines = noting.lines()
-    told = noting.run("note", "movement", *words)
-    assert told.status == status and why in told.err and told.out == "" and noting.lines() == lines
+    done = noting.run("note", "movement", *words)
+    assert done.status == status and why in done.err and done.out == "" and noting.lines() == lines
 
 
 def test_a_customer_sends_a_return(noting):
@@ -268,7 +268,7 @@ def test_a_note_that_is_withdrawn_does_not_count(noting):
     assert noting.run("party", "add", "ACME", "NORD", "--name", "Nord Foods plc", "--role", "customer").status == 0
     name = [line["id"] for line in noting.lines() if line["event"] == "note"][-1]
     assert noting.run("note", "withdraw", name, "--reason", "it is a Ltd").status == 0
-    assert [it["name"] for it in parties(noting) if it["party"] == "NORD"] == ["Nord Foods Ltd"]
+    assert [party["name"] for party in parties(noting) if party["party"] == "NORD"] == ["Nord Foods Ltd"]
     name = [line["id"] for line in noting.lines() if line["event"] == "asked" and "notes" in line][-1]
     assert noting.run("note", "withdraw", name, "--reason", "it went elsewhere").status == 0 and noted(noting, "K7") == ("", "", "")
 
@@ -277,16 +277,16 @@ def test_what_was_noted_goes_on_over_a_carry_over(noting):
     assert noting.run(*SHIP, "--to", "NORD", "--document", "LS 1").status == 0 and noting.run("ship", "ACME", "K9", "B-1", "TOTE1", "20", "261104").status == 0
     for words in (("do", "ACME", "O-1", 1, "done"), ("close", "ACME", "O-1", 1), ("carry-over", "--day", 261128)):
         assert noting.run(*words).status == 0, words
-    assert [it["party"] for it in parties(noting)] == ["NORD", "SALINE", "VAN"]
+    assert [party["party"] for party in parties(noting)] == ["NORD", "SALINE", "VAN"]
     assert noting.run("ship", "ACME", "K20", "B-1", "TOTE1", "30", "261129", "--to", "NORD").out == "accepted\n" and noted(noting, "K20") == ("NORD", "", "")
     assert noting.run("ship", "ACME", "K9", "B-1", "TOTE1", "20", "261104", "--to", "NORD").out == "repeated\n"
     assert noting.run("ship", "ACME", "K7", "B-1", "TOTE1", "5", "261130").out == "accepted\n" and noted(noting, "K7") == ("", "", "")
     assert noting.run("papers", "recall", "HOUSE", "W-101", noting.folder / "made", "--no-pdf").status == 0
     shipped = rows_of((noting.folder / "made" / "plant" / "shipments.csv").read_text())
-    assert [(it["key"], it["amount"], it["noted_party"], it["noted_document"]) for it in shipped] == [
+    assert [(row["key"], row["amount"], row["noted_party"], row["noted_document"]) for row in shipped] == [
         ("K7 (office-1.db)", "100", "NORD", "LS 1"), ("K9", "20", "NORD", ""), ("K20", "30", "NORD", ""), ("K7", "5", "", "")]
     ledger = json.loads(noting.run("years", "lot", "ACME", "B-1", "--json").out)["ledger"]
-    assert [it["noted party"] for it in ledger if it["kind"] == "ship"] == ["NORD", "NORD", "NORD", ""]
+    assert [row["noted party"] for row in ledger if row["kind"] == "ship"] == ["NORD", "NORD", "NORD", ""]
 
 
 def test_a_party_of_a_shipment_that_is_withdrawn_is_named_without_a_contact(noting):

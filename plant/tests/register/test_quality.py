@@ -85,8 +85,8 @@ def test_a_login_signs_nothing_that_it_recorded_in_words(office, by, name):
         assert by(office, "cora", *words.split()).status == 0
     for words in RECORDS[name]:
         assert by(office, "anna", *words.split()).status == 0
-    told = by(office, "anna", "sign", "ACME", "P-9")
-    assert told.status == 1 and told.out == "" and "anna recorded results or movements of lot ACME P-9" in told.err
+    done = by(office, "anna", "sign", "ACME", "P-9")
+    assert done.status == 1 and done.out == "" and "anna recorded results or movements of lot ACME P-9" in done.err
     assert office.rows("SELECT * FROM results WHERE test = 'QA'") == []
     assert by(office, "bert", "sign", "ACME", "P-9").out == "accepted\n"
 
@@ -126,8 +126,8 @@ def test_whoever_was_refused_recorded_nothing_and_the_settings_may_let_one_perso
 
 def test_a_lot_is_signed_when_its_own_tests_are_passed(office, by):
     by(office, "anna", "receive", "ACME", "K20", "PASTE", "P-9", "BAY1", 5, 103)
-    told = by(office, "bert", "sign", "ACME", "P-9")
-    assert told.status == 1 and "lot ACME P-9 has no result within the limits of PH" in told.err
+    done = by(office, "bert", "sign", "ACME", "P-9")
+    assert done.status == 1 and "lot ACME P-9 has no result within the limits of PH" in done.err
     assert by(office, "bert", "sign", "ACME", "P-0").status == 1 and by(office, "bert", "sign", "ACNE", "P-9").status == 1
     assert by(office, "bert", "sign", "ACME", "P-8", "--day", "1x").status == 2 and by(office, "bert", "hold", "ACME", "P-8").status == 2
     assert office.rows("SELECT * FROM results WHERE test = 'QA'") == []
@@ -135,10 +135,10 @@ def test_a_lot_is_signed_when_its_own_tests_are_passed(office, by):
 
 def test_nobody_types_a_result_of_the_plants_own_test(office):
     lines = office.lines()
-    told = office.run("result", "ACME", "P-8", "QA", 1, 103)
-    assert told.status == 1 and told.out == "" and "`hilpoven sign ACME P-8`" in told.err
-    told = office.run("import", "--what", "results", "-", stdin="owner,lot,test,value,day\nACME,P-8,QA,1,103\nACME,P-8,PH,8,103\n")
-    assert told.status == 1 and "row 2 (ACME P-8 QA): refused by hilpoven" in told.out and "1 accepted, 0 there already, 1 refused" in told.out
+    done = office.run("result", "ACME", "P-8", "QA", 1, 103)
+    assert done.status == 1 and done.out == "" and "`hilpoven sign ACME P-8`" in done.err
+    done = office.run("import", "--what", "results", "-", stdin="owner,lot,test,value,day\nACME,P-8,QA,1,103\nACME,P-8,PH,8,103\n")
+    assert done.status == 1 and "row 2 (ACME P-8 QA): refused by hilpoven" in done.out and "1 accepted, 0 there already, 1 refused" in done.out
     assert office.rows("SELECT value FROM results WHERE test = 'QA'") == [] and len(office.lines()) == len(lines) + 2
     for words in (["material-add", "ACME", "GLUE", "kg"], ["test-add", "ACME", "GLUE", "QA", 1, 5], ["receive", "ACME", "K30", "GLUE", "G-1", "BAY1", 5, 103]):
         assert office.run(*words).status == 0
@@ -147,12 +147,12 @@ def test_nobody_types_a_result_of_the_plants_own_test(office):
 
 def test_a_lot_without_the_plants_test_is_held_by_a_note_which_hilpoven_goes_by(settled, by):
     assert settled.run("ship", "ACME", "K9", "S-1", "BAY1", 5, 103).out == "accepted\n"
-    told = by(settled, "bert", "hold", "ACME", "S-1", "--reason", "wet", "--day", 103)
-    assert told.status == 0 and told.out.startswith("noted ") and quality_of(settled, "S-1") == "held: wet"
+    done = by(settled, "bert", "hold", "ACME", "S-1", "--reason", "wet", "--day", 103)
+    assert done.status == 0 and done.out.startswith("noted ") and quality_of(settled, "S-1") == "held: wet"
     actual = ["ACME", "O-1", 1, 1, "consumed", "SALT", "ACME", "S-1", "BAY1", 5, 103]
     for words in (["ship", "ACME", "K10", "S-1", "BAY1", 5, 103], ["actual", "K11", *actual]):
-        told = settled.run(*words)
-        assert told == (1, "", "refused by hilpoven: lot S-1 of ACME is held: wet; `hilpoven sign ACME S-1` lets it go\n")
+        done = settled.run(*words)
+        assert done == (1, "", "refused by hilpoven: lot S-1 of ACME is held: wet; `hilpoven sign ACME S-1` lets it go\n")
     assert settled.run("papers", "certificate", "ACME", "S-1", settled.folder / "held", "--no-pdf").status == 0
     page = (settled.folder / "held" / "certificate.html").read_text()
     assert "This lot is held: it is not to be used." in page and "This lot is released" not in page
@@ -160,8 +160,8 @@ def test_a_lot_without_the_plants_test_is_held_by_a_note_which_hilpoven_goes_by(
     sheet = SHIPMENTS + "ACME,K9,S-1,BAY1,5,103\nACME,K10,S-1,BAY1,5,103\n"
     assert "1 there already, 1 refused" in settled.run("import", "--what", "shipments", "-", stdin=sheet).out
     sheet = ACTUALS + "K2,ACME,O-1,1,1,consumed,SALT,ACME,S-1,BAY1,300,101\nK12,ACME,O-1,1,1,consumed,SALT,ACME,S-1,BAY1,5,103\nK13,ACME,O-1,1,2,produced,BRINE,ACME,B-2,TOTE1,5,103\n"
-    told = settled.run("import", "-", stdin=sheet)
-    assert "row 3 (ACME K12): refused by hilpoven: lot S-1 of ACME is held: wet" in told.out and "1 accepted, 1 there already, 1 refused" in told.out
+    done = settled.run("import", "-", stdin=sheet)
+    assert "row 3 (ACME K12): refused by hilpoven: lot S-1 of ACME is held: wet" in done.out and "1 accepted, 1 there already, 1 refused" in done.out
     assert settled.run("ship", "ACME", "K9", "S-1", "BAY1", 5, 103).out == "repeated\n"
     assert settled.run("split", "ACME", "K14", "S-1", "BAY1", "BAY2", 5, 103).status == settled.run("scrap", "ACME", "K15", "S-1", "BAY1", 5, 103).status == 0
     assert {key for key, in settled.rows("SELECT mkey FROM moves WHERE lot = 'S-1'")} == {"K1", "K2", "K9", "K14", "K15"}
@@ -197,8 +197,8 @@ def test_a_held_lot_stays_held_in_the_next_file(office, by):
     assert by(office, "bert", "hold", "ACME", "P-8", "--reason", "metal", "--day", 104).status == 0
     assert by(office, "bert", "hold", "ACME", "S-1", "--reason", "wet", "--day", 104).status == 0
     office.lay("do ACME O-1 1 stop\ndo ACME O-1 1 done\nclose ACME O-1 1\n")
-    told = office.run("carry-over", office.folder / "next.db", "--day", 261127)
-    assert told.status == 0, told
+    done = office.run("carry-over", office.folder / "next.db", "--day", 261127)
+    assert done.status == 0, done
     assert [quality_of(office, lot) for lot in ("P-8", "S-1")] == ["held: metal", "held: wet"]
     assert office.run("ship", "ACME", "K50", "S-1", "BAY1", 5, 103).status == 1
     assert by(office, "anna", "sign", "ACME", "P-8").status == 1 and by(office, "bert", "sign", "ACME", "P-8").status == 0
@@ -229,8 +229,8 @@ def test_reasons_are_kept_and_shown(settled, by):
         assert settled.run(*words.split(), "--reason", f"why {at}").out == "accepted\n"
     assert settled.run("scrap", "ACME", "K21", "B-1", "TOTE1", 5000, 103, "--reason", "too much").status == 1
     assert settled.run("void", "ACME", "K3", "--reason", "").status == 2
-    told = settled.run("note", "list").out
-    assert all(f"why {at}" in told for at in range(5)) and "abort O-1/1 of ACME: why 3" in told
+    text = settled.run("note", "list").out
+    assert all(f"why {at}" in text for at in range(5)) and "abort O-1/1 of ACME: why 3" in text
     for words, expected in ((["lot", "ACME", "B-1"], ["why 0"]), (["batch", "ACME", "O-1", "1"], ["why 1", "why 3"]), (["lot", "HOUSE", "W-101"], ["why 2"])):
         folder = settled.folder / "-".join(words)
         assert settled.run("papers", *words, folder, "--no-pdf").status == 0
@@ -240,16 +240,16 @@ def test_reasons_are_kept_and_shown(settled, by):
 
 
 def test_a_material_with_all_its_tests_is_one_step(office, by):
-    told = office.run(*PASTE)
-    assert told.status == 0 and told.out.splitlines() == [
+    done = office.run(*PASTE)
+    assert done.status == 0 and done.out.splitlines() == [
         "material-add ACME PASTE kg: there already", "test-add ACME PASTE PH M5 9: there already", "test-add ACME PASTE QA 1 1: there already"]
     lines = len(office.lines())
     for words, status in (([*PASTE[:3], "PASTE", "liter"], 1), ([*PASTE[:5], "--test", "PH", "-5", "8"], 1), ([*PASTE[:5], "--test", "QA", "0", "1"], 2),
                           ([*PASTE[:3], "paste", "kg"], 2), ([*PASTE[:5], "--test", "PH", "9", "-5"], 2), (["material", "new", "ACNE", "GLUE", "kg"], 1)):
         assert office.run(*words).status == status
     assert len(office.lines()) == lines
-    told = office.run("material", "new", "ACME", "SALT", "kg")
-    assert told.status == 1 and told.out == "material-add ACME SALT kg: there already\ntest-add ACME SALT QA 1 1: refused 10 MaterialInUse\n"
+    done = office.run("material", "new", "ACME", "SALT", "kg")
+    assert done.status == 1 and done.out == "material-add ACME SALT kg: there already\ntest-add ACME SALT QA 1 1: refused 10 MaterialInUse\n"
 
 
 @pytest.mark.parametrize("value", [
@@ -266,5 +266,5 @@ def test_what_no_command_notes_is_no_note(value):
                                        ("[quality]\npersons = 3\n", "persons is to be from 1 to 2"), ("[quality]\nname = \"QA\"\n", "name is no line of [quality]")])
 def test_wrong_settings_are_told(settled, text, why):
     settle(settled, text)
-    told = settled.run("list", "lots")
-    assert told.status == 2 and why in told.err
+    done = settled.run("list", "lots")
+    assert done.status == 2 and why in done.err

@@ -49,13 +49,13 @@ def try_command(laid: Plant, folder: pathlib.Path, name: str, kills: int) -> int
 
 def require_whole(plant: Plant) -> None:
     """The journal verifies, and the register is what a fold from its first line gives."""
-    found = check(str(plant.journal))
-    assert found.wrong == [] and found.notes == [], found
+    checked = check(str(plant.journal))
+    assert checked.wrong == [] and checked.notes == [], checked
     journal, fresh = Journal(str(plant.journal), str(plant.db)), folding.Folded()
     assert file.difference(journal) == ""
     folding.fold_on(journal.path, fresh)
     assert file.rebuild(journal).notes == fresh.notes and file.difference(journal) == ""
-    assert sorted(it for it in os.listdir(plant.folder) if "register" in it) == ["office.db.register"]
+    assert sorted(name for name in os.listdir(plant.folder) if "register" in name) == ["office.db.register"]
 
 
 @pytest.mark.parametrize("name", COMMANDS)

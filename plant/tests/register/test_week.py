@@ -117,8 +117,8 @@ def test_over_a_carry_over_recalls_reach_the_same(carried, lot, tmp_path):
 
 def test_in_the_next_file_the_plants_command_finds_what_came_over(carried):
     assert recalled(carried, ("HOUSE", "AF-1")) == {name: (*line[:3], 0) for name, line in REACHED["HOUSE", "AF-1"].items()}
-    told = carried.run("recall", "ACME", "BU-0002")
-    assert told.status == 1 and "years" in told.err
+    done = carried.run("recall", "ACME", "BU-0002")
+    assert done.status == 1 and "years" in done.err
 
 
 CORRECTED = {  # the lines of "I recorded it wrongly" at which a trace would end: what is typed, the lot that is recalled, and what its recall has to have
@@ -139,7 +139,7 @@ CORRECTED = {  # the lines of "I recorded it wrongly" at which a trace would end
 def test_what_was_recorded_wrongly_and_corrected_stays_in_the_trace(settled, case):
     typed, lot, reached = CORRECTED[case]
     for line in typed:
-        told = settled.run(*line.split())
-        assert told.status == 0 and told.out.startswith(("accepted\n", "noted ")), (line, told)
+        done = settled.run(*line.split())
+        assert done.status == 0 and done.out.startswith(("accepted\n", "noted ")), (line, done)
     lines = settled.run("recall", *lot.split()).out.splitlines()
     assert reached <= {line.split()[2] for line in lines if line.split()[:1] and line.split()[0].isdecimal()}, lines

@@ -27,6 +27,7 @@ Example: hilpoven stock ACME
 
 NOTED_LINES = {"receive", "ship", "scrap", "actual", "void", "reject", "cancel", "do", "test-add", "result"}
 NOTING = ["link", "use", "note", "party", "describe", "material", "sign", "hold"]
+OF_ANOTHER_OFFICE = {"demo", "setup"}  # which that of the settings doesn't concern
 COMPLETION = "_HILPOVEN_COMPLETE"  # the variable by which a shell asks for completions
 MOST_LETTERS = 4_096  # of a word of a command
 STREAMS = (("stdin", "r", os.O_WRONLY), ("stdout", "w", os.O_RDONLY), ("stderr", "w", os.O_RDONLY))
@@ -58,6 +59,7 @@ SUBCOMMANDS: Makers = {
     "drill": imported("drills", "drill_group"),
     "for": imported("on_behalf", "for_command"),
     "import": imported("importing", "import_command"),
+    "count": imported("counting", "count_group"),
     "to-csv": imported("converting", "to_csv"),
     "list": imported("listing", "list_group"),
     "show": imported("showing", "show_group"),
@@ -67,10 +69,15 @@ SUBCOMMANDS: Makers = {
     "papers": imported("papers", "papers_group"),
     "labels": imported("labels", "labels"),
     "board": imported("board", "board"),
+    "companion": imported("companion", "companion"),
     **{name: imported("upkeep", name) for name in ("new", "backup", "restore", "verify")},
+    "follow": imported("following", "follow_group"),
+    "promote": imported("following", "promote"),
     "register": imported("noting", "register_group"),
     "carry-over": imported("carrying", "carry_over"),
     "years": imported("years", "years_group"),
+    "demo": imported("demo", "demo"),
+    "setup": imported("setup", "setup"),
     "complete": imported("completion", "complete"),
 }
 
@@ -83,13 +90,14 @@ class Commands(Group):
     def sections(self) -> dict[str, list[str]]:
         """What records and what asks."""
         return {
-            "Record": [name for name, it in LINES.items() if not it.is_question] + ["for", *NOTING, "import", "to-csv"],
-            "Ask": [name for name, it in LINES.items() if it.is_question] + ["list", "show"],
+            "Record": [name for name, line in LINES.items() if not line.is_question]
+            + ["for", *NOTING, "import", "count", "to-csv"],
+            "Ask": [name for name, line in LINES.items() if line.is_question] + ["list", "show"],
         }
 
     def parse_args(self, ctx: click.Context, args: list[str]) -> list[str]:
         """Fails where a word is longer than any value and any path: the journal would keep all of it."""
-        if any(len(it) > MOST_LETTERS for it in args):
+        if any(len(word) > MOST_LETTERS for word in args):
             raise Failure(f"a word has more than {MOST_LETTERS:,} letters", WRONG_USE)
         return super().parse_args(ctx, args)
 
@@ -131,7 +139,13 @@ class Commands(Group):
 @click.pass_context
 def hilpoven(context: click.Context, db: str | None, office: str, wait: float | None) -> None:
     """Reads the settings, by which a command may be for a role alone."""
-    context.obj = Context(site.load(office=office, db=db or ""), db or "").waiting(wait)
+    is_of_another = context.invoked_subcommand in OF_ANOTHER_OFFICE
+    if is_of_another and (db or office):
+        raise Failure(
+            f"{context.invoked_subcommand} makes an office of its own: leave --db and --office out", WRONG_USE
+        )
+    settings = site.Settings() if is_of_another else site.load(office=office, db=db or "")
+    context.obj = Context(settings, db or "").waiting(wait)
     context.call_on_close(context.obj.end)
     roles.require(context.obj, context.invoked_subcommand or "")
 

@@ -4,15 +4,16 @@ import sys
 
 import click
 
+from .. import HOUSE
 from ..core import forms, names
 from ..core.context import Context
 from ..core.failure import REFUSED, WRONG_USE, Failure
 from ..output.table import print_table
 from ..records.days import day_of, today
-from ..years import chain, steps
-from ..years.carrying import COMMAND, Work, hindrances, prepared
+from ..years import steps
+from ..years.carrying import COMMAND, Work, has_owner, hindrances, prepared
 from ..years.carrying import carry_over as carry
-from .words import PATH, pass_context
+from .words import NAME, PATH, pass_context
 
 NEW = "next.db"
 MOST_ORDERS, MOST_GAUGES = 40, 12  # that are shown
@@ -21,7 +22,7 @@ GAUGES = ["owner", "of", "there are", "it begins with", "most", "full"]
 
 def print_plan(work: Work) -> None:
     """Prints how full the new file begins, and which orders stay behind."""
-    with chain.reading(work.copy) as base:
+    with work.reading() as base:
         gauges = [
             (owner, what, before, after, most, f"{after * 100 // most} %")
             for owner, what, before, after, most in steps.fullness(base)
@@ -37,7 +38,7 @@ def print_plan(work: Work) -> None:
 
 def print_staying(work: Work) -> None:
     """Prints the orders that stay behind: what is left of them is placed under a new name."""
-    with chain.reading(work.copy) as base:
+    with work.reading() as base:
         orders = base.execute(steps.STAYING).fetchall()
     if left := [order for order in orders if order[5]]:
         click.echo("\nOrders that were begun stay behind. What is left of them is placed under a new name:")
@@ -51,6 +52,17 @@ def note(text: str) -> None:
     """Tells those who wait at a terminal what is done now."""
     if sys.stderr.isatty():
         click.echo(text, err=True)
+
+
+def require_owners(work: Work) -> None:
+    """Fails unless those that leave are owners; one that left with the last carry-over has left already."""
+    for owner in work.without:
+        if owner == HOUSE:
+            raise Failure(f"{HOUSE} is the plant itself, and stays", WRONG_USE)
+        last = work.earlier[-1:] if work.earlier else []
+        paths = [work.copy, *(part.path for part in last)]
+        if not any(has_owner(path, owner) for path in paths):
+            raise Failure(f"there is no owner {owner}", REFUSED)
 
 
 def do(work: Work) -> None:
@@ -95,8 +107,15 @@ def target_of(file: str, new: str | None) -> str:
     is_flag=True,
     help="Only shows what would be done, how full the new file would be, and what prevents it.",
 )
+@click.option(
+    "--without",
+    metavar="OWNER",
+    multiple=True,
+    type=NAME,
+    help="An owner that leaves, and has nothing on hand; its rows stay in the earlier file.",
+)
 @pass_context
-def carry_over(context: Context, new: str | None, day: str, is_plan: bool) -> None:
+def carry_over(context: Context, new: str | None, day: str, is_plan: bool, without: tuple[str, ...]) -> None:
     """Continues in a new file that starts with the stock in the plant. Nothing that was recorded is lost.
 
     NEW, or next.db in the folder of the office's file, is the new file's name until it takes the name of the office's
@@ -111,8 +130,11 @@ def carry_over(context: Context, new: str | None, day: str, is_plan: bool) -> No
         raise Failure(f"DAY: `{day}` {fault}", WRONG_USE)
     target = target_of(context.file, new)
     office = context.office_to_read() if is_plan else context.office()
-    with prepared(office, context.place, context.journal(), target, day, is_plan) as work:
+    with prepared(
+        office, context.place, context.journal(), target, day, is_plan, tuple(dict.fromkeys(without))
+    ) as work:
         note("the file is looked at")
+        require_owners(work)
         reasons = hindrances(work)
         for reason in reasons:
             click.echo(reason, err=True)

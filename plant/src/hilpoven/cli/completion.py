@@ -81,10 +81,10 @@ def complete(ctx: click.Context, number: int, words: tuple[str, ...]) -> None:
 def of_line(ctx: click.Context, line: Line, value: str, before: dict[str, str], begun: str) -> list[str]:
     """The words of a value of a line that begin so."""
     if choices := line.form(value).choices:
-        return [it for it in choices if it.startswith(begun)]
+        return [choice for choice in choices if choice.startswith(begun)]
     nexts = [NEXT] if value == "KEY" and line.name in MOVEMENTS else []
     meant, _ = in_capitals(line._replace(values=tuple(before)), list(before.values()))
-    return [it for it in nexts if it.startswith(begun)] + names(
+    return [word for word in nexts if word.startswith(begun)] + names(
         ctx, Place(line, value, dict(zip(before, meant))), begun
     )
 
@@ -96,7 +96,7 @@ def of_word(ctx: click.Context, param: click.Parameter, begun: str) -> list[Comp
         return []
     given = {name.upper().replace("_", "-"): word for name, word in ctx.params.items() if isinstance(word, str)}
     place = Place(Line("", ("OWNER", value), "", ""), value, given)
-    return [CompletionItem(it) for it in names(ctx, place, begun)]
+    return [CompletionItem(name) for name in names(ctx, place, begun)]
 
 
 def names(ctx: click.Context, place: Place, begun: str) -> list[str]:
@@ -105,7 +105,7 @@ def names(ctx: click.Context, place: Place, begun: str) -> list[str]:
         context = context_of(ctx.find_root().params)
         offered = replace(place, plants_test=context.settings.quality.test)
         with snapshot.opened(context.office_to_read()) as base:
-            return [it for it in offered.suggested(base) if it.startswith(begun.upper())]
+            return [name for name in offered.suggested(base) if name.startswith(begun.upper())]
     except (Failure, OSError, ValueError, sqlite3.Error):
         return []
 

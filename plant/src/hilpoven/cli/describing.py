@@ -9,31 +9,32 @@ from ..output.table import Value, counted
 from ..records.descriptions import facts_of_test
 from ..records.measures import limits_text
 from ..records.rows import LotId, require_owner
-from ..records.things import Thing
+from ..records.overviews import Overview
 from ..register import describing, making
-from ..register.facts import LotFacts, MaterialFacts, OwnerFacts, TestFacts, joined
+from ..register.facts import LotFacts, MaterialFacts, OwnerFacts, RecipeFacts, TestFacts, joined, percent_of
 from ..register.note import Note
 from .groups import Group
 from .noting import record
-from .words import DATE, FILLED_TEXT, WORD, LotCommand, decimals_option, pass_context
+from .words import DATE, FILLED_TEXT, PERCENT, WORD, LotCommand, decimals_option, pass_context
 
 describe_group = Group(
     "describe",
-    short_help="notes full names, units, decimals, methods and expiry days",
+    short_help="notes full names, units, decimals, methods, expiry days and allowances",
     help="Notes what certificates say and toll doesn't have: full names, addresses, units, decimals, methods, and the "
-    "days on which a lot was made and expires. Without options it shows what is noted.\n\n"
+    "days on which a lot was made and expires; and what a contract allows to be lost. Without options it shows what is "
+    "noted.\n\n"
     "Example: hilpoven describe test ACME BRINE PH",
 )
 name_option = click.option("--name", metavar="TEXT", type=FILLED_TEXT, help="Its full name.")
 
 
-def give(desk: making.Desk, words: tuple[str, ...], note: Note, given: dict[str, Any], thing: Thing) -> None:
+def give(desk: making.Desk, words: tuple[str, ...], note: Note, given: dict[str, Any], overview: Overview) -> None:
     """Notes what is given; shows what is noted if nothing is."""
     options = [word for name, value in given.items() if value is not None for word in (f"--{name}", str(value))]
     if options:
         record(desk, ["describe", *words, *options], note)
     else:
-        thing.print()
+        overview.print()
 
 
 def members_of(given: dict[str, Any]) -> dict[str, Any]:
@@ -41,10 +42,10 @@ def members_of(given: dict[str, Any]) -> dict[str, Any]:
     return {name: value for name, value in given.items() if value is not None}
 
 
-def noted_thing(title: str, **facts: Value) -> Thing:
+def noted_overview(title: str, **facts: Value) -> Overview:
     """What is noted of a thing, as far as it is."""
     known: dict[str, Value] = {name: value for name, value in facts.items() if value}
-    return Thing(title, known, remarks=[] if known else ["Nothing is noted of it."])
+    return Overview(title, known, remarks=[] if known else ["Nothing is noted of it."])
 
 
 @describe_group.command()
@@ -60,8 +61,8 @@ def owner(context: Context, owner: str, **given: str | None) -> None:
     with making.desk(context) as desk:
         require_owner(desk.base, owner)
         facts = desk.register.owners.get(owner) or OwnerFacts(owner)
-        thing = noted_thing(f"owner {owner}", name=facts.name, address=facts.address)
-        give(desk, ("owner", owner), OwnerFacts(owner, **members_of(given)), given, thing)
+        overview = noted_overview(f"owner {owner}", name=facts.name, address=facts.address)
+        give(desk, ("owner", owner), OwnerFacts(owner, **members_of(given)), given, overview)
 
 
 @describe_group.command()
@@ -77,8 +78,28 @@ def material(context: Context, owner: str, material: str, **given: str | None) -
     with making.desk(context) as desk:
         describing.require_material(desk.base, owner, material)
         facts = desk.register.materials.get((owner, material)) or MaterialFacts(owner, material)
-        thing = noted_thing(f"material {material} of {owner}", name=facts.name)
-        give(desk, ("material", owner, material), MaterialFacts(owner, material, **members_of(given)), given, thing)
+        overview = noted_overview(f"material {material} of {owner}", name=facts.name)
+        give(desk, ("material", owner, material), MaterialFacts(owner, material, **members_of(given)), given, overview)
+
+
+@describe_group.command()
+@click.argument("owner", metavar="OWNER", type=WORD)
+@click.argument("recipe", metavar="RECIPE", type=WORD)
+@click.option("--allowance", metavar="PERCENT", type=PERCENT, help="How much may be lost: 0.1 to 100, such as 1.5.")
+@pass_context
+def recipe(context: Context, owner: str, recipe: str, **given: int | None) -> None:
+    """Notes how much of a recipe's materials may be lost by the contract, in percent of what is required for what was
+    made. `papers settlement` tells what is above it.
+
+    Example: hilpoven describe recipe ACME BRINE-10 --allowance 1.5
+    """
+    with making.desk(context) as desk:
+        describing.require_recipe(desk.base, owner, recipe)
+        facts = desk.register.recipes.get((owner, recipe))
+        overview = noted_overview(
+            f"recipe {recipe} of {owner}", allowance=percent_of(facts.allowance) if facts else None
+        )
+        give(desk, ("recipe", owner, recipe), RecipeFacts(owner, recipe, **members_of(given)), given, overview)
 
 
 @describe_group.command()
@@ -97,19 +118,19 @@ def test(context: Context, owner: str, material: str, test: str, **given: Any) -
 
     Example: hilpoven describe test ACME BRINE PH --unit pH --decimals 2 --method 'ISO 10523'
     """
-    thing = owner, material, test
+    names = owner, material, test
     with making.desk(context) as desk:
-        limits = describing.limits_of(desk.base, *thing)
-        note, there = TestFacts(*thing, **members_of(given)), facts_of_test(desk.register, *thing)
+        limits = describing.limits_of(desk.base, *names)
+        note, there = TestFacts(*names, **members_of(given)), facts_of_test(desk.register, *names)
         describing.require_decimals(desk.base, desk.register, note)
         facts = joined(there, note)
         text = limits_text(limits, facts.decimals)
         title, decimals = f"test {test} of {owner} {material}", facts.decimals
-        known = noted_thing(
+        known = noted_overview(
             title, name=facts.name, unit=facts.unit, decimals=decimals, method=facts.method, limits=text
         )
-        give(desk, ("test", *thing), note, given, known)
-        count = len(describing.values_of(desk.base, *thing))
+        give(desk, ("test", *names), note, given, known)
+        count = len(describing.values_of(desk.base, *names))
     if facts.decimals != there.decimals:
         also = f", and {counted(count, 'results')} so too" if count else ""
         tell(f"The limits are read as {text}{also}; toll has {limits_text(limits)}.")
@@ -137,5 +158,5 @@ def lot(context: Context, owner: str, lot: str, **given: int | None) -> None:
         note = LotFacts(owner, lot, **members_of(given))
         describing.require_days(desk.register, note)
         facts = desk.register.lots.get((owner, lot)) or LotFacts(owner, lot)
-        thing = noted_thing(f"lot {lot} of {owner}", **facts.days)
-        give(desk, ("lot", owner, lot), note, given, thing)
+        overview = noted_overview(f"lot {lot} of {owner}", **facts.days)
+        give(desk, ("lot", owner, lot), note, given, overview)

@@ -73,8 +73,8 @@ class Group(click.Group):
     def format_commands(self, ctx: click.Context, formatter: click.HelpFormatter) -> None:
         """Writes the subcommands in their sections, with what each is for."""
         sections = self.sections()
-        rest = [it for it in self.commands if all(it not in names for names in sections.values())]
+        rest = [name for name in self.commands if all(name not in names for names in sections.values())]
         for title, names in {**sections, self.others: rest}.items():
             with formatter.section(title):
-                shown = [it for it in names if not self.commands[it].hidden]
-                formatter.write_dl([(it, self.commands[it].get_short_help_str(160)) for it in shown])
+                shown = [name for name in names if not self.commands[name].hidden]
+                formatter.write_dl([(name, self.commands[name].get_short_help_str(160)) for name in shown])

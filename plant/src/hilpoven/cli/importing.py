@@ -10,20 +10,22 @@ from ..core.context import Context
 from ..core.failure import REFUSED, WRONG_USE, Failure, printable, tell_line
 from ..output.progress import bar
 from ..output.table import counted
+from ..sheets import doubtful_days
 from ..sheets.importing import Import
 from ..sheets.options import read_source
 from ..sheets.noting import decimals_of, notes_beside
 from ..sheets.values import RESULTS
-from .sheet_options import with_options
+from .sheet_options import with_options, yes_option
 from .words import SHEET, pass_context
 
 
 @click.command("import")
 @click.argument("path", metavar="SHEET", type=SHEET)
 @with_options
+@yes_option
 @click.option("--check", is_flag=True, help="Checks the sheet and records nothing.")
 @pass_context
-def import_command(context: Context, path: str, check: bool, **given: Any) -> None:
+def import_command(context: Context, path: str, check: bool, are_meant: bool, **given: Any) -> None:
     """Records a sheet of actuals, receipts, shipments or results. SHEET is text with commas, semicolons or tabs, an
     .xlsx or an .ods; `-` is standard input.
 
@@ -40,6 +42,7 @@ def import_command(context: Context, path: str, check: bool, **given: Any) -> No
     decimals = decimals_of(context) if given["what"] == RESULTS.name else None
     sheet, sha256 = read_source(path, {**given, "required": required, "decimals_of": decimals})
     beside = {} if sheet.wrong else notes_beside(context, sheet)
+    doubtful_days.check(context, sheet, are_meant)
     for finding in sorted([*sheet.wrong, *sheet.refused, *sheet.let]):
         click.echo(str(finding), err=True)
     if sheet.wrong:
@@ -50,7 +53,7 @@ def import_command(context: Context, path: str, check: bool, **given: Any) -> No
     if check:
         click.echo(
             f"{counted(len(sheet.records), 'rows')} can be given, "
-            f"{len({it.row for it in sheet.refused}):,} can't be read"
+            f"{len({refusal.row for refusal in sheet.refused}):,} can't be read"
         )
         sys.exit(REFUSED if sheet.refused else 0)
     source = {"sheet": os.path.basename(path), "sheet_sha256": sha256}

@@ -17,7 +17,7 @@ from ..register import likeness
 from ..register.kinds import Why
 from .words import FILLED_TEXT, NAME, TEXT, WORD, OneOf, decimals_option
 
-WHYS = [it.value for it in Why]
+WHYS = [why.value for why in Why]
 Values = dict[str, str]  # of a line, by their names
 Given = dict[str, Any]  # the options of the notes, by their names
 

@@ -15,7 +15,8 @@ from .words import at_terminal
 if TYPE_CHECKING:
     from .line_notes import LineNotes
 
-TODAY = "today"  # the flag that stands for DAY
+TODAY, YES = "today", "yes"  # the flags that stand for DAY, and that say that it is meant
+YES_ABOUT = "Takes a day that looks wrong: no date, in the future, or before the lot's first."
 
 
 class LineCommand(click.Command):
@@ -24,8 +25,8 @@ class LineCommand(click.Command):
     def __init__(self, line: Line, notes: "LineNotes | None" = None) -> None:
         self.line, self.notes = line, notes
         beside = notes.options() if notes else []
-        self.names_beside = [str(it.name) for it in beside]
-        options = [*(self.option(it) for it in line.values), *self.today_option(), *beside]
+        self.names_beside = [str(option.name) for option in beside]
+        options = [*(self.option(value_name) for value_name in line.values), *self.day_options(), *beside]
         words = click.Argument(
             ["words"], nargs=-1, type=click.UNPROCESSED, metavar=" ".join(line.values), shell_complete=self.completions
         )
@@ -57,10 +58,14 @@ class LineCommand(click.Command):
             shell_complete=lambda ctx, _, begun: self.names(ctx, value, begun),
         )
 
-    def today_option(self) -> list[click.Option]:
-        """The option that stands for today's DAY, if the line has one."""
-        about = "The day is today, as YYMMDD."
-        return [click.Option([f"--{TODAY}"], is_flag=True, help=about)] if "DAY" in self.line.values else []
+    def day_options(self) -> list[click.Option]:
+        """The options that stand for today's DAY and for one that looks wrong, if the line has one."""
+        if "DAY" not in self.line.values:
+            return []
+        return [
+            click.Option([f"--{TODAY}"], is_flag=True, help="The day is today, as YYMMDD."),
+            click.Option([f"--{YES}"], is_flag=True, help=YES_ABOUT),
+        ]
 
     def completions(self, ctx: click.Context, _: click.Parameter, begun: str) -> list[str]:
         """The words of the value that is being typed."""
@@ -80,10 +85,15 @@ class LineCommand(click.Command):
         named = dict(ctx.params)
         words = named.pop("words")
         given = {name: named.pop(name) for name in self.names_beside}
+        is_meant = named.pop(YES, True)
         typed, beside = self.typed(ctx.obj, list(words), named, given), None
         if self.notes:
             typed, given = self.notes.read(ctx.obj, self.line, typed, given)
             beside = partial(self.notes.beside, given=given)
+        if not is_meant:
+            from . import day_checks
+
+            day_checks.require_meant(ctx.obj, self.line, typed)
         if is_next_key(self.line, typed):
             from . import next_key
 
@@ -145,7 +155,7 @@ def filled(values: dict[str, str | None], words: list[str]) -> dict[str, str | N
 
 def require_options(line: Line, words: list[str]) -> None:
     """Fails where a word looks like an option that the line doesn't have."""
-    if strange := [it for it in words if it.startswith("--") and "a" <= it[2:3] <= "z"]:
+    if strange := [word for word in words if word.startswith("--") and "a" <= word[2:3] <= "z"]:
         raise Failure(f"{line.name} has no option {strange[0]}", WRONG_USE, meant_by(line, strange[0]))
 
 
@@ -166,7 +176,7 @@ def meant_by(line: Line, option: str) -> str:
     """What may have been meant by an option that a line doesn't have."""
     import difflib
 
-    near = difflib.get_close_matches(option, [f"--{it.lower()}" for it in line.values], 1)
+    near = difflib.get_close_matches(option, [f"--{value_name.lower()}" for value_name in line.values], 1)
     return (
         f"did you mean {near[0]}?"
         if near

@@ -14,7 +14,7 @@ from ..records.tables import FILTERS, LISTINGS, Listing
 from .groups import Group, lazily
 from .words import DAY, WORD, OneOf, pass_context
 
-TYPES = {"kind": OneOf([it.word for it in Kind]), "since": DAY}  # of options whose values are no names
+TYPES = {"kind": OneOf([kind.word for kind in Kind]), "since": DAY}  # of options whose values are no names
 
 
 class Listed(NamedTuple):
@@ -34,11 +34,11 @@ class ListCommand(click.Command):
             return super().parse_args(ctx, args)
         except click.NoSuchOption as error:
             name = error.option_name.removeprefix("--")
-            lists = [it for it, listing in LISTINGS.items() if name in listing.filters]
+            lists = [list_name for list_name, listing in LISTINGS.items() if name in listing.filters]
             if not lists:
                 raise
             why = f"list {self.name} has no option --{name}"
-            others = [f"--{it}" for it in FILTERS if it in LISTINGS[str(self.name)].filters]
+            others = [f"--{filter_name}" for filter_name in FILTERS if filter_name in LISTINGS[str(self.name)].filters]
             has = f"it has {listed(others)}; " if others else ""
             raise Failure(why, WRONG_USE, f"{has}--{name} is of list {listed(lists)}") from None
 
@@ -49,9 +49,9 @@ MOST_DAYS = 3_650
 def options_of(name: str, listing: Listing) -> list[click.Parameter]:
     """The options of a table: which rows are listed, and how."""
     options: list[click.Parameter] = [
-        click.Option([f"--{it}"], metavar=it.upper(), type=TYPES.get(it, WORD), help=FILTERS[it].about)
-        for it in FILTERS
-        if it in listing.filters
+        click.Option([f"--{option}"], metavar=option.upper(), type=TYPES.get(option, WORD), help=FILTERS[option].about)
+        for option in FILTERS
+        if option in listing.filters
     ]
     if listing.is_open:
         options.append(click.Option(["--open", "only_open"], is_flag=True, help=f"Only {listing.open_about}."))
@@ -78,7 +78,7 @@ def list_command(name: str, listing: Listing) -> click.Command:
         expiring: int | None = None,
         **given: str | int | None,
     ) -> None:
-        asked = {it: value for it, value in given.items() if value is not None}
+        asked = {filter_name: value for filter_name, value in given.items() if value is not None}
         columns, rows, reasons = read(context, name, asked, only_open)
         if expiring is not None:
             from ..records.days import last_day_within
@@ -106,7 +106,7 @@ def read(context: Context, name: str, asked: dict[str, Any], only_open: bool) ->
         asked["lot_owner"], asked["lot"] = scanned.named_lot("list", owner, asked["lot"])
     with snapshot.opened(context.office_to_read()) as base:
         columns = list(listing.columns)
-        rows: list[Row] = [tuple(it) for it in base.execute(listing.sql(asked, only_open), asked)]
+        rows: list[Row] = [tuple(row) for row in base.execute(listing.sql(asked, only_open), asked)]
         if not rows and (asked or only_open):
             from ..records import absence
 
@@ -122,5 +122,5 @@ list_group = Group(
     "list",
     short_help="lists owners, units, lots and everything else",
     help="Lists owners, units, lots and everything else.\n\nExample: hilpoven list lots --owner ACME --open",
-    commands=lazily({name: partial(list_command, name, it) for name, it in LISTINGS.items()}),
+    commands=lazily({name: partial(list_command, name, listing) for name, listing in LISTINGS.items()}),
 )

@@ -82,7 +82,7 @@ def new(
         if step in left:
             give(context, step)
         else:
-            click.echo(f"{told(step)}: there already")
+            click.echo(f"{described(step)}: there already")
     if not plants_test:
         tell("The settings name no test of the plant's own below [quality], so a hold of its lots is a note alone.")
 
@@ -113,7 +113,7 @@ def step_of_test(register: Register, owner: str, material: str, test: Test, deci
     return step_of("test-add", [owner, material, *test], decimals.get(test[0]), noted)
 
 
-def told(step: Step) -> str:
+def described(step: Step) -> str:
     """A command as it is told."""
     return " ".join([step.line.name, *step.words])
 
@@ -124,7 +124,7 @@ def give(context: Context, step: Step) -> None:
     given, values = {"decimals": decimals, "unit": None, "method": None}, dict(zip(line.values, words))
     noted = value_notes.beside_test(context, values, given).members if decimals else {}
     answer = asking.asked(context, office, line, words, **noted)
-    click.echo(f"{told(step)}: ", nl=not answer.output)
+    click.echo(f"{described(step)}: ", nl=not answer.output)
     pass_on(answer)
     asking.explain(office, line, words, answer)
     if answer.status:

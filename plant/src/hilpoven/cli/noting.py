@@ -17,13 +17,14 @@ from ..records.rows import LotId, require_owner
 from ..register import expiry, file, making, quality
 from ..register.movements import facts_of
 from ..register.notes import Judgement, Link, Note, NotLinked, Why, Withdrawal
-from . import roles
+from . import day_checks, roles
 from .groups import Group
+from .lines import YES, YES_ABOUT
 from .words import FILLED_TEXT, TEXT, WORD, LotCommand, OneOf, pass_context
 
 COLUMNS = ["note", "time", "who", "owner", "what", "stands"]
 why_option = click.option(
-    "--why", type=OneOf([it.value for it in Why]), required=True, help="Why the one contains some of the other."
+    "--why", type=OneOf([why.value for why in Why]), required=True, help="Why the one contains some of the other."
 )
 reason_option = click.option("--reason", metavar="TEXT", type=TEXT, default="", help="What else there is to say.")
 
@@ -102,6 +103,7 @@ def words_of(note: Link) -> list[str]:
     "--key", metavar="KEY", type=WORD, help="The key of the scrap, instead of one that is made of the values."
 )
 @reason_option
+@click.option(f"--{YES}", "is_meant", is_flag=True, help=YES_ABOUT)
 @pass_context
 def use(
     context: Context,
@@ -115,6 +117,7 @@ def use(
     day: str,
     key: str | None,
     reason: str,
+    is_meant: bool,
 ) -> None:
     """Records what a batch used besides its recipe: scraps it from SUBLOT, and notes that the batch's lots contain some
     of OF-LOT.
@@ -136,7 +139,10 @@ def use(
             warning = expiry.warning(desk, context.settings.expiry.actual, LotId(of_owner, of_lot), scrap)
             return Beside(desk.members([note]), warning)
 
-    sys.exit(asking.run(context, LINES["scrap"], [of_owner, key, of_lot, sublot, amount, day], beside))
+    scrap = [of_owner, key, of_lot, sublot, amount, day]
+    if not is_meant:
+        day_checks.require_meant(context, LINES["scrap"], scrap)
+    sys.exit(asking.run(context, LINES["scrap"], scrap, beside))
 
 
 def require_not_held(desk: making.Desk, context: Context, lot: LotId) -> None:
@@ -165,9 +171,9 @@ def withdraw(context: Context, name: str, reason: str) -> None:
     if not reason.strip():
         raise Failure("--reason is empty", WRONG_USE)
     with making.desk(context) as desk:
-        status = next((it for it in desk.statuses if it.noted.name == name), None)
+        status = next((candidate for candidate in desk.statuses if candidate.noted.name == name), None)
         if status is None or status.note is None:
-            names = [it.noted.name for it in desk.statuses]
+            names = [known.noted.name for known in desk.statuses]
             raise Failure(f"there is no note {name}", REFUSED, nearest(name, names, "notes"))
         if status.fault:
             raise Failure(f"note {name} doesn't stand: {status.fault}", REFUSED)
@@ -175,7 +181,11 @@ def withdraw(context: Context, name: str, reason: str) -> None:
         if isinstance(status.note, Judgement):
             advice = "`hilpoven sign` or `hilpoven hold` says what holds now"
             raise Failure(f"note {name} is a signature or a hold, which nobody withdraws", REFUSED, advice)
-        same = [it.noted.name for it in desk.statuses if it.note == status.note and not it.fault and it is not status]
+        same = [
+            other.noted.name
+            for other in desk.statuses
+            if other.note == status.note and not other.fault and other is not status
+        ]
         notes = [Withdrawal(status.note.owner, of, reason) for of in (name, *same)]
         click.echo(f"noted {desk.record(['note', 'withdraw', name, '--reason', reason], *notes)}")
 
@@ -242,12 +252,11 @@ def list_command(context: Context, owner: str | None, form: str | None) -> None:
     with making.desk(context) as desk:
         if owner:
             require_owner(desk.base, owner)
-        for it in desk.statuses:
-            whose, what = (it.note.owner, it.note.sentence) if it.note else ("", f"a note that {it.fault}")
+        for status in desk.statuses:
+            noted, note, fault = status.noted, status.note, status.fault
+            whose, what = (note.owner, note.sentence) if note else ("", f"a note that {fault}")
             if owner in (None, whose):
-                rows.append(
-                    (it.noted.name, it.noted.time, it.noted.who, whose, what, f"no: {it.fault}" if it.fault else "yes")
-                )
+                rows.append((noted.name, noted.time, noted.who, whose, what, f"no: {fault}" if fault else "yes"))
     if form:
         click.echo({"csv": as_csv, "json": as_json}[form](COLUMNS, rows), nl=False)
     elif rows:

@@ -9,7 +9,8 @@ from ..core import forms
 from ..core.context import Context
 from ..core.failure import WRONG_USE, Failure
 from ..papers import batch_record, certificate as lot_certificate, delivery
-from ..papers import lot_card, recall_paper, shipments, statement as owners_statement
+from ..papers import lot_card, recall_paper, settlement as owners_settlement, shipments, statement as owners_statement
+from ..papers import takeout as owners_takeout
 from ..papers.copies import Source
 from ..papers.printing import Document
 from ..records.rows import BatchId, LotId
@@ -18,7 +19,7 @@ from .words import PATH, LotCommand, pass_context
 
 papers_group = Group(
     "papers",
-    short_help="makes papers: recall, batch record, certificate, delivery note, lot card, statement",
+    short_help="makes papers: recall, batch record, certificate, lot card, statement, settlement and others",
     help="Makes the documents that the plant hands out, as pages, PDF and tables.\n\n"
     "Example: hilpoven papers recall HOUSE W-101 recall",
 )
@@ -144,10 +145,46 @@ def lot_command(context: Context, owner: str, lot: str, **where: Any) -> None:
     give(context, f"lot-{owner}-{lot}", lambda source: lot_card.documents(source, LotId(owner, lot)), **where)
 
 
+def between(make: Callable[..., Any]) -> Callable[..., Any]:
+    """The values of each paper about an owner between two days."""
+    for option in (
+        click.option("--to", "last", metavar="DAY", required=True, help="The last day."),
+        click.option("--from", "first", metavar="DAY", required=True, help="The first day."),
+        click.argument("owner", metavar="OWNER"),
+    ):
+        make = option(make)
+    return make
+
+
+def days_of(first: str, last: str) -> tuple[int, int]:
+    """Two days; fails unless they are some, the first not behind the last."""
+    days = number_of("--from", first, forms.DAY), number_of("--to", last, forms.DAY)
+    if days[0] > days[1]:
+        raise Failure(f"--from: {days[0]} is behind --to, {days[1]}", WRONG_USE)
+    return days
+
+
 @papers_group.command()
-@click.argument("owner", metavar="OWNER")
-@click.option("--from", "first", metavar="DAY", required=True, help="The first day.")
-@click.option("--to", "last", metavar="DAY", required=True, help="The last day.")
+@between
+@paper
+@pass_context
+def settlement(context: Context, owner: str, first: str, last: str, **where: Any) -> None:
+    """Makes an owner's settlement: what its batches consumed and produced between two days, against what their recipes
+    require, with yield, loss, and what the contract allows (`describe recipe`).
+
+    A batch is settled once, on the last day of its actuals, when it is closed. Batches that go on are apart, and
+    neither rework nor returns count twice.
+
+    Example: hilpoven papers settlement ACME --from 261101 --to 261130 settlement
+    """
+    check(owner=owner)
+    days = days_of(first, last)
+    name = f"settlement-{owner}-{days[0]}-{days[1]}"
+    give(context, name, lambda source: owners_settlement.documents(source, owner, *days), **where)
+
+
+@papers_group.command()
+@between
 @paper
 @pass_context
 def statement(context: Context, owner: str, first: str, last: str, **where: Any) -> None:
@@ -156,15 +193,27 @@ def statement(context: Context, owner: str, first: str, last: str, **where: Any)
     Example: hilpoven papers statement ACME --from 261101 --to 261130 statement
     """
     check(owner=owner)
-    days = number_of("--from", first, forms.DAY), number_of("--to", last, forms.DAY)
-    if days[0] > days[1]:
-        raise Failure(f"--from: {days[0]} is behind --to, {days[1]}", WRONG_USE)
+    days = days_of(first, last)
     give(
         context,
         f"statement-{owner}-{days[0]}-{days[1]}",
         lambda source: owners_statement.documents(source, owner, *days),
         **where,
     )
+
+
+@papers_group.command()
+@click.argument("owner", metavar="OWNER")
+@paper
+@pass_context
+def takeout(context: Context, owner: str, **where: Any) -> None:
+    """Makes the tables of all that the office has of an owner, for one that leaves: its materials, recipes, orders,
+    batches, lots, movements and results, and what the plant noted of them. Nothing of another owner is in them.
+
+    Example: hilpoven papers takeout ACME --tar > acme.tar
+    """
+    check(owner=owner)
+    give(context, f"takeout-{owner}", lambda source: owners_takeout.documents(source, owner), **where)
 
 
 def number_of(name: str, word: str, form: forms.Form) -> int:

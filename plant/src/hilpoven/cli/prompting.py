@@ -65,7 +65,7 @@ class Question:
     @property
     def has_numbers(self) -> bool:
         """Whether a choice is taken by its number: not if another name may be meant, or a number is a name."""
-        is_closed = not self.place.may_be_new and not any(it.name.isdecimal() for it in self.choices)
+        is_closed = not self.place.may_be_new and not any(choice.name.isdecimal() for choice in self.choices)
         return is_closed and 1 < len(self.choices) <= MOST_SHOWN
 
     @property
@@ -80,15 +80,17 @@ class Question:
 
     def show(self) -> None:
         """Prints the choices, if they are few."""
-        if not self.choices or len(self.choices) > MOST_SHOWN or [it.name for it in self.choices] == [self.default]:
+        names = [choice.name for choice in self.choices]
+        if not names or len(names) > MOST_SHOWN or names == [self.default]:
             return
-        width = max(len(it.name) for it in self.choices)
-        for number, it in enumerate(self.choices, 1):
-            tell_line(f"{f'{number:3}' if self.has_numbers else '   '}  {it.name.ljust(width)}  {it.about}".rstrip())
+        width = max(map(len, names))
+        for number, choice in enumerate(self.choices, 1):
+            front = f"{number:3}" if self.has_numbers else "   "
+            tell_line(f"{front}  {choice.name.ljust(width)}  {choice.about}".rstrip())
 
     def meant(self, typed: str) -> str:
         """The word that is meant by what was typed: what Enter stands for, the choice of a number, or the word."""
-        numbered = {str(number): it.name for number, it in enumerate(self.choices, 1) if self.has_numbers}
+        numbered = {str(number): choice.name for number, choice in enumerate(self.choices, 1) if self.has_numbers}
         return numbered.get(typed, typed) or self.default
 
 
@@ -108,7 +110,7 @@ class Dialogue:
     def question(self, value: str) -> Question:
         """What is asked for a value."""
         place, form, base = self.place(value), self.form(value), self.tables.base
-        listed = [Choice(it) for it in form.choices]
+        listed = [Choice(word) for word in form.choices]
         if value == "DAY":
             return Question(place, form, default=self.today())
         if value == "KEY" and self.line.name in MOVEMENTS:
@@ -117,7 +119,7 @@ class Dialogue:
             return Question(place, form, listed)
         choices = place.fitting(base) or listed
         if (self.line.name, value) == ("result", "TEST"):
-            choices = [replace(it, about=self.limits_of(base, it.name)) for it in choices]
+            choices = [replace(choice, about=self.limits_of(base, choice.name)) for choice in choices]
         is_only = len(choices) == 1 and not place.may_be_new
         return Question(place, form, choices, choices[0].name if is_only else "", self.limit(base, place))
 
@@ -200,7 +202,7 @@ class Dialogue:
         except Failure as failure:
             tell(failure.message)
             return False
-        if all(self.take_one(name, it) for name, it in meant.items()):
+        if all(self.take_one(name, filling) for name, filling in meant.items()):
             return True
         self.values = before
         return False
@@ -248,8 +250,9 @@ class Dialogue:
         self.values.pop(value, None)
         question = self.question(value)
         question.show()
-        names = [it.name for it in question.choices]
-        names += [it for it in question.place.places(self.tables.base) if it not in names] if self.tables.base else []
+        names = [choice.name for choice in question.choices]
+        if self.tables.base:
+            names += [place for place in question.place.places(self.tables.base) if place not in names]
         while not self.take(value, question.meant(terminal.ask(question.prompt, names))):
             pass
 
@@ -271,7 +274,7 @@ class Dialogue:
     def confirm(self) -> None:
         """Shows the line, and asks until it is to be given; Enter alone gives it. A question is shown alone."""
         while True:
-            tell_line(f"hilpoven {self.line.name} {' '.join(quoted(self.values[it]) for it in self.line.values)}")
+            tell_line(f"hilpoven {self.line.name} {' '.join(quoted(self.values[name]) for name in self.line.values)}")
             if self.line.is_question:
                 return
             answer = terminal.ask(CONFIRM, self.line.values).upper()
@@ -305,4 +308,4 @@ def completed(context: Context, line: Line, given: dict[str, str | None], decima
         dialogue = Dialogue(context, line, Tables(context, stack), decimals)
         dialogue.complete(given)
         dialogue.confirm()
-    return [dialogue.values[it] for it in line.values]
+    return [dialogue.values[value_name] for value_name in line.values]

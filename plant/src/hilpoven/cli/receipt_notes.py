@@ -15,7 +15,7 @@ from .movement_notes import facts_beside
 from .words import OneOf, at_terminal
 
 NO = "no"
-WHYS = [it.value for it in Why]
+WHYS = [why.value for why in Why]
 Values = dict[str, str]  # of the receipt, by their names
 
 

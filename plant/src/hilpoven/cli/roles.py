@@ -4,20 +4,20 @@ from ..core.rights import require_role
 
 COMMANDS = {
     "record": (
-        "order, cancel, open, do, close, receive, split, ship, scrap, result, actual, void, import, use, link, "
-        "note withdraw, note not-linked, note movement"
+        "order, cancel, open, do, close, receive, split, ship, scrap, result, actual, void, import, count import, "
+        "use, link, note withdraw, note not-linked, note movement"
     ),
     "quality": "release, reject, sign, hold, describe lot, drill start, drill end",
     "master_data": (
         "unit-add, material-add, material new, test-add, recipe-add, require, party add, "
-        "describe owner, describe material, describe test"
+        "describe owner, describe material, describe recipe, describe test"
     ),
     "keys": "owner-add, owner add, owner key",
-    "restore": "new, backup, restore, register rebuild, carry-over",
+    "restore": "new, backup, restore, promote, register rebuild, carry-over",
 }
 ROLES = {command: role for role, commands in COMMANDS.items() for command in commands.split(", ")}
 NOTED_BY = {  # by which command the notes of a kind are made, where it isn't of the role of `note withdraw`
-    **{kind: f"describe {kind}" for kind in ("owner", "material", "test", "lot")},
+    **{kind: f"describe {kind}" for kind in ("owner", "material", "recipe", "test", "lot")},
     "party": "party add",
     "drill-start": "drill start",
     "drill-end": "drill end",

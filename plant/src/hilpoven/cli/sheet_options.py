@@ -5,6 +5,7 @@ from typing import Any
 import click
 
 from ..sheets.values import KINDS
+from .lines import YES, YES_ABOUT
 
 OPTIONS = [
     click.option(
@@ -53,8 +54,21 @@ OPTIONS = [
 ]
 
 
+yes_option = click.option(f"--{YES}", "are_meant", is_flag=True, help=YES_ABOUT)
+
+
 def with_options(command: Callable[..., Any]) -> Callable[..., Any]:
     """A command with all of these options."""
-    for option in reversed(OPTIONS):
+    return with_some(command, OPTIONS)
+
+
+def of_one_kind(command: Callable[..., Any]) -> Callable[..., Any]:
+    """A command with the options of a sheet that holds what the command says."""
+    return with_some(command, OPTIONS[1:])
+
+
+def with_some(command: Callable[..., Any], options: list[Callable[..., Any]]) -> Callable[..., Any]:
+    """A command with some options."""
+    for option in reversed(options):
         command = option(command)
     return command

@@ -5,24 +5,24 @@ import click
 
 from ..core import snapshot
 from ..core.context import Context
-from ..records import master_data, things
+from ..records import master_data, overviews
 from .groups import Group
 from .words import WORD, LotCommand, pass_context
 
 
 def show_command(
-    name: str, words: str, make: Callable[..., things.Thing], example: str, has_notes: bool = False
+    name: str, words: str, make: Callable[..., overviews.Overview], example: str, has_notes: bool = False
 ) -> click.Command:
     """The subcommand of a kind of thing, of which the register may have notes."""
-    arguments = [click.Argument([it.lower()], metavar=it, type=WORD) for it in words.split()]
+    arguments = [click.Argument([word.lower()], metavar=word, type=WORD) for word in words.split()]
     about = (make.__doc__ or "").strip().rstrip(".")
 
     @pass_context
     def show(context: Context, as_json: bool, **given: str) -> None:
         with snapshot.opened(context.office_to_read()) as base:
             register = {"register": context.register(base)} if has_notes else {}
-            thing = make(base, *given.values(), **register)
-        click.echo(thing.as_json()) if as_json else thing.print()
+            overview = make(base, *given.values(), **register)
+        click.echo(overview.as_json()) if as_json else overview.print()
 
     option = click.Option(["--json", "as_json"], is_flag=True, help="As JSON, for a program.")
     return (LotCommand if name == "lot" else click.Command)(
@@ -41,11 +41,11 @@ show_group = Group(
     short_help=f"shows {ABOUT}",
     help=f"Shows {ABOUT}.\n\nExample: hilpoven show lot ACME B-1",
     commands={
-        "lot": show_command("lot", "OWNER LOT", things.lot, "ACME B-1", has_notes=True),
-        "batch": show_command("batch", "OWNER ORDER BATCH", things.batch, "ACME O-1 1", has_notes=True),
-        "order": show_command("order", "OWNER ORDER", things.order, "ACME O-1"),
-        "key": show_command("key", "OWNER KEY", things.movement, "ACME K7", has_notes=True),
-        "unit": show_command("unit", "UNIT", things.unit, "KETTLE"),
+        "lot": show_command("lot", "OWNER LOT", overviews.lot, "ACME B-1", has_notes=True),
+        "batch": show_command("batch", "OWNER ORDER BATCH", overviews.batch, "ACME O-1 1", has_notes=True),
+        "order": show_command("order", "OWNER ORDER", overviews.order, "ACME O-1"),
+        "key": show_command("key", "OWNER KEY", overviews.movement, "ACME K7", has_notes=True),
+        "unit": show_command("unit", "UNIT", overviews.unit, "KETTLE"),
         "owner": show_command("owner", "OWNER", master_data.owner, "ACME", has_notes=True),
         "recipe": show_command("recipe", "OWNER RECIPE", master_data.recipe, "ACME BRINE-10"),
         "material": show_command("material", "OWNER MATERIAL", master_data.material, "ACME BRINE"),

@@ -35,7 +35,7 @@ def print_gauges(health: Health, is_whole: bool) -> None:
     columns = ["owner", "of", "there are", "most", "full", "full by"]
     if rows:
         click.echo()
-        print_table(*((columns, rows) if health.full_by else (columns[:-1], [it[:-1] for it in rows])))
+        print_table(*((columns, rows) if health.full_by else (columns[:-1], [row[:-1] for row in rows])))
 
 
 def print_suspects(health: Health, is_whole: bool) -> None:
@@ -46,7 +46,9 @@ def print_suspects(health: Health, is_whole: bool) -> None:
     count = counted(len(health.suspects), "receipts")
     click.echo(f"\n{count} of what batches make, into new lots without a link: a trace may end there.")
     click.echo("`hilpoven link` says what each contains, `hilpoven note not-linked` that it contains nothing.")
-    print_table(SUSPECTS, [(it.owner, it.key, it.lot, it.material, it.day) for it in chosen])
+    print_table(
+        SUSPECTS, [(suspect.owner, suspect.key, suspect.lot, suspect.material, suspect.day) for suspect in chosen]
+    )
 
 
 @click.command()
@@ -68,7 +70,11 @@ def status(context: Context, prometheus: bool, is_whole: bool) -> None:
     if prometheus:
         click.echo(metrics(health), nl=False)
         sys.exit(health.code)
-    lines = [*(f"NOT WELL: {it}" for it in health.bad), *(f"ATTENTION: {it}" for it in health.attention), *health.lines]
+    lines = [
+        *(f"NOT WELL: {fault}" for fault in health.bad),
+        *(f"ATTENTION: {warning}" for warning in health.attention),
+        *health.lines,
+    ]
     click.echo("\n".join(map(printable, lines)))
     print_gauges(health, is_whole)
     print_suspects(health, is_whole)

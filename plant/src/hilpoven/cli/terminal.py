@@ -47,7 +47,7 @@ def complete_from(names: Sequence[str]) -> None:
     import readline
 
     def complete(begun: str, number: int) -> str | None:
-        return next(iter([it for it in names if it.upper().startswith(begun.upper())][number:]), None)
+        return next(iter([name for name in names if name.upper().startswith(begun.upper())][number:]), None)
 
     readline.set_completer(complete)
     readline.set_completer_delims("")

@@ -4,6 +4,7 @@ import os
 import re
 import sqlite3
 import sys
+from datetime import datetime
 
 import click
 
@@ -13,8 +14,9 @@ from ..core.failure import FAULT, REFUSED, WRONG_USE, Failure, printable, tell
 from ..core.office import has_bytes
 from ..journal import query
 from ..journal.log import Journal
+from ..records import accepted
 from ..register import file as register, reports
-from .words import PATH, Operators, pass_context
+from .words import MOST_TOLD, PATH, Operators, pass_context
 
 
 @click.command()
@@ -113,32 +115,67 @@ def chosen(context: Context, backup: str) -> str:
     return os.path.join(folder, backup)
 
 
+class Moment(click.ParamType):
+    """A moment, of this machine's time zone where it names none."""
+
+    name = "moment"
+
+    def convert(self, value: object, param: click.Parameter | None, ctx: click.Context | None) -> float:
+        """The moment in seconds since 1970; fails if the text is none."""
+        try:
+            return datetime.fromisoformat(str(value)).timestamp()
+        except (ValueError, OverflowError, OSError):
+            self.fail(f"`{printable(str(value)[:MOST_TOLD])}` is no time such as 2026-11-27T01:02:03", param, ctx)
+
+
 @click.command()
-@click.argument("backup", metavar="BACKUP")
+@click.argument("backup", metavar="[BACKUP]", required=False)
 @click.option(
     "--foreign",
     "is_foreign",
     is_flag=True,
     help="Takes a file that the journal doesn't note as a backup. Only for root and the office's user.",
 )
+@click.option(
+    "--at", "moment", metavar="TIME", type=Moment(), help="Restores a moment that `hilpoven follow` has kept."
+)
 @pass_context
-def restore(context: Context, backup: str, is_foreign: bool) -> None:
-    """Restores a backup. BACKUP is its name in the folder of the settings, or a path.
+def restore(context: Context, backup: str | None, is_foreign: bool, moment: float | None) -> None:
+    """Restores a backup, or the office of a moment. BACKUP is its name in the folder of the settings, or a path.
 
     It stops if a server has the file, checks the whole backup with SQLite, toll and the sums of the movements, and
     whether the journal notes its SHA-256. Then it moves the file and its log into a folder next to it, copies the
     backup into place, and checks it with toll. If the journal is gone, the one beside the backup comes back. The
-    register is made anew from the journal. Import the sheets since the backup again.
+    register is made anew from the journal. Import the sheets since the backup again. With --at it makes the file of
+    the snapshots and pieces of `hilpoven follow`, as it was at that time.
 
     Example: hilpoven restore office-20261127-010203.db
     """
+    if (backup is None) == (moment is None) or moment is not None and is_foreign:
+        raise Failure("either BACKUP or --at TIME is given", WRONG_USE)
     if is_foreign:
         rights.require_operator("--foreign")
     rights.become_owner(context.file)
-    path = chosen(context, backup)
-    aside = backups.restore(context.unseen_office(), path, context.place, context.journal(), is_foreign)
+    what, aside = restored(context, backup, is_foreign) if moment is None else restored_at(context, moment)
     register.notes_of(context.journal())  # made anew: what was there is aside
-    click.echo(printable(f"{backup} is in place" + (f"; what was there is in {aside}" if aside else "")))
+    click.echo(printable(f"{what} is in place" + (f"; what was there is in {aside}" if aside else "")))
+
+
+def restored(context: Context, backup: str | None, is_foreign: bool) -> tuple[str, str]:
+    """Puts a backup in place; its name, and the folder where what was there is now."""
+    name = str(backup)
+    path, office = chosen(context, name), context.unseen_office()
+    return name, backups.restore(office, path, context.place, context.journal(), is_foreign)
+
+
+def restored_at(context: Context, moment: float) -> tuple[str, str]:
+    """Puts the office of a moment in place; what it is, and the folder where what was there is now."""
+    from ..standby import promoting
+    from .following import folder_of
+
+    office, folder = context.unseen_office(), folder_of(context)
+    made = promoting.restore_at(office, folder, context.place, context.journal(), moment)
+    return f"the office of {made.last.at}", made.aside
 
 
 @click.command()
@@ -146,21 +183,22 @@ def restore(context: Context, backup: str, is_foreign: bool) -> None:
 def verify(context: Context) -> None:
     """Checks all of the office: its file, its journal, its register and its backups.
 
-    SQLite checks the whole file, toll opens it, and each sublot has to hold what its movements come to. The journal
-    has to be whole, and the register has to be what the journal gives. Each backup in the folder of the settings has
-    to have the SHA-256 that the journal notes.
+    SQLite checks the whole file, toll opens it, each sublot has to hold what its movements come to, and the rows that
+    accepted commands of the journal added have to be there. The journal has to be whole, and the register has to be
+    what the journal gives. Each backup in the folder of the settings has to have the SHA-256 that the journal notes.
 
     Example: hilpoven verify
     """
     office, wrong = context.office_to_read(), []
+    checked = query.check(context.journal().path, file=context.file)  # before the copy, which has all that it says
+    rows = [] if checked.wrong else accepted.added_rows(query.entries(context.journal().path, context.file))
     with snapshot.copied(office) as copy:
         with contextlib.closing(sqlite3.connect(copy)) as base:
-            wrong += backups.checked_tables(base)
+            wrong += backups.checked_tables(base) or accepted.lacking(base, rows)
         answer = office.ask(["stock", "HOUSE"], copy)
     if answer.status:
         wrong.append(f"toll doesn't open it: {answer.error.strip()}")
     click.echo(f"file: {'; '.join(wrong) or 'sound; sublots hold what movements come to; toll opens it'}")
-    checked = query.check(context.journal().path, file=context.file)
     for finding in [*checked.wrong, *checked.notes]:
         click.echo(f"journal: {finding}")
     click.echo(
@@ -171,7 +209,7 @@ def verify(context: Context) -> None:
     changed: list[str] = []
     if os.path.isdir(folder := context.settings.backups):
         count, changed = backups.changed(context.file, folder, context.journal())
-        reports = [f"{it} isn't the file that was made" for it in changed]
+        reports = [f"{changed_backup} isn't the file that was made" for changed_backup in changed]
         click.echo(f"backups: {'; '.join([*reports, f'{count - len(changed)} as the journal notes them'])}")
     sys.exit(FAULT if wrong else REFUSED if checked.wrong or changed or unlike else 0)
 

@@ -3,6 +3,7 @@
 A member of the group, who has the rights of the office's user by sudo, names no path: offices and backups are known by
 their names, and output goes to standard output.
 """
+import re
 import sys
 from typing import TYPE_CHECKING, Any
 
@@ -23,12 +24,15 @@ MOST_TOLD = 40  # letters of a text that is none
 INSTEAD = {
     "db": "--office NAME names the office",
     "path": "`-` is the sheet on standard input: hilpoven import - < SHEET",
+    "counted_sheet": "`-` is the sheet on standard input: hilpoven count import - < SHEET",
     "source": "`-` is the sheet on standard input: hilpoven to-csv - < SHEET",
-    "folder": "papers go to standard output by --tar, and backups to the folder of the settings",
+    "folder": "papers go to standard output by --tar; backups and pieces are in the folders of the settings",
+    "to": "the settings say where pieces go",
     "site_logs": "the logs are those of the settings",
     "keep": "the settings say how many backups stay",
     "days": "the settings say how many backups stay",
     "target": "it is written to standard output",
+    "out": "companions go to the folder of the settings",
     "file": "the office is that of --office NAME",
     "new": "the new file is named by itself",
 }
@@ -126,13 +130,33 @@ class Date(click.ParamType):
         self.fail(f"`{printable(word[:MOST_TOLD])}` is no date; a date is YYMMDD, such as 271127", param, ctx)
 
 
+class Percent(click.ParamType):
+    """A part of a whole in percent, with one decimal at the most."""
+
+    name = "percent"
+
+    def convert(self, value: Any, param: click.Parameter | None, ctx: click.Context | None) -> int:
+        """How many tenths of a percent it is, 1 to 1,000; fails if it is none."""
+        if isinstance(value, int):
+            return value
+        match = re.fullmatch(r"([0-9]{1,3})(?:\.([0-9]))?", str(value))
+        tenths = int(match[1]) * 10 + int(match[2] or 0) if match else 0
+        if not 1 <= tenths <= 1_000:
+            self.fail(
+                f"`{printable(str(value)[:MOST_TOLD])}` is no percentage from 0.1 to 100, such as 1.5", param, ctx
+            )
+        return tenths
+
+
 class LotCommand(click.Command):
     """A command that has a lot, whose values a scanned text in the place of LOT may fill."""
 
     def parse_args(self, ctx: click.Context, args: list[str]) -> list[str]:
         """Has a scanned text fill the other values before they are read."""
         places = self.places_of_words(ctx, args)
-        names = [str(it.name).upper().replace("_", "-") for it in self.params if isinstance(it, click.Argument)]
+        names = [
+            str(param.name).upper().replace("_", "-") for param in self.params if isinstance(param, click.Argument)
+        ]
         typed = [args[at] for at in places]
         words = typed if ctx.resilient_parsing else scanned.unfolded(str(ctx.info_name), names, typed)
         if words != typed:
@@ -141,8 +165,8 @@ class LotCommand(click.Command):
 
     def places_of_words(self, ctx: click.Context, args: list[str]) -> list[int]:
         """Where the words are that are neither options nor their values."""
-        options = [it for it in self.get_params(ctx) if isinstance(it, click.Option) and not it.is_flag]
-        counts = {name: it.nargs for it in options for name in it.opts}
+        options = [option for option in self.get_params(ctx) if isinstance(option, click.Option) and not option.is_flag]
+        counts = {name: option.nargs for option in options for name in option.opts}
         places, at = [], 0
         while at < len(args) and args[at] != "--":
             if args[at].startswith("-") and args[at] != "-":
@@ -166,8 +190,8 @@ class Day(click.ParamType):
         if (day := day_in(text)) is not None:
             return day
         if DAY_FORM.fault(text):
-            told = printable(text[:MOST_TOLD])
-            self.fail(f"`{told}` is no day, which is a number such as 261127 or a date such as 2026-11-27", param, ctx)
+            shown = printable(text[:MOST_TOLD])
+            self.fail(f"`{shown}` is no day, which is a number such as 261127 or a date such as 2026-11-27", param, ctx)
         return int(text)
 
 
@@ -184,7 +208,7 @@ SHEET = Operators(click.Path(readable=False), is_sheet=True)
 WORD = Word()
 TEXT, FILLED_TEXT = Text(may_be_empty=True), Text(may_be_empty=False)
 NAME = Name()
-DATE = Date()
+DATE, PERCENT = Date(), Percent()
 
 
 def decimals_type() -> click.IntRange:

@@ -8,13 +8,14 @@ import click
 
 from ..core import forms
 from ..core.context import Context
-from ..core.failure import REFUSED, WRONG_USE, Failure, tell
+from ..core.failure import REFUSED, WRONG_USE, Failure, printable, tell
 from ..core.office import Office
 from ..output.exports import as_csv
 from ..output.table import Row, Value, print_table
 from ..records import statement as statements
-from ..records import things
+from ..records import overviews
 from ..records.answers import recall_of
+from ..records.days import format_day
 from ..records.genealogy import FORWARD, Genealogy, Trace
 from ..records.recall import RecallLine, recall_lines
 from ..records.rows import Lot, LotId, require_owner
@@ -174,8 +175,8 @@ def lot_card(context: Context, owner: str, lot: str, file: str, is_json: bool) -
     with history.opened(context.office_to_export("years", "lot", owner, lot), owner) as whole:
         start = whole.lot(owner, lot, file)
         register = standing_over_all(context.journal(), whole)
-        thing = things.lot(whole.base, *start, replace(register, plants_test=context.settings.quality.test))
-        click.echo(thing.as_json()) if is_json else thing.print()
+        overview = overviews.lot(whole.base, *start, replace(register, plants_test=context.settings.quality.test))
+        click.echo(overview.as_json()) if is_json else overview.print()
         tell_sources(whole, start)
 
 
@@ -197,14 +198,24 @@ def statement(context: Context, owner: str, first: str, last: str, is_csv: bool)
         require_owner(whole.base, owner)
         read = statements.read_statement(whole.base, owner, int(first), int(last))
         print_statement(read, is_csv)
+        print_overdrafts(read, is_csv)
         links = statements.links_in(whole.base, read, links_of(context, whole))
         if links and not is_csv:
             click.echo()
-            print_table(things.LINK_COLUMNS, [things.link_row(link) for link in links], things.NOTED)
+            print_table(overviews.LINK_COLUMNS, [overviews.link_row(link) for link in links], overviews.NOTED)
         tell_sources(whole)
     if unexplained := -sum(account.amounts[-1] for account in read.accounts):
         raise Failure(f"{unexplained:,} of {owner} is on hand that no movement explains", REFUSED)
     sys.exit(0)
+
+
+def print_overdrafts(read: statements.Statement, is_csv: bool) -> None:
+    """Prints the movements by whose days lots are below zero; beside a CSV they are told."""
+    for draft in read.overdrafts():
+        move, later = draft.move, draft.next
+        what = f"{move.kind.word} {move.key} of {format_day(move.day)} leaves {draft.left:,} {draft.lot.measure}"
+        comes = f"; {later.key} of {format_day(later.day)} brings something next" if later else ""
+        click.echo(printable(f"By the days, {what} of {move.lot}{comes}."), err=is_csv)
 
 
 def print_statement(read: statements.Statement, is_csv: bool) -> None:

@@ -123,7 +123,7 @@ def given(
     blotted = [BLOTTED if line.name == OWNER_ADD and name == "KEY" else word for name, word in zip(line.values, words)]
     entry = journal.asked(office.file, [line.name, *blotted], **more)
     answer = office.ask_patiently([line.name, *words], ask)
-    journal.told(entry, answer)
+    journal.answered(entry, answer)
     return answer
 
 

@@ -62,14 +62,16 @@ def newest(file: str, folder: str, journal: Journal) -> tuple[str, list[str]]:
     except Failure:
         return "", []
     latest = time.strftime("%Y%m%d-%H%M%S", time.gmtime(time.time() + TOLERANCE))
-    return next(iter(made), ""), [it for it in made if it[-len("YYYYMMDD-HHMMSS.db") : -len(".db")] > latest]
+    return next(iter(made), ""), [
+        backup for backup in made if backup[-len("YYYYMMDD-HHMMSS.db") : -len(".db")] > latest
+    ]
 
 
 def changed(file: str, folder: str, journal: Journal) -> tuple[int, list[str]]:
     """How many of the backups that a journal notes are in a folder, and those whose bytes aren't what it notes."""
     hashes = recorded(journal)
-    there = [it for it in all_of(file, folder, journal) if os.path.basename(it) in hashes]
-    return len(there), [it for it in there if hash_of(it) != hashes[os.path.basename(it)]]
+    there = [backup for backup in all_of(file, folder, journal) if os.path.basename(backup) in hashes]
+    return len(there), [backup for backup in there if hash_of(backup) != hashes[os.path.basename(backup)]]
 
 
 def make(office: Office, folder: str, keep: int, days: int, journal: Journal) -> str:
@@ -195,16 +197,22 @@ def restore(office: Office, backup: str, place: Place, journal: Journal, is_fore
                 "root and the office's user restore it with --foreign, and answer for what is in it",
             )
         words = ["restore", *(["--foreign"] if is_foreign else []), backup]
-        with journal.noted(office.file, words, sha256=digest) as note:
-            with lock.held(office.file, office.wait):
-                stop_on_server(office.file, place)
-                aside = move_aside(office.file)
-                put_in_place(copy, office.file)
-            answer = office.ask_patiently(["stock", "HOUSE"])
-            if answer.status:
-                advice = f"what was there is in {aside}" if aside else ""
-                raise Failure(f"toll doesn't open what was put in place: {answer.error.strip()}", FAULT, advice)
-            note.answer = Answer(0, f"restored; what was there is in {aside}\n" if aside else "restored\n", "")
+        return replace(office, copy, place, journal, words, digest)
+
+
+def replace(office: Office, copy: str, place: Place, journal: Journal, words: list[str], digest: str) -> str:
+    """Puts a copy that was looked at in the place of the file, which the journal notes; the folder where the file is
+    now."""
+    with journal.noted(office.file, words, sha256=digest) as note:
+        with lock.held(office.file, office.wait):
+            stop_on_server(office.file, place)
+            aside = move_aside(office.file)
+            put_in_place(copy, office.file)
+        answer = office.ask_patiently(["stock", "HOUSE"])
+        if answer.status:
+            advice = f"what was there is in {aside}" if aside else ""
+            raise Failure(f"toll doesn't open what was put in place: {answer.error.strip()}", FAULT, advice)
+        note.answer = Answer(0, f"restored; what was there is in {aside}\n" if aside else "restored\n", "")
     return aside
 
 
@@ -250,18 +258,19 @@ def stop_on_server(file: str, place: Place) -> None:
         raise Failure(f"{file} is open in process {processes}", FAULT, advice)
 
 
-def move_aside(file: str) -> str:
-    """Moves a file, then its log, then its register, which is made anew, into a new folder beside it; its path, empty
-    where nothing was there."""
-    if not any(os.path.lexists(file + end) for end in (*BELONGING, *REGISTER)):
+def move_aside(file: str, *more: str) -> str:
+    """Moves a file, then its log, then its register, which is made anew, and other files into a new folder beside it;
+    its path, empty where nothing was there."""
+    moved = [path for path in [*(file + end for end in (*BELONGING, *REGISTER)), *more] if os.path.lexists(path)]
+    if not moved:
         return ""
     stamp = time.strftime("%Y%m%d-%H%M%S", time.gmtime())
     aside = tempfile.mkdtemp(prefix=f"{name_of(file)}-before-restore-{stamp}-", dir=os.path.dirname(file))
-    for end in (*BELONGING, *REGISTER):
+    for path in moved:
         with contextlib.suppress(FileNotFoundError):
-            os.rename(file + end, os.path.join(aside, os.path.basename(file) + end))
+            os.rename(path, os.path.join(aside, os.path.basename(path)))
             scratch.sync(aside)
-            scratch.sync(os.path.dirname(file))
+            scratch.sync(os.path.dirname(path))
     return aside
 
 

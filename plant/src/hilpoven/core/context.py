@@ -6,7 +6,7 @@ from typing import TYPE_CHECKING
 
 from . import rights, settings as site
 from .failure import WRONG_USE, Failure
-from .office import Office, require_file
+from .office import SUPERSEDED, Office, require_file
 from .settings import Settings
 
 if TYPE_CHECKING:
@@ -39,8 +39,12 @@ class Context:
         return os.path.realpath(named)
 
     def office(self) -> Office:
-        """The office, whose file is there, to be worked on with its owner's rights."""
+        """The office, whose file is there, to be worked on with its owner's rights; fails if it is superseded."""
         rights.become_owner(self.file)
+        if os.path.lexists(self.file + SUPERSEDED):
+            from ..standby import timeline
+
+            timeline.require_latest(self.file)
         return self.office_to_read()
 
     def office_to_read(self) -> Office:

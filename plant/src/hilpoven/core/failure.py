@@ -7,7 +7,9 @@ REFUSED, WRONG_USE, FAULT = 1, 2, 3  # the statuses have the meanings that `toll
 def printable(text: str) -> str:
     """A text in one line without what a terminal obeys: control characters, bytes that are no UTF-8, and characters
     that nobody sees or that change the order of others are escaped, as Python writes them."""
-    return text if text.isprintable() else "".join(it if it.isprintable() else escaped(it) for it in text)
+    return (
+        text if text.isprintable() else "".join(letter if letter.isprintable() else escaped(letter) for letter in text)
+    )
 
 
 def escaped(character: str) -> str:

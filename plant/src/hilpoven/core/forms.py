@@ -34,10 +34,10 @@ def quoted(letter: str) -> str:
 
 def others(word: str, allowed: str) -> list[str]:
     """The letters of a word that aren't allowed, each once; lower-case ones together."""
-    strange = list(dict.fromkeys(it for it in word if it not in allowed))
-    lower = [it for it in strange if it in SMALL]
+    strange = list(dict.fromkeys(letter for letter in word if letter not in allowed))
+    lower = [letter for letter in strange if letter in SMALL]
     named = ["a lower-case letter" if len(lower) == 1 else "lower-case letters"] if lower else []
-    return named + [quoted(it) for it in strange if it not in lower]
+    return named + [quoted(letter) for letter in strange if letter not in lower]
 
 
 def name_fault(word: str) -> str:
@@ -56,7 +56,7 @@ def name_fault(word: str) -> str:
 
 def measure_fault(word: str) -> str:
     """What is wrong with a measure."""
-    strange = [quoted(it) for it in dict.fromkeys(word) if it not in CAPITALS + SMALL]
+    strange = [quoted(letter) for letter in dict.fromkeys(word) if letter not in CAPITALS + SMALL]
     if strange:
         return f"has {listed(strange)}; a measure has letters alone, such as kg or liter"
     if not 1 <= len(word) <= 8:
@@ -99,7 +99,7 @@ def no_number(word: str) -> str:
         return f"has {quoted(match[1])} behind the number; the measure is the material's"
     if re.fullmatch(r"(-|M)[0-9]+", word):
         return "is negative"
-    strange = [quoted(it) for it in dict.fromkeys(word) if it not in DIGITS]
+    strange = [quoted(letter) for letter in dict.fromkeys(word) if letter not in DIGITS]
     return f"has {listed(strange)}"
 
 
@@ -116,7 +116,7 @@ def text_fault(word: str) -> str:
     """What is wrong with a text of the plant's own, such as a reason."""
     if len(word) > MOST_LETTERS:
         return f"has {len(word):,} letters; a text has at most {MOST_LETTERS}"
-    strange = [quoted(it) for it in dict.fromkeys(word) if not it.isprintable()]
+    strange = [quoted(letter) for letter in dict.fromkeys(word) if not letter.isprintable()]
     return f"has {listed(strange)}; a text is one line that can be printed" if strange else ""
 
 

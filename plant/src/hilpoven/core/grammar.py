@@ -106,12 +106,12 @@ recall OWNER LOT | lists the lots that a lot went into, with the amounts on hand
 
 def line_of(row: str) -> Line:
     """The line of a row of the table."""
-    words, about, example = (" ".join(it.split()) for it in row.split("|"))
+    words, about, example = (" ".join(cell.split()) for cell in row.split("|"))
     name, *values = words.split()
     return Line(name, tuple(values), about, example)
 
 
-LINES: dict[str, Line] = {it.name: it for it in map(line_of, re.split(r"\n(?=\S)", TABLE.strip()))}
+LINES: dict[str, Line] = {line.name: line for line in map(line_of, re.split(r"\n(?=\S)", TABLE.strip()))}
 
 
 def written(line: Line, words: list[str]) -> tuple[list[str], list[str]]:
@@ -151,7 +151,7 @@ def faults(line: Line, words: list[str]) -> list[str]:
             called = "the key" if form is forms.SECRET else f"`{printable(word)}`"
             wrong.append(f"{value}: {called} {fault}")
     if not wrong and "LOW" in line.values:
-        low, high = (int(words[line.values.index(it)].replace("M", "-")) for it in ("LOW", "HIGH"))
+        low, high = (int(words[line.values.index(bound)].replace("M", "-")) for bound in ("LOW", "HIGH"))
         if low > high:
             wrong.append(f"LOW: {low} is above HIGH, {high}")
     return wrong
@@ -159,4 +159,4 @@ def faults(line: Line, words: list[str]) -> list[str]:
 
 def unsayable(words: list[str]) -> list[str]:
     """The words that `toll` takes for no value in any line: it can't be asked with them."""
-    return [it for it in words if not it or it.startswith("-") or it == "help" or "\0" in it]
+    return [word for word in words if not word or word.startswith("-") or word == "help" or "\0" in word]

@@ -3,6 +3,7 @@ import contextlib
 import os
 import sqlite3
 import time
+from collections.abc import Sequence
 from dataclasses import dataclass, field
 from datetime import date, datetime
 
@@ -12,11 +13,14 @@ from ..records.gauge import FULL, Gauge, gauges
 from ..register import drills, standing
 from ..register.drills import Drill
 from ..register.suspects import Suspect, suspects
+from ..standby.lag import Lag, folder_of, lag_of
 from ..years import chain, pace
-from . import backups, client, keys, server, snapshot
+from . import backups, client, keys, server, settings as site, snapshot
 from .context import Context
 from .failure import FAULT, REFUSED, Failure, printable
 from .office import Office
+
+OLD_COMPANIONS = 300  # seconds; a timer looks after them each minute
 
 
 @dataclass
@@ -34,6 +38,7 @@ class Health:
     opens: bool = False
     serves: bool = False
     backup: float = 0.0  # when the newest one was made; 0 where there is none
+    standby: Lag | None = None  # how far it is behind, if somebody follows
 
     @property
     def code(self) -> int:
@@ -57,13 +62,13 @@ def check_file(context: Context, health: Health) -> None:
         health.bad.append(error.message if isinstance(error, Failure) else damaged)
         return
     health.opens = True
-    size = sum(os.path.getsize(it) for it in (context.file, f"{context.file}-wal") if os.path.exists(it))
+    size = sum(os.path.getsize(path) for path in (context.file, f"{context.file}-wal") if os.path.exists(path))
     health.lines.append(f"file: {context.file} opens; {size / 1e6:,.1f} MB with its log")
     health.lines += short
     health.lines += [drill_line(health.drill)] if health.drill else []
     check_earlier(context, came, health)
     health.attention += [unread] if unread and unread not in health.attention else []
-    health.attention += [described(it, health.full_by.get(it)) for it in pressing(health)]
+    health.attention += [described(gauge, health.full_by.get(gauge)) for gauge in pressing(health)]
 
 
 def check_notes(context: Context, base: sqlite3.Connection, health: Health) -> str:
@@ -110,13 +115,15 @@ def check_earlier(context: Context, came: chain.Carried | None, health: Health) 
         return
     if earlier:
         health.lines.append(
-            f"earlier files: {', '.join(it.name for it in earlier)}; the last was carried over at {earlier[-1].at}"
+            f"earlier files: {', '.join(file.name for file in earlier)}; the last was carried over at {earlier[-1].at}"
         )
 
 
 def pressing(health: Health) -> list[Gauge]:
     """What is nearly full, or will be soon."""
-    return [it for it in health.full if it.percent >= FULL or pace.is_soon(health.full_by.get(it), date.today())]
+    return [
+        gauge for gauge in health.full if gauge.percent >= FULL or pace.is_soon(health.full_by.get(gauge), date.today())
+    ]
 
 
 def described(gauge: Gauge, when: date | None) -> str:
@@ -152,7 +159,7 @@ def check_backups(context: Context, health: Health) -> None:
         health.lines.append("backup: no folder is named in the settings")
         return
     newest, ahead = backups.newest(context.file, folder, context.journal())
-    health.attention += [f"{it} is dated in the future: is the clock right?" for it in ahead]
+    health.attention += [f"{backup} is dated in the future: is the clock right?" for backup in ahead]
     if not newest:
         health.attention.append(f"there is no backup in {folder}")
         return
@@ -163,9 +170,50 @@ def check_backups(context: Context, health: Health) -> None:
         health.attention.append(f"the newest backup is {hours:,.0f} hours old")
 
 
+def check_companions(context: Context, health: Health) -> None:
+    """Looks whether the owners' companions are as new as the file, where the office has any."""
+    from ..companion import making
+
+    folder = site.companions_of(context.settings)
+    try:
+        age = making.age_of(context, folder) if folder and context.file == site.office_of(context.settings) else None
+    except Failure as failure:
+        health.attention.append(failure.message)
+        return
+    if age is None:
+        return
+    health.lines.append(f"companions: {folder}, looked after {age.seconds / 60:,.0f} minutes ago")
+    if age.is_old and age.seconds > OLD_COMPANIONS:
+        timer = f"`systemctl status toll-companion@{context.settings.office}.timer`"
+        health.attention.append(f"the owners' companions in {folder} are older than the file: {timer}")
+
+
+def check_standby(context: Context, health: Health) -> None:
+    """Looks how far a standby is behind, if the settings have one or somebody follows."""
+    folder = folder_of(context.file, context.settings.follow.to)
+    lag = health.standby = lag_of(context.file, folder)
+    if lag is None:
+        if context.settings.follow.to:
+            health.attention.append(f"standby: nobody follows to {context.settings.follow.to}")
+        return
+    health.lines += [f"standby: {line}" for line in lag.lines]
+    health.attention += [f"standby: {fault}" for fault in lag.faults]
+    if lag.seconds > context.settings.follow.behind:
+        health.attention.append(f"standby: it is {lag.seconds:,.0f} seconds behind")
+
+
+def standby_metrics(lag: Lag) -> list[tuple[str, str, list[tuple[str, float]]]]:
+    """How far a standby is behind, as Prometheus reads it."""
+    return [
+        ("standby_behind_seconds", "By how many seconds the standby is behind.", [("", round(lag.seconds, 1))]),
+        ("standby_unsent_pieces", "Pieces that aren't on the other machine yet.", [("", lag.said.unsent)]),
+        ("standby_looked_timestamp_seconds", "When the follower looked last.", [("", int(lag.said.looked))]),
+    ]
+
+
 def metrics(health: Health) -> str:
     """The same as Prometheus reads it."""
-    rows = [
+    rows: list[tuple[str, str, Sequence[tuple[str, float]]]] = [
         ("file_opens", "Whether the office's file opens.", [("", int(health.opens))]),
         ("server_answers", "Whether a server answers.", [("", int(health.serves))]),
         ("last_backup_timestamp_seconds", "When the newest backup was made; 0 is never.", [("", int(health.backup))]),
@@ -179,6 +227,7 @@ def metrics(health: Health) -> str:
                 for gauge, when in health.full_by.items()
             ],
         ),
+        *(standby_metrics(health.standby) if health.standby else []),
     ]
     return "".join(
         f"# HELP hilpoven_{name} {about}\n# TYPE hilpoven_{name} gauge\n"
@@ -189,13 +238,13 @@ def metrics(health: Health) -> str:
 
 def labels(gauge: Gauge) -> str:
     """The labels of a gauge."""
-    owner, what = (printable(it).replace("\\", r"\\").replace('"', r"\"") for it in (gauge.owner, gauge.what))
+    owner, what = (printable(label).replace("\\", r"\\").replace('"', r"\"") for label in (gauge.owner, gauge.what))
     return f'{{owner="{owner}",of="{what}"}}'
 
 
 def health_of(context: Context) -> Health:
     """All that is found of an office."""
     health = Health()
-    for check in (check_file, check_server, check_backups):
+    for check in (check_file, check_server, check_backups, check_companions, check_standby):
         check(context, health)
     return health

@@ -31,7 +31,9 @@ def random_key() -> Key:
 
 def short_keys(base: sqlite3.Connection) -> list[str]:
     """Whose keys can be guessed, in the line that `status` prints; no line where there are none."""
-    owners = [it for it, in base.execute("SELECT owner FROM owners WHERE length(okey) < ? ORDER BY owner", (SHORT,))]
+    owners = [
+        owner for owner, in base.execute("SELECT owner FROM owners WHERE length(okey) < ? ORDER BY owner", (SHORT,))
+    ]
     return (
         [
             f"keys: those of {', '.join(owners)} have fewer than {SHORT} letters; "
@@ -57,7 +59,7 @@ def change_key(office: Office, owner: str, key: str) -> None:
             with base:
                 changed = base.execute("UPDATE owners SET okey = ? WHERE owner = ?", (key, owner)).rowcount
             if changed != 1:
-                names = [it for it, in base.execute("SELECT owner FROM owners ORDER BY owner")]
+                names = [name for name, in base.execute("SELECT owner FROM owners ORDER BY owner")]
                 raise Failure(f"there is no owner {owner}", WRONG_USE, nearest(owner, names, "owners"))
             if base.execute("SELECT okey FROM owners WHERE owner = ?", (owner,)).fetchone() != (key,):
                 raise Failure("the new key doesn't stand in the file")

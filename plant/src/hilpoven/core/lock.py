@@ -63,11 +63,11 @@ def holders(file: str) -> str:
     try:
         inode = os.stat(name_of(file)).st_ino
         with open("/proc/locks") as locks:
-            rows = [it.split() for it in locks]
+            rows = [line.split() for line in locks]
     except OSError:
         return ""
     pids = sorted({int(row[4]) for row in rows if row[1] == "FLOCK" and row[5].endswith(f":{inode}")})
-    return "\n".join(f"it is held by process {it} ({command(it)})" for it in pids if it > 0)
+    return "\n".join(f"it is held by process {pid} ({command(pid)})" for pid in pids if pid > 0)
 
 
 def command(pid: int) -> str:

@@ -38,5 +38,5 @@ def explained(kind: str, word: str, values: dict[str, str]) -> str:
     if not entry:
         return ""
     filled = defaultdict(str, {f"{{{name}}}": value for name, value in values.items()})
-    look = re.sub(r"\{([A-Z-]+)\}", lambda it: filled[it[0]] or it[1], entry["look"])
+    look = re.sub(r"\{([A-Z-]+)\}", lambda match: filled[match[0]] or match[1], entry["look"])
     return f"{word}: {meaning(kind, word)}.\n{look}"

@@ -21,9 +21,9 @@ def earlier_files(file: str) -> list[str]:
     """The files beside an office's file that have the names of its earlier ones, in their order."""
     folder = os.path.dirname(file)
     numbers = {name: number_of(file, name) for name in os.listdir(folder)}
-    return [os.path.join(folder, it) for it in sorted(filter(numbers.get, numbers), key=lambda it: numbers[it])]
+    return [os.path.join(folder, name) for name in sorted(filter(numbers.get, numbers), key=lambda name: numbers[name])]
 
 
 def next_number(file: str) -> int:
     """The number of the next earlier file."""
-    return max((number_of(file, os.path.basename(it)) for it in earlier_files(file)), default=0) + 1
+    return max((number_of(file, os.path.basename(path)) for path in earlier_files(file)), default=0) + 1

@@ -49,13 +49,15 @@ def names_near(office: Office, word: str, values: dict[str, str]) -> str:
     given = {"whose": whose_of(word, values), "order": values.get("ORDER", ""), "lot": values.get("LOT", "")}
     try:
         with snapshot.opened(office) as base:
-            names = sorted(it for it, in base.execute(sql, given))
+            names = sorted(name for name, in base.execute(sql, given))
             beside = (
-                [it for it, in base.execute(ELSEWHERE, (values[value], given["whose"]))] if word == "UnknownLot" else []
+                [owner for owner, in base.execute(ELSEWHERE, (values[value], given["whose"]))]
+                if word == "UnknownLot"
+                else []
             )
     except (Failure, sqlite3.Error):
         return ""
-    lines = [f"{it} has a lot {values[value]}." for it in beside]
+    lines = [f"{owner} has a lot {values[value]}." for owner in beside]
     return "\n".join([*lines, nearest(values[value], names, called.format(**given))])
 
 

@@ -11,6 +11,7 @@ from .failure import FAULT, WRONG_USE, Failure
 from .rights import advice
 
 LOCKED = "fault Locked\n"
+SUPERSEDED = ".superseded"  # the end of the name of what says that a standby has the office now
 
 
 class Answer(NamedTuple):
@@ -97,7 +98,7 @@ def advice_of_absent(file: str) -> str:
     if has_bytes(f"{file}-wal"):
         return f"but its log {file}-wal is there, so it was moved away: put it back, or `hilpoven restore` a backup"
     try:
-        names = [it for it in os.listdir(folder) if it.endswith(".db")]
+        names = [name for name in os.listdir(folder) if name.endswith(".db")]
     except OSError as error:
         return f"{folder} can't be looked at: {error.strerror}; {advice(file)}"
     import difflib

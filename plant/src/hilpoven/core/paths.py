@@ -12,7 +12,10 @@ from . import rights, scratch
 from .failure import FAULT, WRONG_USE, Failure
 
 # How the names of an office's files and backups end.
-OF_OFFICES = (".db", "-wal", "-shm", ".lock", ".sock", ".journal", ".register", ".register-journal")
+OF_OFFICES = (
+    *(".db", "-wal", "-shm", ".lock", ".sock", ".journal", ".register", ".register-journal"),
+    *(".timeline", ".superseded", ".piece", ".snapshot"),
+)
 FOLDER = os.O_RDONLY | os.O_DIRECTORY | os.O_NOFOLLOW | os.O_CLOEXEC
 SQLITE = b"SQLite format 3\0"
 

@@ -87,7 +87,7 @@ def remove_left(parent: str) -> None:
     """Removes the folders of this user that a kill left, which nobody holds."""
     left = []
     with contextlib.suppress(PermissionError):
-        left = [os.path.join(parent, it) for it in os.listdir(parent) if it.startswith(PREFIX)]
+        left = [os.path.join(parent, name) for name in os.listdir(parent) if name.startswith(PREFIX)]
     for folder in left:
         with contextlib.suppress(OSError), held(folder):
             made = os.stat(folder, follow_symlinks=False)

@@ -77,8 +77,8 @@ def users_of(file: str) -> list[int]:
         state = os.stat(file)
     except OSError:
         return []
-    pids = [int(it) for it in os.listdir("/proc") if it.isdigit() and int(it) != os.getpid()]
-    return [it for it in pids if has_open(it, state)]
+    pids = [int(name) for name in os.listdir("/proc") if name.isdigit() and int(name) != os.getpid()]
+    return [pid for pid in pids if has_open(pid, state)]
 
 
 def has_open(pid: int, file: os.stat_result) -> bool:

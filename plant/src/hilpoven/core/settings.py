@@ -12,6 +12,7 @@ from .rights import advice
 PATH = "/etc/hilpoven.toml"
 OFFICES = "/etc/toll"
 DATA = "/var/lib/toll"
+COMPANIONS = "/var/cache/toll-companion"
 CHECKOUT = os.path.abspath(f"{__file__}/../../../../..")
 
 WARN, REFUSE = "warn", "refuse"
@@ -26,6 +27,8 @@ BOUNDS = {
     "backup_hours": (1, MUCH),
     "port": (0, 65_535),
     "wait": (0, MUCH),
+    "behind": (1, MUCH),
+    "reserve": (0, MUCH),
 }
 MOST_PREFIX = 8  # letters before the number of a key, which has 16 with it
 
@@ -92,6 +95,16 @@ class Roles(NamedTuple):
     restore: list[str] | None = None  # the office's files: new ones, backups, restores, later ones
 
 
+class Follow(NamedTuple):
+    """How a standby is kept. Each field is a line below [follow]."""
+
+    to: str = ""  # the folder of the pieces, or HOST:FOLDER on another machine; an office's FOLLOW goes before it
+    days: int = 7  # for which snapshots and pieces stay
+    behind: int = 60  # seconds; a standby that is behind by more is told by `status`
+    reserve: int = 500  # megabytes of the disk that pieces leave to the office
+    rsh: str = "ssh -o BatchMode=yes -o ConnectTimeout=5"  # by which rsync reaches HOST
+
+
 class Settings(NamedTuple):
     """What a site says of its office. Each field is a line of /etc/hilpoven.toml, or a table of it."""
 
@@ -115,14 +128,16 @@ class Settings(NamedTuple):
     expiry: Expiry = Expiry()
     quality: Quality = Quality()
     roles: Roles = Roles()
+    follow: Follow = Follow()
 
 
-TABLES: dict[str, Require | PlantFacts | Expiry | Quality | Roles] = {
+TABLES: dict[str, Require | PlantFacts | Expiry | Quality | Roles | Follow] = {
     "require": Require(),
     "plant": PlantFacts(),
     "expiry": Expiry(),
     "quality": Quality(),
     "roles": Roles(),
+    "follow": Follow(),
 }
 DEFAULTS = Settings()._asdict()
 # What is wrong with a text that isn't empty.
@@ -148,15 +163,21 @@ def load(path: str = PATH, office: str = "", db: str = "") -> Settings:
     path = of_environment("HILPOVEN_SETTINGS") or os.fspath(path)
     settings = Settings(**{name: value_of(path, name, value) for name, value in lines_of(path).items()})
     file, journal, backups, logo = (
-        it and os.path.join(os.path.dirname(path), it)
-        for it in (settings.file, settings.journal, settings.backups, settings.plant.logo)
+        setting and os.path.join(os.path.dirname(path), setting)
+        for setting in (settings.file, settings.journal, settings.backups, settings.plant.logo)
     )
     plant = settings.plant._replace(logo=logo)
-    settings = settings._replace(file=file, journal=journal, backups=backups, plant=plant)
+    follow = settings.follow._replace(to=target_of(os.path.dirname(path), settings.follow.to))
+    settings = settings._replace(file=file, journal=journal, backups=backups, plant=plant, follow=follow)
     default = settings.office or ("" if db or settings.file else only_office())
     if not office or office == default:
         return of_office(settings, default) if default else settings
     return of_office(settings._replace(journal=""), office)
+
+
+def target_of(folder: str, to: str) -> str:
+    """Where pieces go: HOST:FOLDER as it is, and a folder of this machine from where the settings are."""
+    return to if not to or ":" in to.partition("/")[0] else os.path.join(folder, to)
 
 
 def lines_of(path: str) -> dict[str, Any]:
@@ -186,7 +207,7 @@ def checked(path: str, name: str, value: Any, default: Any, called: str = "") ->
     kind: Any = list if default is None else type(default)
     if type(value) is int and kind is float:
         value = float(value)
-    if type(value) is not kind or kind is list and not all(type(it) is str for it in value):
+    if type(value) is not kind or kind is list and not all(type(word) is str for word in value):
         raise Failure(f"{path}: {name} is to be {CALLED[kind]}", WRONG_USE)
     least, most = BOUNDS.get(name, (value, value))
     if not least <= value <= most:
@@ -220,7 +241,7 @@ def unread(path: str, error: OSError) -> Failure:
 def offices() -> list[str]:
     """The names of the offices of this machine; none where they can't be seen."""
     try:
-        return sorted(it.removesuffix(".env") for it in os.listdir(OFFICES) if it.endswith(".env"))
+        return sorted(file_name.removesuffix(".env") for file_name in os.listdir(OFFICES) if file_name.endswith(".env"))
     except OSError:
         return []
 
@@ -244,15 +265,20 @@ def of_office(settings: Settings, name: str) -> Settings:
         raise Failure(f"there is no office {name}: {path} isn't there", WRONG_USE, advice) from None
     except OSError as error:
         raise unread(path, error) from error
-    units = {it: value.strip().strip("\"'") for it, value in rows}
+    units = {unit_name: value.strip().strip("\"'") for unit_name, value in rows}
     called = {"port": "PORT", "keep": "HOURS", "days": "DAYS"}
-    numbers = {it: value_of(path, it, number_of(path, of, units[of]), of) for it, of in called.items() if units.get(of)}
+    numbers = {
+        setting: value_of(path, setting, number_of(path, of, units[of]), of)
+        for setting, of in called.items()
+        if units.get(of)
+    }
     file = os.path.join(OFFICES, units.get("FILE", f"{DATA}/{name}/office.db"))
     backups = os.path.join(OFFICES, units.get("BACKUPS", f"{DATA}/{name}/backup"))
     port, keep, days = (
-        numbers.get(it, default) for it, default in (("port", settings.port), ("keep", 48), ("days", 30))
+        numbers.get(setting, default) for setting, default in (("port", settings.port), ("keep", 48), ("days", 30))
     )
-    return settings._replace(office=name, file=file, backups=backups, port=port, keep=keep, days=days)
+    follow = settings.follow._replace(to=target_of(OFFICES, units.get("FOLLOW", settings.follow.to)))
+    return settings._replace(office=name, file=file, backups=backups, port=port, keep=keep, days=days, follow=follow)
 
 
 def number_of(path: str, name: str, value: str) -> int:
@@ -267,7 +293,7 @@ def program(settings: Settings) -> str:
     installed."""
     checkout = f"{CHECKOUT}/toll" if os.path.isfile(f"{CHECKOUT}/crates.txt") else "toll"
     named = settings.toll or of_environment("TOLL") or checkout
-    for path in [named] if os.path.dirname(named) else [os.path.join(it, named) for it in os.get_exec_path()]:
+    for path in [named] if os.path.dirname(named) else [os.path.join(folder, named) for folder in os.get_exec_path()]:
         if os.path.isfile(path) and os.access(path, os.X_OK):
             return os.path.abspath(path)
     raise Failure(f"the program {named} isn't here, or can't be run", WRONG_USE)
@@ -276,6 +302,11 @@ def program(settings: Settings) -> str:
 def journal_of(settings: Settings, file: str) -> str:
     """Where the journal of an office's file is."""
     return settings.journal if settings.journal and file == office_of(settings) else f"{file}.journal"
+
+
+def companions_of(settings: Settings) -> str:
+    """The folder in which the site looks for the companions of an office; empty where the office has no name."""
+    return os.path.join(COMPANIONS, settings.office) if settings.office else ""
 
 
 def office_of(settings: Settings) -> str:

@@ -31,7 +31,7 @@ def of_plant(path: str, file: str) -> list[JournalEntry]:
 def between(path: str, file: str, first: str, last: str) -> list[JournalEntry]:
     """The same from a line to another one, both with it, which are given by their names; fails if one is missing."""
     entries = query.entries(path, file)
-    places = {it["id"]: place for place, it in enumerate(entries) if it.get("id") in (first, last)}
+    places = {entry["id"]: place for place, entry in enumerate(entries) if entry.get("id") in (first, last)}
     if len(places) < len({first, last}):
         raise Failure(f"the journal {path} has no longer the lines {first} and {last}")
     return shown(entries[places[first] : places[last] + 1])
@@ -39,19 +39,19 @@ def between(path: str, file: str, first: str, last: str) -> list[JournalEntry]:
 
 def shown(entries: list[dict[str, Any]]) -> list[JournalEntry]:
     """What entries of the plant's command say, each with its answer."""
-    answers = {str(it.get("of")): it for it in entries if it.get("event") == "told"}
+    answers = {str(entry.get("of")): entry for entry in entries if entry.get("event") == "told"}
     return [
         JournalEntry(
-            str(it.get("time")),
-            who(it),
-            str(it.get("machine")),
-            what(it),
-            answer_of(it, answers),
-            (str(it.get("login")), str(it.get("user"))),
-            words_of(it),
+            str(entry.get("time")),
+            who(entry),
+            str(entry.get("machine")),
+            what(entry),
+            answer_of(entry, answers),
+            (str(entry.get("login")), str(entry.get("user"))),
+            words_of(entry),
         )
-        for it in entries
-        if it.get("event") in ("asked", "exported", "moved", "note")
+        for entry in entries
+        if entry.get("event") in ("asked", "exported", "moved", "note")
     ]
 
 
@@ -107,15 +107,15 @@ def of_owners(paths: list[str], with_questions: bool) -> list[JournalEntry]:
 
     return [
         JournalEntry(
-            it.time.isoformat(timespec="milliseconds").replace("+00:00", "Z"),
-            it.who,
-            it.address,
-            it.request,
-            str(it.status),
-            (it.owner,),
-            tuple(re.split(r"[\s/]+", it.request)),
+            request.time.isoformat(timespec="milliseconds").replace("+00:00", "Z"),
+            request.who,
+            request.address,
+            request.request,
+            str(request.status),
+            (request.owner,),
+            tuple(re.split(r"[\s/]+", request.request)),
         )
         for path in paths
-        for it in sitelog.requests(path)
-        if with_questions or it.is_change
+        for request in sitelog.requests(path)
+        if with_questions or request.is_change
     ]

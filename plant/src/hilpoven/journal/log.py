@@ -75,7 +75,7 @@ class Journal:
         self.add({"event": "asked", "id": name, **doer(file), "words": words, **more})
         return name
 
-    def told(self, name: str, answer: Answer, **more: Any) -> None:
+    def answered(self, name: str, answer: Answer, **more: Any) -> None:
         """Adds what was answered. It is done already: where it can't be noted, that is told at the end, behind the
         answer."""
         self.held.append(
@@ -125,9 +125,9 @@ class Journal:
         except BaseException as error:
             why = "stopped" if isinstance(error, (SystemExit, KeyboardInterrupt)) else str(error)
             status = error.exit_code if isinstance(error, Failure) else FAULT
-            self.told(name, Answer(status, "" if note.answer is DONE else note.answer.output, f"{why}\n"))
+            self.answered(name, Answer(status, "" if note.answer is DONE else note.answer.output, f"{why}\n"))
             raise
-        self.told(name, note.answer, **note.more)
+        self.answered(name, note.answer, **note.more)
 
     def add(self, *entries: dict[str, Any]) -> None:
         """Adds lines, behind the answers that are held. They are on the disk when this returns; where they can't be
@@ -160,6 +160,13 @@ class Journal:
             append(descriptor, {"event": "moved", "from": last, **doer(file)})
         elif self.path == f"{file}.journal":
             raise Failure(f"{self.path} is the journal of {last}, and {file} needs one of its own", advice=NOTHING_DONE)
+
+    def move(self, file: str) -> None:
+        """Notes that this is the journal of a file now, where it was that of another one, which may be there still."""
+        with self.locked() as descriptor:
+            last = file_in(descriptor)
+            if last not in ("", file):
+                append(descriptor, {"event": "moved", "from": last, **doer(file)})
 
     @contextlib.contextmanager
     def locked(self) -> Iterator[int]:
@@ -226,7 +233,7 @@ def backwards(descriptor: int) -> Iterator[bytes]:
 
 def file_in(descriptor: int) -> str:
     """The file that the last entry is about; empty where none is about one."""
-    return next((str(it["file"]) for it in map(entry_of, backwards(descriptor)) if it and "file" in it), "")
+    return next((str(entry["file"]) for entry in map(entry_of, backwards(descriptor)) if entry and "file" in entry), "")
 
 
 def adopted(path: str, file: str) -> str:

@@ -77,7 +77,7 @@ def entries(path: str, file: str, having: str = "") -> list[dict[str, Any]]:
                 chosen.append(entry)
     files.note(entry_of(last) or {})
     names = files.of(file)
-    return [it for it in chosen if str(it.get("file", file)) in names]
+    return [candidate for candidate in chosen if str(candidate.get("file", file)) in names]
 
 
 def check(path: str, heads: dict[int, str] | None = None, file: str = "") -> Checked:
@@ -111,9 +111,11 @@ def check(path: str, heads: dict[int, str] | None = None, file: str = "") -> Che
             checked.wrong.append(f"line {number} is another one than that whose hash was kept")
     if last and not last.endswith(b"\n") and entry_of(last):
         checked.wrong.append(f"line {checked.lines} has no end")
-    checked.wrong += [f"line {it} is missing: its hash was kept" for it in sorted(heads or {}) if it > checked.lines]
+    checked.wrong += [
+        f"line {kept} is missing: its hash was kept" for kept in sorted(heads or {}) if kept > checked.lines
+    ]
     others = sorted(files.counts.keys() - files.of(file)) if file else []
-    checked.wrong += [f"{files.counts[it]:,} lines are about another file, {printable(it)}" for it in others]
+    checked.wrong += [f"{files.counts[other]:,} lines are about another file, {printable(other)}" for other in others]
     checked.unanswered = list(open_of.values())
     return checked
 

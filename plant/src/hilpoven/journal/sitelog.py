@@ -11,7 +11,7 @@ from ..core.failure import Failure
 
 LINE = re.compile(r'(?P<address>\S+) "(?P<owner>[^"]*)" \[(?P<time>[^\]]+)\] "(?P<request>[^"]*)" (?P<status>\d{3})\b')
 
-CHECKED = (200, 404, 405, 409)  # the statuses of replies before which the owner's key was compared
+CHECKED = (200, 304, 404, 405, 409)  # the statuses of replies before which the owner's key was compared
 
 
 @dataclass(frozen=True)
@@ -45,7 +45,7 @@ def files_of(path: str) -> list[str]:
     folder, name = os.path.split(path)
     form = re.compile(rf"{re.escape(name)}([-.][0-9]+)*(\.gz)?")
     try:
-        logs = [os.path.join(folder, it) for it in os.listdir(folder or ".") if form.fullmatch(it)]
+        logs = [os.path.join(folder, file_name) for file_name in os.listdir(folder or ".") if form.fullmatch(file_name)]
     except OSError as error:
         raise Failure(f"{folder} can't be looked at: {error.strerror}") from error
     if not logs:

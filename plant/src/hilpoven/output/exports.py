@@ -48,11 +48,11 @@ def plain_text(value: Value) -> str:
 def as_csv(columns: Sequence[str], rows: Sequence[Row]) -> str:
     """A table as CSV."""
     columns, rows = with_texts(columns, rows)
-    return csv_of([[it.replace(" ", "_") for it in columns], *(list(map(as_cell, row)) for row in rows)])
+    return csv_of([[column.replace(" ", "_") for column in columns], *(list(map(as_cell, row)) for row in rows)])
 
 
 def as_json(columns: Sequence[str], rows: Sequence[Row]) -> str:
     """A table as JSON: a list of objects."""
     columns, rows = with_texts(columns, rows)
-    names = [it.replace(" ", "_") for it in columns]
+    names = [column.replace(" ", "_") for column in columns]
     return json.dumps([dict(zip(names, row)) for row in rows], indent=2) + "\n"

@@ -36,9 +36,9 @@ def formatted(value: Value, column: str = "") -> str:
     return f"{value:,}" if isinstance(value, int) and column not in NUMBERED else str(value)
 
 
-def counted(count: int, things: str) -> str:
+def counted(count: int, plural: str) -> str:
     """A count of things, as `1 row` or `2 rows`."""
-    return f"{count:,} {things[:-1] if count == 1 else things}"
+    return f"{count:,} {plural[:-1] if count == 1 else plural}"
 
 
 def is_number(rows: Sequence[Row], column: int) -> bool:
@@ -62,8 +62,8 @@ def print_table(columns: Sequence[str], rows: Sequence[Row], title: str = "") ->
         most = os.get_terminal_size(sys.stdout.fileno()).columns
         columns, rows = filled(columns, rows)
     numbers = [is_number(rows, at) for at in range(len(columns))]
-    texts = [list(columns), *([printable(it) for it in map(formatted, row, columns)] for row in rows)]
-    widths = [min(max(len(it[at]) for it in texts), WIDEST) for at in range(len(columns))]
+    texts = [list(columns), *([printable(cell) for cell in map(formatted, row, columns)] for row in rows)]
+    widths = [min(max(len(line[at]) for line in texts), WIDEST) for at in range(len(columns))]
     print(
         "\n".join(
             [*([title] if title else []), *(line for row in texts for line in lines_of(row, widths, numbers, most))]

@@ -59,7 +59,7 @@ def check_stock(
     """
     answered = {
         (LotId(owner, line.lot), line.sublot): (line.material, line.disposition, line.amount, line.measure)
-        for owner in owners
+        for owner in filter(source.has_owner, owners)
         for line in rows_of(StockLine, source.newest.answer("stock", owner))
         if is_all or LotId(owner, line.lot) in lots
     }

@@ -9,6 +9,7 @@ from collections.abc import Iterator
 from dataclasses import dataclass, field, replace
 from typing import Any
 
+from .. import HOUSE
 from ..core import meanings, scratch, snapshot
 from ..core.failure import Failure
 from ..core.office import Office
@@ -22,6 +23,7 @@ from ..years.history import merged, parts_of
 from . import guard
 
 BLOCK = 1 << 20
+OWNER = "SELECT 1 FROM owners WHERE owner = ?"
 
 
 @dataclass(frozen=True)
@@ -69,6 +71,10 @@ class Source:
         """Whether the office never left its first file, so that `toll` knows all of it."""
         return len(self.files) == 1
 
+    def has_owner(self, owner: str) -> bool:
+        """Whether an owner is in the newest file, so that `toll` knows it; others left."""
+        return owner == HOUSE or self.newest.base.execute(OWNER, (owner,)).fetchone() is not None
+
     def newest_has(self, name: LotId | BatchId) -> bool:
         """Whether the newest file has a lot or a batch, so that `toll` knows it."""
         sql = (
@@ -98,18 +104,32 @@ def opened(office: Office, journal: Journal) -> Iterator[Source]:
 def keyless(office: Office, room: str) -> Iterator[Copy]:
     """A copy of one file. Its keys are replaced before anything is read; `toll` gets a file of what is then in it."""
     target = os.path.join(room, "keyless.db")
-    with snapshot.copied(office, room) as path:
-        digest = digest_of([path, f"{path}-wal"])
-        base = sqlite3.connect(path)
-        with contextlib.ExitStack() as stack:
-            stack.callback(base.close)
-            snapshot.require_office(base, office.file)
-            replace_keys(base)
+    with contextlib.ExitStack() as stack:
+        with snapshot.copied(office, room) as path:
+            digest = digest_of([path, f"{path}-wal"])
+            base = stack.enter_context(without_keys(path, office.file))
             base.execute("VACUUM INTO ?", (target,))
-            base.execute("PRAGMA temp_store = MEMORY")
-            open_base = stack.pop_all()
-    with open_base:  # the names of what was copied are gone, and its tables stay open
+        # the names of what was copied are gone, and its tables stay open
         yield Copy(office, base, target, digest)
+
+
+@contextlib.contextmanager
+def tables(office: Office) -> Iterator[sqlite3.Connection]:
+    """The tables of a copy of one file, without its keys, of which `toll` is asked nothing."""
+    with contextlib.ExitStack() as stack:
+        with snapshot.copied(office) as path:
+            base = stack.enter_context(without_keys(path, office.file))
+        yield base
+
+
+@contextlib.contextmanager
+def without_keys(path: str, file: str) -> Iterator[sqlite3.Connection]:
+    """The tables of what was copied of an office's file, once its keys are replaced."""
+    with contextlib.closing(sqlite3.connect(path)) as base:
+        snapshot.require_office(base, file)
+        replace_keys(base)
+        base.execute("PRAGMA temp_store = MEMORY")
+        yield base
 
 
 def replace_keys(base: sqlite3.Connection) -> None:

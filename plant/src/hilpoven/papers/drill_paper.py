@@ -33,14 +33,14 @@ def documents(source: Source, drill: Drill, journal: Journal) -> list[Document]:
     start = lot_over_all(drill, journal, source.newest.base, None if source.is_one else source.base)
     view = View(read_report(source, start))
     shipments = [(move, view.lot(move.lot)) for move in view.shipments]
-    sheets = [found(view), masses(view), sums(view), *sheets_of(view.register, shipments, TO_DO), done(entries)]
+    sheets = [found_lots(view), masses(view), sums(view), *sheets_of(view.register, shipments, TO_DO), done(entries)]
     if not view.is_noted:
         sheets = [sheet.without("noted") for sheet in sheets]
     if view.links:
         sheets.append(links_sheet({link.contained: view.lot(link.contained) for link in view.links}, view.links))
     values: dict[str, Any] = {"facts": facts(drill, ended, view), "counts": counts(view), "is_noted": view.is_noted}
     values["people"] = people(entries)
-    values["asked"] = Mass.of(view.recall.balances[start]).told()
+    values["asked"] = Mass.of(view.recall.balances[start]).in_words()
     return [Document("drill", True, f"Recall drill: lot {start}", sheets, values)]
 
 
@@ -59,7 +59,7 @@ def facts(drill: Drill, ended: Noted, view: View) -> dict[str, str | int]:
     }
 
 
-def found(view: View) -> Sheet:
+def found_lots(view: View) -> Sheet:
     """The lots that were found, with the disposition, the stock and the shipments of each."""
     amounts = "on_hand:number shipped:number measure=unit:text@beside"
     heads = columns(f"steps:number disposition:word owner lot noted:text@beside material {amounts}")
@@ -96,7 +96,7 @@ class Mass:
         """How much of what came in is accounted for, in percent."""
         return self.share(sum(self.parts.values()))
 
-    def told(self) -> dict[str, str]:
+    def in_words(self) -> dict[str, str]:
         """The same in words."""
         parts = {
             name.replace("_", " "): f"{amount:,} {self.measure}, {self.share(amount)} %"

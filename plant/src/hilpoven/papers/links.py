@@ -2,7 +2,7 @@
 from collections.abc import Iterable, Mapping
 
 from ..records.rows import Lot, LotId
-from ..records.things import link_row
+from ..records.overviews import link_row
 from ..register.notes import Link
 from .sheets import Row, Sheet, columns
 

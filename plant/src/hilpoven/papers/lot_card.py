@@ -1,6 +1,6 @@
 """The card of a lot: all that is known of it, with a picture of one step back and forward."""
 from .. import HOUSE
-from ..records import things
+from ..records import overviews
 from ..records.answers import recall_of, trace_of
 from ..records.balance import COUNTED, balances, require_closed
 from ..records.descriptions import describe_lot, shown_result
@@ -43,9 +43,9 @@ def documents(source: Source, asked: LotId) -> list[Document]:
     beside = neighbours(source, genealogy, asked)
     register = source.register.of(asked.owner)
     known = Register(tests=register.tests, bounds=register.bounds, plants_test=register.plants_test)
-    thing = things.lot(source.base, *asked, known)
+    overview = overviews.lot(source.base, *asked, known)
     sublots, ledger = (
-        [tuple(None if cell == "" else cell for cell in row) for row in thing.tables[name][1]]
+        [tuple(None if cell == "" else cell for cell in row) for row in overview.tables[name][1]]
         for name in ("sublots", "ledger")
     )
     held = [*columns("sublot"), Column("amount", f"on hand, {lot.measure}", "number")]
@@ -74,7 +74,7 @@ def documents(source: Source, asked: LotId) -> list[Document]:
             **({quality.COLUMN: said} if said else {}),
             "on hand": lot.on_hand,
         },
-        "remarks": thing.remarks,
+        "remarks": overview.remarks,
         "balance": {**sums, "difference": balance.difference},
         "described": describe_lot(source.base, register, lot).texts,
         "measure": lot.measure,

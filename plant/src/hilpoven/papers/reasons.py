@@ -39,7 +39,7 @@ def reasons_of_batch(register: Register, batch: BatchId, actuals: Sequence[Move]
 
 def rows_of(reasons: Iterable[Reason]) -> list[Row]:
     """The rows of reasons, of the same ones once."""
-    return [(it.about, it.reason) for it in dict.fromkeys(reasons)]
+    return [(reason.about, reason.reason) for reason in dict.fromkeys(reasons)]
 
 
 def sheet_of(rows: Sequence[Row]) -> Sheet | None:

@@ -3,7 +3,7 @@ from .. import HOUSE
 from ..records.balance import balances, require_closed
 from ..records.days import format_day
 from ..records.rows import Lot, Move, lots_of, require_owner, sublots_of
-from ..records.statement import AMOUNTS, links_in, read_statement
+from ..records.statement import AMOUNTS, Overdraft, links_in, read_statement
 from .agreement import check_stock
 from .copies import Source
 from .links import links_sheet
@@ -13,6 +13,10 @@ from .sheets import Row, Sheet, columns
 COLUMNS = columns(" ".join(f"{name}:number" for name in AMOUNTS))
 MATERIAL = columns("material measure=unit:text@beneath")
 MOVED = columns("day:day key kind:text lot sublot target=to batch amount:number measure=unit:text@beside void:text")
+OVERDRAFTS = columns(
+    "lot day:day key kind:text amount:number left=leaves:number measure=unit:text@beside next_day=comes_next:day "
+    "next_key=by_key"
+)
 OF_HOUSE = columns("material lot=lot_of_the_plant batch amount=consumed:number measure=unit:text@beside")
 
 
@@ -34,10 +38,19 @@ def documents(source: Source, owner: str, first: int, last: int) -> list[Documen
         Sheet("plants_material", OF_HOUSE, house),
         Sheet("movements", MOVED, [move_row(move, read.lots[move.lot]) for move in between], ["amount"]),
     ]
+    if drafts := read.overdrafts():
+        sheets.append(Sheet("overdrafts", OVERDRAFTS, [overdraft_row(draft) for draft in drafts]))
     if links := links_in(source.base, read, source.register.links):
         sheets.append(links_sheet(lots_of(source.base, {link.contained for link in links}), links))
     title = f"Statement of {owner}, {format_day(first)} to {format_day(last)}"
     return [Document("statement", owner == HOUSE, title, sheets, {"owner": owner})]
+
+
+def overdraft_row(draft: Overdraft) -> Row:
+    """The row of a movement by whose day a lot is below zero."""
+    move, later = draft.move, draft.next
+    front = draft.lot.id.name, move.day, move.key, move.kind.word, move.amount, draft.left, draft.lot.measure
+    return *front, later.day if later else None, later.key if later else None
 
 
 def move_row(move: Move, lot: Lot) -> Row:

@@ -31,7 +31,7 @@ def unknown_name(base: Base, option: str, asked: dict[str, Any]) -> list[str]:
     """That a name isn't there, with the nearest names; nothing if it is there."""
     called, sql = NAMES[option]
     owner = asked.get("owner") if ":owner" in sql else None
-    names = sorted(it for it, in base.execute(sql, {"owner": owner}))
+    names = sorted(name for name, in base.execute(sql, {"owner": owner}))
     if asked[option] in names:
         return []
     whose = f" of {owner}" if owner else ""

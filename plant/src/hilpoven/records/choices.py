@@ -48,7 +48,9 @@ SELECT l.lot, l.material || ', ' || {Disposition.sql('l.disposition')} || ', ' |
 FROM lots AS l JOIN materials AS m USING (owner, material) WHERE l.owner = :whose
 """
 ON_HAND_NOW = f"AND {ON_HAND} > 0"
-RELEASED, QUARANTINED = (f"AND l.disposition = {it:d}" for it in (Disposition.RELEASED, Disposition.QUARANTINED))
+RELEASED, QUARANTINED = (
+    f"AND l.disposition = {disposition:d}" for disposition in (Disposition.RELEASED, Disposition.QUARANTINED)
+)
 NOT_REJECTED = f"AND l.disposition <> {Disposition.REJECTED:d}"
 SUBLOTS = """
 SELECT s.sublot, s.amount || ' ' || m.measure
@@ -161,28 +163,28 @@ class Place:
 
     def fitting(self, base: Base) -> list[Choice]:
         """The names that fit, in their order; none if the line gives a new one."""
-        return [it for it in self.known(base) if self.kind != "TEST" or it.name != self.plants_test]
+        return [choice for choice in self.known(base) if self.kind != "TEST" or choice.name != self.plants_test]
 
     def known(self, base: Base) -> list[Choice]:
         """The names that fit, and the plant's own test where it does."""
         sql = FITTING.get((self.line.name, self.value))
         if sql is None:
             return [] if self.is_new else [Choice(name) for name in self.names(base)]
-        found = (Choice(printable(str(name)), printable(about)) for name, about in base.execute(sql, self.words))
-        return sorted(found, key=lambda it: (int(it.name) if it.name.isdecimal() else 0, it.name))
+        choices = (Choice(printable(str(name)), printable(about)) for name, about in base.execute(sql, self.words))
+        return sorted(choices, key=lambda choice: (int(choice.name) if choice.name.isdecimal() else 0, choice.name))
 
     def names(self, base: Base) -> list[str]:
         """All names of its kind that there are; of the material of an actual those that the recipe has."""
         if self.is_of_recipe:
-            return [it.name for it in self.fitting(base)]
+            return [choice.name for choice in self.fitting(base)]
         if self.kind not in ALL_NAMES:
             return []
         return sorted(printable(name) for name, in base.execute(ALL_NAMES[self.kind][1], self.words))
 
     def suggested(self, base: Base) -> list[str]:
         """The names that are completed: those that fit, and of a sublot that may be new all places of the plant."""
-        names = [it.name for it in self.fitting(base)]
-        return names + [it for it in self.places(base) if it not in names]
+        names = [choice.name for choice in self.fitting(base)]
+        return names + [place for place in self.places(base) if place not in names]
 
     def places(self, base: Base) -> list[str]:
         """The names of all sublots, if this is that of one that may be new: a bay or a tank has many lots."""

@@ -135,8 +135,8 @@ class Genealogy:
 
     def links_about(self, lot: LotId) -> list[Link]:
         """The links that say what a lot contains, or what contains it, in the order in which they were noted."""
-        found = {*self.links_in(lot), *self.links_of(lot)}
-        return [link for link in self.links if link in found]
+        of_lot = {*self.links_in(lot), *self.links_of(lot)}
+        return [link for link in self.links if link in of_lot]
 
     def links_in_batch(self, batch: BatchId) -> list[Link]:
         """The links that say what a batch contains: its own, and those of the lots that it produced."""

@@ -5,7 +5,7 @@ from .gauge import OF_OWNER
 from .rows import Base
 from .schema import ON_HAND, ORIGIN, Disposition, Role
 from .tables import LISTINGS
-from .things import NOTHING_NOTED, RECIPE, Thing, require_owner, row_of
+from .overviews import NOTHING_NOTED, RECIPE, Overview, require_owner, row_of
 
 PARTY_COLUMNS = ["party", "name", "roles", "contact", "phone"]
 LOTS = f"""
@@ -24,22 +24,22 @@ OF_AN_OWNER = {
 }
 
 
-def owner(base: Base, name: str, register: Register = NOTHING_NOTED) -> Thing:
+def owner(base: Base, name: str, register: Register = NOTHING_NOTED) -> Overview:
     """An owner: how much it has, its materials, its recipes, and what is open; never its key."""
     require_owner(base, name)
     words = {"owner": name}
-    thing = Thing(f"owner {name}")
+    overview = Overview(f"owner {name}")
     for what, (_, table) in OF_OWNER.items():
-        ((thing.facts[what],),) = base.execute(f"SELECT count(*) FROM {table} WHERE owner = :owner", words)
-    thing.add("lots by disposition", base.execute(LOTS, words))
-    thing.add("materials by name", base.execute(MATERIALS, words))
+        ((overview.facts[what],),) = base.execute(f"SELECT count(*) FROM {table} WHERE owner = :owner", words)
+    overview.add("lots by disposition", base.execute(LOTS, words))
+    overview.add("materials by name", base.execute(MATERIALS, words))
     for title, (listing, columns, only_open) in OF_AN_OWNER.items():
-        thing.add(title, base.execute(f"SELECT {columns} FROM ({LISTINGS[listing].sql(words, only_open)})", words))
+        overview.add(title, base.execute(f"SELECT {columns} FROM ({LISTINGS[listing].sql(words, only_open)})", words))
     parties = [party for (whose, _), party in sorted(register.parties.items()) if whose == name]
     rows = [(party.party, party.name, ", ".join(party.roles), party.contact, party.phone) for party in parties]
-    thing.add_filled("customers, suppliers and carriers, noted by the plant", PARTY_COLUMNS, [*rows])
-    thing.remarks = ["HOUSE is the plant, and has no key."] if name == HOUSE else []
-    return thing
+    overview.add_filled("customers, suppliers and carriers, noted by the plant", PARTY_COLUMNS, [*rows])
+    overview.remarks = ["HOUSE is the plant, and has no key."] if name == HOUSE else []
+    return overview
 
 
 ORDERS = f"""
@@ -47,20 +47,20 @@ SELECT [order], batches, opened, closed, status FROM ({LISTINGS["orders"].sql(["
 """
 
 
-def recipe(base: Base, owner: str, name: str) -> Thing:
+def recipe(base: Base, owner: str, name: str) -> Overview:
     """A recipe: what each segment consumes and produces, and the orders that name it."""
     require_owner(base, owner)
     sql = "SELECT segments FROM recipes WHERE owner = ? AND recipe = ?"
     (segments,) = row_of(base, sql, (owner, name), "recipe", "SELECT recipe FROM recipes WHERE owner = ?")
-    thing = Thing(f"recipe {name} of {owner}", {"segments": segments})
-    thing.add("requirements", base.execute(RECIPE, (owner, name)))
-    orders = thing.add("orders", base.execute(ORDERS, {"owner": owner, "recipe": name}))
-    thing.remarks = [
+    overview = Overview(f"recipe {name} of {owner}", {"segments": segments})
+    overview.add("requirements", base.execute(RECIPE, (owner, name)))
+    orders = overview.add("orders", base.execute(ORDERS, {"owner": owner, "recipe": name}))
+    overview.remarks = [
         "An order names it, so it gets no more requirements."
         if orders
         else "No order names it yet, so it can get more requirements."
     ]
-    return thing
+    return overview
 
 
 TESTS_OF_MATERIAL = "SELECT test, low, high FROM tests WHERE owner = :owner AND material = :material ORDER BY test"
@@ -74,18 +74,18 @@ FROM lots AS l WHERE l.owner = :owner AND l.material = :material ORDER BY l.lot
 """
 
 
-def material(base: Base, owner: str, name: str) -> Thing:
+def material(base: Base, owner: str, name: str) -> Overview:
     """A material: its tests with limits, the recipes that use it, and its lots that are on hand."""
     require_owner(base, owner)
     sql = "SELECT measure FROM materials WHERE owner = ? AND material = ?"
     (measure,) = row_of(base, sql, (owner, name), "material", "SELECT material FROM materials WHERE owner = ?")
     words = {"owner": owner, "material": name}
-    thing = Thing(f"material {name} of {owner}", {"measure": measure})
-    thing.add("tests", base.execute(TESTS_OF_MATERIAL, words))
-    thing.add("recipes", base.execute(USES, words))
-    lots = thing.add("lots on hand", base.execute(HELD, words))
+    overview = Overview(f"material {name} of {owner}", {"measure": measure})
+    overview.add("tests", base.execute(TESTS_OF_MATERIAL, words))
+    overview.add("recipes", base.execute(USES, words))
+    lots = overview.add("lots on hand", base.execute(HELD, words))
     held = [row for row in lots if row[-1]]
-    thing.tables["lots on hand"] = thing.tables["lots on hand"][0], held
-    thing.facts |= {"lots": len(lots), "on hand": sum(int(row[-1] or 0) for row in held)}
-    thing.remarks = ["A lot is of it, so it gets no more tests."] if lots else []
-    return thing
+    overview.tables["lots on hand"] = overview.tables["lots on hand"][0], held
+    overview.facts |= {"lots": len(lots), "on hand": sum(int(row[-1] or 0) for row in held)}
+    overview.remarks = ["A lot is of it, so it gets no more tests."] if lots else []
+    return overview

@@ -17,14 +17,14 @@ MATERIALS = "SELECT owner, lot, material FROM lots"
 def of_owners(columns: Sequence[str], rows: list[Row], register: Register, _: Base) -> Table:
     """Owners with their full names and addresses."""
     facts = [register.owners.get(str(owner)) or OwnerFacts(str(owner)) for owner, *_ in rows]
-    return with_columns(columns, rows, ["noted_name", "noted_address"], [(it.name, it.address) for it in facts])
+    return with_columns(columns, rows, ["noted_name", "noted_address"], [(fact.name, fact.address) for fact in facts])
 
 
 def of_materials(columns: Sequence[str], rows: list[Row], register: Register, _: Base) -> Table:
     """Materials with their full names."""
     names = [(str(owner), str(material)) for owner, material, *_ in rows]
     facts = [register.materials.get(name) or MaterialFacts(*name) for name in names]
-    return with_columns(columns, rows, ["noted_name"], [(it.name,) for it in facts])
+    return with_columns(columns, rows, ["noted_name"], [(fact.name,) for fact in facts])
 
 
 def of_tests(columns: Sequence[str], rows: list[Row], register: Register, _: Base) -> Table:
@@ -55,7 +55,7 @@ def of_lots(columns: Sequence[str], rows: list[Row], register: Register, base: B
     tested again."""
     names = [(str(owner), str(lot)) for owner, lot, *_ in rows]
     facts = [register.lots.get(name) or LotFacts(*name) for name in names]
-    days = [(it.made, it.expires, it.retest) for it in facts]
+    days = [(fact.made, fact.expires, fact.retest) for fact in facts]
     noted = with_columns(columns, rows, ["noted_made", "noted_expires", "noted_retest"], days)
     return with_statuses(*noted, base, register)
 

@@ -7,7 +7,7 @@ from typing import Any, NamedTuple
 from .. import HOUSE
 from ..core.failure import REFUSED, Failure
 from ..core.nearest import nearest
-from .schema import INCOMING, ON_HAND, ORIGIN, REQUIREMENTS, STANDING, TESTS, Disposition, Kind, State
+from .schema import INCOMING, ON_HAND, OPEN_TESTS, ORIGIN, REQUIREMENTS, STANDING, TESTS, Disposition, Kind, State
 
 Base = sqlite3.Connection
 
@@ -108,6 +108,17 @@ class Test:
     limits: str
 
 
+@dataclass(frozen=True)
+class OpenTest:
+    """A test of a quarantined lot whose latest result isn't within its limits: out of them, or missing."""
+
+    lot: LotId
+    name: str
+    low: int
+    high: int
+    is_out: bool
+
+
 LOTS = f"""
 SELECT l.owner, l.lot, l.material, m.measure, l.disposition, {ORIGIN}, {ON_HAND}
 FROM lots AS l JOIN materials AS m USING (owner, material) WHERE
@@ -186,6 +197,14 @@ def tests_of(base: Base, lot: Lot) -> list[Test]:
     """The tests of a lot's material with the lot's results."""
     words = {"owner": lot.id.owner, "lot": lot.id.name, "material": lot.material}
     return [Test(*row) for row in base.execute(TESTS, words)]
+
+
+def open_tests(base: Base) -> list[OpenTest]:
+    """The tests of all quarantined lots whose latest result isn't within the limits, by lot and name."""
+    return [
+        OpenTest(LotId(owner, lot), test, low, high, bool(is_out))
+        for owner, lot, test, low, high, is_out in base.execute(OPEN_TESTS)
+    ]
 
 
 def results_of(base: Base, lot: Lot) -> list[tuple[str, int, int]]:

@@ -43,6 +43,17 @@ class Account:
 
 
 @dataclass(frozen=True)
+class Overdraft:
+    """A movement by whose day more left a lot than had come: the amount that it leaves, which is below zero, and the
+    movement that brings something next, by the days; `None` if none does."""
+
+    lot: Lot
+    move: Move
+    left: int
+    next: Move | None
+
+
+@dataclass(frozen=True)
 class Statement:
     """The lots of an owner, their movements, the account of each, and what its batches consumed of lots of HOUSE."""
 
@@ -56,6 +67,18 @@ class Statement:
         """The accounts of lots that had something, or of which something came or went."""
         return [account for account in self.accounts if any(account.amounts[:-1])]
 
+    def overdrafts(self) -> list[Overdraft]:
+        """The first movement that takes it below zero, of each lot whose opening or closing amount is."""
+        negative = {
+            account.lot.id: account.lot for account in self.accounts if min(account.amounts[0], account.amounts[-2]) < 0
+        }
+        by_lot: dict[LotId, list[Move]] = {lot: [] for lot in negative}
+        for move in self.moves:
+            if move.lot in by_lot:
+                by_lot[move.lot].append(move)
+        drafts = (overdraft_of(negative[lot], moves) for lot, moves in by_lot.items())
+        return [draft for draft in drafts if draft]
+
     def sums(self) -> dict[tuple[str, str], list[int]]:
         """The sums of these accounts' amounts, by material and measure."""
         sums: dict[tuple[str, str], list[int]] = {}
@@ -63,6 +86,16 @@ class Statement:
             so_far = sums.setdefault((account.lot.material, account.lot.measure), [0] * len(AMOUNTS))
             so_far[:] = map(int.__add__, so_far, account.amounts)
         return sums
+
+
+def overdraft_of(lot: Lot, moves: list[Move]) -> Overdraft | None:
+    """The first movement of a lot by whose day it is below zero; of one day what comes is before what leaves."""
+    left, by_day = 0, sorted(moves, key=lambda move: (move.day, -move.change))
+    for at, move in enumerate(by_day):
+        left += move.change
+        if left < 0:
+            return Overdraft(lot, move, left, next((later for later in by_day[at:] if later.change > 0), None))
+    return None
 
 
 def read_statement(base: Base, owner: str, first: int, last: int) -> Statement:
@@ -79,8 +112,8 @@ def links_in(base: Base, statement: Statement, links: Iterable[Link]) -> list[Li
     genealogy = Genealogy(base, links)
     if not genealogy.links:
         return []
-    found = {link for account in statement.moved for link in genealogy.links_in(account.lot.id)}
-    return [link for link in genealogy.links if link in found]
+    of_lots = {link for account in statement.moved for link in genealogy.links_in(account.lot.id)}
+    return [link for link in genealogy.links if link in of_lots]
 
 
 def consumed_of_house(base: Base, owner: str, first: int, last: int) -> list[tuple[Lot, BatchId, int]]:

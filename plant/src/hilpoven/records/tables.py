@@ -56,9 +56,9 @@ class Listing(NamedTuple):
         """The options with a value that this list has, and the owner of a scanned lot, each with the SQL of the rows
         that it leaves."""
         of_columns = {
-            name: f"{self.columns[it.column]} {it.operator} :{name}"
-            for name, it in FILTERS.items()
-            if it.column in self.columns
+            name: f"{self.columns[condition.column]} {condition.operator} :{name}"
+            for name, condition in FILTERS.items()
+            if condition.column in self.columns
         }
         of_scanned = {"lot_owner": f"{self.columns.get(self.whose_lot)} = :lot_owner"}
         return {**of_columns, **self.tests, **of_scanned}

@@ -7,7 +7,7 @@ from ..journal.log import Journal
 from ..records.descriptions import facts_of_test
 from ..records.measures import GROUP, as_measured, limits_text, value_word, whole_of
 from ..records.rows import LotId, require_lot, require_owner
-from ..records.things import row_of
+from ..records.overviews import row_of
 from . import file
 from .facts import LotFacts, ResultFacts, ResultId, TestFacts, joined
 from .kinds import Bound, split_sign
@@ -18,6 +18,8 @@ from .store import Register
 Base = sqlite3.Connection
 MATERIAL = "SELECT measure FROM materials WHERE owner = ? AND material = ?"
 MATERIALS = "SELECT material FROM materials WHERE owner = ?"
+RECIPE = "SELECT segments FROM recipes WHERE owner = ? AND recipe = ?"
+RECIPES = "SELECT recipe FROM recipes WHERE owner = ?"
 LIMITS = "SELECT low, high FROM tests WHERE owner = ? AND material = ? AND test = ?"
 TESTS = "SELECT test FROM tests WHERE owner = ? AND material = ?"
 MATERIAL_OF = "SELECT material FROM lots WHERE owner = ? AND lot = ?"
@@ -47,6 +49,12 @@ def require_material(base: Base, owner: str, material: str) -> None:
     row_of(base, MATERIAL, (owner, material), "material", MATERIALS)
 
 
+def require_recipe(base: Base, owner: str, recipe: str) -> None:
+    """Fails if there is no such recipe."""
+    require_owner(base, owner)
+    row_of(base, RECIPE, (owner, recipe), "recipe", RECIPES)
+
+
 def limits_of(base: Base, owner: str, material: str, test: str) -> tuple[int, int]:
     """The limits of a test; fails if there is none."""
     require_material(base, owner, material)
@@ -62,11 +70,11 @@ def values_of(base: Base, owner: str, material: str, test: str) -> list[int]:
 
 def require_decimals(base: Base, register: Register, note: TestFacts) -> None:
     """Fails if a test has other decimals already, so that a limit or a result of it would be read differently."""
-    thing = note.owner, note.material, note.test
-    there = facts_of_test(register, *thing).decimals
+    names = note.owner, note.material, note.test
+    there = facts_of_test(register, *names).decimals
     if not there or note.decimals in (0, there):
         return
-    values = [*limits_of(base, *thing), *values_of(base, *thing)]
+    values = [*limits_of(base, *names), *values_of(base, *names)]
     if value := next(filter(None, values), 0):
         one, other = (as_measured(value, decimals, GROUP) for decimals in (there, note.decimals))
         raise Failure(
@@ -107,7 +115,7 @@ def require_result(base: Base, register: Register, result: ResultId, bound: Boun
     noted = register.bounds.get(result)
     text = as_measured(value, facts.decimals, GROUP)
     if noted != bound and base.execute(HAS_RESULT, result).fetchone():
-        there, new = (f"{it.sign if it else ''}{text}" for it in (noted, bound))
+        there, new = (f"{limit.sign if limit else ''}{text}" for limit in (noted, bound))
         raise Failure(
             f"lot {LotId(owner, lot)} has the result {there} of {test} on day {day}: {new} couldn't be told from it",
             REFUSED,

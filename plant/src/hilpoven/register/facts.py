@@ -61,6 +61,25 @@ class MaterialFacts(Note):
 
 
 @dataclass(frozen=True)
+class RecipeFacts(Note):
+    """How much of a recipe's materials may be lost by the contract, in tenths of a percent."""
+
+    KIND = "recipe"
+    recipe: str
+    allowance: int = 0
+
+    @property
+    def sentence(self) -> str:
+        """Which recipe, and what is known of it."""
+        return f"recipe {self.recipe} of {self.owner}: allowance {percent_of(self.allowance)}"
+
+
+def percent_of(tenths: int) -> str:
+    """Tenths of a percent as people read them."""
+    return f"{tenths // 10}.{tenths % 10} %"
+
+
+@dataclass(frozen=True)
 class TestFacts(Note):
     """The full name of a test of a material, the unit of its values, how many decimals they have, and the method."""
 
@@ -125,12 +144,12 @@ class ResultFacts(Note):
         return f"result {result} on day {format_day(self.day)}: what was measured is {self.bound} it"
 
 
-Facts = TypeVar("Facts", MovementFacts, OwnerFacts, MaterialFacts, TestFacts, LotFacts)
+Facts = TypeVar("Facts", MovementFacts, OwnerFacts, MaterialFacts, RecipeFacts, TestFacts, LotFacts)
 
 
 def joined(before: Facts | None, later: Facts) -> Facts:
     """The facts of a thing with those of an earlier note, for what the later one doesn't say."""
     if before is None:
         return later
-    unsaid = {it.name: getattr(before, it.name) for it in fields(later) if not getattr(later, it.name)}
+    unsaid = {member.name: getattr(before, member.name) for member in fields(later) if not getattr(later, member.name)}
     return replace(later, **unsaid)

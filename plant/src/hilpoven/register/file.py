@@ -204,8 +204,8 @@ def require_continued(folded: Folded, journal: Journal) -> None:
     fresh = Folded()
     fold_on(journal.path, fresh)
     lost = len(folded.notes.keys() - fresh.notes.keys())
-    told = f", and {lost:,} of its notes aren't there" if lost else ""
-    raise Unusable(f"{journal.path} doesn't go on from what was read of it{told}", MOVE if lost else REBUILD)
+    loss = f", and {lost:,} of its notes aren't there" if lost else ""
+    raise Unusable(f"{journal.path} doesn't go on from what was read of it{loss}", MOVE if lost else REBUILD)
 
 
 def read(base: sqlite3.Connection) -> Folded:

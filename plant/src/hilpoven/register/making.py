@@ -52,7 +52,7 @@ class Desk:
     @property
     def bases(self) -> list[Base]:
         """The tables of the office's file and of its earlier ones."""
-        return [self.base, *(it.base for it in earlier.files_of(self.office))]
+        return [self.base, *(earlier_file.base for earlier_file in earlier.files_of(self.office))]
 
     def owners_of(self, lot: str) -> list[str]:
         """The owners that have a lot of this name."""
@@ -139,8 +139,10 @@ class Desk:
     @functools.cached_property
     def names_of_notes(self) -> dict[Note, str]:
         """The notes about this file that stand, each with its first name."""
-        stand = [it for it in self.statuses if it.note and not it.fault and it.noted.after == self.after]
-        return {it.note: it.noted.name for it in reversed(stand) if it.note}
+        stand = [
+            status for status in self.statuses if status.note and not status.fault and status.noted.after == self.after
+        ]
+        return {status.note: status.noted.name for status in reversed(stand) if status.note}
 
     def standing(self, note: Note) -> str | None:
         """The name of a note about this file that says the same, and stands; `None` if there is none."""
@@ -149,7 +151,7 @@ class Desk:
     @functools.cached_property
     def parties(self) -> Parties:
         """The parties that stand, by owner and name."""
-        stand = [it.note for it in self.statuses if isinstance(it.note, Party) and not it.fault]
+        stand = [status.note for status in self.statuses if isinstance(status.note, Party) and not status.fault]
         return {(party.owner, party.party): party for party in stand}
 
     def require_facts(self, facts: MovementFacts, is_to: bool, is_from: bool) -> None:
@@ -166,9 +168,12 @@ class Desk:
     def task_of_sender(self, owner: str, key: str) -> Task:
         """What the party did that sent a receipt: returned it, if a link of its lot says so."""
         returned = {
-            it.note.lot
-            for it in self.statuses
-            if isinstance(it.note, Link) and not it.fault and it.note.owner == owner and it.note.why == Why.RETURN
+            status.note.lot
+            for status in self.statuses
+            if isinstance(status.note, Link)
+            and not status.fault
+            and status.note.owner == owner
+            and status.note.why == Why.RETURN
         }
         return RETURNS if any(self.has(HAS_RECEIPT_OF, owner, key, lot) for lot in returned) else SENDS
 

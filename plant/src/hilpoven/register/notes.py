@@ -10,7 +10,7 @@ from ..core.grammar import LINES
 from ..records.days import date_of, format_day
 from ..records.measures import MOST_DECIMALS
 from ..records.rows import BatchId, LotId
-from .facts import LotFacts, MaterialFacts, MovementFacts, OwnerFacts, ResultFacts, TestFacts
+from .facts import LotFacts, MaterialFacts, MovementFacts, OwnerFacts, RecipeFacts, ResultFacts, TestFacts
 from .kinds import Bound
 from .kinds import Role as Role
 from .kinds import Why as Why
@@ -68,8 +68,8 @@ class Party(Note):
     @property
     def sentence(self) -> str:
         """Who it is, and how it is reached."""
-        told = [self.name, *self.roles, self.address, self.contact, self.phone]
-        return f"party {self.party} of {self.owner}: {', '.join(filter(None, told))}"
+        facts = [self.name, *self.roles, self.address, self.contact, self.phone]
+        return f"party {self.party} of {self.owner}: {', '.join(filter(None, facts))}"
 
 
 @dataclass(frozen=True)
@@ -193,12 +193,13 @@ def because(reason: str) -> str:
     return f": {reason}" if reason else ""
 
 
-DESCRIPTIONS = (OwnerFacts, MaterialFacts, TestFacts, LotFacts, ResultFacts)
+DESCRIPTIONS = (OwnerFacts, MaterialFacts, RecipeFacts, TestFacts, LotFacts, ResultFacts)
 ALL: tuple[type[Note], ...] = (
     *(Link, Party, MovementFacts, NotLinked, Withdrawal, DrillStart, DrillEnd, Signed, Held, Reason),
     *DESCRIPTIONS,
 )
-KINDS = {it.KIND: it for it in ALL}
+KINDS = {kind.KIND: kind for kind in ALL}
+MOST_ALLOWANCE = 1_000  # tenths of a percent
 MAY_BE_ZERO = {"value", "day"}  # members of which 0 says something
 
 
@@ -235,7 +236,8 @@ def is_date(value: Any) -> bool:
 
 # What each member may be, by its name; any other is a text.
 MEMBERS: dict[str, Callable[[Any], bool]] = {
-    **{name: is_name for name in ("owner", "lot", "order", "of_owner", "of_lot", "party", "key", "material", "test")},
+    **{name: is_name for name in ("owner", "lot", "order", "of_owner", "of_lot", "party", "key")},
+    **{name: is_name for name in ("material", "test", "recipe")},
     **{name: is_date for name in ("made", "expires", "retest")},
     "batch": is_number(BATCH.fault),
     "amount": is_number(AMOUNT.fault),
@@ -243,6 +245,7 @@ MEMBERS: dict[str, Callable[[Any], bool]] = {
     "command": lambda value: isinstance(value, str) and (value in LINES or value in COMMAND.choices),
     "value": is_between(-MOST_VALUE, MOST_VALUE),
     "decimals": is_between(0, MOST_DECIMALS),
+    "allowance": is_between(0, MOST_ALLOWANCE),
     "of": lambda value: isinstance(value, str) and NAME_OF_NOTE.fullmatch(value) is not None,
 }
 WORDS: dict[str, Callable[[Any], Any]] = {"why": Why, "bound": Bound}  # members that are a word of a list
@@ -255,8 +258,8 @@ def from_json(value: Any) -> Note | None:
     kind = KINDS.get(str(value.get("kind"))) if isinstance(value, dict) else None
     if kind is None:
         return None
-    members = {name: it for name, it in value.items() if name != "kind"}
-    known = {it.name: it for it in fields(kind)}
+    members = {name: member for name, member in value.items() if name != "kind"}
+    known = {field.name: field for field in fields(kind)}
     if members.keys() - known.keys():
         return None
     try:
@@ -265,7 +268,7 @@ def from_json(value: Any) -> Note | None:
     except ValueError:
         return None
     members = {**(OF_LINKS if kind is Link else {}), **members}
-    if any(it.default is MISSING and name not in members for name, it in known.items()):
+    if any(field.default is MISSING and name not in members for name, field in known.items()):
         return None
     note = kind(**members)
     return note if is_whole(note) else None

@@ -76,7 +76,7 @@ def recorded_status(register: Register, lot: LotId, value: int | None, day: int)
         return Status(State.UNSIGNED)
     if value == LIMIT:
         return Status(State.SIGNED, day)
-    reasons = [it.note.reason for it in register.judged.get(lot, []) if isinstance(it.note, Held)]
+    reasons = [judgement.note.reason for judgement in register.judged.get(lot, []) if isinstance(judgement.note, Held)]
     return Status(State.HELD, day, reasons[-1] if reasons else "")
 
 

@@ -18,7 +18,7 @@ from ..years import chain
 from ..years.earlier import CAME_OVER, MOVE, VOIDED, move_of
 from ..years.history import History
 from . import file
-from .facts import LotFacts, MaterialFacts, MovementFacts, OwnerFacts, ResultFacts, TestFacts, joined
+from .facts import LotFacts, MaterialFacts, MovementFacts, OwnerFacts, RecipeFacts, ResultFacts, TestFacts, joined
 from .folding import Folded, Noted
 from .notes import Judgement, Link, NotLinked, Note, Party, Reason, Withdrawal, from_json
 from .store import Judged, Register
@@ -35,7 +35,7 @@ IS_REJECTED = f"SELECT 1 FROM lots WHERE owner = '{HOUSE}' AND lot = ? AND dispo
 IS_CANCELLED = f"SELECT 1 FROM orders WHERE owner = '{HOUSE}' AND ord = ? AND cancelled = 1"
 NUMBERS = {"VALUE", "DAY", "LOW", "HIGH"}
 # Which name nothing that a file has, or what all files of an office have in common.
-OF_ALL_FILES = (Party, Withdrawal, OwnerFacts, MaterialFacts, TestFacts)
+OF_ALL_FILES = (Party, Withdrawal, OwnerFacts, MaterialFacts, RecipeFacts, TestFacts)
 AGAIN = "SELECT called FROM again WHERE kind = ? AND file = ? AND owner = ? AND name = ?"
 
 
@@ -71,8 +71,8 @@ def files_of(journal: Journal, newest: Base) -> Iterator[list[OfficeFile]]:
 
 def statuses(folded: Folded, journal: Journal, files: Sequence[OfficeFile]) -> list[Status]:
     """Each note about an office's file, and whether it stands, in the order in which they were noted."""
-    by_after = {it.after: it for it in files}
-    found: list[Status] = []
+    by_after = {office_file.after: office_file for office_file in files}
+    newest_first: list[Status] = []
     withdrawn: dict[str, tuple[str, str]] = {}
     for noted in reversed(folded.belonging(journal)):
         note = from_json(noted.value)
@@ -82,8 +82,8 @@ def statuses(folded: Folded, journal: Journal, files: Sequence[OfficeFile]) -> l
             fault = f"withdrawn: {withdrawn[noted.name][1]}"
         if isinstance(note, Withdrawal) and not fault:
             withdrawn[note.of] = (note.owner, note.reason)
-        found.append(Status(noted, note, fault))
-    return found[::-1]
+        newest_first.append(Status(noted, note, fault))
+    return newest_first[::-1]
 
 
 def fault_of(noted: Noted, note: Note, folded: Folded, office_file: OfficeFile | None) -> str:
@@ -112,7 +112,7 @@ class Recorded:
 
     def is_in(self, base: Base, values: dict[str, str]) -> bool:
         """Whether a file has it."""
-        return base.execute(self.sql, [column_of(it, values[it]) for it in self.values]).fetchone() is not None
+        return base.execute(self.sql, [column_of(name, values[name]) for name in self.values]).fetchone() is not None
 
 
 RECORDED = {
@@ -156,7 +156,7 @@ def went_on(files: Sequence[OfficeFile]) -> Naming:
     def name_there(kind: str, at: int, owner: str, name: str) -> str:
         later = files[at + 1 :]
         if kind == "lot":
-            return name if all(it.base.execute(CAME_OVER, (owner, name)).fetchone() for it in later) else ""
+            return name if all(part.base.execute(CAME_OVER, (owner, name)).fetchone() for part in later) else ""
         return "" if later else name
 
     return name_there
@@ -181,7 +181,7 @@ class Reader:
 
     def place(self, after: str, sql: str, *words: str | int) -> int | None:
         """The file that a name means: the newest one up to the note's own in which a query finds it."""
-        own = next(at for at, it in enumerate(self.files) if it.after == after)
+        own = next(at for at, office_file in enumerate(self.files) if office_file.after == after)
         return next((at for at in range(own, -1, -1) if self.files[at].base.execute(sql, words).fetchone()), None)
 
     def lot(self, after: str, owner: str, lot: str) -> str:
@@ -226,6 +226,9 @@ class Reader:
             case MaterialFacts():
                 material = note.owner, note.material
                 register.materials[material] = joined(register.materials.get(material), note)
+            case RecipeFacts():
+                recipe = note.owner, note.recipe
+                register.recipes[recipe] = joined(register.recipes.get(recipe), note)
             case TestFacts():
                 test = note.owner, note.material, note.test
                 register.tests[test] = joined(register.tests.get(test), note)

@@ -70,14 +70,16 @@ class Stops:
             return {}
         with snapshot.opened(self.context.office_to_read()) as base:
             said = quality.statuses(base, self.context.register(base))
-        return {lot: it for lot, it in said.items() if it.is_note_alone and it.state == quality.State.HELD}
+        return {
+            lot: status for lot, status in said.items() if status.is_note_alone and status.state == quality.State.HELD
+        }
 
     @functools.cached_property
     def tested(self) -> frozenset[LotId]:
         """The lots whose materials have the plant's own test."""
         with snapshot.opened(self.context.office_to_read()) as base:
             said = quality.statuses(base, self.context.register(base))
-        return frozenset(lot for lot, it in said.items() if not it.is_note_alone)
+        return frozenset(lot for lot, status in said.items() if not status.is_note_alone)
 
     def left_of(
         self, records: "list[Record]", note: "Callable[[Record, str], None]", advance: Callable[[int], None]

@@ -3,7 +3,7 @@ from dataclasses import dataclass, field
 from typing import TypeVar
 
 from ..records.rows import LotId
-from .facts import LotFacts, MaterialFacts, MovementFacts, OwnerFacts, ResultId, TestFacts
+from .facts import LotFacts, MaterialFacts, MovementFacts, OwnerFacts, RecipeFacts, ResultId, TestFacts
 from .kinds import Bound
 from .notes import Judgement, Link, Party, Reason
 
@@ -35,6 +35,7 @@ class Register:
     bounds: dict[ResultId, Bound] = field(default_factory=dict)  # of results whose value is one
     judged: dict[LotId, list[Judged]] = field(default_factory=dict)  # the last one of each lot counts
     reasons: list[Reason] = field(default_factory=list)  # in the order in which they were noted
+    recipes: dict[tuple[str, str], RecipeFacts] = field(default_factory=dict)  # by owner and recipe
     plants_test: str = ""  # by which the plant signs and holds lots, as the settings name it; empty if it has none
 
     def of(self, owner: str) -> "Register":
@@ -55,5 +56,6 @@ class Register:
             own(self.bounds),
             own(self.judged),
             [reason for reason in self.reasons if reason.owner == owner],
+            own(self.recipes),
             self.plants_test,
         )

@@ -62,7 +62,7 @@ def kept(rows: Iterable[tuple[int, list[Cell]]]) -> Iterator[tuple[int, list[Cel
     of them."""
     count = 0
     for row, cells in rows:
-        cells = cells[: max((at for at, it in enumerate(cells, 1) if not it.is_empty()), default=0)]
+        cells = cells[: max((at for at, cell in enumerate(cells, 1) if not cell.is_empty()), default=0)]
         if not cells:
             continue
         count += len(cells)
@@ -126,7 +126,7 @@ def split(text: str, separator: str) -> Iterator[tuple[int, list[Cell]]]:
     row = 0
     try:
         for row, fields in enumerate(reader, 1):
-            yield row, [Cell(it) for it in fields]
+            yield row, [Cell(field) for field in fields]
     except csv.Error as error:
         raise Failure(f"row {row + 1}: its quotes can't be read: {error}", 1) from error
 
@@ -143,7 +143,7 @@ def text_table(raw: bytes, likeness: Likeness) -> Table:
             filled = (
                 cells
                 for _, cells in itertools.islice(split(text, separator), MOST_ROWS)
-                if not all(it.is_empty() for it in cells)
+                if not all(cell.is_empty() for cell in cells)
             )
             return max(map(likeness, itertools.islice(filled, MOST_TITLES)), default=0)
         except Failure:

@@ -93,7 +93,7 @@ class Import:
             self.office.file, ["import", self.source["sheet"]], **self.source, sha256=digest, keys=keys
         )
         answer = self.office.ask_patiently(["import", path])
-        journal.told(entry, answer)
+        journal.answered(entry, answer)
         outcomes = [match[1] for match in map(OUTCOME.fullmatch, answer.output.splitlines()) if match]
         for record, outcome in zip(part, outcomes):
             self.note(record, outcome)
@@ -109,7 +109,7 @@ class Import:
         journal = self.context.journal()
         with client.asker(self.office, len(self.sheet.records)) as ask, journal.series():
             for record in self.sheet.records:
-                words = [record.values[it.lower()] for it in line.values]
+                words = [record.values[value_name.lower()] for value_name in line.values]
                 if tuple(words) in there:
                     self.note(record, THERE)
                 else:
@@ -139,10 +139,10 @@ class Import:
 
     def summary(self, what: str) -> str:
         """What came of the sheet, in a line."""
-        unread = len({it.row for it in self.sheet.refused})
+        unread = len({refusal.row for refusal in self.sheet.refused})
         outcomes = [
             f"{self.counts[NEW]:,} accepted",
-            f"{sum(self.counts[it] for it in OLD):,} there already",
+            f"{sum(self.counts[outcome] for outcome in OLD):,} there already",
             f"{self.counts['refused']:,} refused",
             f"{unread + self.counts['bad-record']:,} can't be read",
         ]
@@ -151,7 +151,7 @@ class Import:
 
     def report_fault(self) -> None:
         """Reports what ended the import, and how many of the rows that got no answer the file has."""
-        left = [it for it in self.sheet.records if it.row not in self.answered]
+        left = [record for record in self.sheet.records if record.row not in self.answered]
         try:
             count = self.recorded(left)
             stand = f"{count:,} of them {'is' if count == 1 else 'are'} recorded"
@@ -166,7 +166,7 @@ class Import:
         is_results = self.sheet.kind == RESULTS
         names = list(self.sheet.kind.columns) if is_results else ["owner", "key"]
         there = standing_results(self.office) if is_results else standing_keys(self.office)
-        return sum(tuple(it.values[name] for name in names) in there for it in records)
+        return sum(tuple(record.values[name] for name in names) in there for record in records)
 
 
 def name_of(record: Record) -> str:
@@ -202,13 +202,13 @@ def standing_results(office: Office) -> set[tuple[str, ...]]:
             "SELECT owner, lot, test, CASE WHEN value < 0 THEN 'M' || -value ELSE '' || value END, '' || day "
             "FROM results"
         )
-        return {tuple(it) for it in rows}
+        return {tuple(row) for row in rows}
 
 
 def standing_keys(office: Office) -> set[tuple[str, ...]]:
     """The owners and keys of all movements."""
     with snapshot.opened(office) as base:
-        return {tuple(it) for it in base.execute("SELECT owner, mkey FROM moves")}
+        return {tuple(row) for row in base.execute("SELECT owner, mkey FROM moves")}
 
 
 @contextmanager

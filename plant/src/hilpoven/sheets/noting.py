@@ -101,10 +101,10 @@ def read_result(
     """The value of a row as a word of `toll`, and what is noted of it. Fails if a row before it has another sign for
     the same value."""
     values = record.values
-    thing, text, day = (values["owner"], values["lot"], values["test"]), values["value"], int(values["day"])
-    word, facts = describing.result_of(desk.base, desk.register, *thing, text, day)
+    names, text, day = (values["owner"], values["lot"], values["test"]), values["value"], int(values["day"])
+    word, facts = describing.result_of(desk.base, desk.register, *names, text, day)
     bound = facts.bound if facts else None
-    if seen.setdefault((*thing, value_of(word), day), bound) != bound:
+    if seen.setdefault((*names, value_of(word), day), bound) != bound:
         raise Failure(f"{text} couldn't be told from the result of this value on day {day} in a row before it")
     return word, facts
 

@@ -14,7 +14,7 @@ from .values import KINDS, TRAPS, Kind
 
 def split(words: tuple[str, ...]) -> list[str]:
     """The columns of `a,b` and of an option that is given twice."""
-    return [column_of(it) for word in words for it in word.split(",")]
+    return [column_of(column) for word in words for column in word.split(",")]
 
 
 def asked_for(kind: Kind, given: dict[str, Any]) -> Asked:
@@ -77,12 +77,13 @@ class Source(NamedTuple):
     sha256: str
 
 
-def read_source(path: str, given: dict[str, Any]) -> Source:
-    """The sheet of a file, as the options ask for it; `-` is standard input. Nothing of the file is opened twice."""
-    kind, content = KINDS[given["what"]], content_of(path)
-    asked = asked_for(kind, given)
-    like_header = partial(likeness, kind, column_under=asked.column_under)
-    sheet = bounded.run(lambda: Sheet(read(content, given["name"], like_header), kind, asked))
+def read_source(path: str, given: dict[str, Any], kind: Kind | None = None) -> Source:
+    """The sheet of a file, of a kind or as the options ask for it; `-` is standard input. Nothing of the file is opened
+    twice."""
+    held, content = kind or KINDS[given["what"]], content_of(path)
+    asked = asked_for(held, given)
+    like_header = partial(likeness, held, column_under=asked.column_under)
+    sheet = bounded.run(lambda: Sheet(read(content, given["name"], like_header), held, asked))
     return Source(sheet, hashlib.sha256(content).hexdigest())
 
 

@@ -48,7 +48,7 @@ def unread(path: str, error: OSError) -> Failure:
 
 def picked(tables: dict[str, Table], name: str | None) -> Table:
     """The sheet with this name, or the only one that holds something."""
-    filled = {it: table for it, table in tables.items() if table.rows}
+    filled = {sheet_name: table for sheet_name, table in tables.items() if table.rows}
     if name is not None and name not in tables:
         raise Failure(f"it has no sheet {shortened(name)}", 2)
     if name is not None:

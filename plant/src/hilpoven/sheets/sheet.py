@@ -76,7 +76,7 @@ def column_of(text: str) -> str:
 
 def likeness(kind: Kind, cells: Iterable[Cell], column_under: Callable[[str], str] = column_of) -> int:
     """How many of a kind's columns a row names."""
-    return len(set(kind.columns) & {column_under(it.text) for it in cells})
+    return len(set(kind.columns) & {column_under(cell.text) for cell in cells})
 
 
 def runs(numbers: Iterable[int]) -> list[list[int]]:
@@ -96,7 +96,7 @@ def hidden_of(table: Table) -> Iterator[Finding]:
     for first, last in runs(table.hidden_rows & filled):
         yield Finding(first, 0, "it is hidden" if first == last else f"it and those down to row {last} are hidden")
     columns = (
-        {place for _, cells in table.rows for place, it in enumerate(cells, 1) if not it.is_empty()}
+        {place for _, cells in table.rows for place, cell in enumerate(cells, 1) if not cell.is_empty()}
         if table.hidden_columns
         else set()
     )
@@ -115,10 +115,12 @@ class Sheet:
         self.wrong: list[Finding] = []
         self.refused: list[Finding] = []
         self.let: list[Finding] = []
-        rows = [it for it in table.rows if it[0] >= asked.header_row]
-        chosen = [*rows[:1], *(it for it in rows[1:] if asked.has_row(it[0]))]
+        rows = [numbered for numbered in table.rows if numbered[0] >= asked.header_row]
+        chosen = [*rows[:1], *(numbered for numbered in rows[1:] if asked.has_row(numbered[0]))]
         left_out = {row for row, _ in rows} - {row for row, _ in chosen}
-        for finding in hidden_of(table._replace(rows=[it for it in table.rows if it[0] not in left_out])):
+        for finding in hidden_of(
+            table._replace(rows=[numbered for numbered in table.rows if numbered[0] not in left_out])
+        ):
             words = f"{finding.words}; " + ("taken all the same" if asked.hidden else "--hidden takes it")
             (self.let if asked.hidden else self.wrong).append(finding._replace(words=words))
         is_header = bool(rows) and likeness(kind, rows[0][1], asked.column_under) > 0
@@ -152,7 +154,7 @@ class Sheet:
                 count = {12: "twelve", 7: "seven", 6: "six", 5: "five"}[len(self.kind.columns)]
                 text = shortened(cell.text.strip())
                 self.wrong.append(Finding(row, place, f"{text!r} is none of the {count} columns"))
-        missing = [it for it in [*self.kind.columns, *self.asked.required] if it not in self.places]
+        missing = [expected for expected in [*self.kind.columns, *self.asked.required] if expected not in self.places]
         texts = {column_of(cell.text) for cell in cells}
         for column, header in self.asked.headers.items():
             if column_of(header) in texts:
@@ -265,6 +267,7 @@ def text_of(kind: Kind, records: Sequence[Record]) -> str:
     for something else."""
     noted = [column for column in kind.noted if any(column in record.noted for record in records)]
     rows = [
-        [*record.values.values(), *(kind.written(it, record.noted.get(it, "")) for it in noted)] for record in records
+        [*record.values.values(), *(kind.written(column, record.noted.get(column, "")) for column in noted)]
+        for record in records
     ]
     return csv_of([[*kind.columns, *noted], *rows])

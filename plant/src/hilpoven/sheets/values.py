@@ -84,6 +84,12 @@ def of_names(cell: Cell) -> Taken:
     return as_typed(cell, text)
 
 
+def of_quoted_names(cell: Cell) -> Taken:
+    """A name, which may be written as a formula of a text: so a sheet that `hilpoven` made has it."""
+    formula = FORMULA.fullmatch(cell.text)
+    return of_names(cell._replace(text=formula[1], is_text=True) if formula else cell)
+
+
 def as_typed(cell: Cell, text: str) -> Taken:
     """A text, which was perhaps typed otherwise."""
     if cell.shown is not None:
@@ -200,8 +206,10 @@ def is_shown(text: str, shown: str) -> bool:
     of a whole one."""
     whole, _, part = SIGNS.sub(".", shown).rpartition(".")
     with_point = f"{whole.replace('.', '')}.{part}" if whole else shown
-    as_numbers = [it for it in (with_point, SIGNS.sub("", shown)) if re.fullmatch(r"-?[0-9]+(\.[0-9]+)?", it)]
-    return any(Decimal(it) == Decimal(text) for it in as_numbers)
+    as_numbers = [
+        number for number in (with_point, SIGNS.sub("", shown)) if re.fullmatch(r"-?[0-9]+(\.[0-9]+)?", number)
+    ]
+    return any(Decimal(number) == Decimal(text) for number in as_numbers)
 
 
 Reading = Callable[[Cell], Taken]
@@ -223,7 +231,7 @@ class Kind:
 
     def of(self, *reads: Callable[[Cell], Taken]) -> list[str]:
         """The columns whose values are read so."""
-        return [it for it, reading in self.readings.items() if reading in reads]
+        return [column for column, reading in self.readings.items() if reading in reads]
 
     def written(self, column: str, text: str) -> Value:
         """How a noted value is written into a CSV file."""
@@ -236,8 +244,8 @@ class Kind:
 
 # The traps that are asked for by column, each with how the values are read among which it is laid.
 TRAPS: dict[str, tuple[Callable[[Cell], Taken], ...]] = {
-    "digits": (of_names, of_texts),
-    "dates": (of_names, of_texts, of_days),
+    "digits": (of_names, of_quoted_names, of_texts),
+    "dates": (of_names, of_quoted_names, of_texts, of_days),
     "decimals": (of_numbers, of_values, of_days),
 }
 CAPITALS = "capitals"  # asked for as a whole
@@ -278,4 +286,15 @@ SHIPMENTS = Kind(
     {"to": of_names, "document": of_texts},
 )
 RESULTS = Kind("results", {"owner": of_names, "lot": of_names, "test": of_names, "value": of_values, "day": of_days})
-KINDS = {it.name: it for it in (ACTUALS, RECEIPTS, SHIPMENTS, RESULTS)}
+COUNTS = Kind(
+    "counts",
+    {
+        "owner": of_quoted_names,
+        "lot": of_quoted_names,
+        "sublot": of_quoted_names,
+        "on_hand": of_numbers,
+        "day": of_days,
+    },
+    {"counted": of_numbers, "reason": of_texts},
+)
+KINDS = {kind.name: kind for kind in (ACTUALS, RECEIPTS, SHIPMENTS, RESULTS)}

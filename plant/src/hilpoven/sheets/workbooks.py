@@ -70,7 +70,7 @@ def xlsx_tables(content: bytes, archive: zipfile.ZipFile) -> Iterator[tuple[str,
     import openpyxl
 
     warnings.simplefilter("ignore")
-    looks = {it.title: it for it in xlsx_parts.looks(archive)}
+    looks = {sheet_look.title: sheet_look for sheet_look in xlsx_parts.looks(archive)}
     values = openpyxl.load_workbook(io.BytesIO(content), read_only=True, data_only=True)
     formulas = openpyxl.load_workbook(io.BytesIO(content), read_only=True)
     for sheet in values.worksheets:
@@ -90,7 +90,7 @@ def xlsx_rows(sheet: Element, formulas: Element, look: xlsx_parts.Look) -> Rows:
         width = len(cells)
         while width and cells[width - 1] is EMPTY_CELL:
             width -= 1
-        yield row, [xlsx_cell(*it) for it in zip(cells[:width], others)]
+        yield row, [xlsx_cell(*both) for both in zip(cells[:width], others)]
 
 
 def xlsx_cell(cell: Element, formula: Element) -> Cell:
@@ -238,7 +238,9 @@ def ods_cell(node: Element) -> Cell:
     from odf.namespaces import OFFICENS, TEXTNS
 
     kind = node.attributes.get((OFFICENS, "value-type"))
-    shown = "\n".join(teletype.extractText(it) for it in node.childNodes if getattr(it, "qname", None) == (TEXTNS, "p"))
+    shown = "\n".join(
+        teletype.extractText(child) for child in node.childNodes if getattr(child, "qname", None) == (TEXTNS, "p")
+    )
     if kind in ("float", "percentage", "currency"):
         return number(float(node.attributes[(OFFICENS, "value")]), lambda _: shown)
     if kind in (None, "string"):

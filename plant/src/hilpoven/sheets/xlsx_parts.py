@@ -39,7 +39,8 @@ def local(tag: str) -> str:
 def looks(archive: zipfile.ZipFile) -> Iterator[Look]:
     """A look at each sheet of the workbook; fails where two are the same part."""
     targets = {
-        it.get("Id"): it.get("Target", "") for it in ElementTree.fromstring(archive.read("xl/_rels/workbook.xml.rels"))
+        relation.get("Id"): relation.get("Target", "")
+        for relation in ElementTree.fromstring(archive.read("xl/_rels/workbook.xml.rels"))
     }
     parts: set[str] = set()
     for sheet in ElementTree.fromstring(archive.read("xl/workbook.xml")).iter():
@@ -88,7 +89,7 @@ def number_behind(before: int, number: str | None, what: str) -> int:
 def range_of(columns: ElementTree.Element, title: str) -> range:
     """The numbers of columns that a sheet describes together, as far as columns are read."""
     first, last = columns.get("min", "1"), columns.get("max", "1")
-    if all(re.fullmatch(r"[0-9]{1,5}", it) for it in (first, last)) and 1 <= int(first) <= int(last) <= LAST_COLUMN:
+    if all(re.fullmatch(r"[0-9]{1,5}", end) for end in (first, last)) and 1 <= int(first) <= int(last) <= LAST_COLUMN:
         return range(int(first), min(int(last), MOST_COLUMNS) + 1)
     columns_are = f"columns {shortened(first)} to {shortened(last)}"
     raise Failure(f"sheet {shortened(title)}: it describes {columns_are}, which no sheet has", 3)
@@ -99,7 +100,7 @@ def width_of(row: ElementTree.Element, number: int) -> int:
     column = last = 0
     for cell in row:
         column = column_behind(column, cell.get("r"), number)
-        if any(local(it.tag) in ("v", "f", "is") for it in cell):
+        if any(local(child.tag) in ("v", "f", "is") for child in cell):
             last = max(last, column)
     return last
 
