@@ -27,10 +27,10 @@ def program() -> str:
     name = os.environ.get("TOLL", "")
     if not name and subprocess.run([ROOT / "toll", "script"], stdin=subprocess.DEVNULL).returncode:
         pytest.exit("./toll can't be run", 3)
-    found = shutil.which(name or ROOT / "crates" / "toll" / "out" / "toll")
-    if not found:
+    path = shutil.which(name or ROOT / "crates" / "toll" / "out" / "toll")
+    if not path:
         pytest.exit(f"{name} is no program", 3)
-    return os.path.realpath(found)
+    return os.path.realpath(path)
 
 
 @pytest.fixture(scope="module")

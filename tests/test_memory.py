@@ -123,7 +123,7 @@ def make_ring(new: New) -> str:
     batch = [(f"O-{at // 99 + 1}", at % 99 + 1) for at in LOTS]
     rows: dict[str, list[tuple[Any, ...]]] = {
         "orders": [("ACME", order, "R", 99, 0) for order in {order for order, _ in batch}],
-        "batches": [("ACME", *it, "U1", 11, 1) for it in batch],
+        "batches": [("ACME", *batch_id, "U1", 11, 1) for batch_id in batch],
         "lots": [("ACME", f"L-{at + 1}", "M", *batch[at], 1) for at in LOTS],
         "sublots": [("ACME", f"L-{at + 1}", "S", 0) for at in LOTS],
         # the batch of a lot consumes the lot before it

@@ -68,24 +68,24 @@ SHEET = f"""<?xml version="1.0" encoding="UTF-8"?>
 
 def flat_sheet(rows: Rows) -> bytes:
     """A sheet with these rows, as LibreOffice opens it."""
-    texts = ["".join(CELLS[type(it)].format(escape(str(it))) for it in row) for row in rows]
-    return (SHEET % "\n".join(f"<table:table-row>{it}</table:table-row>" for it in texts)).encode()
+    texts = ["".join(CELLS[type(cell)].format(escape(str(cell))) for cell in row) for row in rows]
+    return (SHEET % "\n".join(f"<table:table-row>{row_text}</table:table-row>" for row_text in texts)).encode()
 
 
 # The actuals with their numbers as numbers and all else as text.
-WELL_TYPED: Rows = [COLUMNS, *([int(it) if column in NUMBERS else it for column, it in zip(COLUMNS, record)]
+WELL_TYPED: Rows = [COLUMNS, *([int(cell) if column in NUMBERS else cell for column, cell in zip(COLUMNS, record)]
                                for record in RECORDS[1:])]
 
 
 def with_capitals(rows: Rows) -> Rows:
-    return [[f" {it.upper().replace('_', ' ')} " for it in rows[0]], *rows[1:]]
+    return [[f" {column.upper().replace('_', ' ')} " for column in rows[0]], *rows[1:]]
 
 
 def with_gaps(rows: Rows) -> Rows:
     """The rows with an empty row above, below and between them, and an empty column on both sides and in the middle."""
     spread = [["", *row[:5], "", *row[5:], ""] for row in rows]
     empty = [""] * len(spread[0])
-    return [empty, *(it for row in spread for it in (row, empty))]
+    return [empty, *(spread_row for row in spread for spread_row in (row, empty))]
 
 
 def to_csv(*words: object, **more: Any) -> Result:
@@ -223,7 +223,7 @@ def save(folder: str, room: pathlib.Path, saved: dict[Source, pathlib.Path]) -> 
     return copy
 
 
-@pytest.mark.parametrize("dialect", DIALECTS, ids=[it.name for it in DIALECTS])
+@pytest.mark.parametrize("dialect", DIALECTS, ids=[dialect.name for dialect in DIALECTS])
 def test_a_dialect_becomes_the_same_file_and_the_same_rows(save: Save, dialect: Dialect,
                                                            rows_after: Callable[[pathlib.Path], Any]) -> None:
     sheet = save(dialect.source())

@@ -4,6 +4,7 @@ files."""
 import contextlib
 import fcntl
 import functools
+import itertools
 import os
 import pathlib
 import random
@@ -22,8 +23,8 @@ import pytest
 
 from tests import socket_client as client
 from tests.attempts import Import, New
-from tests.harness import (ACCEPTED, KILLED_AFTER, KILLED_BEFORE, PATIENCE, REPEATED, Disk, Office, Result, Server,
-                           content, fault, meanwhile, put, wrong_outcomes)
+from tests.harness import (ACCEPTED, KILLED_AFTER, KILLED_BEFORE, PATIENCE, REPEATED, UNAVAILABLE, Disk, Office, Result,
+                           Server, content, fault, meanwhile, put, wrong_outcomes)
 from tests.lines import ACTUALS, many_actuals
 
 LOCKED, LOST, NOT_OURS, DAMAGED = (fault(name) for name in ("Locked", "Lost", "NotOurs", "Damaged"))
@@ -327,8 +328,8 @@ def test_a_server_whose_lines_nobody_reads_goes_on_and_tells_later_how_many_it_d
         os.close(out)
 
 
-def sqlite(db: str, statement: str) -> None:
-    subprocess.run(["sqlite3", db, statement], check=True, stdout=subprocess.DEVNULL)
+def sqlite(db: str, *statements: str) -> None:
+    subprocess.run(["sqlite3", db, *statements], check=True, stdout=subprocess.DEVNULL)
 
 
 def remove_with_log(db: str) -> None:
@@ -349,6 +350,34 @@ def move_away_and_back(db: str) -> None:
 def restore(db: str) -> None:
     os.unlink(f"{db}-wal")
     shutil.copyfile(db + ".old", db)
+
+
+def frames_of(log: bytes) -> list[int]:
+    """Where the frames of a log begin: those before the first with other salts than its header's."""
+    size = 24 + int.from_bytes(log[8:12], "big")
+    return list(itertools.takewhile(lambda at: log[at + 8:at + 16] == log[16:24], range(32, len(log), size)))
+
+
+def change_log(db: str, change: Callable[[bytearray, list[int]], Any]) -> None:
+    """Changes bytes of FILE's log, given where its frames begin."""
+    path = pathlib.Path(f"{db}-wal")
+    log = bytearray(path.read_bytes())
+    change(log, frames_of(log))
+    path.write_bytes(log)
+
+
+def flip(log: bytearray, at: int) -> None:
+    log[at] ^= 1
+
+
+def zero(log: bytearray, begun: int, done: int) -> None:
+    log[begun:done] = bytes(done - begun)
+
+
+def begin_anew(db: str) -> None:
+    """Takes the log into FILE, and leaves it as a program that is killed while it begins the log anew."""
+    sqlite(db, ".dbconfig no_ckpt_on_close on", "PRAGMA wal_checkpoint(PASSIVE)")
+    change_log(db, lambda log, _: zero(log, 0, 1))
 
 
 def answers_around(office: Office, change: Change) -> tuple[list[str], Result, list[str], bool]:
@@ -381,7 +410,41 @@ def test_a_server_refuses_files_that_lost_rows_and_writes_nothing(at_work: Offic
 
 
 @pytest.mark.parametrize("change", [
+    pytest.param(lambda log, frames: flip(log, frames[0] + 24 + 100), id="a byte of the first page"),
+    pytest.param(lambda log, frames: flip(log, frames[-1] + 24 + 4095), id="a byte of the last page"),
+    *[pytest.param(lambda log, frames, at=at: flip(log, frames[1] + at), id=f"byte {at} of a frame's header")
+      for at in (3, 7, 8, 15, 16, 23)],
+    *[pytest.param(lambda log, frames, at=at: flip(log, at), id=f"byte {at} of the log's header")
+      for at in (0, 3, 7, 10, 15, 16, 23, 24, 31)],
+    pytest.param(lambda log, frames: zero(log, frames[-1], frames[-1] + 24), id="zeros for the last frame's header"),
+    pytest.param(lambda log, frames: zero(log, frames[0], frames[1]), id="zeros for a frame in the middle"),
+    pytest.param(lambda log, frames: zero(log, 0, len(log)), id="zeros for all of the log"),
+    pytest.param(lambda log, frames: log.__delitem__(slice(frames[-1], None)), id="a log cut by its last frame"),
+])
+def test_a_server_refuses_a_log_that_sqlite_would_read_to_an_earlier_end(
+        at_work: Office, change: Callable[[bytearray, list[int]], Any]) -> None:
+    answers = answers_around(at_work, functools.partial(change_log, change=change))
+    assert answers == (["503", "503"], NOT_OURS, ["fault NotOurs began"], True)
+
+
+def test_a_log_is_served_again_once_its_byte_is_put_back(at_work: Office) -> None:
+    with at_work.serve() as server:
+        assert server.ask('> ACME ACMEKEY1 POST /orders {"order":"O-2","recipe":"R","batches":1}').startswith("200 ")
+        orders = server.ask(ORDERS)
+        for wanted in (UNAVAILABLE, orders):
+            change_log(at_work.db, lambda log, frames: flip(log, frames[0] + 24))
+            assert server.ask(ORDERS) == wanted
+        assert server.ask('> ACME ACMEKEY1 POST /orders {"order":"O-3","recipe":"R","batches":1}').startswith("200 ")
+        assert [line for line in server.lines() if line.startswith("fault")] == ["fault NotOurs began",
+                                                                                 "fault NotOurs ended"]
+
+
+@pytest.mark.parametrize("change", [
     pytest.param(lambda db: sqlite(db, "PRAGMA wal_checkpoint(TRUNCATE)"), id="a checkpoint"),
+    pytest.param(lambda db: sqlite(db, ".dbconfig no_ckpt_on_close on", "INSERT INTO units VALUES ('U-8')"),
+                 id="a commit behind the others in the log"),
+    pytest.param(lambda db: os.utime(f"{db}-wal"), id="a new time of the log"),
+    pytest.param(begin_anew, id="a checkpoint that was stopped behind the copying"),
     pytest.param(lambda db: sqlite(db, f".backup {db}.saved"), id="a copy by sqlite3"),
     pytest.param(lambda db: os.chmod(db, 0o640), id="a new mode"),
     pytest.param(move_away_and_back, id="a FILE that was moved away and back"),
@@ -390,6 +453,16 @@ def test_a_server_refuses_files_that_lost_rows_and_writes_nothing(at_work: Offic
 def test_what_others_did_by_sqlite_or_put_back_is_taken(at_work: Office, change: Change) -> None:
     statuses, answer, lines, _ = answers_around(at_work, change)
     assert statuses == ["200", "200"] and answer.status == 0 and not any(line.startswith("fault") for line in lines)
+
+
+def test_a_log_that_a_command_wrote_and_closed_is_taken(at_work: Office) -> None:
+    with at_work.serve() as server:
+        assert server.ask('> ACME ACMEKEY1 POST /orders {"order":"O-2","recipe":"R","batches":1}').startswith("200 ")
+        for unit in ("U2", "U3"):
+            os.unlink(client.path_of(at_work))  # so that the command opens FILE itself
+            assert at_work.plant("unit-add", unit) == ACCEPTED
+            assert '"O-2"' in server.ask(ORDERS) and has_socket(at_work, unit + "-TOO")
+        assert openings(server) == 2 and not any("NotOurs" in line for line in server.lines())
 
 
 # Servers that stop or take long

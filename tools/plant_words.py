@@ -12,7 +12,7 @@ def lines_of_code():
     source = (CRATES / "toll_plant" / "src" / "line.rt").read_text()
     names = dict(re.findall(r'const (\w+): Argument<.*?> = argument!\("(.*?)"', source))
     lines = re.findall(r'line_of!\(\s*"([a-z-]+)" => \w+, ([A-Z_ ]+)\s*\)', source)
-    return {name: [names[it] for it in values.split()] for name, values in lines}
+    return {name: [names[key] for key in values.split()] for name, values in lines}
 
 
 def lines_of_page():
@@ -45,4 +45,4 @@ def differences():
         return {" ".join([name, *values]) for name, values in lines.items()} | {f"{name}: {', '.join(words)}" for name, words in choices.items()}
 
     code, page = texts(lines_of_code(), choices_of_code()), texts(lines_of_page(), choices_of_page())
-    return [f"docs/commands.md and the code don't both have: {it}" for it in sorted(code ^ page)]
+    return [f"docs/commands.md and the code don't both have: {difference}" for difference in sorted(code ^ page)]

@@ -11,10 +11,10 @@ def missing_of(packages):
     wanted = sorted(set(packages))
     if not wanted or not shutil.which("dpkg-query"):
         return wanted
-    told = subprocess.run(["dpkg-query", "-W", "-f", "${Package} ${db:Status-Status}\n", *wanted], capture_output=True, text=True).stdout
-    installed = {line.split()[0] for line in told.splitlines() if line.endswith(" installed")}
+    output = subprocess.run(["dpkg-query", "-W", "-f", "${Package} ${db:Status-Status}\n", *wanted], capture_output=True, text=True).stdout
+    installed = {line.split()[0] for line in output.splitlines() if line.endswith(" installed")}
     # a program that was put there otherwise serves as well
-    return [it for it in wanted if it not in installed and not (it in PROGRAMS and shutil.which(PROGRAMS[it]))]
+    return [package for package in wanted if package not in installed and not (package in PROGRAMS and shutil.which(PROGRAMS[package]))]
 
 
 PROGRAMS = {"git": "git", "nodejs": "node", "gcc": "gcc", "curl": "curl", "nginx-light": "nginx", "chromium": "chromium", "libreoffice-calc": "soffice", "sqlite3": "sqlite3"}

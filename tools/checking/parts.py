@@ -25,7 +25,7 @@ class Part(NamedTuple):
 
     def needs_program(self):
         """Whether it runs the program, and so behind the proofs."""
-        return not callable(self.words) and any(PROGRAM in str(it) for it in self.words)
+        return not callable(self.words) and any(PROGRAM in str(word) for word in self.words)
 
 
 class Skipped(NamedTuple):
@@ -37,8 +37,8 @@ class Skipped(NamedTuple):
 def tracked():
     """The files of the repository, also those that are new."""
     words = ["git", "-c", f"safe.directory={ROOT}", "-C", ROOT, "ls-files", "-z", "--cached", "--others", "--exclude-standard"]
-    told = subprocess.run(words, capture_output=True, text=True, check=True).stdout
-    return sorted({ROOT / it for it in told.split("\0") if it and (ROOT / it).is_file()})
+    output = subprocess.run(words, capture_output=True, text=True, check=True).stdout
+    return sorted({ROOT / path for path in output.split("\0") if path and (ROOT / path).is_file()})
 
 
 def language_of(path):
@@ -55,7 +55,7 @@ def language_of(path):
 
 
 def sources(language):
-    return [it for it in tracked() if language_of(it) == language]
+    return [path for path in tracked() if language_of(path) == language]
 
 
 def shell_words():
@@ -66,14 +66,15 @@ def shell_words():
 # Of the plant's command also the types, the layout, and no line of more than 120 letters.
 PYTHON_CHECKS = """python=$1; shift
 "$python" -m pyflakes "$@"; flakes=$?
+"$python" tools/checking/empty_names.py "$@"; names=$?
 "$python" -m mypy --config-file plant/pyproject.toml --cache-dir /dev/null plant/src; types=$?
 "$python" -m black --config plant/pyproject.toml --check plant/src; layout=$?
 ! grep -rnE --include='*.py' '^.{121}' plant/src; long=$?
-exit $((flakes | types | layout | long))"""
+exit $((flakes | names | types | layout | long))"""
 
 
 def python_words():
-    """pyflakes of all sources, mypy and black of the plant's command."""
+    """pyflakes and names of all sources, mypy and black of the plant's command."""
     return ["sh", "-c", PYTHON_CHECKS, "sh", PYTHON, *sources(PYTHON_SOURCE)]
 
 
@@ -84,8 +85,17 @@ def plant_tests():
 
 # The page's pictures are looked at by whoever asks for them.
 PICTURED = 'folder=$(mktemp -d) || exit 3; "$0" tools/try-page "$folder/pictures"; status=$?; rm -rf "$folder"; exit "$status"'
+# The tests make thousands of small files, and wait for the disk at each: here these lie in memory, if it has the room.
+IN_MEMORY = """trap : HUP INT TERM
+free=$(df --output=avail /dev/shm 2> /dev/null | tail -n 1)
+folder=$(mktemp -d -p "$([ "${free:-0}" -lt 2000000 ] || echo /dev/shm)") || exit 3
+"$0" "$@" --basetemp "$folder/tests"
+status=$?
+rm -rf "$folder"
+exit "$status"
+"""
 PLANT_NEEDS = ("python3-pytest", "python3-hypothesis", "python3-click", "python3-jinja2", "weasyprint", "graphviz", "python3-openpyxl",
-               "python3-odf", "python3-segno", "poppler-utils", "zbar-tools", "man-db", "sqlite3")
+               "python3-odf", "python3-segno", "poppler-utils", "zbar-tools", "man-db", "openssl", "rsync", "sqlite3")
 # The Build-Depends of debian/control.
 BUILD_NEEDS = ("debhelper", "dh-python", "dpkg-dev", "git", "pybuild-plugin-pyproject", "python3-all", "python3-click", "python3-jinja2",
                "python3-odf", "python3-openpyxl", "python3-setuptools")
@@ -118,11 +128,13 @@ UNPROVED = Part("unproved-build", [PYTHON, "tools/build-program", "--unproved"],
 
 # Those that take longest come first, so that none runs alone at the end.
 BEHIND = [
-    Part("plant-tests", ["env", f"TOLL={PROGRAM}", *PYTEST, "-n", "2", "plant/tests"], (*PLANT_NEEDS, "python3-pytest-xdist"), 30, 2, memory=2 * GB),
+    Part("plant-tests", ["env", f"TOLL={PROGRAM}", "sh", "-c", IN_MEMORY, *PYTEST, "-n", "2", "plant/tests"], (*PLANT_NEEDS, "python3-pytest-xdist"), 30, 2, memory=3 * GB),
     Part("check-package", [PYTHON, "tools/check-package", "--program", PROGRAM],
          (*BUILD_NEEDS, "debootstrap", "iproute2", "lintian", "mandoc", "systemd-container"), 30, memory=GB),
     Part("try-page", ["env", f"TOLL={PROGRAM}", "sh", "-c", PICTURED, PYTHON], ("chromium", "chromium-driver", "curl", "nginx-light", "nodejs", "openssl"), 25,
          memory=2 * GB, is_alone=True),
+    Part("companion-site", ["env", f"TOLL={PROGRAM}", *PYTEST, "tools/tests/test_companion_site.py"],
+         (*PLANT_NEEDS, "nginx-light", "openssl", "python3-jsonschema", "python3-yaml"), 15),
     tests_of("disk", 25, PRELOADS, 2),
     tests_of("memory", 20, PRELOADS, 2),
     tests_of("sheets", 20, (*PLANT_NEEDS, "libreoffice-calc"), memory=GB),
@@ -137,6 +149,7 @@ SKIPPED = [
     Skipped("pytest-3 plant/tests/years -m long", "300 histories that are carried over, and 200 kills on the way; here it is a sample: 35 minutes"),
     Skipped("pytest-3 tests/test_memory.py -m long", "each request for memory refused; here it is a sample: some hours"),
     Skipped("pytest-3 plant/tests -m long", "300 days, 420 kills and a full office; here it is a sample: 20 minutes"),
+    Skipped("pytest-3 plant/tests/standby -m long", "500 lost machines, 160 kills of promotions and followers, 200 logs; here it is a sample: two hours"),
     Skipped("pytest-3 tests/test_recalls.py -m long", "200 offices; here it is 12: 15 minutes"),
     Skipped("bench/run", "speed and memory, which have no right or wrong: see docs/speed.md"),
 ]
@@ -144,4 +157,4 @@ SKIPPED = [
 
 def parts(is_quick=False):
     """All parts that there are, in the order in which they begin; with an unproved build in place of the proofs where it is to be quick."""
-    return [*BESIDE, UNPROVED if is_quick else PROOFS, *(it for it in BEHIND if it.name != "plant-tests" or plant_tests())]
+    return [*BESIDE, UNPROVED if is_quick else PROOFS, *(part for part in BEHIND if part.name != "plant-tests" or plant_tests())]

@@ -61,7 +61,7 @@ class Runner:
 
     def words_of(self, part):
         words = part.words() if callable(part.words) else part.words
-        return [str(it).replace(PROGRAM, str(self.program)) for it in words]
+        return [str(word).replace(PROGRAM, str(self.program)) for word in words]
 
     def run(self, part, lowered=0, on_line=None):
         """Runs a part, and notes and tells how it ended. One whose lines are asked for prints them as it goes."""
@@ -130,16 +130,16 @@ class Runner:
 
 def end(processes):
     """Ends processes and all of their sessions, which have ten seconds to clear away."""
-    for it in processes:
-        signal_to(it, signal.SIGTERM)
+    for process in processes:
+        signal_to(process, signal.SIGTERM)
     latest = time.monotonic() + 10
-    for it in processes:
-        while it.poll() is None or signal_to(it, 0):
+    for process in processes:
+        while process.poll() is None or signal_to(process, 0):
             if time.monotonic() > latest:
-                signal_to(it, signal.SIGKILL)
+                signal_to(process, signal.SIGKILL)
                 break
             time.sleep(0.02)
-        it.wait()
+        process.wait()
 
 
 def signal_to(process, number):
@@ -167,23 +167,23 @@ class Schedule:
         waiting, threads = list(wanted), [self.begin(maker)] if maker else []
         with self.changed:
             while waiting:
-                part = next((it for it in waiting if self.may_begin(it)), None)
+                part = next((candidate for candidate in waiting if self.may_begin(candidate)), None)
                 if part:
                     waiting.remove(part)
                     threads.append(self.begin(part))
                 else:
                     self.changed.wait()
-        for it in threads:
-            it.join()
+        for thread in threads:
+            thread.join()
 
     def may_begin(self, part):
         if part.needs_program() and not self.is_program_there:
             return False
         is_making = self.maker in self.running
-        others = sum(it.processors for it in self.running if it != self.maker)
+        others = sum(other.processors for other in self.running if other != self.maker)
         most = max(1, self.processors - self.maker.processors) if is_making else self.processors
-        memory = sum(it.memory for it in self.running)
-        if part.is_alone or any(it.is_alone for it in self.running):
+        memory = sum(other.memory for other in self.running)
+        if part.is_alone or any(other.is_alone for other in self.running):
             return not self.running
         return not self.running or others + min(part.processors, most) <= most and memory + part.memory <= self.memory
 
@@ -218,8 +218,8 @@ class Schedule:
 def free_memory():
     """Bytes that are free."""
     with open("/proc/meminfo") as file:
-        found = dict(line.split(":", 1) for line in file)
-    return int(found["MemAvailable"].split()[0]) * 1024
+        amounts = dict(line.split(":", 1) for line in file)
+    return int(amounts["MemAvailable"].split()[0]) * 1024
 
 
 def maker_of(wanted, processors, memory):
@@ -238,7 +238,7 @@ def run_all(runner, wanted):
     processors, memory = len(os.sched_getaffinity(0)), free_memory()
     maker = maker_of(wanted, processors, memory)
     is_program_there = maker is None or runner.program not in (BUILT, QUICK)
-    Schedule(runner, processors, memory).run([it for it in wanted if it not in (PROOFS, UNPROVED)], maker, is_program_there)
+    Schedule(runner, processors, memory).run([part for part in wanted if part not in (PROOFS, UNPROVED)], maker, is_program_there)
 
 
 def words_of(usage):
@@ -247,18 +247,18 @@ def words_of(usage):
     words.add_argument("--only", action="append", metavar="PART")
     words.add_argument("--program", type=pathlib.Path, metavar="FILE")
     words.add_argument("--list", action="store_true")
-    found = words.parse_args()
-    names = [it.name for it in parts(found.quick)]
-    for it in found.only or ():
-        if it not in names:
-            words.error(f"there is no part {it} here: {', '.join(names)}")
-    return found
+    given = words.parse_args()
+    names = [part.name for part in parts(given.quick)]
+    for name in given.only or ():
+        if name not in names:
+            words.error(f"there is no part {name} here: {', '.join(names)}")
+    return given
 
 
 def wanted_by(words):
     """The parts that the words ask for. Over another program nothing has to be compiled."""
-    wanted = [it for it in parts(words.quick) if words.only is None or it.name in words.only]
-    return [it for it in wanted if it != UNPROVED or not words.program]
+    wanted = [part for part in parts(words.quick) if words.only is None or part.name in words.only]
+    return [part for part in wanted if part != UNPROVED or not words.program]
 
 
 def told_of(part):
@@ -268,7 +268,7 @@ def told_of(part):
 
 def tell_left_out(is_quick):
     """Tells what wasn't run, with the commands that run it."""
-    print("skipped for time:", *(f"    {it.command:30} {it.what}" for it in SKIPPED), sep="\n")
+    print("skipped for time:", *(f"    {skipped.command:30} {skipped.what}" for skipped in SKIPPED), sep="\n")
     if is_quick:
         print("NOTHING WAS PROVED, and no wrong body was tried: ./check does both")
 
@@ -286,8 +286,8 @@ def main(usage):
     if words.list:
         print(*map(told_of, wanted), sep="\n")
         return 0
-    missing = debian.install(it for part in wanted for it in part.packages)
-    missing += ["rt, the toolchain"] if any(it in (PROOFS, UNPROVED) for it in wanted) and not shutil.which("rt") else []
+    missing = debian.install(package for part in wanted for package in part.packages)
+    missing += ["rt, the toolchain"] if any(part in (PROOFS, UNPROVED) for part in wanted) and not shutil.which("rt") else []
     if missing:
         print(f"check: these are missing: {', '.join(missing)}", file=sys.stderr)
         return 2
@@ -297,8 +297,8 @@ def main(usage):
             signal.signal(number, lambda number, _: (runner.stop(), os._exit(128 + number)))
     began = time.monotonic()
     run_all(runner, wanted)
-    passed = {it.name for it in runner.ended if it.is_ok}
-    failed = [it.name for it in wanted if it.name not in passed]  # one that never ended is none that passed
+    passed = {part.name for part in runner.ended if part.is_ok}
+    failed = [part.name for part in wanted if part.name not in passed]  # one that never ended is none that passed
     if words.only is None:
         tell_left_out(words.quick)
         repeat_failures(runner.ended)

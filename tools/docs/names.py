@@ -19,7 +19,7 @@ FILE = re.compile(rf"[\w./-]+\.(?:rt|antt|py|md|txt|toll|out|yaml|csv|sql|png|sv
 PATH = re.compile(rf"(?:{FOLDERS})/[\w@./-]*\w")
 NAMES = re.compile(r"[A-Za-z_][\w']*(?:(?:::|\.)[A-Za-z_][\w']*)*")
 SETTINGS = re.compile(r"^```(?:nginx|ini)\n(.*?)^```$", re.M | re.S)
-MOST_WORDS = 900  # of README.md
+MOST_WORDS = 700  # of README.md
 
 
 def declared(texts: dict[Path, str], *forms: re.Pattern[str]) -> set[str]:
@@ -53,7 +53,7 @@ class Pages:
             lines = enumerate((self.root / name).read_text().split("\n"), 1) if (self.root / name).exists() else ()
             yield from () if lines else (f"{name} is not there",)
             for number, line in lines:
-                wrong = [f"there is no {it}" for it in self.strangers_in(line)]
+                wrong = [f"there is no {stranger}" for stranger in self.strangers_in(line)]
                 wrong += [f"the link {link} leads to nothing" for link in links_to_nothing(self.root / name, line)]
                 yield from (f"{name}:{number}: {mistake}" for mistake in wrong)
         settings = [path.read_text() for path in (self.root / "packaging").iterdir() if path.is_file()]

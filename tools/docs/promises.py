@@ -47,8 +47,8 @@ class WrongBody:
 
 def promises_of(text: str, sources: Sources) -> Iterator[Promise]:
     for number, line in PROMISE.findall(text):
-        found = LAWS.search(line)
-        laws = [(name, re.findall(r"\w+", clauses)) for name, clauses in NAME.findall(found[1] if found else "")]
+        match = LAWS.search(line)
+        laws = [(name, re.findall(r"\w+", clauses)) for name, clauses in NAME.findall(match[1] if match else "")]
         items = [(item, clauses) for name, clauses in laws for item in sources.called(name)]
         yield Promise(number, LAWS.sub("", line), laws, items)
 
@@ -133,7 +133,7 @@ class Promises:
                 items = self.sources.called(name)
                 known = {clause for item in items for clause, _ in item.clauses()}
                 unknown = [f"has no clause {clause}" for clause in clauses if clause not in known]
-                yield from (f"{promise.number}: {name} {it}" for it in (unknown if items else ["is not public"]))
+                yield from (f"{promise.number}: {name} {fault}" for fault in (unknown if items else ["is not public"]))
 
     def mistakes_of_wrong_bodies(self) -> Iterator[str]:
         words = {promise.number: promise.words for promise in self.promises}

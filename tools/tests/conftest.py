@@ -70,12 +70,12 @@ class StubAnswer(http.server.BaseHTTPRequestHandler):
 
 @contextlib.contextmanager
 def serving(status: int = 200, pause: float = 0) -> Iterator[Stub]:
-    it = Stub(status, pause)
-    thread = threading.Thread(target=it.serve_forever)
+    stub = Stub(status, pause)
+    thread = threading.Thread(target=stub.serve_forever)
     thread.start()
     try:
-        yield it
+        yield stub
     finally:
-        it.shutdown()
+        stub.shutdown()
         thread.join()
-        it.server_close()
+        stub.server_close()

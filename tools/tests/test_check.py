@@ -1,10 +1,11 @@
 """./check: each part has a line, a failure is told and counts, and nothing is left running."""
 import os
+import re
 import signal
 import subprocess
 
 import pytest
-from checking import debian, parts, runner
+from checking import debian, empty_names, parts, runner
 from checking.parts import GB, Part
 from conftest import ROOT, eventually, script
 
@@ -17,7 +18,7 @@ def check(*words, path=None):
 
 
 @pytest.fixture
-def told(capsys, tmp_path):
+def run_part(capsys, tmp_path):
     """What a runner tells of a part."""
     def run(part, **more):
         one = runner.Runner(tmp_path / "toll")
@@ -26,33 +27,33 @@ def told(capsys, tmp_path):
     return run
 
 
-def test_a_part_that_passes_has_one_line(told):
-    ended, printed = told(Part("well", ["echo", "much"]))
+def test_a_part_that_passes_has_one_line(run_part):
+    ended, printed = run_part(Part("well", ["echo", "much"]))
     assert ended.is_ok and printed.split() == ["well", "0", "s", "ok"]
 
 
-def test_a_part_that_fails_tells_what_it_printed(told):
-    ended, printed = told(Part("ill", ["sh", "-c", "echo why; echo because >&2; exit 3"]))
+def test_a_part_that_fails_tells_what_it_printed(run_part):
+    ended, printed = run_part(Part("ill", ["sh", "-c", "echo why; echo because >&2; exit 3"]))
     assert not ended.is_ok and printed.splitlines()[0].split() == ["ill", "0", "s", "FAILED"]
     assert printed.splitlines()[1:] == ["    why", "    because"]
 
 
 @pytest.mark.parametrize("bad, is_ok", [(0, True), (1, False), (12, False)])
-def test_proofs_with_a_wrong_body_that_guards_nothing_fail(told, bad, is_ok):
+def test_proofs_with_a_wrong_body_that_guards_nothing_fail(run_part, bad, is_ok):
     line = f"rt: ok; handles allowed: Net; must-fail edits: 81 refused, {bad} bad; every proof and must-fail edit was done in this run"
-    ended, printed = told(parts.PROOFS._replace(words=["echo", line]), on_line=lambda _: None)
+    ended, printed = run_part(parts.PROOFS._replace(words=["echo", line]), on_line=lambda _: None)
     assert ended.is_ok == is_ok and line in printed
 
 
-def test_a_part_that_is_no_program_fails(told):
-    assert not told(Part("absent", ["/nowhere/at-all"]))[0].is_ok
+def test_a_part_that_is_no_program_fails(run_part):
+    assert not run_part(Part("absent", ["/nowhere/at-all"]))[0].is_ok
 
 
-def test_a_part_whose_words_cannot_be_had_fails(told):
+def test_a_part_whose_words_cannot_be_had_fails(run_part):
     def none():
         raise subprocess.CalledProcessError(128, "git")
 
-    assert not told(Part("unknown", none))[0].is_ok
+    assert not run_part(Part("unknown", none))[0].is_ok
 
 
 def test_a_part_that_never_ended_has_not_passed(monkeypatch, capsys):
@@ -70,9 +71,9 @@ def test_a_part_that_failed_is_shown_again_at_the_end(monkeypatch, capsys):
     assert end[-43:-40] == ["ill FAILED:", "    .. 59 lines before these", "    60"] and end[-2] == "    99"
 
 
-def test_a_part_that_does_not_end_is_ended_with_all_that_it_started(told, tmp_path, monkeypatch):
+def test_a_part_that_does_not_end_is_ended_with_all_that_it_started(run_part, tmp_path, monkeypatch):
     monkeypatch.setattr(subprocess.Popen, "wait", lambda self, timeout=None, wait=subprocess.Popen.wait: wait(self, timeout and timeout / 30))
-    ended, printed = told(Part("endless", ["sh", "-c", f"sleep 300 & echo $! > {tmp_path}/pid; wait"], minutes=1))
+    ended, printed = run_part(Part("endless", ["sh", "-c", f"sleep 300 & echo $! > {tmp_path}/pid; wait"], minutes=1))
     assert not ended.is_ok and "had not ended" in printed
     child = int((tmp_path / "pid").read_text())
     assert eventually(lambda: not os.path.exists(f"/proc/{child}") or "zombie" in open(f"/proc/{child}/status").read())
@@ -88,7 +89,7 @@ def side_by_side(capsys, tmp_path):
         schedule = runner.Schedule(one, processors, memory)
         schedule.run(wanted, maker, is_program_there)
         assert schedule.running == []
-        return notes.read_text().splitlines(), {it.name: it.is_ok for it in one.ended}
+        return notes.read_text().splitlines(), {part.name: part.is_ok for part in one.ended}
     return run
 
 
@@ -103,16 +104,16 @@ def noting(tmp_path):
 
 
 def begun_before_the_first_end(notes):
-    return [it.split()[0] for it in notes[:notes.index(next(it for it in notes if it.endswith(" ends")))]]
+    return [note.split()[0] for note in notes[:notes.index(next(note for note in notes if note.endswith(" ends")))]]
 
 
 def test_parts_run_side_by_side_on_as_many_processors_as_there_are(side_by_side, noting):
-    notes, ended = side_by_side([noting(it, until=3) for it in "abcd"], processors=3)
+    notes, ended = side_by_side([noting(name, until=3) for name in "abcd"], processors=3)
     assert sorted(begun_before_the_first_end(notes)) == ["a", "b", "c"] and ended == dict.fromkeys("abcd", True)
 
 
 def test_the_first_of_the_list_begin_first(side_by_side, noting):
-    notes, _ = side_by_side([noting(it) for it in "abc"], processors=1)
+    notes, _ = side_by_side([noting(name) for name in "abc"], processors=1)
     assert notes == ["a begins", "a ends", "b begins", "b ends", "c begins", "c ends"]
 
 
@@ -149,7 +150,7 @@ def test_what_needs_the_program_begins_as_soon_as_it_is_proved(side_by_side, not
     notes, ended = side_by_side(parts_of_it, proofs, is_program_there=False)
     assert notes[-1] == "proofs ends" and all(ended.values())
     # one at a time, since the proofs take all processors
-    assert [it for it in notes if not it.startswith("proofs")] == ["a begins", "a ends", "b begins", "b ends", "c begins", "c ends"]
+    assert [note for note in notes if not note.startswith("proofs")] == ["a begins", "a ends", "b begins", "b ends", "c begins", "c ends"]
 
 
 def test_what_needs_the_program_waits_for_proofs_that_never_say_that_it_is_there(side_by_side, noting, tmp_path):
@@ -173,14 +174,14 @@ def test_a_signal_lets_nothing_more_begin(noting, tmp_path):
     assert (tmp_path / "notes").read_text() == "" and one.ended == []
 
 
-def test_what_a_part_leaves_has_time_to_clear_away(told, tmp_path):
+def test_what_a_part_leaves_has_time_to_clear_away(run_part, tmp_path):
     clearing = f"sh -c 'trap \"sleep 0.5; touch {tmp_path}/cleared; exit\" TERM; touch {tmp_path}/there; sleep 300 & wait' &"
-    assert told(Part("leaving", ["sh", "-c", f"{clearing} while ! test -e {tmp_path}/there; do sleep 0.02; done"]))[0].is_ok
+    assert run_part(Part("leaving", ["sh", "-c", f"{clearing} while ! test -e {tmp_path}/there; do sleep 0.02; done"]))[0].is_ok
     assert (tmp_path / "cleared").exists()
 
 
-def test_the_program_stands_in_the_words(told, tmp_path):
-    assert told(Part("which", ["sh", "-c", f"test {parts.PROGRAM} = {tmp_path}/toll"]))[0].is_ok
+def test_the_program_stands_in_the_words(run_part, tmp_path):
+    assert run_part(Part("which", ["sh", "-c", f"test {parts.PROGRAM} = {tmp_path}/toll"]))[0].is_ok
 
 
 def test_parts_that_need_the_program_fail_where_there_is_none(tmp_path):
@@ -195,23 +196,23 @@ def test_the_proofs_are_those_of_rt(tmp_path, status, is_ok):
     done = check("--only", "proofs", "--only", "sql-texts", path=f"{tmp_path}:{os.environ['PATH']}")
     assert (done.returncode == 0) == is_ok
     assert "rt ci, jobs " in done.stdout and ("ok" if is_ok else "FAILED") in done.stdout
-    assert [it.split()[0] for it in done.stdout.splitlines() if " s  ok" in it or " s  FAILED" in it].count("sql-texts") == 1
+    assert [line.split()[0] for line in done.stdout.splitlines() if " s  ok" in line or " s  FAILED" in line].count("sql-texts") == 1
 
 
 def listed(*words):
-    return [it.split()[0] for it in check(*words, "--list").stdout.splitlines()]
+    return [line.split()[0] for line in check(*words, "--list").stdout.splitlines()]
 
 
 def test_the_list_names_each_part_and_what_it_needs():
     lines = check("--list").stdout.splitlines()
-    assert [it.split()[0] for it in lines] == [it.name for it in parts.parts()]
+    assert [line.split()[0] for line in lines] == [part.name for part in parts.parts()]
     assert "proofs               makes the program" in lines
-    assert any(it.startswith("shell                needs no program   git shellcheck") for it in lines)
-    assert any(it.startswith("tests-http           needs the program  python3-pytest ") for it in lines)
+    assert any(line.startswith("shell                needs no program   git shellcheck") for line in lines)
+    assert any(line.startswith("tests-http           needs the program  python3-pytest ") for line in lines)
 
 
 def test_quick_runs_everything_but_the_proofs_over_an_unproved_build(tmp_path):
-    assert listed("--quick") == ["unproved-build" if it == "proofs" else it for it in listed()]
+    assert listed("--quick") == ["unproved-build" if name == "proofs" else name for name in listed()]
     assert "unproved-build" not in listed("--quick", "--program", str(tmp_path / "toll"))
     assert check("--quick", "--only", "proofs").returncode == 2 and check("--only", "unproved-build").returncode == 2
 
@@ -251,10 +252,10 @@ def test_a_wrong_use_has_status_2():
 
 def test_ended_by_a_signal_it_leaves_nothing(tmp_path):
     script(tmp_path / "rt", f"echo $$ > {tmp_path}/pid; exec sleep 300")
-    it = subprocess.Popen([*CHECK, "--only", "proofs"], stdout=subprocess.DEVNULL, env={**os.environ, "PATH": f"{tmp_path}:{os.environ['PATH']}"})
+    process = subprocess.Popen([*CHECK, "--only", "proofs"], stdout=subprocess.DEVNULL, env={**os.environ, "PATH": f"{tmp_path}:{os.environ['PATH']}"})
     assert eventually(lambda: (tmp_path / "pid").exists() and (tmp_path / "pid").read_text().strip())
-    it.send_signal(signal.SIGTERM)
-    assert it.wait(30) == 128 + signal.SIGTERM
+    process.send_signal(signal.SIGTERM)
+    assert process.wait(30) == 128 + signal.SIGTERM
     child = int((tmp_path / "pid").read_text())
     assert eventually(lambda: not os.path.exists(f"/proc/{child}"))
 
@@ -262,27 +263,42 @@ def test_ended_by_a_signal_it_leaves_nothing(tmp_path):
 def test_a_signal_that_is_ignored_as_under_nohup_ends_nothing(tmp_path):
     script(tmp_path / "rt", f"echo $$ > {tmp_path}/pid; sleep 1")
     how = {"stdout": subprocess.DEVNULL, "env": {**os.environ, "PATH": f"{tmp_path}:{os.environ['PATH']}"}}
-    it = subprocess.Popen([*CHECK, "--only", "proofs"], preexec_fn=lambda: signal.signal(signal.SIGHUP, signal.SIG_IGN), **how)
+    process = subprocess.Popen([*CHECK, "--only", "proofs"], preexec_fn=lambda: signal.signal(signal.SIGHUP, signal.SIG_IGN), **how)
     assert eventually(lambda: (tmp_path / "pid").exists())
-    it.send_signal(signal.SIGHUP)
-    assert it.wait(30) == 0
+    process.send_signal(signal.SIGHUP)
+    assert process.wait(30) == 0
 
 
 def test_each_tool_that_tries_the_program_is_a_part_or_told_as_skipped():
     words = [str(word) for part in parts.BESIDE + parts.BEHIND if not callable(part.words) for word in part.words]
-    named = " ".join([*words, *(it.command for it in parts.SKIPPED)])
-    tools = {it.name for it in (ROOT / "tools").iterdir() if it.name.startswith(("try-", "check-", "bench", "load")) and it.is_file()}
-    assert {it for it in tools if f"tools/{it}" not in named} == set()
-    assert {it.name for it in (ROOT / "tests").glob("test_*.py") if f"tests/{it.name}" not in words} == set()
+    named = " ".join([*words, *(skipped.command for skipped in parts.SKIPPED)])
+    tools = {tool.name for tool in (ROOT / "tools").iterdir() if tool.name.startswith(("try-", "check-", "bench", "load")) and tool.is_file()}
+    assert {tool for tool in tools if f"tools/{tool}" not in named} == set()
+    assert {file.name for file in (ROOT / "tests").glob("test_*.py") if f"tests/{file.name}" not in words} == set()
 
 
 def test_each_source_is_of_a_language_that_is_looked_at():
-    shell, python = ({it.relative_to(ROOT) for it in parts.sources(language)} for language in (parts.SHELL, parts.PYTHON_SOURCE))
-    assert {ROOT / it for it in ("toll", "demo/run", ".ci/run", "debian/toll.postinst", "packaging/completion.bash")} <= {ROOT / it for it in shell}
-    assert {ROOT / it for it in ("check", "plant/bin/hilpoven", "tools/try-page", "tests/test_socket.py")} <= {ROOT / it for it in python}
+    shell, python = ({source.relative_to(ROOT) for source in parts.sources(language)} for language in (parts.SHELL, parts.PYTHON_SOURCE))
+    assert {ROOT / name for name in ("toll", "demo/run", ".ci/run", "debian/toll.postinst", "packaging/completion.bash")} <= {ROOT / path for path in shell}
+    assert {ROOT / name for name in ("check", "plant/bin/hilpoven", "tools/try-page", "tests/test_socket.py")} <= {ROOT / path for path in python}
+
+
+@pytest.mark.parametrize("source, name", [
+    ("it = 1", "it"), ("for it in (): pass", "it"), ("[1 for _, it in ()]", "it"), ("if found := 1: pass", "found"), ("found: int", "found"), ("with open('a') as told: pass", "told"),
+    ("lambda told: 1", "told"), ("def look_at(): pass", "look_at"), ("class thing: pass", "thing"), ("import os as it", "it"), ("a.told = 1", "told"), ("a(told=1)", "told"),
+    ("try: pass\nexcept OSError as told: pass", "told"), ("match 1:\n  case it: pass", "it"), ("match 1:\n  case {**it}: pass", "it")])
+def test_a_name_that_says_nothing_is_reported(tmp_path, capsys, source, name):
+    (tmp_path / "source.py").write_text(f"\n{source}\n")
+    assert empty_names.main([tmp_path / "source.py"]) == 1
+    assert re.fullmatch(rf"{tmp_path}/source.py:[23]: `{name}` .*\n", capsys.readouterr().out)
+
+
+def test_a_name_that_says_more_or_that_another_gave_is_none_of_those(tmp_path, capsys):
+    (tmp_path / "source.py").write_text('# it\ntold_onward = {"event": "told"}, a.told, it\n')
+    assert (empty_names.main([tmp_path / "source.py"]), capsys.readouterr().out) == (0, "")
 
 
 def test_the_gate_runs_this_and_nothing_else():
-    lines = [it for it in (ROOT / ".ci" / "run").read_text().splitlines() if it and not it.startswith(("#", "set ", "cd ", "trap "))]
+    lines = [line for line in (ROOT / ".ci" / "run").read_text().splitlines() if line and not line.startswith(("#", "set ", "cd ", "trap "))]
     assert lines == ["./check"]
     assert "\n    ./check\n" in (ROOT / "README.md").read_text()

@@ -81,8 +81,8 @@ def repository(tmp_path: Path) -> Path:
 def mistakes(root: Path) -> list[str]:
     """The mistakes in a repository, except that docs/PROMISES.md is old."""
     sources = Sources(root)
-    found = [*Promises(root, sources).mistakes(), *Pages(root, sources).mistakes()]
-    return [mistake for mistake in found if not mistake.startswith("docs/PROMISES.md: it is not")]
+    mistakes_of_all = [*Promises(root, sources).mistakes(), *Pages(root, sources).mistakes()]
+    return [mistake for mistake in mistakes_of_all if not mistake.startswith("docs/PROMISES.md: it is not")]
 
 
 def change(root: Path, name: str, old: str, new: str) -> None:
@@ -99,12 +99,12 @@ def rows(root: Path) -> dict[str, list[str]]:
 
 
 def test_a_promise_leads_to_all_that_belongs_to_it(repository: Path) -> None:
-    found = rows(repository)
+    by_number = rows(repository)
     enough = "`toll_stock/specs/Enough.antt`: `IsEnough`"
-    assert found["1.1"] == ["`ship` (`enough`)", enough, "`toll_stock/src/shipping.rt`",
+    assert by_number["1.1"] == ["`ship` (`enough`)", enough, "`toll_stock/src/shipping.rt`",
                             "`more_shipped_than_there_is`", "`what_is_there_is_shipped`"]
-    assert found["1.2"][1] == f"`toll_history/specs/Verdict.antt`: `ship_checks`, `Decides`; {enough}"
-    assert found["1.3"] == ["`Lots::total`", "-", "`toll_stock/src/shipping.rt`", "-", "-"]
+    assert by_number["1.2"][1] == f"`toll_history/specs/Verdict.antt`: `ship_checks`, `Decides`; {enough}"
+    assert by_number["1.3"] == ["`Lots::total`", "-", "`toll_stock/src/shipping.rt`", "-", "-"]
 
 
 def add_wrong_body(root: Path, name: str, *, promise: str, old: str = "    { 0 }") -> None:
@@ -172,7 +172,7 @@ def test_the_page_of_the_repository_has_each_wrong_body_once() -> None:
     ("README.md", "`ship`", "`sink`", "README.md:1: there is no sink"),
     ("README.md", "docs/PROVED.md", "docs/LOST.md", "README.md:1: the link docs/LOST.md leads to nothing"),
     ("README.md", "2 crates", "3 crates", "README.md: the program has 2 crates"),
-    ("README.md", "Of ", "Of " * 900, "README.md: 907 words, not at most 900"),
+    ("README.md", "Of ", "Of " * 700, "README.md: 707 words, not at most 700"),
     ("CONTRIBUTING.md", "Lots::total", "Lots::sum", "CONTRIBUTING.md:1: there is no sum"),
     ("CONTRIBUTING.md", "`shipping.rt`", "`sinking.rt`", "CONTRIBUTING.md:1: there is no sinking.rt"),
     ("CONTRIBUTING.md", "`ship_checks`", "`sink_checks`", "CONTRIBUTING.md:1: there is no sink_checks"),
@@ -251,19 +251,19 @@ def test_an_example_that_hangs_ends_its_page(page: Path, shell: examples.Shell, 
     monkeypatch.setattr(examples, "PATIENCE", 1)
     change(page.parent, "page.md", "toll one", "echo so; sleep 300")
     assert examples.check(page, list(examples.examples_of(page)), shell) == 0
-    assert "    so\n" in (told := capsys.readouterr().out) and "nothing more within 1 s" in told
+    assert "    so\n" in (output := capsys.readouterr().out) and "nothing more within 1 s" in output
 
 
-@pytest.mark.parametrize("page, status, told", [
+@pytest.mark.parametrize("page, status, output", [
     ("$ toll x\nran x\n```\n| 33 | NotEnough |\n", 0, "1 of 1 examples"),
     ("$ toll x\nran y\n```\n", 1, "0 of 1 examples"), ("$ toll x\n```\n", 1, "0 of 1 examples"),
     ("$ toll x\nran x\nand more\n```\n", 1, "0 of 1 examples"),
     ("$ toll x\nran x\n```\n| 32 | NotEnough |\n", 1, "NotEnough is 33, not 32")])
-def test_the_tool_runs_a_page_and_compares_its_numbers(tmp_path: Path, page: str, status: int, told: str) -> None:
+def test_the_tool_runs_a_page_and_compares_its_numbers(tmp_path: Path, page: str, status: int, output: str) -> None:
     (tmp_path / "page.md").write_text(f"```console\n{page}")
     program = script(tmp_path / "program", 'echo "ran $*"')
     done = tool("check-docs", tmp_path / "page.md", env={**os.environ, "TOLL": str(program)})
-    assert (done.returncode, told in done.stdout) == (status, True), done.stdout
+    assert (done.returncode, output in done.stdout) == (status, True), done.stdout
 
 
 def test_a_line_of_commands_that_the_code_has_not_is_a_mistake(tmp_path: Path) -> None:

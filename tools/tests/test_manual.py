@@ -10,20 +10,20 @@ TEXT = MANUAL.read_text()
 
 
 def test_it_has_each_command_with_its_values():
-    found = {name: values.upper().replace("-", "_").split() for name, values in re.findall(r"^\.It Cm ([a-z-]+) Ar (.*)$", TEXT, re.M)}
-    assert found == {name: [it.upper().replace("-", "_") for it in values] for name, values in plant_words.lines_of_code().items()}
+    values_of = {name: values.upper().replace("-", "_").split() for name, values in re.findall(r"^\.It Cm ([a-z-]+) Ar (.*)$", TEXT, re.M)}
+    assert values_of == {name: [word.upper().replace("-", "_") for word in values] for name, values in plant_words.lines_of_code().items()}
 
 
 def test_it_has_the_words_of_each_value():
     plain = re.sub(r"^\.\w+ ", "", TEXT, flags=re.M)
     for words in plant_words.choices_of_code().values():
-        assert [it for it in words if not re.search(rf"(?<![\w-]){it}(?![\w-])", plain)] == []
+        assert [word for word in words if not re.search(rf"(?<![\w-]){word}(?![\w-])", plain)] == []
 
 
 def test_it_has_the_faults_that_a_command_may_be_told():
     rows = re.findall(r"^\| `(\w+)` \| (.*?) \|", (ROOT / "docs" / "operations.md").read_text().split("## Faults, and what to do")[1], re.M)
-    told = {name for name, meaning in rows if not meaning.startswith(("server only", "an earlier fault"))}
-    assert len(rows) == 13 and set(re.findall(r"^\.It fault (\w+)$", TEXT, re.M)) == told
+    faults = {name for name, meaning in rows if not meaning.startswith(("server only", "an earlier fault"))}
+    assert len(rows) == 13 and set(re.findall(r"^\.It fault (\w+)$", TEXT, re.M)) == faults
 
 
 def test_it_has_the_exit_statuses():
@@ -37,7 +37,7 @@ def test_mandoc_finds_no_mistake():
 
 
 def test_its_messages_are_told_in_the_code():
-    code = "\n".join(it.read_text() for it in (ROOT / "crates").glob("*/src/**/*.rt"))
+    code = "\n".join(source.read_text() for source in (ROOT / "crates").glob("*/src/**/*.rt"))
     for words in re.findall(r"^\.Sq (accepted|repeated|listening|refused)\b", TEXT, re.M):
         assert words in code
     for name in re.findall(r"^\.It fault (\w+)$", TEXT, re.M):

@@ -52,10 +52,10 @@ def fields(package):
 
 
 def test_the_folder_gets_the_packages_and_nothing_else(made):
-    files = {re.sub(r"[\d.]+(-\d+)?(?=[._-])", "V", it.name, count=1) for it in made.iterdir() if it.is_file()}
+    files = {re.sub(r"[\d.]+(-\d+)?(?=[._-])", "V", file.name, count=1) for file in made.iterdir() if file.is_file()}
     assert files == {"program", "toll_V_amd64.deb", "hilpoven_V_all.deb", "hilpoven-papers_V_all.deb",
                      "toll-V-x86_64.tar.gz", "hilpoven_V.dsc", "hilpoven_V.orig.tar.gz", "hilpoven_V.debian.tar.xz"}
-    assert not [it for it in made.iterdir() if it.name.startswith((".", "package"))]
+    assert not [file for file in made.iterdir() if file.name.startswith((".", "package"))]
 
 
 def test_the_source_package_has_the_tracked_files(made):
@@ -63,20 +63,20 @@ def test_the_source_package_has_the_tracked_files(made):
     subprocess.run(words, check=True, capture_output=True)
     git = ["git", "-c", f"safe.directory={ROOT}", "-C", ROOT, "ls-files"]
     listed = subprocess.run(git, capture_output=True, text=True, check=True).stdout.splitlines()
-    tracked = {it for it in listed if (ROOT / it).exists()}
-    found = {str(it.relative_to(made / "source")) for it in (made / "source").rglob("*") if not it.is_dir()}
-    assert found == tracked and "debian/README.source" in tracked
+    tracked = {path for path in listed if (ROOT / path).exists()}
+    packed = {str(path.relative_to(made / "source")) for path in (made / "source").rglob("*") if not path.is_dir()}
+    assert packed == tracked and "debian/README.source" in tracked
 
 
 # Documents
 
 def test_pages_have_the_names_that_are_installed(unpacked):
-    pages = {it: it.read_text() for it in (unpacked / "usr/share").rglob("*.md")}
+    pages = {page: page.read_text() for page in (unpacked / "usr/share").rglob("*.md")}
     assert len(pages) > 10
     assert {path: names for path, text in pages.items() if (names := documents.named_in_sources(text))} == {}
     forms = r"(?<![\w.])(/usr/(?:share/doc/toll/examples|lib/systemd/system)/[\w@./-]*\w)"
-    named = {it for text in pages.values() for it in re.findall(forms, text)}
-    assert {it for it in named if not os.path.exists(f"{unpacked}{it}")} == set()
+    named = {path for text in pages.values() for path in re.findall(forms, text)}
+    assert {path for path in named if not os.path.exists(f"{unpacked}{path}")} == set()
     assert ".Xr hilpoven 1" in (ROOT / "docs" / "toll.1").read_text()
 
 
@@ -84,11 +84,11 @@ def test_what_a_page_links_to_is_packaged(unpacked):
     """Pages and their pictures, and what /owner/ serves."""
     share = unpacked / "usr/share"
     form = r"\]\(([^)#\s]+)|(?:href|src)=\"([^\"#]+)\""
-    pages = [it for it in share.rglob("*") if it.suffix in (".md", ".html")]
-    links = [(page, "".join(it)) for page in pages for it in re.findall(form, page.read_text())]
-    inner = [(page, it) for page, it in links if "://" not in it]
+    pages = [file for file in share.rglob("*") if file.suffix in (".md", ".html")]
+    links = [(page, "".join(target)) for page in pages for target in re.findall(form, page.read_text())]
+    inner = [(page, target) for page, target in links if "://" not in target]
     assert len(inner) > 30
-    assert [(page, it) for page, it in inner if not os.path.exists(os.path.normpath(page.parent / it))] == []
+    assert [(page, target) for page, target in inner if not os.path.exists(os.path.normpath(page.parent / target))] == []
     cited = set(re.findall(r"`docs/([\w-]+\.md)`", (share / "toll/page/http.md").read_text()))
     assert {"commands.md", "refusals.md"} <= cited <= set(os.listdir(share / "toll/page"))
 
@@ -127,7 +127,7 @@ def test_each_file_has_one_version_and_a_program_that_of_its_usage(tmp_path, usa
 
 
 def test_the_packages_and_the_command_have_the_version(made, unpacked):
-    assert {re.sub(r"-\d+$", "", fields(it)["Version"]) for it in made.glob("*.deb")} == {hilpoven.VERSION}
+    assert {re.sub(r"-\d+$", "", fields(deb)["Version"]) for deb in made.glob("*.deb")} == {hilpoven.VERSION}
     assert (unpacked / f"usr/lib/python3/dist-packages/hilpoven-{hilpoven.VERSION}.dist-info").is_dir()
 
 
@@ -154,30 +154,30 @@ def test_the_gate_installs_what_a_build_needs():
     provided = {"debhelper-compat": "debhelper", "dh-sequence-installsysusers": "debhelper",
                 "dh-sequence-python3": "dh-python"}
     listed = re.search(r"(?m)^Build-Depends: ((?:.*,\n)*.*)$", (ROOT / "debian/control").read_text())[1]
-    names = [it.split()[0] for it in listed.split(",")]
-    assert {provided.get(it, it) for it in names} <= set(BUILD_NEEDS)
+    names = [package.split()[0] for package in listed.split(",")]
+    assert {provided.get(package, package) for package in names} <= set(BUILD_NEEDS)
 
 
 def test_a_server_and_its_command_need_no_compiler(made):
     """WeasyPrint brings one. If it is there, apt keeps it, because an installed package suggests it."""
-    command, papers = (fields(*made.glob(f"{it}_*.deb")) for it in ("hilpoven", "hilpoven-papers"))
+    command, papers = (fields(*made.glob(f"{name}_*.deb")) for name in ("hilpoven", "hilpoven-papers"))
     heavy = {"weasyprint", "graphviz"}
-    assert not heavy & {it.split()[0] for it in (command["Depends"] + ", " + command["Recommends"]).split(", ")}
+    assert not heavy & {package.split()[0] for package in (command["Depends"] + ", " + command["Recommends"]).split(", ")}
     assert heavy | {"hilpoven-papers"} <= set(command["Suggests"].split(", "))
-    assert heavy | {"hilpoven"} <= {it.split()[0] for it in papers["Depends"].split(", ")}
+    assert heavy | {"hilpoven"} <= {package.split()[0] for package in papers["Depends"].split(", ")}
 
 
 def test_debians_command_is_isolated(unpacked):
     """Behind sudo no module comes from a member's environment or folder, and there is no other script."""
-    (command,) = [it for it in (unpacked / "usr/bin").iterdir() if it.name != "toll"]
+    (command,) = [program for program in (unpacked / "usr/bin").iterdir() if program.name != "toll"]
     assert re.fullmatch(r"#! ?/usr/bin/python3 -IB", command.read_text().splitlines()[0]) and command.name == "hilpoven"
 
 
 @pytest.mark.parametrize("folder", ["usr/lib/python3/dist-packages", "usr/local/share/hilpoven/src"])
 def test_each_file_of_the_command_is_packaged(unpacked, folder):
     here, there = ROOT / "plant/src", unpacked / folder
-    files = {it.relative_to(here) for it in (here / "hilpoven").rglob("*") if it.is_file() and it.suffix != ".pyc"}
-    packaged = {it.relative_to(there) for it in (there / "hilpoven").rglob("*") if it.is_file()}
+    files = {file.relative_to(here) for file in (here / "hilpoven").rglob("*") if file.is_file() and file.suffix != ".pyc"}
+    packaged = {file.relative_to(there) for file in (there / "hilpoven").rglob("*") if file.is_file()}
     assert packaged == files and len(files) > 50
 
 
@@ -191,11 +191,11 @@ def test_the_command_runs_from_the_tarball(unpacked):
 def test_the_tarball_has_what_the_packages_have(unpacked):
     """Except what is Debian's alone. The settings of /etc are examples there."""
     def files(top, *left_out):
-        paths = {str(it.relative_to(top)) for it in top.rglob("*") if not it.is_dir()}
-        return {it for it in paths if not it.startswith(left_out)}
+        paths = {str(file.relative_to(top)) for file in top.rglob("*") if not file.is_dir()}
+        return {path for path in paths if not path.startswith(left_out)}
     debians = ("local/", "lib/python3/", "share/lintian/", "share/doc/hilpoven-papers/")
-    packaged = {it for it in files(unpacked / "usr", *debians) if not it.endswith("changelog.Debian.gz")}
-    examples = {f"share/doc/hilpoven/examples/{it}" for it in files(unpacked / "etc")}
+    packaged = {path for path in files(unpacked / "usr", *debians) if not path.endswith("changelog.Debian.gz")}
+    examples = {f"share/doc/hilpoven/examples/{path}" for path in files(unpacked / "etc")}
     assert len(examples) == 3 and files(unpacked / "usr/local", "share/hilpoven/") == packaged | examples
 
 
@@ -212,10 +212,10 @@ def linked_libraries():
     """The toolchain's libraries that crates.txt names, and those that they use."""
     names = set(re.findall(r"\w+", re.sub(r"(?m)^#.*", "", (ROOT / "crates.txt").read_text())))
     linked: set[str] = set()
-    while found := {it for it in names - linked if (LIBRARIES / it / "src").is_dir()}:
-        linked |= found
-        sources = [it for library in found for it in (LIBRARIES / library / "src").rglob("*.rt")]
-        names = {name for it in sources for name in re.findall(r"\b([a-z_]\w*)::", it.read_text(errors="replace"))}
+    while reached := {name for name in names - linked if (LIBRARIES / name / "src").is_dir()}:
+        linked |= reached
+        sources = [source for library in reached for source in (LIBRARIES / library / "src").rglob("*.rt")]
+        names = {name for source in sources for name in re.findall(r"\b([a-z_]\w*)::", source.read_text(errors="replace"))}
     return linked
 
 
@@ -231,5 +231,5 @@ def test_the_licences_of_all_linked_libraries_are_in_the_copyright():
             text = file.read_text()
             holders = re.findall(r"(?mi)^ *copyright (?:\(c\)|©) (?:20\d\d,? )?(.*)$", text)
             end = "Apache-2.0" if "Apache License" in text[:100] else plain(text)[-400:]
-            wrong += [(file, it) for it in (library, *holders, end) if it not in said]
+            wrong += [(file, words) for words in (library, *holders, end) if words not in said]
     assert wrong == []

@@ -11,7 +11,8 @@ from conftest import ROOT
 sys.path.insert(0, str(ROOT / "plant" / "src"))
 from hilpoven.core import settings  # noqa: E402
 
-OFFICE = ["toll@acme.service", "toll-backup@acme.service", "toll-backup@acme.timer", "toll-failed@toll@acme.service.service"]
+OFFICE = ["toll@acme.service", "toll-backup@acme.service", "toll-companion@acme.service", "toll-follow@acme.service", "toll-backup@acme.timer",
+          "toll-companion@acme.timer", "toll-failed@toll@acme.service.service"]
 SINGLE = ["toll.service", "toll-backup.service", "toll-backup.timer"]
 PROGRAMS = r"(?m)^(Exec\w+=)(toll|hilpoven)\b"
 
@@ -23,7 +24,7 @@ def installed(tmp_path_factory):
     for name in ("toll", "hilpoven"):
         shutil.copy("/bin/true", folder / name)
     lines = [line.split() for file in (ROOT / "debian").glob("*.install") for line in file.read_text().splitlines()]
-    for source, target in (it for it in lines if it[-1].startswith("usr/lib/systemd/system")):
+    for source, target in (line for line in lines if line[-1].startswith("usr/lib/systemd/system")):
         unit = folder / target.removeprefix("usr/lib/systemd/") / source.rpartition("/")[2]
         unit.parent.mkdir(parents=True, exist_ok=True)
         unit.write_text(re.sub(PROGRAMS, rf"\1{folder}/\2", (ROOT / source).read_text()))
@@ -49,10 +50,10 @@ def test_a_unit_that_is_broken_is_found(installed, unit, tmp_path):
     assert analyzed(broken, "verify", unit) != (0, "")
 
 
-@pytest.mark.parametrize("unit", [it for it in OFFICE[:2] + SINGLE[:2]])
+@pytest.mark.parametrize("unit", [unit for unit in OFFICE[:3] + SINGLE[:2]])
 def test_a_unit_may_do_little(installed, unit):
-    status, told = analyzed(installed, "security", "--offline=yes", "--no-pager", unit)
-    assert float(re.search(r"exposure level for \S+: ([\d.]+)", told)[1]) <= 1.5, told
+    status, output = analyzed(installed, "security", "--offline=yes", "--no-pager", unit)
+    assert float(re.search(r"exposure level for \S+: ([\d.]+)", output)[1]) <= 1.5, output
 
 
 def text_of(name):
@@ -73,14 +74,33 @@ def test_the_server_has_the_one_capability_that_a_low_port_needs():
     assert setting(text_of("office.env"), "PORT") and int(setting(text_of("office.env"), "PORT")[0]) < 1024
 
 
+def test_the_site_looks_for_companions_where_the_unit_puts_them_for_its_group():
+    unit, (folder,) = text_of("toll-companion@.service"), re.findall(r"alias (/var/cache/\S+)/\$toll_companion\.json;", text_of("nginx.conf"))
+    assert folder == f"{settings.COMPANIONS}/NAME" == settings.companions_of(settings.Settings(office="NAME"))
+    assert [f"/var/cache/{name}" for name in setting(unit, "CacheDirectory")] == [folder.replace("NAME", "%i")]
+    assert setting(unit, "ExecStart")[0].endswith(f" companion --out {folder.replace('NAME', '%i')}")
+    # the group's alone, whose new files are the group's too
+    assert (setting(unit, "Group"), setting(unit, "CacheDirectoryMode"), setting(unit, "UMask")) == (["www-data"], ["2710"], ["0077"])
+    # a state folder would be given to that group
+    assert not setting(unit, "StateDirectory") and setting(text_of("office.conf"), "BindPaths") == ["/var/lib/toll/%i"]
+    assert setting(unit, "EnvironmentFile") == ["/etc/toll/%i.env"] and setting(unit, "Environment") == ["FILE=/var/lib/toll/%i/office.db"]
+
+
 def test_server_and_backup_have_one_file_of_settings():
-    units = [text_of(it) for it in ("toll@.service", "toll-backup@.service")]
-    for it in units:
-        assert setting(it, "EnvironmentFile") == ["/etc/toll/%i.env"]
-        assert "${FILE}" in it and setting(it, "UMask") == ["0077"] and setting(it, "OnFailure") == ["toll-failed@%n.service"]
-        assert setting(it, "Environment")[0].split()[0] == "FILE=/var/lib/toll/%i/office.db"
+    units = [text_of(name) for name in ("toll@.service", "toll-backup@.service", "toll-follow@.service")]
+    for unit in units:
+        assert setting(unit, "EnvironmentFile") == ["/etc/toll/%i.env"]
+        assert "${FILE}" in unit and setting(unit, "UMask") == ["0077"] and setting(unit, "OnFailure") == ["toll-failed@%n.service"]
+        assert setting(unit, "Environment")[0].split()[0] == "FILE=/var/lib/toll/%i/office.db"
     used = set(re.findall(r"\$\{(\w+)\}", "".join(units)))
     assert used == set(re.findall(r"(?m)^#?([A-Z]+)=", text_of("office.env")))
+
+
+def test_a_server_waits_for_its_follower_s_look_and_ends_when_another_has_the_office():
+    follower, server = text_of("toll-follow@.service"), text_of("toll@.service")
+    assert setting(follower, "Before") == ["toll@%i.service"] and setting(follower, "ExecStartPre")[0].endswith("--check")
+    assert setting(follower, "ExecStopPost") == ["+sh -c 'test ! -e ${FILE}.superseded || systemctl --no-block stop toll@%i.service'"]
+    assert "test ! -e ${FILE}.superseded" in setting(server, "ExecStartPre")
 
 
 def test_the_timers_backup_keeps_what_its_settings_say():
@@ -89,10 +109,12 @@ def test_the_timers_backup_keeps_what_its_settings_say():
 
 
 def test_page_example_unit_and_command_have_the_same_defaults(tmp_path, monkeypatch):
-    backup = dict(it.split("=") for it in setting(text_of("toll-backup@.service"), "Environment")[0].split())
+    backup = dict(setting_line.split("=") for setting_line in setting(text_of("toll-backup@.service"), "Environment")[0].split())
     defaults = {name: value.replace("%i", "NAME") for name, value in backup.items()}
     rows = re.findall(r"(?m)^\| `([A-Z]+)` \| .* \| `?(\S+?)`? \|$", (ROOT / "docs" / "operations.md").read_text())
-    assert dict(rows) == defaults == dict(re.findall(r"(?m)^#([A-Z]+)=(.*)$", text_of("office.env")))
+    lines = dict(re.findall(r"(?m)^#([A-Z]+)=(.*)$", text_of("office.env")))
+    assert lines.pop("FOLLOW").startswith("HOST:")  # an example: without it nobody follows
+    assert dict(rows) == defaults == lines
     (tmp_path / "NAME.env").write_text("PORT=801\n")
     monkeypatch.setattr(settings, "OFFICES", str(tmp_path))
     office = settings.of_office(settings.Settings(), "NAME")
