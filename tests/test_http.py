@@ -234,3 +234,18 @@ def test_what_was_answered_before_a_kill_is_there(office: Office) -> None:
         day.work_until_killed(turn, chance.uniform(0.1, 1.5))
         day.check_rows()
     assert len(day.orders) > KILLS and len(day.receipts) > KILLS
+
+
+def lines_of_day(end: str) -> list[str]:
+    """The lines of docs/day.toll that ask for something, or all of docs/day.out."""
+    lines = (ROOT / "docs" / f"day.{end}").read_text().splitlines()
+    return [line for line in lines if line and not line.startswith("#")]
+
+
+def test_the_day_of_the_docs_is_printed(new: Callable[[], Office]) -> None:
+    office = new()
+    assert office.run(["script"], stdin=(ROOT / "docs" / "day.toll").read_bytes()).out.splitlines() == lines_of_day("out")
+    with office.serve() as server:
+        printed = [server.ask(line).rstrip() if line.startswith("> ") else office.plant(*line.split()).out.removesuffix("\n")
+                   for line in lines_of_day("toll")]
+    assert "\n".join(printed).splitlines() == lines_of_day("out")

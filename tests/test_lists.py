@@ -23,15 +23,15 @@ def test_one_refusal_over_lists_is_answered_as_want_of_memory() -> None:
 
 
 FAILED = f"""tests: 190
-test wire::ample::{TEST} ... FAILED
+test stories::{TEST} ... FAILED
     error: {{}}
     the test failed: its result gives status 1
     the test exited with status 101
 test result: FAILED. 0 passed; 1 failed; 0 ignored; 189 filtered out
 run=ended status=101 runners=1 proved=no
 """
-PASSED = f"test wire::ample::{TEST} ... ok\ntest result: ok. 1 passed; 0 failed; 0 ignored; 189 filtered out\n"
-KILLED = FAILED.replace("    error: {}", "    src/wire/ample.rt:44:9: the test was killed by signal 6 (SIGABRT)")
+PASSED = f"test stories::{TEST} ... ok\ntest result: ok. 1 passed; 0 failed; 0 ignored; 189 filtered out\n"
+KILLED = FAILED.replace("    error: {}", "    src/stories.rt:28:5: the test was killed by signal 6 (SIGABRT)")
 
 
 @pytest.mark.parametrize("text, is_want", [

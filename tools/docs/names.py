@@ -8,7 +8,7 @@ from .sources import DEFINED, Sources
 # The pages that describe the code: each of their names is one of the repository's.
 PAGES = ("README.md", "CONTRIBUTING.md", "CHANGELOG.md",
          *(f"docs/{name}.md" for name in "PROVED PROMISES DEFINITIONS ARCHITECTURE DECISIONS GLOSSARY".split()))
-OTHERS = set("hilpoven bash curl sh flock python3 sqlite3 rt help import use stdout Clone Display Net".split())
+OTHERS = set("hilpoven bash curl sh flock python3 sqlite3 rt help import use stdout server Clone Display Net".split())
 QUOTED = re.compile(r"`([^`]+)`")
 LINKED = re.compile(r"\]\(([^):#]+)\)")
 DECLARED = [re.compile(form, re.M) for form in (

@@ -13,6 +13,7 @@ CLAUSE = re.compile(r"^\s*ensures (?:(\w+) )?\{((?:[^{}]|\{[^{}]*\})*)\}", re.M)
 USED = re.compile(r"^\s*ghost use Rattle\.(\w+)\.specs\.(?:([\w.]+)\.\{([^}]*)\}|(\w+) as \w+);", re.M)
 DEFINED = re.compile(r"^ *(?:(?:pub|abbrev|unfoldable) )*([\w']+) *:|^ *(?:pub )?record (\w+)", re.M)
 TEST = re.compile(r"#\[test\]\s+(?:#\[[^\]]*\]\s+)*(?:pub )?fn (\w+)")
+STORY = re.compile(r"^const (\w+): Story =", re.M)
 UNSTATED = ("Command", "Worked")  # files of actions and of examples
 Place = tuple[str, str]  # a crate, and a file of it
 
@@ -70,7 +71,7 @@ class Sources:
         for path, text in self.specs.items():
             for names in DEFINED.findall(text):
                 self.definitions[names[0] or names[1]].append((self.place_of(path)[0], path.stem))
-        self.tests = {name for text in self.code.values() for name in TEST.findall(text)}
+        self.tests = {name for text in self.code.values() for name in TEST.findall(text) + STORY.findall(text)}
         self.exported, self.types = (collections.defaultdict[str, set[str]](set) for _ in range(2))
         for path, text in self.code.items():
             crate, _ = self.place_of(path)

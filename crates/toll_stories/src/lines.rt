@@ -1,8 +1,8 @@
 //! Lines of what is asked, and what is said to each.
+use crate::chapters::{Exchange, exchanges_of};
 use crate::commands::plant_cmd;
 use crate::fakes::read_pieces;
 use crate::http::{reply_said, request_of};
-use crate::keeps::{BareKeep, TableKeep, bare_tables, empty_tables, taken_over};
 use crate::said::{plant_said, said_text};
 use std::alloc::{AllocError, Global};
 use std::test::Fail;
@@ -10,9 +10,6 @@ use toll_desk::plant_do;
 use toll_keep::{Keep, MemKeep};
 use toll_plant::{import_actuals, import_text};
 use toll_wire::answer;
-
-/// What is asked, and what is said to it.
-pub type Line = (&'static str, &'static str);
 
 /// The first record of a file of actuals, with its line end.
 pub const HEADER: &str =
@@ -78,32 +75,31 @@ pub fn say_to_file<K: Keep>(
     }
 }
 
-/// Whether just this is said to each of these lines, over this keep. An `Err` means that there was no
+/// Whether a chapter's replies are just those that it has, over this keep. An `Err` means that there was no
 /// memory.
-pub fn are_said<K: Keep>(alloc: Global, keep: &mut K, lines: &[Line]) -> Result<bool, AllocError> {
-    for line in lines {
-        let (requested, wanted) = *line;
-        if say(alloc, keep, requested)?.as_str() != wanted {
+pub fn are_said<K: Keep>(alloc: Global, keep: &mut K, chapter: &str) -> Result<bool, AllocError> {
+    for exchange in &exchanges_of(alloc, chapter)? {
+        if say(alloc, keep, exchange.request.as_str())?.as_str() != exchange.reply() {
             return Ok(false);
         }
     }
     Ok(true)
 }
 
-// Fails with the answer to the line, if that isn't the wanted one.
-fn check_line<K: Keep>(alloc: Global, keep: &mut K, line: &Line) -> Result<(), Fail> {
-    let (requested, wanted) = *line;
-    let said = say(alloc, keep, requested)?;
-    if said.as_str() == wanted {
+// Fails with the reply, if that isn't the wanted one.
+fn check_exchange<K: Keep>(alloc: Global, keep: &mut K, exchange: &Exchange) -> Result<(), Fail> {
+    let request = exchange.request.as_str();
+    let said = say(alloc, keep, request)?;
+    if said.as_str() == exchange.reply() {
         return Ok(());
     }
-    Err(format!(in alloc; "{requested}: {said}")?.into())
+    Err(format!(in alloc; "{request}: {said}")?.into())
 }
 
-/// Fails if one of these lines has another answer, over this keep.
-pub fn check_lines<K: Keep>(alloc: Global, keep: &mut K, lines: &[Line]) -> Result<(), Fail> {
-    for line in lines {
-        check_line(alloc, keep, line)?;
+/// Fails if one of a chapter's replies is another one, over this keep.
+pub fn check_chapter<K: Keep>(alloc: Global, keep: &mut K, chapter: &str) -> Result<(), Fail> {
+    for exchange in &exchanges_of(alloc, chapter)? {
+        check_exchange(alloc, keep, exchange)?;
     }
     Ok(())
 }
@@ -112,37 +108,15 @@ pub fn check_lines<K: Keep>(alloc: Global, keep: &mut K, lines: &[Line]) -> Resu
 pub fn check_said_over<K: Keep>(
     alloc: Global,
     keep: &mut K,
-    chapters: &[&[Line]],
+    chapters: &[&str],
 ) -> Result<(), Fail> {
-    for lines in chapters {
-        check_lines(alloc, keep, lines)?;
+    for chapter in chapters {
+        check_chapter(alloc, keep, chapter)?;
     }
     Ok(())
-}
-
-/// The same over an empty office: kept in lists, and kept in tables that are given back and taken over again
-/// after each chapter.
-pub fn check_said(alloc: Global, chapters: &[&[Line]]) -> Result<(), Fail> {
-    check_said_over_lists(alloc, chapters)?;
-    check_said_over_tables(alloc, chapters)
-}
-
-/// The same, and over tables of which nothing is remembered, so that each trace is made of the tables.
-pub fn check_said_and_traced(alloc: Global, chapters: &[&[Line]]) -> Result<(), Fail> {
-    check_said(alloc, chapters)?;
-    check_said_over::<BareKeep>(alloc, &mut bare_tables(alloc)?, chapters)
 }
 
 /// The same over an empty office that is kept in lists.
-pub fn check_said_over_lists(alloc: Global, chapters: &[&[Line]]) -> Result<(), Fail> {
+pub fn check_said(alloc: Global, chapters: &[&str]) -> Result<(), Fail> {
     check_said_over::<MemKeep>(alloc, &mut MemKeep::new(alloc), chapters)
-}
-
-fn check_said_over_tables(alloc: Global, chapters: &[&[Line]]) -> Result<(), Fail> {
-    let mut keep = empty_tables(alloc)?;
-    for lines in chapters {
-        check_lines::<TableKeep>(alloc, &mut keep, lines)?;
-        keep = taken_over(alloc, keep)?;
-    }
-    Ok(())
 }

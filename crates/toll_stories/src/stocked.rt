@@ -1,5 +1,5 @@
 //! An office with much in stock.
-use crate::{TableKeep, empty_tables, plant_cmd};
+use crate::plant_cmd;
 use std::alloc::{AllocError, Global};
 use std::test::Fail;
 use toll_base::{Amount, Day, Name};
@@ -53,20 +53,19 @@ fn accept_receipt<K: Keep>(alloc: Global, keep: &mut K, number: u64) -> Result<(
     accept(alloc, keep, &command)
 }
 
-/// An office whose stock is a text of more than 1,048,576 bytes.
-pub fn with_much_stock(alloc: Global) -> Result<TableKeep, Fail> {
-    let mut keep = empty_tables(alloc)?;
+/// Fills an office without rows: its stock is a text of more than 1,048,576 bytes.
+pub fn fill_stock<K: Keep>(alloc: Global, keep: &mut K) -> Result<(), Fail> {
     for words in WITH_MATERIAL {
-        accept_words(alloc, &mut keep, words)?;
+        accept_words(alloc, keep, words)?;
     }
     for number in FIRST..LAST {
-        accept_receipt(alloc, &mut keep, number)?;
+        accept_receipt(alloc, keep, number)?;
     }
-    Ok(keep)
+    Ok(())
 }
 
 /// The text of its stock.
-pub fn told_stock(alloc: Global) -> Result<String, AllocError> {
+pub fn stock_text(alloc: Global) -> Result<String, AllocError> {
     let mut text = String::new(alloc);
     for number in FIRST..LAST {
         text.push_str("A                S")?;

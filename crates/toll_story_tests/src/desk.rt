@@ -1,10 +1,5 @@
-//! Stories of the office, given to it line by line: owners ask over HTTP, the plant by its words.
+//! Limits of an office, calls over a keep that once has no memory, and what an owner's rows say.
 
-mod batches;
-mod genealogy;
 mod limits;
-mod lots;
-mod movements;
 mod owners;
 mod slices;
-mod voids;

@@ -7,6 +7,8 @@ mod desk;
 #[cfg(test)]
 mod plant;
 #[cfg(test)]
+mod stories;
+#[cfg(test)]
 mod surface;
 #[cfg(test)]
 mod wire;

@@ -1,7 +1,6 @@
-//! What the contracts of `toll_wire` do not show: worked requests and their replies, byte for byte, that
-//! ample memory meets no refusal, and streams of std that fail.
+//! What the contracts of `toll_wire` do not show: worked requests and their replies, byte for byte, and
+//! streams of std that fail.
 
-mod ample;
 mod answers;
 mod lines;
 mod orders;

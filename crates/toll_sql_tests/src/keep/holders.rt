@@ -1,5 +1,6 @@
 //! The batch that holds a unit, in tables whose row for it is none of the office's: that is reported as
 //! damage, and the unit is neither free nor held.
+use crate::keep::offices::{TableKeep, empty_tables};
 use crate::keep::rows::{batch, fill_all};
 use crate::keep::tables::adopted;
 use sqlite::{Connection, MemStore};
@@ -7,9 +8,7 @@ use std::alloc::Global;
 use std::test::Fail;
 use toll_keep::{CachedKeep, Keep, KeepFault};
 use toll_sql::SqlKeep;
-use toll_stories::{
-    Line, TableKeep, WITH_BATCH, WITH_RECIPE, check, check_said_over, empty_tables,
-};
+use toll_stories::{WITH_BATCH, WITH_RECIPE, check, check_said_over};
 
 // Statements that leave a row of a batch on the unit that is no batch: a state and a number that there are
 // none of, an order that has no name, an owner that has none; and one beside a batch that is one.
@@ -46,18 +45,18 @@ fn without_state(alloc: Global, keep: TableKeep) -> Result<Connection<MemStore>,
     Ok(conn)
 }
 
-const BOLT_IS_PLACED: &[Line] = &[
-    ("recipe-add BOLT R 1", "accepted"),
-    (
-        "> BOLT BOLTKEY1 POST /orders {\"order\":\"O\",\"recipe\":\"R\",\"batches\":1}",
-        "200 {\"batches\":1,\"order\":\"O\",\"recipe\":\"R\",\"status\":\"open\"}",
-    ),
-];
+const BOLT_IS_PLACED: &str = r#"
+recipe-add BOLT R 1
+> BOLT BOLTKEY1 POST /orders {"order":"O","recipe":"R","batches":1}
+= 200 {"batches":1,"order":"O","recipe":"R","status":"open"}
+"#;
 
-const NEITHER_FREE_NOR_HELD: &[Line] = &[
-    ("open BOLT O U1", "fault Damaged"),
-    ("open BOLT O U1", "fault Closed"),
-];
+const NEITHER_FREE_NOR_HELD: &str = r#"
+open BOLT O U1
+= fault Damaged
+open BOLT O U1
+= fault Closed
+"#;
 
 #[test]
 fn a_batch_is_opened_on_no_unit_with_a_broken_row(rt: HostRuntime) -> Result<(), Fail> {

@@ -1,4 +1,5 @@
 //! Many rows: groups of 2,000 changes, a trace over 20,000 actuals, and a recall over 64 owners.
+use crate::keep::offices::{bare_tables, empty_tables};
 use crate::keep::rows::{acme, actual};
 use std::alloc::{AllocError, Global};
 use std::test::Fail;
@@ -7,7 +8,7 @@ use toll_base::{
     Name, Origin, OwnerKey, OwnerRow, Role, Row, Segment,
 };
 use toll_keep::{Keep, MemKeep};
-use toll_stories::{bare_tables, check, empty_tables, say};
+use toll_stories::{check, say};
 use toll_trace::{Step, Way};
 
 // How many batches there are, how many of an order, and how many actuals of a batch.

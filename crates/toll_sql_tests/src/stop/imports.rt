@@ -7,9 +7,7 @@ use std::test::Fail;
 use toll_keep::{CachedKeep, Keep};
 use toll_plant::GROUP_RECORDS;
 use toll_sql::SqlKeep;
-use toll_stories::{
-    HEADER, Line, RELEASED_AND_PLACED, WITH_HOUSE, are_said, check_lines, say_to_file,
-};
+use toll_stories::{HEADER, RELEASED_AND_PLACED, WITH_HOUSE, are_said, check_chapter, say_to_file};
 
 // The first record of each of two groups changes something, and no other does.
 fn file_of_two_groups(alloc: Global) -> Result<String, AllocError> {
@@ -21,38 +19,42 @@ fn file_of_two_groups(alloc: Global) -> Result<String, AllocError> {
     Ok(file)
 }
 
-const BATCH_RUNS: &[Line] = &[
-    ("open ACME O U1", "accepted"),
-    ("do ACME O 1 start", "accepted"),
-];
+const BATCH_RUNS: &str = r#"
+open ACME O U1
+do ACME O 1 start
+"#;
 
 // What shows the office before the import, after its first group, and after both.
-const NONE_STANDS: &[Line] = &[(
-    "batch ACME O 1",
-    "O/1 running U1 open\n 1 consumed ACME             M                        10              0\n 1 consumed HOUSE            W                        10              0\n 1 produced ACME             P                        10              0\n 2 consumed ACME             M                        10              0\n",
-)];
+const NONE_STANDS: &str = r#"
+batch ACME O 1
+: O/1 running U1 open
+:  1 consumed ACME             M                        10              0
+:  1 consumed HOUSE            W                        10              0
+:  1 produced ACME             P                        10              0
+:  2 consumed ACME             M                        10              0
+"#;
 
-const ONE_STANDS: &[Line] = &[
-    (
-        "stock HOUSE",
-        "H-1              S                W                released                10 kg\n",
-    ),
-    (
-        "batch ACME O 1",
-        "O/1 running U1 open\n 1 consumed ACME             M                        10             10\n 1 consumed HOUSE            W                        10              0\n 1 produced ACME             P                        10              0\n 2 consumed ACME             M                        10              0\n",
-    ),
-];
+const ONE_STANDS: &str = r#"
+stock HOUSE
+: H-1              S                W                released                10 kg
+batch ACME O 1
+: O/1 running U1 open
+:  1 consumed ACME             M                        10             10
+:  1 consumed HOUSE            W                        10              0
+:  1 produced ACME             P                        10              0
+:  2 consumed ACME             M                        10              0
+"#;
 
-const BOTH_STAND: &[Line] = &[
-    (
-        "stock HOUSE",
-        "H-1              S                W                released                 0 kg\n",
-    ),
-    (
-        "batch ACME O 1",
-        "O/1 running U1 open\n 1 consumed ACME             M                        10             10\n 1 consumed HOUSE            W                        10             10\n 1 produced ACME             P                        10              0\n 2 consumed ACME             M                        10              0\n",
-    ),
-];
+const BOTH_STAND: &str = r#"
+stock HOUSE
+: H-1              S                W                released                 0 kg
+batch ACME O 1
+: O/1 running U1 open
+:  1 consumed ACME             M                        10             10
+:  1 consumed HOUSE            W                        10             10
+:  1 produced ACME             P                        10              0
+:  2 consumed ACME             M                        10              0
+"#;
 
 // Whether both groups stand. Fails if it is neither that, nor the first alone, nor none.
 fn both_stand<K: Keep>(alloc: Global, keep: &mut K) -> Result<bool, Fail> {
@@ -62,7 +64,7 @@ fn both_stand<K: Keep>(alloc: Global, keep: &mut K) -> Result<bool, Fail> {
     if are_said(alloc, keep, ONE_STANDS)? {
         return Ok(false);
     }
-    check_lines(alloc, keep, BOTH_STAND)?;
+    check_chapter(alloc, keep, BOTH_STAND)?;
     Ok(true)
 }
 

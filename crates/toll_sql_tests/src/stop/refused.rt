@@ -5,7 +5,7 @@ use std::alloc::Global;
 use std::test::Fail;
 use toll_keep::{CachedKeep, Keep, MemKeep};
 use toll_sql::SqlKeep;
-use toll_stories::{Refused, Refusing, check, check_lines, check_said_over, say};
+use toll_stories::{Refused, Refusing, check, check_chapter, check_said_over, say};
 
 // More calls of a keep than a line makes.
 const MANY_CALLS: u64 = 100;
@@ -70,9 +70,9 @@ fn meets_refusal<K: Keep>(alloc: Global, keep: &mut K, telling: &Telling) -> Res
         return Ok(false);
     }
     check(said.as_str() == refusal_of(requested), "told otherwise")?;
-    check_lines(alloc, keep, telling.before)?;
+    check_chapter(alloc, keep, telling.before)?;
     check(say(alloc, keep, requested)?.as_str() == done, "not done")?;
-    check_lines(alloc, keep, telling.after)?;
+    check_chapter(alloc, keep, telling.after)?;
     Ok(true)
 }
 

@@ -5,7 +5,7 @@ use std::alloc::Global;
 use std::test::Fail;
 use toll_keep::{CachedKeep, Keep};
 use toll_sql::{OpenFault, SqlKeep};
-use toll_stories::{Line, are_said, check_lines, check_said_over, say};
+use toll_stories::{Story, are_said, check_chapter, check_said_over, say};
 
 /// The outcome of a run.
 #[derive(Clone, Copy, PartialEq, Eq)]
@@ -71,9 +71,9 @@ fn check_empty<K: Keep>(alloc: Global, keep: &mut K) -> Result<bool, Fail> {
 /// The tables of an office of version 1 are adopted, and are of version 2 then.
 pub struct Adopting {
     /// The lines that the office was given.
-    pub story: &'static [&'static [Line]],
+    pub story: Story,
     /// What shows it.
-    pub rows: &'static [Line],
+    pub rows: &'static str,
 }
 
 impl Adopting {
@@ -90,7 +90,7 @@ impl Adopting {
 fn first_version<S: Alter + Drop>(
     alloc: Global,
     conn: Connection<S>,
-    story: &[&[Line]],
+    story: &[&str],
 ) -> Result<Connection<S>, Fail> {
     as_version_1(told_to_new(alloc, conn, story)?)
 }
@@ -124,7 +124,7 @@ impl Run for Adopting {
         let version: i64 = row.get(0)?;
         match SqlKeep::adopt(alloc, conn) {
             Ok(mut keep) => {
-                check_lines::<SqlKeep<S>>(alloc, &mut keep, self.rows)?;
+                check_chapter::<SqlKeep<S>>(alloc, &mut keep, self.rows)?;
                 Ok(version == 2)
             }
             Err((fault, _)) => Err(fault.into()),
@@ -135,15 +135,15 @@ impl Run for Adopting {
 /// A line that is given to an office.
 pub struct Telling {
     /// The lines that the office was given before.
-    pub story: &'static [&'static [Line]],
+    pub story: Story,
     /// The line, and the answer to it if no file stops.
-    pub line: Line,
+    pub line: (&'static str, &'static str),
     /// The answer to the line if a file stops.
     pub fault: &'static str,
     /// What shows the office from before.
-    pub before: &'static [Line],
+    pub before: &'static str,
     /// What shows the office from after.
-    pub after: &'static [Line],
+    pub after: &'static str,
 }
 
 impl Telling {
@@ -167,13 +167,13 @@ impl Telling {
         if are_said(alloc, keep, self.before)? {
             return Ok(false);
         }
-        check_lines(alloc, keep, self.after)?;
+        check_chapter(alloc, keep, self.after)?;
         Ok(true)
     }
 }
 
 /// The files of a new office that was given these chapters.
-pub fn files_of(alloc: Global, story: &[&[Line]]) -> Result<Disks, Fail> {
+pub fn files_of(alloc: Global, story: &[&str]) -> Result<Disks, Fail> {
     match connect(alloc, empty_files(alloc)) {
         Ok(conn) => Ok(disconnect(told_to_new(alloc, conn, story)?)),
         Err(_) => Err("no store".into()),
@@ -184,7 +184,7 @@ pub fn files_of(alloc: Global, story: &[&[Line]]) -> Result<Disks, Fail> {
 fn told_to_new<S: Alter + Drop>(
     alloc: Global,
     conn: Connection<S>,
-    story: &[&[Line]],
+    story: &[&str],
 ) -> Result<Connection<S>, Fail> {
     match SqlKeep::create(conn) {
         Ok(mut keep) => match check_said_over::<SqlKeep<S>>(alloc, &mut keep, story) {

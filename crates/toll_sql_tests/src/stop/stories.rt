@@ -5,7 +5,7 @@ use crate::stop::runs::{Adopting, Making, Telling};
 use crate::stop::stops::check_stops;
 use std::test::Fail;
 use toll_stories::{
-    A_CONSUMED, CONSUMED_AND_PRODUCED, Line, P1_PRODUCED, RELEASED_AND_PLACED, WITH_ACME,
+    A_CONSUMED, CONSUMED_AND_PRODUCED, P1_PRODUCED, RELEASED_AND_PLACED, Story, WITH_ACME,
     WITH_BATCH, WITH_HOUSE, WITH_PRODUCT_OF_HOUSE, WITH_RECIPE, WITH_RECIPE_OF_HOUSE,
 };
 
@@ -22,11 +22,14 @@ const PLACING: Telling = Telling {
         "200 {\"batches\":2,\"order\":\"O-1\",\"recipe\":\"R-1\",\"status\":\"open\"}",
     ),
     fault: "503 {\"error\":\"Unavailable\"}",
-    before: &[("> ACME ACMEKEY1 GET /orders", "200 {\"orders\":[]}")],
-    after: &[(
-        "> ACME ACMEKEY1 GET /orders",
-        "200 {\"orders\":[{\"batches\":2,\"order\":\"O-1\",\"recipe\":\"R-1\",\"status\":\"open\"}]}",
-    )],
+    before: r#"
+> ACME ACMEKEY1 GET /orders
+= 200 {"orders":[]}
+"#,
+    after: r#"
+> ACME ACMEKEY1 GET /orders
+= 200 {"orders":[{"batches":2,"order":"O-1","recipe":"R-1","status":"open"}]}
+"#,
 };
 
 // The batch consumes all that HOUSE has.
@@ -37,26 +40,26 @@ const CONSUMING: Telling = Telling {
         "accepted",
     ),
     fault: "fault Disk",
-    before: &[
-        (
-            "stock HOUSE",
-            "H-1              S                W                released                10 kg\n",
-        ),
-        (
-            "batch ACME O 1",
-            "O/1 running U1 open\n 1 consumed ACME             M                        10             10\n 1 consumed HOUSE            W                        10              0\n 1 produced ACME             P                        10              0\n 2 consumed ACME             M                        10              0\n",
-        ),
-    ],
-    after: &[
-        (
-            "stock HOUSE",
-            "H-1              S                W                released                 0 kg\n",
-        ),
-        (
-            "batch ACME O 1",
-            "O/1 running U1 open\n 1 consumed ACME             M                        10             10\n 1 consumed HOUSE            W                        10             10\n 1 produced ACME             P                        10              0\n 2 consumed ACME             M                        10              0\n",
-        ),
-    ],
+    before: r#"
+stock HOUSE
+: H-1              S                W                released                10 kg
+batch ACME O 1
+: O/1 running U1 open
+:  1 consumed ACME             M                        10             10
+:  1 consumed HOUSE            W                        10              0
+:  1 produced ACME             P                        10              0
+:  2 consumed ACME             M                        10              0
+"#,
+    after: r#"
+stock HOUSE
+: H-1              S                W                released                 0 kg
+batch ACME O 1
+: O/1 running U1 open
+:  1 consumed ACME             M                        10             10
+:  1 consumed HOUSE            W                        10             10
+:  1 produced ACME             P                        10              0
+:  2 consumed ACME             M                        10              0
+"#,
 };
 
 // The batch of ACME is opened.
@@ -64,38 +67,31 @@ const OPENING: Telling = Telling {
     story: &[WITH_RECIPE_OF_HOUSE, WITH_PRODUCT_OF_HOUSE],
     line: ("open ACME O U2", "accepted"),
     fault: "fault Disk",
-    before: &[
-        (
-            "> ACME ACMEKEY1 GET /batches/O/1",
-            "404 {\"code\":22,\"error\":\"UnknownBatch\"}",
-        ),
-        ("batch ACME O 1", "refused UnknownBatch"),
-    ],
-    after: &[
-        (
-            "> ACME ACMEKEY1 GET /batches/O/1",
-            "200 {\"batch\":1,\"closed\":false,\"order\":\"O\",\"requirements\":[{\"actual\":0,\"material\":\"V\",\"owner\":\"HOUSE\",\"required\":4,\"segment\":1,\"use\":\"consumed\"},{\"actual\":0,\"material\":\"P\",\"owner\":\"ACME\",\"required\":5,\"segment\":1,\"use\":\"produced\"}],\"state\":\"idle\",\"unit\":\"U2\"}",
-        ),
-        (
-            "batch ACME O 1",
-            "O/1 idle U2 open\n 1 consumed HOUSE            V                         4              0\n 1 produced ACME             P                         5              0\n",
-        ),
-    ],
+    before: r#"
+> ACME ACMEKEY1 GET /batches/O/1
+= 404 {"code":22,"error":"UnknownBatch"}
+batch ACME O 1
+= refused UnknownBatch
+"#,
+    after: r#"
+> ACME ACMEKEY1 GET /batches/O/1
+= 200 {"batch":1,"closed":false,"order":"O","requirements":[{"actual":0,"material":"V","owner":"HOUSE","required":4,"segment":1,"use":"consumed"},{"actual":0,"material":"P","owner":"ACME","required":5,"segment":1,"use":"produced"}],"state":"idle","unit":"U2"}
+batch ACME O 1
+: O/1 idle U2 open
+:  1 consumed HOUSE            V                         4              0
+:  1 produced ACME             P                         5              0
+"#,
 };
 
 // A batch that consumed HOUSE's `H-1`, of which nothing is left.
-const WITH_H1_CONSUMED: &[&[Line]] = &[WITH_HOUSE, RELEASED_AND_PLACED, A_CONSUMED, P1_PRODUCED];
+const WITH_H1_CONSUMED: Story = &[WITH_HOUSE, RELEASED_AND_PLACED, A_CONSUMED, P1_PRODUCED];
 
-const H1_CONSUMED: &[Line] = &[
-    (
-        "stock HOUSE",
-        "H-1              S                W                released                 0 kg\n",
-    ),
-    (
-        "> ACME ACMEKEY1 GET /trace/house/H-1",
-        "200 {\"lots\":[{\"lot\":\"H-1\",\"owner\":\"HOUSE\",\"steps\":0},{\"lot\":\"P1\",\"owner\":\"ACME\",\"steps\":1}]}",
-    ),
-];
+const H1_CONSUMED: &str = r#"
+stock HOUSE
+: H-1              S                W                released                 0 kg
+> ACME ACMEKEY1 GET /trace/house/H-1
+= 200 {"lots":[{"lot":"H-1","owner":"HOUSE","steps":0},{"lot":"P1","owner":"ACME","steps":1}]}
+"#;
 
 // The batch gives back what it consumed of HOUSE's.
 const VOIDING: Telling = Telling {
@@ -103,16 +99,12 @@ const VOIDING: Telling = Telling {
     line: ("void ACME K4", "accepted"),
     fault: "fault Disk",
     before: H1_CONSUMED,
-    after: &[
-        (
-            "stock HOUSE",
-            "H-1              S                W                released                10 kg\n",
-        ),
-        (
-            "> ACME ACMEKEY1 GET /trace/house/H-1",
-            "404 {\"code\":27,\"error\":\"UnknownLot\"}",
-        ),
-    ],
+    after: r#"
+stock HOUSE
+: H-1              S                W                released                10 kg
+> ACME ACMEKEY1 GET /trace/house/H-1
+= 404 {"code":27,"error":"UnknownLot"}
+"#,
 };
 
 // The batch gives back what it consumed of ACME's.
@@ -120,14 +112,16 @@ const VOIDING_OWN: Telling = Telling {
     story: &[WITH_RECIPE, WITH_BATCH, CONSUMED_AND_PRODUCED],
     line: ("void ACME K2", "accepted"),
     fault: "fault Disk",
-    before: &[(
-        "stock ACME",
-        "A                S1               M                released                60 kg\nP1               S1               P                quarantined             30 kg\n",
-    )],
-    after: &[(
-        "stock ACME",
-        "A                S1               M                released               100 kg\nP1               S1               P                quarantined             30 kg\n",
-    )],
+    before: r#"
+stock ACME
+: A                S1               M                released                60 kg
+: P1               S1               P                quarantined             30 kg
+"#,
+    after: r#"
+stock ACME
+: A                S1               M                released               100 kg
+: P1               S1               P                quarantined             30 kg
+"#,
 };
 
 const RUNS: &[Telling] = &[PLACING, CONSUMING, OPENING, VOIDING];

@@ -1,97 +1,10 @@
-//! Stories of owners and the plant, over a list keep and over one that once has no memory.
+//! The plant's calls and owners' over a keep that once has no memory.
 use std::alloc::Global;
 use std::test::Fail;
 use toll_base::{BatchNo, Name};
 use toll_desk::{Reply, Request, owner_do};
 use toll_keep::{Keep, KeepFault, MemKeep};
-use toll_stories::{Line, Refused, Refusing, WITH_ACME, check, check_said, check_said_over};
-
-const PLACED_ONCE: &[Line] = &[
-    ("> ACME ACMEKEY1 GET /orders", "200 {\"orders\":[]}"),
-    ("> ACME ACMEKEY1 GET /stock", "200 {\"lots\":[]}"),
-    (
-        "> ACME ACMEKEY1 POST /orders {\"order\":\"O-1\",\"recipe\":\"R-1\",\"batches\":2}",
-        "200 {\"batches\":2,\"order\":\"O-1\",\"recipe\":\"R-1\",\"status\":\"open\"}",
-    ),
-    (
-        "> ACME ACMEKEY1 GET /orders",
-        "200 {\"orders\":[{\"batches\":2,\"order\":\"O-1\",\"recipe\":\"R-1\",\"status\":\"open\"}]}",
-    ),
-    (
-        "> ACME ACMEKEY1 POST /orders {\"order\":\"O-1\",\"recipe\":\"R-1\",\"batches\":2}",
-        "200 {\"batches\":2,\"order\":\"O-1\",\"recipe\":\"R-1\",\"status\":\"open\"}",
-    ),
-    (
-        "> ACME ACMEKEY1 POST /orders {\"order\":\"O-1\",\"recipe\":\"R-1\",\"batches\":3}",
-        "409 {\"code\":17,\"error\":\"OrderExists\"}",
-    ),
-    (
-        "> ACME ACMEKEY1 GET /orders",
-        "200 {\"orders\":[{\"batches\":2,\"order\":\"O-1\",\"recipe\":\"R-1\",\"status\":\"open\"}]}",
-    ),
-    (
-        "> ACME ACMEKEY1 GET /orders/O-1",
-        "200 {\"batches\":2,\"order\":\"O-1\",\"recipe\":\"R-1\",\"status\":\"open\"}",
-    ),
-    (
-        "> ACME ACMEKEY1 GET /orders/O-2",
-        "404 {\"code\":18,\"error\":\"UnknownOrder\"}",
-    ),
-];
-
-#[test]
-fn an_order_is_placed_once(rt: HostRuntime) -> Result<(), Fail> {
-    check_said(rt.alloc(), &[WITH_ACME, PLACED_ONCE])
-}
-
-const OF_ONE_NAME: &[Line] = &[
-    ("owner-add BOLT BOLTKEY1", "accepted"),
-    ("recipe-add BOLT R-9 1", "accepted"),
-    (
-        "> ACME ACMEKEY1 POST /orders {\"order\":\"O-1\",\"recipe\":\"R-1\",\"batches\":2}",
-        "200 {\"batches\":2,\"order\":\"O-1\",\"recipe\":\"R-1\",\"status\":\"open\"}",
-    ),
-    (
-        "> BOLT BOLTKEY1 POST /orders {\"order\":\"O-1\",\"recipe\":\"R-9\",\"batches\":7}",
-        "200 {\"batches\":7,\"order\":\"O-1\",\"recipe\":\"R-9\",\"status\":\"open\"}",
-    ),
-    (
-        "> ACME ACMEKEY1 GET /orders/O-1",
-        "200 {\"batches\":2,\"order\":\"O-1\",\"recipe\":\"R-1\",\"status\":\"open\"}",
-    ),
-    (
-        "> BOLT BOLTKEY1 POST /orders/O-1/cancel",
-        "200 {\"batches\":7,\"order\":\"O-1\",\"recipe\":\"R-9\",\"status\":\"cancelled\"}",
-    ),
-    (
-        "> ACME ACMEKEY1 GET /orders",
-        "200 {\"orders\":[{\"batches\":2,\"order\":\"O-1\",\"recipe\":\"R-1\",\"status\":\"open\"}]}",
-    ),
-    (
-        "> BOLT BOLTKEY1 GET /orders/O-1",
-        "200 {\"batches\":7,\"order\":\"O-1\",\"recipe\":\"R-9\",\"status\":\"cancelled\"}",
-    ),
-];
-
-#[test]
-fn owners_have_orders_of_one_name(rt: HostRuntime) -> Result<(), Fail> {
-    check_said(rt.alloc(), &[WITH_ACME, OF_ONE_NAME])
-}
-
-const ADDED_ONCE: &[Line] = &[
-    ("owner-add ACME ACMEKEY1", "refused OwnerExists"),
-    ("owner-add HOUSE HOUSEKEY1", "refused OwnerExists"),
-    ("owner-add BOLT BOLT", "refused BadName"),
-    ("recipe-add ACME R-1 2", "refused RecipeExists"),
-    ("recipe-add BOLT R-1 2", "refused UnknownOwner"),
-    ("unit-add U1", "accepted"),
-    ("unit-add U1", "refused UnitExists"),
-];
-
-#[test]
-fn an_owner_is_added_once(rt: HostRuntime) -> Result<(), Fail> {
-    check_said(rt.alloc(), &[WITH_ACME, ADDED_ONCE])
-}
+use toll_stories::{Refused, Refusing, WITH_ACME, check, check_said_over};
 
 fn placing() -> Result<Request, Fail> {
     Ok(Request::Place {
@@ -134,15 +47,15 @@ fn an_order_without_memory_is_not_placed(rt: HostRuntime) -> Result<(), Fail> {
     check(is_so, "answered otherwise")
 }
 
-const NOT_ADDED_WITHOUT_MEMORY: &[Line] = &[
-    ("owner-add ACME ACMEKEY1", "fault Memory"),
-    (
-        "> ACME ACMEKEY1 GET /orders",
-        "403 {\"error\":\"Forbidden\"}",
-    ),
-    ("owner-add ACME ACMEKEY1", "accepted"),
-    ("> ACME ACMEKEY1 GET /orders", "200 {\"orders\":[]}"),
-];
+const NOT_ADDED_WITHOUT_MEMORY: &str = r#"
+owner-add ACME ACMEKEY1
+= fault Memory
+> ACME ACMEKEY1 GET /orders
+= 403 {"error":"Forbidden"}
+owner-add ACME ACMEKEY1
+> ACME ACMEKEY1 GET /orders
+= 200 {"orders":[]}
+"#;
 
 #[test]
 fn an_owner_without_memory_is_not_added(rt: HostRuntime) -> Result<(), Fail> {

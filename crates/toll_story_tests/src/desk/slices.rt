@@ -5,12 +5,12 @@ use toll_base::{Decision, Name, Refusal, Slice};
 use toll_keep::{Keep, MemKeep};
 use toll_stock::{lot_totals, on_hand};
 use toll_stories::{
-    A_CONSUMED, Line, RELEASED_AND_PLACED, WITH_BATCH, WITH_HOUSE, WITH_RECIPE, check, check_lines,
-    check_said_over,
+    A_CONSUMED, RELEASED_AND_PLACED, Story, WITH_BATCH, WITH_HOUSE, WITH_RECIPE, check,
+    check_chapter, check_said_over,
 };
 use toll_work::open_batch;
 
-fn reported(alloc: Global, story: &[&[Line]]) -> Result<MemKeep, Fail> {
+fn reported(alloc: Global, story: &[&str]) -> Result<MemKeep, Fail> {
     let mut keep = MemKeep::new(alloc);
     check_said_over(alloc, &mut keep, story)?;
     Ok(keep)
@@ -23,11 +23,11 @@ fn slice_of(alloc: Global, keep: &mut MemKeep, owner: &[u8]) -> Result<Slice, Fa
     }
 }
 
-const SPLIT_AND_SCRAPPED: &[Line] = &[
-    ("split ACME K4 A S1 S2 30 12", "accepted"),
-    ("scrap ACME K6 A S2 30 12", "accepted"),
-    ("ship ACME K7 A S1 70 12", "accepted"),
-];
+const SPLIT_AND_SCRAPPED: &str = r#"
+split ACME K4 A S1 S2 30 12
+scrap ACME K6 A S2 30 12
+ship ACME K7 A S1 70 12
+"#;
 
 fn check_on_hand(slice: &Slice, sublot: &[u8], wanted: Option<u64>) -> Result<(), Fail> {
     let held = on_hand(slice, &Name::parse(b"A")?, &Name::parse(sublot)?);
@@ -36,7 +36,7 @@ fn check_on_hand(slice: &Slice, sublot: &[u8], wanted: Option<u64>) -> Result<()
 
 #[test]
 fn a_sublot_at_zero_stays(rt: HostRuntime) -> Result<(), Fail> {
-    let story: &[&[Line]] = &[WITH_RECIPE, WITH_BATCH, SPLIT_AND_SCRAPPED];
+    let story: Story = &[WITH_RECIPE, WITH_BATCH, SPLIT_AND_SCRAPPED];
     let mut keep = reported(rt.alloc(), story)?;
     let slice = slice_of(rt.alloc(), &mut keep, b"ACME")?;
     check_on_hand(&slice, b"S2", Some(0))?;
@@ -49,20 +49,18 @@ fn check_totals(slice: &Slice, lot: &[u8], wanted: Option<(u64, u64)>) -> Result
     check(reported == wanted, "another total")
 }
 
-const SHIPPED_IN_PARTS: &[Line] = &[
-    ("receive ACME K8 M AB S1 9 12", "accepted"),
-    ("receive ACME K9 M AB S2 4 12", "accepted"),
-    (
-        "> ACME ACMEKEY1 POST /lots/AB/release",
-        "200 {\"disposition\":\"released\",\"lot\":\"AB\",\"material\":\"M\",\"measure\":\"kg\",\"origin\":\"receipts\",\"results\":[],\"sublots\":[{\"amount\":9,\"sublot\":\"S1\"},{\"amount\":4,\"sublot\":\"S2\"}]}",
-    ),
-    ("ship ACME K10 AB S1 2 13", "accepted"),
-    ("ship ACME K11 AB S2 1 13", "accepted"),
-];
+const SHIPPED_IN_PARTS: &str = r#"
+receive ACME K8 M AB S1 9 12
+receive ACME K9 M AB S2 4 12
+> ACME ACMEKEY1 POST /lots/AB/release
+= 200 {"disposition":"released","lot":"AB","material":"M","measure":"kg","origin":"receipts","results":[],"sublots":[{"amount":9,"sublot":"S1"},{"amount":4,"sublot":"S2"}]}
+ship ACME K10 AB S1 2 13
+ship ACME K11 AB S2 1 13
+"#;
 
 #[test]
 fn a_lot_has_what_is_left_and_what_was_shipped(rt: HostRuntime) -> Result<(), Fail> {
-    let story: &[&[Line]] = &[
+    let story: Story = &[
         WITH_RECIPE,
         WITH_BATCH,
         SPLIT_AND_SCRAPPED,
@@ -77,7 +75,7 @@ fn a_lot_has_what_is_left_and_what_was_shipped(rt: HostRuntime) -> Result<(), Fa
 
 #[test]
 fn an_unknown_unit_is_refused_before_a_busy_one(rt: HostRuntime) -> Result<(), Fail> {
-    let story: &[&[Line]] = &[WITH_HOUSE, RELEASED_AND_PLACED];
+    let story: Story = &[WITH_HOUSE, RELEASED_AND_PLACED];
     let mut keep = reported(rt.alloc(), story)?;
     let slice = slice_of(rt.alloc(), &mut keep, b"ACME")?;
     let unit = Name::parse(b"U9")?;
@@ -95,43 +93,36 @@ fn movements(alloc: Global, keep: &mut MemKeep) -> Result<(usize, usize), Fail> 
     Ok((own, house))
 }
 
-const HOUSE_CONSUMED: &[Line] = &[(
-    "actual K4 ACME O 1 1 consumed W HOUSE H-1 S 10 2",
-    "accepted",
-)];
+const HOUSE_CONSUMED: &str = r#"
+actual K4 ACME O 1 1 consumed W HOUSE H-1 S 10 2
+"#;
 
 #[test]
 fn what_is_consumed_of_house_is_the_batch_owners_movement(rt: HostRuntime) -> Result<(), Fail> {
-    let story: &[&[Line]] = &[WITH_HOUSE, RELEASED_AND_PLACED, A_CONSUMED];
+    let story: Story = &[WITH_HOUSE, RELEASED_AND_PLACED, A_CONSUMED];
     let mut keep = reported(rt.alloc(), story)?;
     let (own, house) = movements(rt.alloc(), &mut keep)?;
-    check_lines(rt.alloc(), &mut keep, HOUSE_CONSUMED)?;
+    check_chapter(rt.alloc(), &mut keep, HOUSE_CONSUMED)?;
     let (own_after, house_after) = movements(rt.alloc(), &mut keep)?;
     let is_own = own.checked_add(1) == Some(own_after);
     check(is_own && house_after == house, "another movement")
 }
 
 // Lots of one name, of two owners.
-const SAME_NAMES: &[Line] = &[
-    ("material-add BOLT M kg", "accepted"),
-    ("receive BOLT K1 M A S1 50 10", "accepted"),
-    (
-        "> BOLT BOLTKEY1 POST /lots/A/release",
-        "200 {\"disposition\":\"released\",\"lot\":\"A\",\"material\":\"M\",\"measure\":\"kg\",\"origin\":\"receipts\",\"results\":[],\"sublots\":[{\"amount\":50,\"sublot\":\"S1\"}]}",
-    ),
-    ("ship BOLT K2 A S1 20 11", "accepted"),
-    (
-        "stock ACME",
-        "A                S1               M                released               100 kg\n",
-    ),
-    (
-        "stock BOLT",
-        "A                S1               M                released                30 kg\n",
-    ),
-];
+const SAME_NAMES: &str = r#"
+material-add BOLT M kg
+receive BOLT K1 M A S1 50 10
+> BOLT BOLTKEY1 POST /lots/A/release
+= 200 {"disposition":"released","lot":"A","material":"M","measure":"kg","origin":"receipts","results":[],"sublots":[{"amount":50,"sublot":"S1"}]}
+ship BOLT K2 A S1 20 11
+stock ACME
+: A                S1               M                released               100 kg
+stock BOLT
+: A                S1               M                released                30 kg
+"#;
 
 #[test]
 fn movements_of_another_owners_lot_leave_ones_own(rt: HostRuntime) -> Result<(), Fail> {
     let mut keep = reported(rt.alloc(), &[WITH_RECIPE, WITH_BATCH])?;
-    check_lines(rt.alloc(), &mut keep, SAME_NAMES)
+    check_chapter(rt.alloc(), &mut keep, SAME_NAMES)
 }

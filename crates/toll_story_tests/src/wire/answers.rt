@@ -5,7 +5,7 @@ use std::alloc::{AllocError, Global};
 use std::test::Fail;
 use toll_desk::PlantReply;
 use toll_keep::{Keep, MemKeep};
-use toll_stories::{Refused, Refusing, WITH_ACME, check, check_lines};
+use toll_stories::{Refused, Refusing, WITH_ACME, check, check_chapter};
 use toll_wire::{Answer, answer, run_events};
 
 /// The body that asks for order O-1, of two batches by recipe R-1.
@@ -39,7 +39,7 @@ const NONE: &[u8] =
 /// ACME with a recipe.
 pub fn office(alloc: Global) -> Result<MemKeep, Fail> {
     let mut keep = MemKeep::new(alloc);
-    check_lines(alloc, &mut keep, WITH_ACME)?;
+    check_chapter(alloc, &mut keep, WITH_ACME)?;
     Ok(keep)
 }
 

@@ -4,134 +4,93 @@ use crate::wire::requests::request;
 use std::alloc::Global;
 use std::test::Fail;
 use toll_keep::MemKeep;
-use toll_stories::{
-    Line, WITH_ACME, WITH_ORDER, check, check_lines, check_said_over_lists, reply_said,
-};
+use toll_stories::{WITH_ACME, WITH_ORDER, check, check_chapter, check_said, reply_said};
 use toll_wire::{OfficeRouter, reply_by_router};
 
-const NOWHERE: &[Line] = &[
-    (
-        "> ACME ACMEKEY1 GET /nowhere",
-        "404 {\"error\":\"NoRoute\"}",
-    ),
-    (
-        "> ACME ACMEKEY1 GET /lots/abc",
-        "404 {\"error\":\"NoRoute\"}",
-    ),
-    (
-        "> ACME ACMEKEY1 GET /batches/O-1/0",
-        "404 {\"error\":\"NoRoute\"}",
-    ),
-    (
-        "> ACME ACMEKEY1 GET /batches/O-1/01",
-        "404 {\"error\":\"NoRoute\"}",
-    ),
-    (
-        "> ACME ACMEKEY1 GET /batches/O-1/100",
-        "404 {\"error\":\"NoRoute\"}",
-    ),
-    (
-        "> ACME ACMEKEY1 GET http://127.0.0.1/stock",
-        "404 {\"error\":\"NoRoute\"}",
-    ),
-    (
-        "> ACME ACMEKEY1 POST /lots/A/release/",
-        "404 {\"error\":\"NoRoute\"}",
-    ),
-    (
-        "> ACME ACMEKEY1 GET /trace/aside/A",
-        "404 {\"error\":\"NoRoute\"}",
-    ),
-];
+const NOWHERE: &str = r#"
+> ACME ACMEKEY1 GET /nowhere
+= 404 {"error":"NoRoute"}
+> ACME ACMEKEY1 GET /lots/abc
+= 404 {"error":"NoRoute"}
+> ACME ACMEKEY1 GET /batches/O-1/0
+= 404 {"error":"NoRoute"}
+> ACME ACMEKEY1 GET /batches/O-1/01
+= 404 {"error":"NoRoute"}
+> ACME ACMEKEY1 GET /batches/O-1/100
+= 404 {"error":"NoRoute"}
+> ACME ACMEKEY1 GET http://127.0.0.1/stock
+= 404 {"error":"NoRoute"}
+> ACME ACMEKEY1 POST /lots/A/release/
+= 404 {"error":"NoRoute"}
+> ACME ACMEKEY1 GET /trace/aside/A
+= 404 {"error":"NoRoute"}
+"#;
 
-const SOMEWHERE: &[Line] = &[
-    (
-        "> ACME ACMEKEY1 GET /batches/O-1/1",
-        "404 {\"code\":22,\"error\":\"UnknownBatch\"}",
-    ),
-    (
-        "> ACME ACMEKEY1 GET /batches/O-1/99",
-        "404 {\"code\":22,\"error\":\"UnknownBatch\"}",
-    ),
-    (
-        "> ACME ACMEKEY1 GET /lots/ABC",
-        "404 {\"code\":27,\"error\":\"UnknownLot\"}",
-    ),
-    ("> ACME ACMEKEY1 GET /stock?x=1", "200 {\"lots\":[]}"),
-    ("> ACME ACMEKEY1 PUT /stock", "501"),
-    ("> ACME ACMEKEY1 get /stock", "501"),
-    (
-        "> ACME ACMEKEY1 POST /stock",
-        "405 {\"error\":\"MethodNotAllowed\"}",
-    ),
-];
+const SOMEWHERE: &str = r#"
+> ACME ACMEKEY1 GET /batches/O-1/1
+= 404 {"code":22,"error":"UnknownBatch"}
+> ACME ACMEKEY1 GET /batches/O-1/99
+= 404 {"code":22,"error":"UnknownBatch"}
+> ACME ACMEKEY1 GET /lots/ABC
+= 404 {"code":27,"error":"UnknownLot"}
+> ACME ACMEKEY1 GET /stock?x=1
+= 200 {"lots":[]}
+> ACME ACMEKEY1 PUT /stock
+= 501
+> ACME ACMEKEY1 get /stock
+= 501
+> ACME ACMEKEY1 POST /stock
+= 405 {"error":"MethodNotAllowed"}
+"#;
 
-const WITHOUT_THE_KEY: &[Line] = &[
-    (
-        "> ACME ACMEKEY2 GET /nowhere",
-        "403 {\"error\":\"Forbidden\"}",
-    ),
-    (
-        "> ACME ACMEKEY2 POST /stock",
-        "403 {\"error\":\"Forbidden\"}",
-    ),
-    (
-        "> ACME ACMEKEY2 POST /orders {\"order\":\"O-1\"}",
-        "403 {\"error\":\"Forbidden\"}",
-    ),
-    (
-        "> ACME ACMEKEY2 GET /stock",
-        "403 {\"error\":\"Forbidden\"}",
-    ),
-    ("> ACME ACMEKEY2 PUT /stock", "501"),
-];
+const WITHOUT_THE_KEY: &str = r#"
+> ACME ACMEKEY2 GET /nowhere
+= 403 {"error":"Forbidden"}
+> ACME ACMEKEY2 POST /stock
+= 403 {"error":"Forbidden"}
+> ACME ACMEKEY2 POST /orders {"order":"O-1"}
+= 403 {"error":"Forbidden"}
+> ACME ACMEKEY2 GET /stock
+= 403 {"error":"Forbidden"}
+> ACME ACMEKEY2 PUT /stock
+= 501
+"#;
 
 #[test]
 fn a_path_of_no_route_leads_nowhere(rt: HostRuntime) -> Result<(), Fail> {
-    check_said_over_lists(
+    check_said(
         rt.alloc(),
         &[WITH_ACME, WITH_ORDER, NOWHERE, SOMEWHERE, WITHOUT_THE_KEY],
     )
 }
 
 /// Paths that look like those of a route.
-const ODD_PATHS: &[Line] = &[
-    (
-        "> ACME ACMEKEY1 GET /orders/",
-        "404 {\"error\":\"NoRoute\"}",
-    ),
-    ("> ACME ACMEKEY1 GET //", "404 {\"error\":\"NoRoute\"}"),
-    (
-        "> ACME ACMEKEY1 POST /orders//cancel",
-        "404 {\"error\":\"NoRoute\"}",
-    ),
-    (
-        "> ACME ACMEKEY1 GET /lots/%41",
-        "404 {\"error\":\"NoRoute\"}",
-    ),
-    (
-        "> ACME ACMEKEY1 GET /batches/A/01",
-        "404 {\"error\":\"NoRoute\"}",
-    ),
-    (
-        "> ACME ACMEKEY1 GET /batches/A/1/",
-        "404 {\"error\":\"NoRoute\"}",
-    ),
-    ("> ACME ACMEKEY1 GET *", "404 {\"error\":\"NoRoute\"}"),
-    ("> ACME ACMEKEY1 GET ?", "404 {\"error\":\"NoRoute\"}"),
-    (
-        "> ACME ACMEKEY1 GET /orders/{order}",
-        "404 {\"error\":\"NoRoute\"}",
-    ),
-    (
-        "> ACME ACMEKEY1 GET /lots/{lot}",
-        "404 {\"error\":\"NoRoute\"}",
-    ),
-];
+const ODD_PATHS: &str = r#"
+> ACME ACMEKEY1 GET /orders/
+= 404 {"error":"NoRoute"}
+> ACME ACMEKEY1 GET //
+= 404 {"error":"NoRoute"}
+> ACME ACMEKEY1 POST /orders//cancel
+= 404 {"error":"NoRoute"}
+> ACME ACMEKEY1 GET /lots/%41
+= 404 {"error":"NoRoute"}
+> ACME ACMEKEY1 GET /batches/A/01
+= 404 {"error":"NoRoute"}
+> ACME ACMEKEY1 GET /batches/A/1/
+= 404 {"error":"NoRoute"}
+> ACME ACMEKEY1 GET *
+= 404 {"error":"NoRoute"}
+> ACME ACMEKEY1 GET ?
+= 404 {"error":"NoRoute"}
+> ACME ACMEKEY1 GET /orders/{order}
+= 404 {"error":"NoRoute"}
+> ACME ACMEKEY1 GET /lots/{lot}
+= 404 {"error":"NoRoute"}
+"#;
 
 #[test]
 fn odd_paths_lead_nowhere(rt: HostRuntime) -> Result<(), Fail> {
-    check_said_over_lists(rt.alloc(), &[WITH_ACME, ODD_PATHS])
+    check_said(rt.alloc(), &[WITH_ACME, ODD_PATHS])
 }
 
 const GET_ALONE: &str =
@@ -174,8 +133,11 @@ const UNKNOWN_LOT: &str = "404 {\"code\":27,\"error\":\"UnknownLot\"}";
 
 const UNKNOWN_ORDER: &str = "404 {\"code\":18,\"error\":\"UnknownOrder\"}";
 
+/// A method and a path, and the reply.
+type Routed = (&'static str, &'static str);
+
 /// A request of each route, and what is said to it.
-const EVERY_ROUTE: &[Line] = &[
+const EVERY_ROUTE: &[Routed] = &[
     (
         "GET /orders",
         "200 {\"orders\":[{\"batches\":2,\"order\":\"O-1\",\"recipe\":\"R-1\",\"status\":\"open\"}]}",
@@ -200,7 +162,7 @@ const EVERY_ROUTE: &[Line] = &[
 ];
 
 /// Paths that miss a route by little.
-const NEAR_MISSES: &[Line] = &[
+const NEAR_MISSES: &[Routed] = &[
     ("GET /", NO_ROUTE),
     ("GET /order", NO_ROUTE),
     ("GET /orders/O-1/", NO_ROUTE),
@@ -221,7 +183,7 @@ fn check_routed(
     alloc: Global,
     router: &mut OfficeRouter,
     keep: &mut MemKeep,
-    lines: &[Line],
+    lines: &[Routed],
 ) -> Result<(), Fail> {
     for row in lines {
         let (line, wanted) = *row;
@@ -236,7 +198,7 @@ fn check_routed(
 #[test]
 fn one_router_serves_all_routes(rt: HostRuntime) -> Result<(), Fail> {
     let mut keep = office(rt.alloc())?;
-    check_lines(rt.alloc(), &mut keep, WITH_ORDER)?;
+    check_chapter(rt.alloc(), &mut keep, WITH_ORDER)?;
     let mut router = OfficeRouter::new();
     for lines in &[EVERY_ROUTE, NEAR_MISSES, EVERY_ROUTE, NEAR_MISSES] {
         check_routed(rt.alloc(), &mut router, &mut keep, lines)?;
