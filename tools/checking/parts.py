@@ -119,7 +119,7 @@ BESIDE = [
     Part("check-worked", [PYTHON, "tools/check-worked"], memory=3.2 * GB),
     Part("page-tests", ["node", "--test", "page/tests"], ("nodejs",), 10),
     Part("tools-tests", [*PYTEST, "tools/tests"], TESTS_NEED),
-    Part("tests-lists", [*PYTEST, "tests/test_lists.py"], ("python3-pytest",), memory=6 * GB),
+    Part("tests-lists", [*PYTEST, "tests/test_lists.py"], ("python3-pytest",), memory=3 * GB),
 ]
 
 # A wrong body that can't be applied or compiled guards nothing; `rt ci` passes it with a note.

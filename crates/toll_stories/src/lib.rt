@@ -30,5 +30,6 @@ pub use setups::{
 };
 pub use stocked::{fill_stock, stock_text};
 pub use stories::{
-    IMPORTED, K2_IMPORTED, REFUSED_IMPORTS, RefusedStory, STORIES, check_refused_import,
+    IMPORTED, K2_IMPORTED, Offices, REFUSED_IMPORTS, RefusedStory, check_refused_import,
+    check_stories,
 };

@@ -1,16 +1,24 @@
 //! Stories of the office over lists.
+use std::alloc::Global;
 use std::test::Fail;
 use toll_keep::MemKeep;
-use toll_stories::{REFUSED_IMPORTS, STORIES, check_receipts, check_refused_import, check_said};
+use toll_stories::{
+    Offices, REFUSED_IMPORTS, Story, check_receipts, check_refused_import, check_said,
+    check_stories,
+};
+
+/// Offices in lists.
+struct Lists;
+
+impl Offices for Lists {
+    fn check(&mut self, alloc: Global, story: Story) -> Result<(), Fail> {
+        check_said(alloc, story)
+    }
+}
 
 #[test]
 fn each_story_is_said_over_lists(rt: HostRuntime) -> Result<(), Fail> {
-    for stories in STORIES {
-        for story in *stories {
-            check_said(rt.alloc(), story)?;
-        }
-    }
-    Ok(())
+    check_stories(rt.alloc(), &mut Lists)
 }
 
 #[test]

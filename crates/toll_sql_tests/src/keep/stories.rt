@@ -3,29 +3,37 @@ use crate::keep::offices::{BareKeep, TableKeep, bare_tables, empty_tables, taken
 use std::alloc::Global;
 use std::test::Fail;
 use toll_stories::{
-    REFUSED_IMPORTS, STORIES, Story, check_chapter, check_receipts, check_refused_import,
-    check_said_over,
+    Offices, REFUSED_IMPORTS, Story, check_chapter, check_receipts, check_refused_import,
+    check_said_over, check_stories,
 };
 
-// Fails if another reply is given along the story: over tables that are given back and taken over again after
-// each chapter, and over tables of which nothing is remembered.
-fn check_over_tables(alloc: Global, story: Story) -> Result<(), Fail> {
-    let mut keep = empty_tables(alloc)?;
-    for chapter in story {
-        check_chapter::<TableKeep>(alloc, &mut keep, chapter)?;
-        keep = taken_over(alloc, keep)?;
+/// Offices in tables that are given back and taken over again after each chapter.
+struct Tables;
+
+impl Offices for Tables {
+    fn check(&mut self, alloc: Global, story: Story) -> Result<(), Fail> {
+        let mut keep = empty_tables(alloc)?;
+        for chapter in story {
+            check_chapter::<TableKeep>(alloc, &mut keep, chapter)?;
+            keep = taken_over(alloc, keep)?;
+        }
+        Ok(())
     }
-    check_said_over::<BareKeep>(alloc, &mut bare_tables(alloc)?, story)
+}
+
+/// Offices in tables of which nothing is remembered.
+struct BareTables;
+
+impl Offices for BareTables {
+    fn check(&mut self, alloc: Global, story: Story) -> Result<(), Fail> {
+        check_said_over::<BareKeep>(alloc, &mut bare_tables(alloc)?, story)
+    }
 }
 
 #[test]
 fn each_story_is_said_over_tables(rt: HostRuntime) -> Result<(), Fail> {
-    for stories in STORIES {
-        for story in *stories {
-            check_over_tables(rt.alloc(), story)?;
-        }
-    }
-    Ok(())
+    check_stories(rt.alloc(), &mut Tables)?;
+    check_stories(rt.alloc(), &mut BareTables)
 }
 
 #[test]
