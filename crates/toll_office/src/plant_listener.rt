@@ -58,11 +58,11 @@ impl<'a> PlantListener<'a> {
         if is_taken(rt, path.as_str()) {
             return Err(taken(rt));
         }
-        let Ok(lock) = take_lock(rt, office) else {
+        let Ok(lease) = take_lock(rt, office) else {
             return Err(ListenerFault::Locked);
         };
         let listener = PlantListener::make(rt, path);
-        let _ = lock.unlock();
+        lease.release();
         listener
     }
 

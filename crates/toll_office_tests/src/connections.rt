@@ -138,9 +138,9 @@ fn a_file_that_another_uses_is_unavailable(rt: HostRuntime) -> Result<(), Fail> 
     let path = "another_uses.db";
     remove(&rt, path)?;
     check(is_made(&rt, path)?, "not made")?;
-    let lock = take_lock(&rt, path)?;
+    let lease = take_lock(&rt, path)?;
     let is_unavailable = is_expected(&rt, path, ASKED, UNAVAILABLE)?;
-    lock.unlock()?;
+    lease.release();
     let is_there = is_expected(&rt, path, ASKED, TOLD)?;
     remove(&rt, path)?;
     check(is_unavailable && is_there, "told otherwise")

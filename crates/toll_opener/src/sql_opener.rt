@@ -7,12 +7,12 @@ ghost use Rattle.toll_sql.specs.Opening.{open_fault_word};
 use sqlite::{File as StoreFile, FileStore, Unknown};
 use std::alloc::Global;
 use std::fs;
-use std::fs::{File, OpenOptions};
+use std::fs::OpenOptions;
 use std::io::ErrorKind;
 use std::os::unix::fs::OpenOptionsExt;
 use toll_base::{Name, Slice};
 use toll_keep::{CachedKeep, Keep, KeepFault};
-use toll_service::{FILE_MODE, KeepOpener, LeftFiles, OfficeFault, OfficePath, take_lock};
+use toll_service::{FILE_MODE, KeepOpener, Lease, LeftFiles, OfficeFault, OfficePath, take_lock};
 use toll_sql::{OpenFault, SqlKeep};
 
 /// The keep of an office on a file.
@@ -41,7 +41,7 @@ pub fn office_at<'a>(rt: &'a HostRuntime, path: &'a str) -> OfficePath<'a, SqlOp
 impl KeepOpener<FileKeep> for SqlOpener {
     ghost is_opened = { λ keep. IsOpened keep };
 
-    fn lock(&mut self, rt: &HostRuntime, path: &str) -> Result<File, OfficeFault> {
+    fn lock(&mut self, rt: &HostRuntime, path: &str) -> Result<Lease, OfficeFault> {
         take_lock(rt, path)
     }
 
@@ -49,12 +49,18 @@ impl KeepOpener<FileKeep> for SqlOpener {
         &mut self,
         rt: &HostRuntime,
         path: &str,
+        lease: &Lease,
         left: &LeftFiles,
     ) -> Result<bool, OfficeFault> {
-        left.is_unchanged(rt, path)
+        left.is_unchanged(rt, path, lease)
     }
 
-    fn open(&mut self, rt: &HostRuntime, path: &str) -> Result<FileKeep, OfficeFault> {
+    fn open(
+        &mut self,
+        rt: &HostRuntime,
+        path: &str,
+        _lease: &Lease,
+    ) -> Result<FileKeep, OfficeFault> {
         let Ok(log) = format!(in rt.alloc(); "{path}-wal") else {
             return Err(OfficeFault::Memory);
         };
@@ -83,7 +89,7 @@ impl KeepOpener<FileKeep> for SqlOpener {
         keep.slice(alloc, owner)
     }
 
-    fn close(&mut self, keep: FileKeep) {
+    fn close(&mut self, keep: FileKeep, _lease: &Lease) {
         let _ = keep.inside().close();
     }
 }

@@ -23,11 +23,11 @@ pub fn with_keep<K: Keep, O: KeepOpener<K>, T, F: FnOnce(&mut K) -> T + Drop>(
         (O.openings office_path.old.opener) (O.openings office_path.new.opener)) }
 {
     let opener = &mut office_path.opener;
-    let lock = opener.lock(office_path.rt, office_path.path)?;
-    let mut keep = opener.open(office_path.rt, office_path.path)?;
+    let lease = opener.lock(office_path.rt, office_path.path)?;
+    let mut keep = opener.open(office_path.rt, office_path.path, &lease)?;
     let done = act(&mut keep);
-    opener.close(keep);
-    let _ = lock.unlock();
+    opener.close(keep, &lease);
+    lease.release();
     Ok(done)
 }
 

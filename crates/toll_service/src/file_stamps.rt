@@ -2,6 +2,7 @@
 ghost use Rattle.std.specs.Prelude.{◌≡◌, ◌↔◌, None, true, IfErr, IfOk, IfSome};
 ghost use Rattle.toll_service.specs.FileChanges.{AreUntouched, HadSomething, HasContentOf, AreCommitsLost, IsEndLost, IsLogLost, IsStampUnchanged};
 
+use crate::lock::Lease;
 use crate::log_end::{FoundEnd, LogEnd, end_of};
 use crate::office_fault::OfficeFault;
 use std::fs::File;
@@ -72,7 +73,7 @@ pub struct FileStamps {
 
 impl FileStamps {
     /// The stamps of the office at this path.
-    pub fn of(rt: &HostRuntime, path: &str) -> io::Result<Self> {
+    pub fn of(rt: &HostRuntime, path: &str, _lease: &Lease) -> io::Result<Self> {
         let log = log_path(rt, path)?;
         Ok(FileStamps {
             database: Stamp::of(rt, path)?,
@@ -111,10 +112,10 @@ pub struct FoundFiles {
 
 impl FoundFiles {
     /// The state of the files at this path, which were left so. The log is read only if it has changed.
-    pub fn of(rt: &HostRuntime, path: &str, left: &LeftFiles) -> io::Result<Self>
+    pub fn of(rt: &HostRuntime, path: &str, lease: &Lease, left: &LeftFiles) -> io::Result<Self>
         ensures { IfOk result (λ found. IsStampUnchanged found.stamps.log left.now.stamps.log → found.log_end ≡ None) }
     {
-        let stamps = FileStamps::of(rt, path)?;
+        let stamps = FileStamps::of(rt, path, lease)?;
         let log_end = match &left.log_end {
             Some(end) if !stamps.log.is_same(&left.stamps.log) => find_end(rt, path, end).ok(),
             _ => None,
@@ -125,10 +126,15 @@ impl FoundFiles {
 
 impl LeftFiles {
     /// The state of the files now. The log is read only if it has changed since `before`.
-    pub fn of(rt: &HostRuntime, path: &str, before: &Option<LeftFiles>) -> io::Result<Self>
+    pub fn of(
+        rt: &HostRuntime,
+        path: &str,
+        lease: &Lease,
+        before: &Option<LeftFiles>,
+    ) -> io::Result<Self>
         ensures { IfOk result (λ left. IfSome before.now (λ known. IsStampUnchanged known.stamps.log left.stamps.log → left.log_end ≡ known.log_end)) }
     {
-        let stamps = FileStamps::of(rt, path)?;
+        let stamps = FileStamps::of(rt, path, lease)?;
         let log_end = match before {
             Some(before) if before.stamps.log.is_same(&stamps.log) => before.log_end,
             Some(before) => log_end(rt, path, &before.log_end)?,
@@ -139,10 +145,15 @@ impl LeftFiles {
 
     /// Whether no other program has changed the files of the office at this path since they were left so. If
     /// the files can't be read, they count as changed. NotOurs if committed changes are gone.
-    pub fn is_unchanged(&self, rt: &HostRuntime, path: &str) -> Result<bool, OfficeFault>
+    pub fn is_unchanged(
+        &self,
+        rt: &HostRuntime,
+        path: &str,
+        lease: &Lease,
+    ) -> Result<bool, OfficeFault>
         ensures { IfErr result (λ fault. (fault ≡ OfficeFault.NotOurs) × HadSomething self.now) }
     {
-        match self.compare(rt, path) {
+        match self.compare(rt, path, lease) {
             FileChange::Same => Ok(true),
             FileChange::ByOthers => Ok(false),
             FileChange::NotOurs => Err(OfficeFault::NotOurs),
@@ -151,10 +162,10 @@ impl LeftFiles {
 
     /// What other programs did to the files of the office at this path since they were left so. If the files
     /// can't be read, they count as written.
-    pub fn compare(&self, rt: &HostRuntime, path: &str) -> FileChange
+    pub fn compare(&self, rt: &HostRuntime, path: &str, lease: &Lease) -> FileChange
         ensures { result ≡ FileChange.NotOurs → HadSomething self.now }
     {
-        match FoundFiles::of(rt, path, self) {
+        match FoundFiles::of(rt, path, lease, self) {
             Ok(found) => self.change_to(&found),
             Err(_) => FileChange::ByOthers,
         }

@@ -40,7 +40,7 @@ pub use laws::{
     turns_between_two_openings_are_a_run, turns_of_a_request_are_all_of_it,
     turns_over_a_keep_are_a_run,
 };
-pub use lock::{FILE_MODE, take_lock};
+pub use lock::{FILE_MODE, Lease, take_lock};
 pub use log_end::{FoundEnd, LogEnd, ReadAt, end_of};
 pub use office_fault::OfficeFault;
 pub use office_path::{KeepOpener, OfficePath};

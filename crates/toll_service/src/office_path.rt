@@ -7,13 +7,13 @@ ghost use Rattle.toll_service.specs.declared.file_stamps.LeftFiles.{LeftFiles};
 ghost use Rattle.toll_service.specs.declared.office_fault.OfficeFault.{OfficeFault};
 
 use crate::file_stamps::LeftFiles;
+use crate::lock::Lease;
 use crate::office_fault::OfficeFault;
 use std::alloc::Global;
-use std::fs::File;
 use toll_base::{Name, Slice};
 use toll_keep::{Keep, KeepFault};
 
-/// Opens the keep in a file, and closes it. The caller holds the lock of the file when it has one opened.
+/// Opens the keep in a file, looks at the file and closes it, each under the lease of the file's lock.
 pub trait KeepOpener<K: Keep>: Drop {
     // The keep was opened, and has been asked nothing.
     ghost is_opened: { K → Type 0 };
@@ -28,7 +28,7 @@ pub trait KeepOpener<K: Keep>: Drop {
     ghost is_probed: { K → Bytes → K → Type 0 } = { λ first owner last. ⊤ };
 
     /// Takes the lock of the file, as [`take_lock`](crate::take_lock) does.
-    fn lock(&mut self, rt: &HostRuntime, path: &str) -> Result<File, OfficeFault>
+    fn lock(&mut self, rt: &HostRuntime, path: &str) -> Result<Lease, OfficeFault>
         ensures { openings self.new ≡ option_map (after_lock result) (openings self.old) };
 
     /// Looks whether no other program has changed the files since they were left so, as
@@ -37,13 +37,14 @@ pub trait KeepOpener<K: Keep>: Drop {
         &mut self,
         rt: &HostRuntime,
         path: &str,
+        lease: &Lease,
         left: &LeftFiles,
     ) -> Result<bool, OfficeFault>
         ensures openings { openings self.new ≡ openings self.old }
         ensures found { is_found left.now result };
 
     /// Opens the keep in the file.
-    fn open(&mut self, rt: &HostRuntime, path: &str) -> Result<K, OfficeFault>
+    fn open(&mut self, rt: &HostRuntime, path: &str, lease: &Lease) -> Result<K, OfficeFault>
         ensures opened { IfOk result is_opened }
         ensures counted { openings self.new ≡ option_map (after_opening result) (openings self.old) };
 
@@ -59,7 +60,7 @@ pub trait KeepOpener<K: Keep>: Drop {
         ensures reading { IsReading K.meaning keep.old keep.new result };
 
     /// Closes the file. All answered changes are in it even if the closing meets a fault.
-    fn close(&mut self, keep: K)
+    fn close(&mut self, keep: K, lease: &Lease)
         ensures { openings self.new ≡ openings self.old };
 }
 

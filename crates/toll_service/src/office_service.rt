@@ -128,11 +128,16 @@ impl<K: Keep + Drop, O: KeepOpener<K>> Service for OfficeService<'_, K, O> {
             self.log_closed(OfficeFault::Memory);
             return Poll::Ready(Vec::new(alloc));
         };
-        if self
+        match self
             .session
             .is_damaged(&mut self.office_path, listener, bytes)
         {
-            return Poll::Ready(reserved.write(listener, OfficeFault::Damaged));
+            Ok(true) => return Poll::Ready(reserved.write(listener, OfficeFault::Damaged)),
+            Ok(false) => {}
+            Err(fault) => {
+                self.log_closed(fault);
+                return Poll::Ready(reserved.write(listener, fault));
+            }
         }
         match self.session.answer(&mut self.office_path, listener, bytes) {
             Ok(reply) => {

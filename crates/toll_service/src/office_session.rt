@@ -1,5 +1,5 @@
 //! An office that stays open between requests, while other programs may use its file.
-ghost use Rattle.std.specs.Prelude.{◌≡◌, ◌⊎◌, ◌+◌, ◌-◌, ◌<◌, false, true, [], None, Some, Ok, ⊤, IfErr, IfOk, IfSome, IsSome, OnErr, OnOk};
+ghost use Rattle.std.specs.Prelude.{◌≡◌, ◌⊎◌, ◌+◌, ◌-◌, ◌<◌, false, true, [], None, Some, Ok, ⊤, IfErr, IfNone, IfOk, IfSome, IsSome, OnErr, OnOk, OnSome};
 ghost use Rattle.toll_server.specs.Runs.{Request, Task};
 ghost use Rattle.toll_service.specs.Damages.{AreCallsMet, AreOwnersFound, HasFoundDamage, IsKnown, IsNoted, KnowsNoMore, StaysWhere};
 ghost use Rattle.toll_service.specs.Faults.{fault_text};
@@ -14,6 +14,7 @@ ghost use Rattle.toll_protocol.specs.PlantMessages.{IsResponse};
 use crate::answering::answer_at;
 use crate::damage::Damage;
 use crate::file_stamps::LeftFiles;
+use crate::lock::Lease;
 use crate::notes::Notes;
 use crate::office_fault::OfficeFault;
 use crate::office_path::{KeepOpener, OfficePath};
@@ -24,7 +25,6 @@ use crate::reading_ahead::read_ahead;
 use crate::stopped_import::StoppedImport;
 use crate::turn_result::TurnResult;
 use std::alloc::{AllocError, Global};
-use std::fs::File;
 use std::time::Instant;
 use std::{io, str};
 use toll_base::Name;
@@ -39,7 +39,7 @@ pub struct OfficeSession<K> {
     opened: Option<OpenOffice<K>>,
     openings: u64,
     imports: u64,
-    lock: Option<File>,
+    lock: Option<Lease>,
     router: OfficeRouter,
     left: Option<LeftFiles>,
     damage: Damage,
@@ -90,17 +90,10 @@ impl<K: Keep + Drop> OfficeSession<K> {
         ensures damage { KnowsNoMore self.old.damage self.new.damage }
         ensures lock { IsLockKept self.old → IsLockKept self.new }
     {
-        match self.check_out(office_path) {
-            Ok(mut opened) => {
-                let read = read_ahead(office_path.rt.alloc(), &mut opened.keep);
-                self.check_in(office_path, opened, read.is_ok());
-                Ok(())
-            }
-            Err(fault) => {
-                self.unlock();
-                Err(fault)
-            }
-        }
+        let (mut opened, lease) = self.check_out(office_path)?;
+        let read = read_ahead(office_path.rt.alloc(), &mut opened.keep);
+        self.check_in(office_path, opened, lease, read.is_ok());
+        Ok(())
     }
 
     /// The answer at a listener to these bytes, over the office in the file, or the import that they begin.
@@ -122,26 +115,19 @@ impl<K: Keep + Drop> OfficeSession<K> {
         ensures stays { OnErr result ((self.new.left ≡ self.old.left) × KnowsNoMore self.old.damage self.new.damage) }
         ensures lock { IsLockKept self.old → IsLockKept self.new }
     {
-        match self.check_out(office_path) {
-            Ok(mut opened) => {
-                let reply = reply_over(
-                    office_path.rt.alloc(),
-                    &mut self.router,
-                    &mut opened.keep,
-                    listener,
-                    bytes,
-                );
-                if let Poll::Pending(_) = &reply.poll {
-                    self.imports = self.imports.saturating_add(1);
-                }
-                self.check_in(office_path, opened, reply.keep_usable);
-                Ok(reply)
-            }
-            Err(fault) => {
-                self.unlock();
-                Err(fault)
-            }
+        let (mut opened, lease) = self.check_out(office_path)?;
+        let reply = reply_over(
+            office_path.rt.alloc(),
+            &mut self.router,
+            &mut opened.keep,
+            listener,
+            bytes,
+        );
+        if let Poll::Pending(_) = &reply.poll {
+            self.imports = self.imports.saturating_add(1);
         }
+        self.check_in(office_path, opened, lease, reply.keep_usable);
+        Ok(reply)
     }
 
     /// Resumes an import that an answer or an earlier turn left, over the office in the file. An `Err` if the
@@ -164,28 +150,30 @@ impl<K: Keep + Drop> OfficeSession<K> {
         ensures lock { IsLockKept self.old → IsLockKept self.new }
     {
         match self.check_out(office_path) {
-            Ok(mut opened) => {
+            Ok((mut opened, lease)) => {
                 let reply = import.resume(office_path.rt.alloc(), &mut opened.keep);
                 if let Poll::Ready(_) = &reply.poll {
                     self.imports = self.imports.saturating_sub(1);
                 }
-                self.check_in(office_path, opened, reply.keep_usable);
+                self.check_in(office_path, opened, lease, reply.keep_usable);
                 Ok(reply)
             }
             Err(fault) => {
                 self.imports = self.imports.saturating_sub(1);
-                self.unlock();
+                if let Some(lease) = self.lock.take() {
+                    self.give_back(lease);
+                }
                 Err(StoppedImport { fault, import })
             }
         }
     }
 
-    // The office as it was left, or opened anew, under the lock.
+    // The office as it was left, or opened anew, and the lease under which it may be used.
     fn check_out<O: KeepOpener<K>>(
         &mut self,
         office_path: &mut OfficePath<'_, O>,
-    ) -> Result<OpenOffice<K>, OfficeFault>
-        ensures ok { IfOk result (λ o. IsAtHand O.is_opened (AreAsLeft O.is_found self.old) (state_of_session self.old) (state_of_session self.new) o.keep) }
+    ) -> Result<(OpenOffice<K>, Lease), OfficeFault>
+        ensures ok { IfOk result (λ o. IsAtHand O.is_opened (AreAsLeft O.is_found self.old) (state_of_session self.old) (state_of_session self.new) o.0.keep) }
         ensures counted { OnOk result (AreCounted (state_of_session self.old) (state_of_session self.new)
             (O.openings office_path.old.opener) (O.openings office_path.new.opener)) }
         ensures err { OnErr result (IsSessionIdle (state_of_session self.old) (state_of_session self.new)) }
@@ -195,26 +183,31 @@ impl<K: Keep + Drop> OfficeSession<K> {
         ensures damage { OnOk result (StaysWhere (AreAsLeft O.is_found self.old) self.old.damage self.new.damage) }
         ensures stays { OnErr result (KnowsNoMore self.old.damage self.new.damage) }
         ensures files { self.new.left ≡ self.old.left }
-        ensures lock { OnOk result (IsSome self.new.lock) }
-        ensures kept { IsSome self.old.lock → IsSome self.new.lock }
+        ensures lock { OnErr result (IsLockKept self.old → IsLockKept self.new) }
     {
-        match self.check_out_left(office_path) {
-            Ok(Some(opened)) => Ok(opened),
-            Ok(None) => self.open(office_path),
-            Err(fault) => Err(fault),
+        let (left, lease) = self.check_out_left(office_path)?;
+        if let Some(opened) = left {
+            return Ok((opened, lease));
+        }
+        match self.open(office_path, &lease) {
+            Ok(opened) => Ok((opened, lease)),
+            Err(fault) => {
+                self.give_back(lease);
+                Err(fault)
+            }
         }
     }
 
-    // The office as it was left, under the lock, if one was left open and no other program has changed it. If
+    // The lease, and the office as it was left, if one was left open and no other program has changed it. If
     // another program has changed it, the known damage is forgotten.
     fn check_out_left<O: KeepOpener<K>>(
         &mut self,
         office_path: &mut OfficePath<'_, O>,
-    ) -> Result<Option<OpenOffice<K>>, OfficeFault>
-        ensures left { IfOk result (λ left. IfSome left (λ o. ((state_of_session self.old).keep ≡ Some o.keep) × AreAsLeft O.is_found self.old)) }
-        ensures ok { OnOk result ((self.new.opened ≡ None) × IsSome self.new.lock) }
+    ) -> Result<(Option<OpenOffice<K>>, Lease), OfficeFault>
+        ensures left { IfOk result (λ left. IfSome left.0 (λ o. ((state_of_session self.old).keep ≡ Some o.keep) × AreAsLeft O.is_found self.old)) }
+        ensures ok { OnOk result (self.new.opened ≡ None) }
         ensures err { OnErr result (IsSessionIdle (state_of_session self.old) (state_of_session self.new)) }
-        ensures kept { IsSome self.old.lock → IsSome self.new.lock }
+        ensures lock { OnErr result (self.new.lock ≡ self.old.lock) }
         ensures refused { IfErr result (λ fault. IsOneRefused fault (O.openings office_path.old.opener) (O.openings office_path.new.opener)
             ⊎ IsFoundLost O.is_found fault self.old (O.openings office_path.old.opener) (O.openings office_path.new.opener)) }
         ensures unasked { OnOk result (IsNoneOpened (O.openings office_path.old.opener) (O.openings office_path.new.opener)) }
@@ -224,26 +217,26 @@ impl<K: Keep + Drop> OfficeSession<K> {
         ensures stays { OnErr result (self.new.damage ≡ self.old.damage) }
         ensures files { self.new.left ≡ self.old.left }
     {
-        if self.lock.is_some() {
-            return Ok(self.opened.take());
+        if let Some(lease) = self.lock.take() {
+            return Ok((self.opened.take(), lease));
         }
-        let lock = office_path.opener.lock(office_path.rt, office_path.path)?;
-        self.lock = Some(lock);
+        let lease = office_path.opener.lock(office_path.rt, office_path.path)?;
         let opened = match self.opened.take() {
-            Some(opened) if opened.reacquire() => Some(opened),
+            Some(opened) if opened.reacquire(&lease) => Some(opened),
             _ => None,
         };
-        if self.is_as_left(office_path)? {
-            return Ok(opened);
+        if self.is_as_left(office_path, &lease)? {
+            return Ok((opened, lease));
         }
         self.damage.forget();
-        Ok(None)
+        Ok((None, lease))
     }
 
     // Whether no other program has changed the files since they were left.
     fn is_as_left<O: KeepOpener<K>>(
         &self,
         office_path: &mut OfficePath<'_, O>,
+        lease: &Lease,
     ) -> Result<bool, OfficeFault>
         ensures unasked { IsNoneOpened (O.openings office_path.old.opener) (O.openings office_path.new.opener) }
         ensures found { result ≡ Ok true → AreFound O.is_found self.now.left (Ok true) }
@@ -253,7 +246,7 @@ impl<K: Keep + Drop> OfficeSession<K> {
             Some(left) => {
                 office_path
                     .opener
-                    .is_unchanged(office_path.rt, office_path.path, left)
+                    .is_unchanged(office_path.rt, office_path.path, lease, left)
             }
             None => Ok(false),
         }
@@ -263,6 +256,7 @@ impl<K: Keep + Drop> OfficeSession<K> {
     fn open<O: KeepOpener<K>>(
         &mut self,
         office_path: &mut OfficePath<'_, O>,
+        lease: &Lease,
     ) -> Result<OpenOffice<K>, OfficeFault>
         ensures opened { IfOk result (λ o. O.is_opened o.keep × (self.new.openings ≡ self.old.openings + 1)) }
         ensures once { OnOk result (IsOneOpened (O.openings office_path.old.opener) (O.openings office_path.new.opener)) }
@@ -275,7 +269,7 @@ impl<K: Keep + Drop> OfficeSession<K> {
             return Err(OfficeFault::Memory);
         };
         let began = Instant::now(office_path.rt);
-        match OpenOffice::at(office_path) {
+        match OpenOffice::at(office_path, lease) {
             Ok(opened) => {
                 self.openings = openings;
                 if openings > 1 {
@@ -287,12 +281,13 @@ impl<K: Keep + Drop> OfficeSession<K> {
         }
     }
 
-    // Keeps the office open if it can still be used, and releases it to other programs if no import is under
-    // way.
+    // Keeps the office open if it can still be used, and releases it and the lock to other programs if no
+    // import is under way.
     fn check_in<O: KeepOpener<K>>(
         &mut self,
         office_path: &mut OfficePath<'_, O>,
         opened: OpenOffice<K>,
+        lease: Lease,
         keep_usable: bool,
     )
         ensures left { IsLeftOpen opened.keep (state_of_session self.new) }
@@ -301,22 +296,22 @@ impl<K: Keep + Drop> OfficeSession<K> {
         ensures openings { self.new.openings ≡ self.old.openings }
         ensures imports { self.new.imports ≡ self.old.imports }
         ensures damage { self.new.damage ≡ self.old.damage }
-        ensures lock { IsSome self.old.lock → IsLockKept self.new }
+        ensures lock { IsLockKept self.new }
     {
-        self.note_files(office_path.rt, office_path.path);
+        self.note_files(office_path.rt, office_path.path, &lease);
         self.opened = match (keep_usable, self.imports) {
             (false, _) => None,
-            (true, 0) => opened.release(office_path),
+            (true, 0) => opened.release(office_path, &lease),
             (true, _) => Some(opened),
         };
-        self.unlock();
+        self.give_back(lease);
     }
 
     // Notes the state in which the files are left.
-    fn note_files(&mut self, rt: &HostRuntime, path: &str)
+    fn note_files(&mut self, rt: &HostRuntime, path: &str, lease: &Lease)
         ensures { self.new ≡ record self.old { left = self.new.left } }
     {
-        self.left = LeftFiles::of(rt, path, &self.left).ok();
+        self.left = LeftFiles::of(rt, path, lease, &self.left).ok();
     }
 
     // Writes on standard error that the file was opened anew, and how long that took.
@@ -333,18 +328,17 @@ impl<K: Keep + Drop> OfficeSession<K> {
         }
     }
 
-    // Releases the lock, if no import is under way.
-    fn unlock(&mut self)
+    // Keeps the lease while an import is under way, and releases it otherwise.
+    fn give_back(&mut self, lease: Lease)
         ensures same { self.new ≡ record self.old { lock = self.new.lock } }
-        ensures kept { 0 < self.old.imports → self.new.lock ≡ self.old.lock }
-        ensures given { self.old.imports ≡ 0 → self.new.lock ≡ None }
+        ensures lock { IsLockKept self.new }
     {
-        if self.imports > 0 {
-            return;
-        }
-        if let Some(lock) = self.lock.take() {
-            let _ = lock.unlock();
-        }
+        self.lock = if self.imports > 0 {
+            Some(lease)
+        } else {
+            lease.release();
+            None
+        };
     }
 
     // Writes on standard error that an owner's rows are damaged, if they are.
@@ -360,25 +354,39 @@ impl<K: Keep + Drop> OfficeSession<K> {
     }
 
     /// Whether a request or call at a listener is known to meet damage, and no other program has written the
-    /// files since that was found out.
+    /// files since that was found out. An `Err` if the files are to be compared and the lock isn't taken.
     pub fn is_damaged<O: KeepOpener<K>>(
         &self,
         office_path: &mut OfficePath<'_, O>,
         listener: Listener,
         bytes: &[u8],
-    ) -> bool
-        ensures known { result ≡ true → IsKnown self.now.damage listener bytes.now × AreAsLeft O.is_found self.now }
-        ensures unasked { IsNoneOpened (O.openings office_path.old.opener) (O.openings office_path.new.opener) }
+    ) -> Result<bool, OfficeFault>
+        ensures known { result ≡ Ok true → IsKnown self.now.damage listener bytes.now × AreAsLeft O.is_found self.now }
+        ensures unasked { OnOk result (IsNoneOpened (O.openings office_path.old.opener) (O.openings office_path.new.opener)) }
+        ensures refused { IfErr result (λ fault. IsOneRefused fault
+            (O.openings office_path.old.opener) (O.openings office_path.new.opener)) }
     {
-        self.damage.is_known(listener, bytes)
-            && (self.lock.is_some() || self.are_files_as_left(office_path))
+        if !self.damage.is_known(listener, bytes) {
+            return Ok(false);
+        }
+        if self.lock.is_some() {
+            return Ok(true);
+        }
+        let lease = office_path.opener.lock(office_path.rt, office_path.path)?;
+        let are_as_left = self.are_files_as_left(office_path, &lease);
+        lease.release();
+        Ok(are_as_left)
     }
 
-    fn are_files_as_left<O: KeepOpener<K>>(&self, office_path: &mut OfficePath<'_, O>) -> bool
+    fn are_files_as_left<O: KeepOpener<K>>(
+        &self,
+        office_path: &mut OfficePath<'_, O>,
+        lease: &Lease,
+    ) -> bool
         ensures found { result ≡ true → AreFound O.is_found self.now.left (Ok true) }
         ensures unasked { IsNoneOpened (O.openings office_path.old.opener) (O.openings office_path.new.opener) }
     {
-        matches!(self.is_as_left(office_path), Ok(true))
+        matches!(self.is_as_left(office_path, lease), Ok(true))
     }
 
     /// After a turn that met a fault, finds out whether the fault was damage, and remembers it. For an
@@ -432,38 +440,46 @@ impl<K: Keep + Drop> OfficeSession<K> {
         if self.damage.was_probed(&owner) {
             return;
         }
-        if self.lock_unchanged(office_path) {
-            self.probe_rows(office_path, owner);
-        }
-        self.unlock();
+        let Some(lease) = self.lease_unchanged(office_path) else {
+            return;
+        };
+        self.probe_rows(office_path, &lease, owner);
+        self.give_back(lease);
     }
 
-    // Takes the lock, if it isn't kept. Returns whether it is held and the files are as they were left.
-    fn lock_unchanged<O: KeepOpener<K>>(&mut self, office_path: &mut OfficePath<'_, O>) -> bool
+    // The lease, if the files are as they were left: the one that is kept, or one that is taken.
+    fn lease_unchanged<O: KeepOpener<K>>(
+        &mut self,
+        office_path: &mut OfficePath<'_, O>,
+    ) -> Option<Lease>
         ensures beside { self.new ≡ record self.old { lock = self.new.lock } }
-        ensures kept { IsSome self.old.lock → IsSome self.new.lock }
-        ensures found { result ≡ true → AreAsLeft O.is_found self.old }
+        ensures none { IfNone result (self.new.lock ≡ self.old.lock) }
+        ensures found { OnSome result (AreAsLeft O.is_found self.old) }
     {
-        if self.lock.is_some() {
-            return true;
+        if let Some(lease) = self.lock.take() {
+            return Some(lease);
         }
-        let Ok(lock) = office_path.opener.lock(office_path.rt, office_path.path) else {
-            return false;
-        };
-        self.lock = Some(lock);
-        self.are_files_as_left(office_path)
+        match office_path.opener.lock(office_path.rt, office_path.path) {
+            Ok(lease) if self.are_files_as_left(office_path, &lease) => Some(lease),
+            _ => None,
+        }
     }
 
     // Opens the file, only to read an owner's rows, and closes it.
-    fn probe_rows<O: KeepOpener<K>>(&mut self, office_path: &mut OfficePath<'_, O>, owner: Name)
+    fn probe_rows<O: KeepOpener<K>>(
+        &mut self,
+        office_path: &mut OfficePath<'_, O>,
+        lease: &Lease,
+        owner: Name,
+    )
         ensures beside { self.new ≡ record self.old { left = self.new.left; damage = self.new.damage; notes = self.new.notes } }
         ensures owners { AreOwnersFound K.meaning O.is_opened O.is_probed self.old.damage self.new.damage owner }
         ensures calls { self.new.damage.calls ≡ self.old.damage.calls }
     {
-        let is_damaged = has_damaged_rows(office_path, &owner);
+        let is_damaged = has_damaged_rows(office_path, lease, &owner);
         self.damage.note_owner(owner, is_damaged);
         self.note_rows(office_path.rt, &owner, is_damaged);
-        self.note_files(office_path.rt, office_path.path);
+        self.note_files(office_path.rt, office_path.path, lease);
     }
 
     /// Closes the file, if it is open and the lock is taken. All answered changes are in the file whether or
@@ -472,11 +488,11 @@ impl<K: Keep + Drop> OfficeSession<K> {
         ensures { IsNoneOpened (O.openings office_path.old.opener) (O.openings office_path.new.opener)
             ⊎ IsSomeRefused (O.openings office_path.old.opener) (O.openings office_path.new.opener) }
     {
-        if let Ok(Some(opened)) = self.check_out_left(office_path) {
-            opened.close(&mut office_path.opener);
-        }
-        if let Some(lock) = self.lock.take() {
-            let _ = lock.unlock();
+        if let Ok((left, lease)) = self.check_out_left(office_path) {
+            if let Some(opened) = left {
+                opened.close(&mut office_path.opener, &lease);
+            }
+            lease.release();
         }
     }
 }
@@ -503,16 +519,20 @@ fn reply_over<K: Keep>(
 // Whether an office that is opened for it finds damage in an owner's rows.
 fn has_damaged_rows<K: Keep + Drop, O: KeepOpener<K>>(
     office_path: &mut OfficePath<'_, O>,
+    lease: &Lease,
     owner: &Name,
 ) -> bool
     ensures { result ≡ true → HasFoundDamage K.meaning O.is_opened O.is_probed owner.now }
 {
-    let Ok(mut keep) = office_path.opener.open(office_path.rt, office_path.path) else {
+    let Ok(mut keep) = office_path
+        .opener
+        .open(office_path.rt, office_path.path, lease)
+    else {
         return false;
     };
     let alloc = office_path.rt.alloc();
     let read = office_path.opener.read_rows(alloc, &mut keep, owner);
-    office_path.opener.close(keep);
+    office_path.opener.close(keep, lease);
     matches!(read, Err(KeepFault::Damaged))
 }
 

@@ -2,6 +2,7 @@
 ghost use Rattle.std.specs.Prelude.{◌≡◌, IfErr, IfOk, IfSome, OnOk};
 ghost use Rattle.toll_service.specs.Openings.{IsOneOpened, IsOneRefused, IsNoneOpened};
 
+use crate::lock::Lease;
 use crate::office_fault::OfficeFault;
 use crate::office_path::{KeepOpener, OfficePath};
 use crate::shared_file::SharedFile;
@@ -29,13 +30,18 @@ struct Files {
 
 impl<K: Keep + Drop> OpenOffice<K> {
     /// The office at this place.
-    pub fn at<O: KeepOpener<K>>(office_path: &mut OfficePath<'_, O>) -> Result<Self, OfficeFault>
+    pub fn at<O: KeepOpener<K>>(
+        office_path: &mut OfficePath<'_, O>,
+        lease: &Lease,
+    ) -> Result<Self, OfficeFault>
         ensures opened { IfOk result (λ opened. O.is_opened opened.keep) }
         ensures once { OnOk result (IsOneOpened (O.openings office_path.old.opener) (O.openings office_path.new.opener)) }
         ensures refused { IfErr result (λ fault. IsOneRefused fault
             (O.openings office_path.old.opener) (O.openings office_path.new.opener)) }
     {
-        let keep = office_path.opener.open(office_path.rt, office_path.path)?;
+        let keep = office_path
+            .opener
+            .open(office_path.rt, office_path.path, lease)?;
         Ok(OpenOffice {
             keep,
             files: Files::of(office_path.rt, office_path.path).ok(),
@@ -43,7 +49,11 @@ impl<K: Keep + Drop> OpenOffice<K> {
     }
 
     /// Releases the files to other programs. The office is closed if they can't be released.
-    pub fn release<O: KeepOpener<K>>(self, office_path: &mut OfficePath<'_, O>) -> Option<Self>
+    pub fn release<O: KeepOpener<K>>(
+        self,
+        office_path: &mut OfficePath<'_, O>,
+        lease: &Lease,
+    ) -> Option<Self>
         ensures released { IfSome result (λ released. released.keep ≡ self.keep) }
         ensures unasked { IsNoneOpened (O.openings office_path.old.opener) (O.openings office_path.new.opener) }
     {
@@ -54,12 +64,12 @@ impl<K: Keep + Drop> OpenOffice<K> {
         if is_released {
             return Some(self);
         }
-        self.close(&mut office_path.opener);
+        self.close(&mut office_path.opener, lease);
         None
     }
 
     /// Locks the files again. Returns whether no other program has them.
-    pub fn reacquire(&self) -> bool {
+    pub fn reacquire(&self, _lease: &Lease) -> bool {
         match &self.files {
             Some(Files { database, log }) => database.lock().is_ok() && log.lock().is_ok(),
             None => false,
@@ -67,11 +77,11 @@ impl<K: Keep + Drop> OpenOffice<K> {
     }
 
     /// Closes them.
-    pub fn close<O: KeepOpener<K>>(self, opener: &mut O)
+    pub fn close<O: KeepOpener<K>>(self, opener: &mut O, lease: &Lease)
         ensures { IsNoneOpened (O.openings opener.old) (O.openings opener.new) }
     {
         let OpenOffice { keep, files: _ } = self;
-        opener.close(keep);
+        opener.close(keep, lease);
     }
 }
 

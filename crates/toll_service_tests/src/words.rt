@@ -7,7 +7,7 @@ use toll_base::{Name, Slice};
 use toll_keep::{Keep, KeepFault, MemKeep};
 use toll_programs::{Connector, TrackedStream};
 use toll_protocol::Sink;
-use toll_service::{KeepOpener, LeftFiles, OfficeFault, OfficePath, do_words, take_lock};
+use toll_service::{KeepOpener, Lease, LeftFiles, OfficeFault, OfficePath, do_words, take_lock};
 use toll_stories::check;
 
 /// Opens an office without rows, and counts how many.
@@ -21,7 +21,7 @@ impl KeepOpener<MemKeep> for Counting {
 
     ghost is_opened = { λ _. ⊤ };
 
-    fn lock(&mut self, rt: &HostRuntime, path: &str) -> Result<File, OfficeFault> {
+    fn lock(&mut self, rt: &HostRuntime, path: &str) -> Result<Lease, OfficeFault> {
         take_lock(rt, path)
     }
 
@@ -29,12 +29,18 @@ impl KeepOpener<MemKeep> for Counting {
         &mut self,
         rt: &HostRuntime,
         path: &str,
+        lease: &Lease,
         left: &LeftFiles,
     ) -> Result<bool, OfficeFault> {
-        left.is_unchanged(rt, path)
+        left.is_unchanged(rt, path, lease)
     }
 
-    fn open(&mut self, rt: &HostRuntime, _path: &str) -> Result<MemKeep, OfficeFault> {
+    fn open(
+        &mut self,
+        rt: &HostRuntime,
+        _path: &str,
+        _lease: &Lease,
+    ) -> Result<MemKeep, OfficeFault> {
         self.opened = self.opened.saturating_add(1);
         Ok(MemKeep::new(rt.alloc()))
     }
@@ -48,7 +54,7 @@ impl KeepOpener<MemKeep> for Counting {
         keep.slice(alloc, owner)
     }
 
-    fn close(&mut self, _keep: MemKeep) {}
+    fn close(&mut self, _keep: MemKeep, _lease: &Lease) {}
 }
 
 /// Connects to no server.
@@ -128,9 +134,9 @@ fn words_of_the_plant_end_with_their_status(rt: HostRuntime) -> Result<(), Fail>
         let (words, end) = *row;
         assert!(rt; come_to(&rt, words, &end), "at {words:?}");
     }
-    let lock = take_lock(&rt, "words.db")?;
+    let lease = take_lock(&rt, "words.db")?;
     let is_locked = come_to(&rt, &["stock", "ACME"], &LOCKED);
-    lock.unlock()?;
+    lease.release();
     fs::remove_file(&rt, "words.db.lock")?;
     assert!(rt; is_locked);
     Ok(())
@@ -145,9 +151,9 @@ struct LockTaker<'a> {
 
 impl Sink for LockTaker<'_> {
     fn write_some(&mut self, bytes: &[u8]) -> io::Result<usize> {
-        if let Ok(lock) = take_lock(self.rt, "output.db") {
+        if let Ok(lease) = take_lock(self.rt, "output.db") {
             self.taken = self.taken.saturating_add(1);
-            lock.unlock()?;
+            lease.release();
         }
         Ok(bytes.len())
     }

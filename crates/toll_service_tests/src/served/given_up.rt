@@ -3,14 +3,15 @@ use crate::served::imports::{import_of_records, push_lines};
 use crate::served::{ADD_OWNER, Client, NO_MEMORY};
 use std::alloc::Global;
 use std::fs;
-use std::fs::File;
 use std::test::Fail;
 use toll_base::{Name, Slice};
 use toll_keep::{Keep, KeepFault, MemKeep};
 use toll_plant::GROUP_RECORDS;
 use toll_protocol::{EncodeFault, Response};
 use toll_server::{Listener, Poll, Service};
-use toll_service::{KeepOpener, LeftFiles, OfficeFault, OfficePath, OfficeService, take_lock};
+use toll_service::{
+    KeepOpener, Lease, LeftFiles, OfficeFault, OfficePath, OfficeService, take_lock,
+};
 use toll_stories::{Refused, Refusing};
 
 /// Opens one office, which refuses one change, and then none.
@@ -24,7 +25,7 @@ impl KeepOpener<Refusing<MemKeep>> for Once {
 
     ghost is_opened = { λ _. ⊤ };
 
-    fn lock(&mut self, rt: &HostRuntime, path: &str) -> Result<File, OfficeFault> {
+    fn lock(&mut self, rt: &HostRuntime, path: &str) -> Result<Lease, OfficeFault> {
         take_lock(rt, path)
     }
 
@@ -32,12 +33,18 @@ impl KeepOpener<Refusing<MemKeep>> for Once {
         &mut self,
         rt: &HostRuntime,
         path: &str,
+        lease: &Lease,
         left: &LeftFiles,
     ) -> Result<bool, OfficeFault> {
-        left.is_unchanged(rt, path)
+        left.is_unchanged(rt, path, lease)
     }
 
-    fn open(&mut self, rt: &HostRuntime, _path: &str) -> Result<Refusing<MemKeep>, OfficeFault> {
+    fn open(
+        &mut self,
+        rt: &HostRuntime,
+        _path: &str,
+        _lease: &Lease,
+    ) -> Result<Refusing<MemKeep>, OfficeFault> {
         if self.is_opened {
             return Err(OfficeFault::Disk);
         }
@@ -54,7 +61,7 @@ impl KeepOpener<Refusing<MemKeep>> for Once {
         keep.slice(alloc, owner)
     }
 
-    fn close(&mut self, _keep: Refusing<MemKeep>) {}
+    fn close(&mut self, _keep: Refusing<MemKeep>, _lease: &Lease) {}
 }
 
 // The response to the plant: the outcomes of the first group, and why no more act.

@@ -10,7 +10,9 @@ use std::{fs, io};
 use toll_base::{Name, Slice};
 use toll_keep::{Keep, KeepFault, MemKeep};
 use toll_server::{Listener, Poll, Service};
-use toll_service::{KeepOpener, LeftFiles, OfficeFault, OfficePath, OfficeService, take_lock};
+use toll_service::{
+    KeepOpener, Lease, LeftFiles, OfficeFault, OfficePath, OfficeService, take_lock,
+};
 
 /// How often an office was opened, and closed.
 #[derive(Drop)]
@@ -44,7 +46,7 @@ impl KeepOpener<MemKeep> for Shelf<'_> {
 
     ghost is_opened = { λ _. ⊤ };
 
-    fn lock(&mut self, rt: &HostRuntime, path: &str) -> Result<File, OfficeFault> {
+    fn lock(&mut self, rt: &HostRuntime, path: &str) -> Result<Lease, OfficeFault> {
         take_lock(rt, path)
     }
 
@@ -52,12 +54,18 @@ impl KeepOpener<MemKeep> for Shelf<'_> {
         &mut self,
         rt: &HostRuntime,
         path: &str,
+        lease: &Lease,
         left: &LeftFiles,
     ) -> Result<bool, OfficeFault> {
-        left.is_unchanged(rt, path)
+        left.is_unchanged(rt, path, lease)
     }
 
-    fn open(&mut self, rt: &HostRuntime, _path: &str) -> Result<MemKeep, OfficeFault> {
+    fn open(
+        &mut self,
+        rt: &HostRuntime,
+        _path: &str,
+        _lease: &Lease,
+    ) -> Result<MemKeep, OfficeFault> {
         add_one(&self.counts.opened);
         Ok(MemKeep::new(rt.alloc()))
     }
@@ -71,7 +79,7 @@ impl KeepOpener<MemKeep> for Shelf<'_> {
         keep.slice(alloc, owner)
     }
 
-    fn close(&mut self, _keep: MemKeep) {
+    fn close(&mut self, _keep: MemKeep, _lease: &Lease) {
         add_one(&self.counts.closed);
     }
 }

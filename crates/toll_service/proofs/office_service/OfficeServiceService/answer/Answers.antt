@@ -1,6 +1,7 @@
-use Rattle.std.proofs.Common.{◌≡◌, ◌∙◌, ap, inl, inr, subst, sym}
+use Rattle.std.proofs.Common.{◌≡◌, ◌∙◌, ap, inl, inr, rules, subst, sym}
 use Rattle.toll_service.specs.Common.{Request}
 use Rattle.toll_service.specs.Damages.{IsNoted, KnowsNoMore}
+use Rattle.toll_service.specs.Openings.{IsNoneOpened}
 use Rattle.toll_service.specs.Sessions.{AreAsLeft, IsSessionIdle, IsAnsweredAtHand, IsWithheld, state_of_session}
 use Rattle.toll_service.proofs.DamageLemmas.{noted_behind, noted_none}
 use Rattle.toll_service.proofs.office_service.OfficeServiceService.answer.Goals as goal
@@ -37,19 +38,20 @@ returns-after-not-reply g c =
           (subst (λ p. IsNoted g.K.Keep.meaning g.O.KeepOpener.is_opened g.O.KeepOpener.is_probed Kept known c.if-not-reply.self.session.damage c.args.listener c.args.bytes.now p) (sym c.logged.ensures.poll) noted.1),
     ))
 
-pub returns-in-Err : goal.returns-in-Err
-returns-in-Err g c =
+pub returns-in-Err-answer : goal.returns-in-Err-answer
+returns-in-Err-answer g c =
     let first = c.args.self.now.session in
+    let unasked : IsNoneOpened (g.O.KeepOpener.openings c.args.self.now.office_path.opener) (g.O.KeepOpener.openings c.is_damaged.new.office_path.opener) = search rules in
     inl (inr (record {
-      fault = c.in-Err.fault;
-      idle = subst (λ s. IsSessionIdle (state_of_session first) (state_of_session s)) (sym c.log_closed-in-Err.ensures.session) c.in-Err.ensures.err.0;
-      reported = c.write-in-Err.ensures;
+      fault = c.in-Err-answer.fault;
+      idle = subst (λ s. IsSessionIdle (state_of_session first) (state_of_session s)) (sym c.log_closed-in-Err-answer.ensures.session) c.in-Err-answer.ensures.err.0;
+      reported = c.write-in-Err-answer.ensures;
       cause = inl (
-        subst (λ t. IsWithheld g.O.KeepOpener.is_found c.in-Err.fault first t (g.O.KeepOpener.openings c.log_closed-in-Err.new.self.office_path.opener)) c.is_damaged.ensures.unasked
-            (subst (λ p. IsWithheld g.O.KeepOpener.is_found c.in-Err.fault first (g.O.KeepOpener.openings c.is_damaged.new.office_path.opener) (g.O.KeepOpener.openings p.opener))
-            (sym c.log_closed-in-Err.ensures.office_path) c.in-Err.ensures.refused),
-        c.log_closed-in-Err.ensures.fault,
+        subst (λ t. IsWithheld g.O.KeepOpener.is_found c.in-Err-answer.fault first t (g.O.KeepOpener.openings c.log_closed-in-Err-answer.new.self.office_path.opener)) unasked
+            (subst (λ p. IsWithheld g.O.KeepOpener.is_found c.in-Err-answer.fault first (g.O.KeepOpener.openings c.is_damaged.new.office_path.opener) (g.O.KeepOpener.openings p.opener))
+            (sym c.log_closed-in-Err-answer.ensures.office_path) c.in-Err-answer.ensures.refused),
+        c.log_closed-in-Err-answer.ensures.fault,
       );
-      left = subst (λ s. s.left ≡ first.left) (sym c.log_closed-in-Err.ensures.session) c.in-Err.ensures.stays.0;
-      known = subst (λ s. KnowsNoMore first.damage s.damage) (sym c.log_closed-in-Err.ensures.session) c.in-Err.ensures.stays.1;
+      left = subst (λ s. s.left ≡ first.left) (sym c.log_closed-in-Err-answer.ensures.session) c.in-Err-answer.ensures.stays.0;
+      known = subst (λ s. KnowsNoMore first.damage s.damage) (sym c.log_closed-in-Err-answer.ensures.session) c.in-Err-answer.ensures.stays.1;
     }))
