@@ -6,13 +6,10 @@ use Rattle.std.specs.Global.{Vec}
 use Rattle.toll_base.specs.Bytes.{same_bytes}
 use Rattle.toll_base.specs.declared.slice.Slice.{Slice}
 use Rattle.toll_keep.specs.CallEffects.{IsReading}
-use Rattle.toll_keep.specs.declared.fault.KeepFault.TheVariants.{Damaged as FoundDamaged}
-use Rattle.toll_service.specs.Common.{Bytes, Meaning, Listener, Owners, Plant, Poll, ImportState, IsResponse, exit_code, Failed}
-use Rattle.toll_service.specs.Faults.{fault_text}
-use Rattle.toll_service.specs.Listeners.{IsReadyWith}
+use Rattle.toll_keep.specs.declared.fault.KeepFault.TheVariants.{Damaged}
+use Rattle.toll_service.specs.Common.{Bytes, Meaning, Listener, Owners, Plant}
 use Rattle.toll_service.specs.Parties.{IsBy}
 use Rattle.toll_service.specs.declared.damage.Damage.{Damage}
-use Rattle.toll_service.specs.declared.office_fault.OfficeFault.TheVariants.{Damaged}
 use Rattle.toll_service.specs.declared.party.Party.TheVariants.{Owner}
 
 -- whether the name is this owner's
@@ -40,11 +37,6 @@ StaysWhere IsSo before behind = ((behind ≡ before) × IsSo) ⊎ KnowsNothing b
 abbrev pub KnowsNoMore : (before behind : Damage) → Type 0
 KnowsNoMore = StaysWhere ⊤
 
--- Each call that is known to have met damage was known before, or is this one, and its reply reports damage.
-pub record AreCallsMet (before behind : Damage) (requested : Bytes) (poll : Poll ImportState) : Type 0 where
-  pub met : (call : Vec ℕ) → Contains behind.calls.items call
-      → Contains before.calls.items call ⊎ ((call.items ≡ requested) × IsReadyWith poll (λ reported. IsResponse reported (exit_code Failed) [] (fault_text Damaged)))
-
 module _ {K : Type 0} (meaning : Meaning K) (is_opened : K → Type 0) (is_probed : K → Bytes → K → Type 0) where
   -- Reading this owner's rows in an office that was opened reported damage.
   pub record HasFoundDamage (owner : Bytes) : Type 0 where
@@ -52,16 +44,16 @@ module _ {K : Type 0} (meaning : Meaning K) (is_opened : K → Type 0) (is_probe
     pub last : K
     pub opened : is_opened first
     pub probed : is_probed first owner last
-    pub found : IsReading {X = Option Slice} meaning first last (Err FoundDamaged)
+    pub found : IsReading {X = Option Slice} meaning first last (Err Damaged)
 
   -- Each owner whose rows are known to be damaged was known before, or is this one, and reading its rows found the damage.
   pub record AreOwnersFound (before behind : Damage) (owner : Bytes) : Type 0 where
     pub found : (name : Bytes) → Contains behind.owners.items name → Contains before.owners.items name ⊎ ((name ≡ owner) × HasFoundDamage name)
 
   -- All known damage was known before, and then IsSo holds. An owner may be added if this request claims it and reading its rows found the damage. A
-  -- call of the plant may be added if it is this one and its reply reports damage.
-  pub record IsNoted (IsSo : Type 0) (before behind : Damage) (listener : Listener) (requested : Bytes) (poll : Poll ImportState) : Type 0 where
+  -- call of the plant may be added if it is this one and IsMet holds: it met damage.
+  pub record IsNoted (IsSo IsMet : Type 0) (before behind : Damage) (listener : Listener) (requested : Bytes) : Type 0 where
     pub owners : (owner : Bytes) → Contains behind.owners.items owner
         → (Contains before.owners.items owner × IsSo) ⊎ ((listener ≡ Owners) × IsBy listener requested (Owner owner) × HasFoundDamage owner)
     pub calls : (call : Vec ℕ) → Contains behind.calls.items call → (Contains before.calls.items call × IsSo)
-        ⊎ ((listener ≡ Plant) × (call.items ≡ requested) × IsReadyWith poll (λ reported. IsResponse reported (exit_code Failed) [] (fault_text Damaged)))
+        ⊎ ((listener ≡ Plant) × (call.items ≡ requested) × IsMet)

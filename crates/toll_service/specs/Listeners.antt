@@ -1,16 +1,20 @@
 -- What is answered at the two listeners of a server, over a keep.
-use Rattle.std.specs.Prelude.{◌≡◌, ◌≢◌, ◌⊎◌, ◌==◌, ℕ, Bool, true, false, not, List, [], Option, Ok, Err}
+use Rattle.std.specs.Prelude.{◌≡◌, ◌≢◌, ◌⊎◌, ◌==◌, ℕ, Bool, true, false, not, List, [], Option, Ok, Err, Contains}
 use Rattle.std.specs.Global.{Vec}
-use Rattle.toll_service.specs.Common.{Bytes, Meaning, IsCall, IsResponse, Listener, Owners, Plant, Poll, Ready, Pending, AreNumberedFrom, IsResumed, IsBegun, ImportState, ImportFault, ImportReport, exit_code, IsImportPrintout, Printout, Failed, Usage, out_bytes}
+use Rattle.toll_service.specs.Common.{Bytes, Meaning, IsCall, IsResponse, outcomes_in, Listener, Owners, Plant, Poll, Ready, Pending, AreNumberedFrom, IsResumed, IsBegun, ImportState, ImportFault, ImportReport, exit_code, IsImportPrintout, Printout, Failed, Usage, out_bytes}
+use Rattle.toll_keep.specs.declared.fault.KeepFault.{KeepFault}
+use Rattle.toll_keep.specs.declared.fault.KeepFault.TheVariants.{Memory}
 use Rattle.toll_plant.specs.ImportFaults.{IsRefusedFor}
 use Rattle.toll_plant.specs.Table.{command_lines}
 use Rattle.toll_plant.specs.Usages.{usage_text}
+use Rattle.toll_plant.specs.declared.outcome.Outcome.TheVariants.{Fault}
 use Rattle.toll_plant.specs.declared.report.ImportLine.{ImportLine}
 use Rattle.toll_programs.specs.Done.{IsCommandDone}
 use Rattle.toll_programs.specs.Outputs.{IsStoppedImportPrintout, on_error, refused_file}
+use Rattle.toll_programs.specs.Printing.{fault_line}
 use Rattle.toll_service.specs.Unwritten.{unwritten}
 use Rattle.toll_service.specs.Requested.{Requested, RunCommand, ImportFile, UnknownWords, requested_by_call}
-use Rattle.toll_wire.specs.Steps.{IsAnswered}
+use Rattle.toll_wire.specs.Steps.{IsAnswered, IsFaultMet}
 use Rattle.toll_wire.specs.declared.outgoing.Out.{Out}
 use Rattle.toll_wire.specs.declared.outgoing.Out.TheVariants.{Text, Unavailable}
 
@@ -23,6 +27,10 @@ usage_printout words = on_error Usage (usage_text command_lines words)
 -- The frame carries this printout.
 abbrev pub IsResponseOf : (reported : Bytes) → Printout → Type 0
 IsResponseOf reported p = IsResponse reported p.status p.output p.error
+
+-- The frame carries this printout, which is that of a failure.
+abbrev pub IsFailureResponse : Printout → (reported : Bytes) → Type 0
+IsFailureResponse p reported = IsResponseOf reported p × (p.status ≡ exit_code Failed)
 
 -- The frame carries this printout, and the keep stays usable unless the status is that of a failure.
 abbrev pub IsFrameResponse : (keep_usable : Bool) → Printout → (reported : Bytes) → Type 0
@@ -39,6 +47,10 @@ IsFrameResponseIfRoom keep_usable p reported = IfRoom (λ left. IsFrameResponse 
 abbrev pub IsReadyWith : Poll ImportState → (Bytes → Type 0) → Type 0
 IsReadyWith (Ready reported) IsSo = IsSo reported.items
 IsReadyWith (Pending import) IsSo = ⊥
+
+-- The response to the plant reports this fault of the keep, and nothing else.
+abbrev pub ReportsFault : KeepFault → Poll ImportState → Type 0
+ReportsFault fault poll = IsReadyWith poll (λ reported. IsResponse reported (exit_code Failed) [] (fault_line fault))
 
 -- ---- an import
 
@@ -124,6 +136,17 @@ module _ {K : Type 0} (meaning : Meaning K) (old new : K) where
   -- The same; or there was no memory, nothing was done, and the response is empty.
   abbrev pub IsServedIfRoom : Listener → (requested : Bytes) → Poll ImportState → Type 0
   IsServedIfRoom listener requested poll = ((keep_usable : Bool) × IsInputServed listener requested poll keep_usable) ⊎ ((new ≡ old) × IsReadyWith poll (λ reported. reported ≡ []))
+
+  -- A turn met this fault. For an owner that is a fault of a call of the keep, or a lack of memory; for the plant it is the fault that its
+  -- response reports, or a lack of memory.
+  abbrev pub IsTurnFault : Listener → Poll ImportState → KeepFault → Type 0
+  IsTurnFault Owners poll fault = IsFaultMet meaning old new fault
+  IsTurnFault Plant poll fault = (fault ≡ Memory) ⊎ ReportsFault fault poll
+
+  -- A record of the import met this fault, or there was no memory.
+  abbrev pub IsImportFault : ImportState → KeepFault → Type 0
+  IsImportFault was fault = (fault ≡ Memory)
+      ⊎ ((now : ImportState) × IsResumed meaning old new was now × Contains (outcomes_in now.lines) (Fault fault))
 
   -- The import went on over the keep, with this outcome.
   pub record ImportResumed (was : ImportState) (poll : Poll ImportState) (keep_usable : Bool) : Type 0 where

@@ -4,6 +4,7 @@ use Rattle.toll_base.specs.Bytes.{Bytes}
 use Rattle.toll_keep.specs.CallEffects.{IsReading}
 use Rattle.toll_keep.specs.Meaning.{Meaning}
 use Rattle.toll_keep.specs.declared.fault.KeepFault.{KeepFault}
+use Rattle.toll_keep.specs.declared.fault.KeepFault.TheVariants.{Damaged as FoundDamaged}
 use Rattle.toll_service.specs.Damages.{IsKnown, IsNoted, KnowsNoMore, KnowsNothing, StaysWhere}
 use Rattle.toll_service.specs.Faults.{fault_text}
 use Rattle.toll_service.specs.FileChanges.{AreFound}
@@ -25,7 +26,7 @@ use Rattle.toll_plant.specs.ImportStates.{ImportState}
 use Rattle.toll_programs.specs.Statuses.{exit_code}
 use Rattle.toll_programs.specs.declared.status.Status.TheVariants.{Failed}
 use Rattle.toll_service.specs.declared.turn_result.TurnResult.{TurnResult}
-use Rattle.toll_service.specs.Listeners.{IsImportAborted, IsReadyWith}
+use Rattle.toll_service.specs.Listeners.{IsImportAborted, IsReadyWith, ReportsFault}
 use Rattle.toll_service.specs.Serving.{AnswersOver, ResumesOver, WereServed}
 use Rattle.toll_wire.specs.OutTexts.{out_bytes}
 use Rattle.toll_wire.specs.declared.outgoing.Out.TheVariants.{Unavailable}
@@ -187,7 +188,8 @@ module _ {K : Type 0} (meaning : Meaning K) (is_opened : K → Type 0) (is_found
     -- files. New damage was met in this turn.
     abbrev pub AnswersBy : O → Listener → Bytes → Poll ImportState → O → Type 0
     AnswersBy old listener requested poll new =
-        IsToldBy (IsNoted meaning is_opened is_probed (AreAsLeft is_found (session old)) (session old).damage (session new).damage listener requested poll)
+        IsToldBy (IsNoted meaning is_opened is_probed (AreAsLeft is_found (session old)) (ReportsFault FoundDamaged poll)
+        (session old).damage (session new).damage listener requested)
         old (Request listener requested) poll new
         ⊎ IsUnheard old listener requested poll new
 

@@ -1,14 +1,15 @@
 //! Answering requests at the two listeners.
-ghost use Rattle.std.specs.Prelude.{◌≡◌, IfOk, OnErr};
+ghost use Rattle.std.specs.Prelude.{◌≡◌, IfOk, IfSome, OnErr, is_none};
 ghost use Rattle.toll_server.specs.declared.listener.Listener.{Listener};
-ghost use Rattle.toll_service.specs.Listeners.{IsOwnerServed, IsReadyWith, IsInputServed};
+ghost use Rattle.toll_service.specs.Listeners.{IsOwnerServed, IsReadyWith, IsInputServed, IsTurnFault};
+ghost use Rattle.toll_wire.specs.Steps.{IsFaultMet};
 
 use crate::plant::answer_plant;
 use crate::turn_result::TurnResult;
 use std::alloc::{AllocError, Global};
 use toll_keep::Keep;
 use toll_server::{Listener, Poll};
-use toll_wire::{OfficeRouter, Out, reply_by_router};
+use toll_wire::{OfficeRouter, Out, answer_with_router};
 
 /// Answers the bytes that a client sent to a listener, over a keep.
 ///
@@ -34,7 +35,8 @@ pub fn answer_at<K: Keep>(
     bytes: &[u8],
 ) -> Result<TurnResult, AllocError>
     ensures err { OnErr result (keep.new ≡ keep.old) }
-    ensures served { IfOk result (λ reply. IsInputServed K.meaning keep.old keep.new listener bytes.now reply.poll reply.keep_usable) }
+    ensures served { IfOk result (λ reply. IsInputServed K.meaning keep.old keep.new listener bytes.now reply.poll (is_none reply.fault)) }
+    ensures met { IfOk result (λ reply. IfSome reply.fault (IsTurnFault K.meaning keep.old keep.new listener reply.poll)) }
 {
     match listener {
         Listener::Owners => answer_owner(alloc, router, keep, bytes),
@@ -50,17 +52,19 @@ fn answer_owner<K: Keep>(
     bytes: &[u8],
 ) -> Result<TurnResult, AllocError>
     ensures err { OnErr result (keep.new ≡ keep.old) }
-    ensures served { IfOk result (λ reply. IsReadyWith reply.poll (λ reported. IsOwnerServed K.meaning keep.old keep.new bytes.now reported reply.keep_usable)) }
+    ensures served { IfOk result (λ reply. IsReadyWith reply.poll
+        (λ reported. IsOwnerServed K.meaning keep.old keep.new bytes.now reported (is_none reply.fault))) }
+    ensures met { IfOk result (λ reply. IfSome reply.fault (IsFaultMet K.meaning keep.old keep.new)) }
 {
     let unavailable = Vec::from_slice(alloc, Out::Unavailable.bytes())?;
-    match reply_by_router(alloc, router, keep, bytes) {
-        Out::Text(text) => Ok(TurnResult {
+    match answer_with_router(alloc, router, keep, bytes) {
+        Ok(text) => Ok(TurnResult {
             poll: Poll::Ready(text),
-            keep_usable: true,
+            fault: None,
         }),
-        Out::Unavailable => Ok(TurnResult {
+        Err(fault) => Ok(TurnResult {
             poll: Poll::Ready(unavailable),
-            keep_usable: false,
+            fault: Some(fault),
         }),
     }
 }

@@ -1,5 +1,5 @@
 //! The office in a file, as the clients of a server ask it.
-ghost use Rattle.std.specs.Prelude.{◌≡◌, None, Some, if◌then◌else◌};
+ghost use Rattle.std.specs.Prelude.{◌≡◌, None, Some, is_none, if◌then◌else◌};
 ghost use Rattle.toll_service.specs.Parties.{IsBy};
 ghost use Rattle.toll_service.specs.FileServing.{Answers, IsFresh, Resumes};
 ghost use Rattle.toll_service.specs.Sessions.{IsNewSession};
@@ -82,9 +82,9 @@ impl<K: Drop, O: Drop> OfficeService<'_, K, O> {
         ensures poll { result ≡ reply.poll }
         ensures session { self.new.session ≡ self.old.session }
         ensures office_path { self.new.office_path ≡ self.old.office_path }
-        ensures fault { self.new.faults.fault ≡ (if reply.keep_usable then None else Some ServingFault.Unavailable) }
+        ensures fault { self.new.faults.fault ≡ (if is_none reply.fault then None else Some ServingFault.Unavailable) }
     {
-        let fault = (!reply.keep_usable).then_some(ServingFault::Unavailable);
+        let fault = reply.fault.is_some().then_some(ServingFault::Unavailable);
         self.faults.update(self.office_path.rt, fault);
         reply.poll
     }
@@ -141,9 +141,9 @@ impl<K: Keep + Drop, O: KeepOpener<K>> Service for OfficeService<'_, K, O> {
         }
         match self.session.answer(&mut self.office_path, listener, bytes) {
             Ok(reply) => {
-                if !reply.keep_usable {
+                if let Some(fault) = reply.fault {
                     self.session
-                        .note_damage(&mut self.office_path, listener, bytes, &reply.poll);
+                        .note_damage(&mut self.office_path, listener, bytes, fault);
                 }
                 self.logged(reply)
             }

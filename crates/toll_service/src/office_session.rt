@@ -1,15 +1,11 @@
 //! An office that stays open between requests, while other programs may use its file.
-ghost use Rattle.std.specs.Prelude.{◌≡◌, ◌⊎◌, ◌+◌, ◌-◌, ◌<◌, false, true, [], None, Some, Ok, ⊤, IfErr, IfNone, IfOk, IfSome, IsSome, OnErr, OnOk, OnSome};
+ghost use Rattle.std.specs.Prelude.{◌≡◌, ◌≢◌, ◌⊎◌, ◌+◌, ◌-◌, ◌<◌, true, None, Some, Ok, ⊤, IfErr, IfNone, IfOk, IfSome, IsSome, OnErr, OnOk, OnSome};
 ghost use Rattle.toll_server.specs.Runs.{Request, Task};
-ghost use Rattle.toll_service.specs.Damages.{AreCallsMet, AreOwnersFound, HasFoundDamage, IsKnown, IsNoted, KnowsNoMore, StaysWhere};
-ghost use Rattle.toll_service.specs.Faults.{fault_text};
+ghost use Rattle.toll_service.specs.Damages.{AreOwnersFound, HasFoundDamage, IsKnown, IsNoted, KnowsNoMore, StaysWhere};
 ghost use Rattle.toll_service.specs.FileChanges.{AreFound};
-ghost use Rattle.toll_service.specs.Listeners.{IsServedIfRoom};
+ghost use Rattle.toll_service.specs.Listeners.{IsServedIfRoom, IsTurnFault, ReportsFault};
 ghost use Rattle.toll_service.specs.Openings.{IsOneOpened, IsOneRefused, IsRefusedAfter, IsSomeRefused, IsNoneOpened};
 ghost use Rattle.toll_service.specs.Sessions.{AreAsLeft, AreCounted, IsAtHand, IsSessionIdle, IsLeftOpen, IsLockKept, IsFoundLost, IsNewSession, IsOpenedAhead, IsWithheld, TakesInput, imports_if_begun, imports_if_ended, state_of_session};
-ghost use Rattle.toll_programs.specs.Statuses.{exit_code};
-ghost use Rattle.toll_programs.specs.declared.status.Status.TheVariants.{Failed};
-ghost use Rattle.toll_protocol.specs.PlantMessages.{IsResponse};
 
 use crate::answering::answer_at;
 use crate::damage::Damage;
@@ -92,7 +88,7 @@ impl<K: Keep + Drop> OfficeSession<K> {
     {
         let (mut opened, lease) = self.check_out(office_path)?;
         let read = read_ahead(office_path.rt.alloc(), &mut opened.keep);
-        self.check_in(office_path, opened, lease, read.is_ok());
+        self.check_in(office_path, opened, lease, read.err());
         Ok(())
     }
 
@@ -106,7 +102,8 @@ impl<K: Keep + Drop> OfficeSession<K> {
         bytes: &[u8],
     ) -> Result<TurnResult, OfficeFault>
         ensures ok { IfOk result (λ reply. TakesInput K.meaning O.is_opened O.is_found self.old (Request listener bytes.now) reply.poll self.new) }
-        ensures closed { IfOk result (λ reply. reply.keep_usable ≡ false → self.new.opened ≡ None) }
+        ensures closed { IfOk result (λ reply. IsSome reply.fault → self.new.opened ≡ None) }
+        ensures reports { IfOk result (λ reply. listener ≡ Listener.Plant → reply.fault ≡ Some KeepFault.Damaged → ReportsFault KeepFault.Damaged reply.poll) }
         ensures imports { IfOk result (λ reply. self.new.imports ≡ imports_if_begun reply.poll self.old.imports) }
         ensures err { OnErr result (IsSessionIdle (state_of_session self.old) (state_of_session self.new) × (self.new.imports ≡ self.old.imports)) }
         ensures refused { IfErr result (λ fault. IsWithheld O.is_found fault self.old
@@ -126,7 +123,7 @@ impl<K: Keep + Drop> OfficeSession<K> {
         if let Poll::Pending(_) = &reply.poll {
             self.imports = self.imports.saturating_add(1);
         }
-        self.check_in(office_path, opened, lease, reply.keep_usable);
+        self.check_in(office_path, opened, lease, reply.fault);
         Ok(reply)
     }
 
@@ -139,7 +136,7 @@ impl<K: Keep + Drop> OfficeSession<K> {
         import: PendingImport,
     ) -> Result<TurnResult, StoppedImport>
         ensures ok { IfOk result (λ reply. TakesInput K.meaning O.is_opened O.is_found self.old (Task import) reply.poll self.new) }
-        ensures closed { IfOk result (λ reply. reply.keep_usable ≡ false → self.new.opened ≡ None) }
+        ensures closed { IfOk result (λ reply. IsSome reply.fault → self.new.opened ≡ None) }
         ensures imports { IfOk result (λ reply. self.new.imports ≡ imports_if_ended reply.poll self.old.imports) }
         ensures err { OnErr result (IsSessionIdle (state_of_session self.old) (state_of_session self.new)) }
         ensures refused { IfErr result (λ stopped. IsWithheld O.is_found stopped.fault self.old
@@ -155,7 +152,7 @@ impl<K: Keep + Drop> OfficeSession<K> {
                 if let Poll::Ready(_) = &reply.poll {
                     self.imports = self.imports.saturating_sub(1);
                 }
-                self.check_in(office_path, opened, lease, reply.keep_usable);
+                self.check_in(office_path, opened, lease, reply.fault);
                 Ok(reply)
             }
             Err(fault) => {
@@ -281,17 +278,17 @@ impl<K: Keep + Drop> OfficeSession<K> {
         }
     }
 
-    // Keeps the office open if it can still be used, and releases it and the lock to other programs if no
-    // import is under way.
+    // Keeps the office open if no fault was met, and releases it and the lock to other programs if no import is
+    // under way.
     fn check_in<O: KeepOpener<K>>(
         &mut self,
         office_path: &mut OfficePath<'_, O>,
         opened: OpenOffice<K>,
         lease: Lease,
-        keep_usable: bool,
+        fault: Option<KeepFault>,
     )
         ensures left { IsLeftOpen opened.keep (state_of_session self.new) }
-        ensures closed { keep_usable ≡ false → self.new.opened ≡ None }
+        ensures closed { IsSome fault → self.new.opened ≡ None }
         ensures unasked { IsNoneOpened (O.openings office_path.old.opener) (O.openings office_path.new.opener) }
         ensures openings { self.new.openings ≡ self.old.openings }
         ensures imports { self.new.imports ≡ self.old.imports }
@@ -299,10 +296,10 @@ impl<K: Keep + Drop> OfficeSession<K> {
         ensures lock { IsLockKept self.new }
     {
         self.note_files(office_path.rt, office_path.path, &lease);
-        self.opened = match (keep_usable, self.imports) {
-            (false, _) => None,
-            (true, 0) => opened.release(office_path, &lease),
-            (true, _) => Some(opened),
+        self.opened = match (fault, self.imports) {
+            (Some(_), _) => None,
+            (None, 0) => opened.release(office_path, &lease),
+            (None, _) => Some(opened),
         };
         self.give_back(lease);
     }
@@ -389,42 +386,33 @@ impl<K: Keep + Drop> OfficeSession<K> {
         matches!(self.is_as_left(office_path, lease), Ok(true))
     }
 
-    /// After a turn that met a fault, finds out whether the fault was damage, and remembers it. For an
-    /// owner's request that is whether the owner's rows are damaged, for which the file is opened once more.
-    /// For a call of the plant it is whether its reply says so.
+    /// After a turn that met damage, remembers a call of the plant, or an owner whose rows are damaged. Whose rows
+    /// are damaged is found by opening the file once more, since the fault doesn't say it: an owner's trace reads
+    /// the rows of HOUSE too.
     pub fn note_damage<O: KeepOpener<K>>(
         &mut self,
         office_path: &mut OfficePath<'_, O>,
         listener: Listener,
         bytes: &[u8],
-        poll: &Poll<PendingImport>,
+        fault: KeepFault,
     )
         ensures state { state_of_session self.new ≡ state_of_session self.old }
         ensures imports { self.new.imports ≡ self.old.imports }
-        ensures noted { IsNoted K.meaning O.is_opened O.is_probed ⊤ self.old.damage self.new.damage listener bytes.now poll.now }
+        ensures spared { fault ≢ KeepFault.Damaged → self.new ≡ self.old }
+        ensures noted { IsNoted K.meaning O.is_opened O.is_probed ⊤ (fault ≡ KeepFault.Damaged) self.old.damage self.new.damage listener bytes.now }
         ensures files { (self.new.left ≡ self.old.left) ⊎ AreAsLeft O.is_found self.old }
         ensures lock { IsLockKept self.old → IsLockKept self.new }
     {
+        if fault != KeepFault::Damaged {
+            return;
+        }
         match listener {
             Listener::Owners => {
                 if let Party::Owner(owner) = Party::of(listener, bytes) {
                     self.probe_owner(office_path, owner);
                 }
             }
-            Listener::Plant => self.note_call(office_path.rt.alloc(), bytes, poll),
-        }
-    }
-
-    // Notes a call of the plant whose reply reports damage.
-    fn note_call(&mut self, alloc: Global, bytes: &[u8], poll: &Poll<PendingImport>)
-        ensures beside { self.new ≡ record self.old { damage = self.new.damage } }
-        ensures owners { self.new.damage.owners ≡ self.old.damage.owners }
-        ensures calls { AreCallsMet self.old.damage self.new.damage bytes.now poll.now }
-    {
-        if let Poll::Ready(reported) = poll {
-            if reports_damage(reported) {
-                self.damage.note_call(alloc, bytes);
-            }
+            Listener::Plant => self.damage.note_call(office_path.rt.alloc(), bytes),
         }
     }
 
@@ -505,13 +493,14 @@ fn reply_over<K: Keep>(
     listener: Listener,
     bytes: &[u8],
 ) -> TurnResult
-    ensures { IsServedIfRoom K.meaning keep.old keep.new listener bytes.now result.poll }
+    ensures served { IsServedIfRoom K.meaning keep.old keep.new listener bytes.now result.poll }
+    ensures met { IfSome result.fault (IsTurnFault K.meaning keep.old keep.new listener result.poll) }
 {
     match answer_at(alloc, router, keep, listener, bytes) {
         Ok(reply) => reply,
         Err(AllocError) => TurnResult {
             poll: Poll::Ready(Vec::new(alloc)),
-            keep_usable: false,
+            fault: Some(KeepFault::Memory),
         },
     }
 }
@@ -534,11 +523,4 @@ fn has_damaged_rows<K: Keep + Drop, O: KeepOpener<K>>(
     let read = office_path.opener.read_rows(alloc, &mut keep, owner);
     office_path.opener.close(keep, lease);
     matches!(read, Err(KeepFault::Damaged))
-}
-
-// Whether the reply to the plant reports damage, and nothing else.
-fn reports_damage(reported: &[u8]) -> bool
-    ensures { result ≡ true → IsResponse reported.now (exit_code Failed) [] (fault_text OfficeFault.Damaged) }
-{
-    reported == OfficeFault::Damaged.response()
 }

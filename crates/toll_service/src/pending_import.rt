@@ -1,15 +1,17 @@
 //! An import that the plant asked a server for.
-ghost use Rattle.std.specs.Prelude.{◌≡◌};
+ghost use Rattle.std.specs.Prelude.{◌≡◌, ◌⊎◌, Contains, IfSome, is_none};
+ghost use Rattle.toll_plant.specs.Imports.{outcomes_in};
+ghost use Rattle.toll_plant.specs.declared.outcome.Outcome.{Outcome};
 ghost use Rattle.toll_service.specs.Faults.{fault_text};
-ghost use Rattle.toll_service.specs.Listeners.{ImportResumed, IsImportAborted, IsReadyWith};
+ghost use Rattle.toll_service.specs.Listeners.{ImportResumed, IsImportAborted, IsImportFault, IsReadyWith};
 
 use crate::office_fault::OfficeFault;
 use crate::reserved_reply::ReservedReply;
 use crate::turn_result::TurnResult;
 use std::alloc::Global;
 use std::marker::Model;
-use toll_keep::Keep;
-use toll_plant::Import;
+use toll_keep::{Keep, KeepFault};
+use toll_plant::{Import, ImportLine, ImportReport, Outcome};
 use toll_programs::{output_of_import, output_of_stopped_import};
 use toll_server::Poll;
 
@@ -40,17 +42,19 @@ impl PendingImport {
     /// Resumes the import over a keep: the next group of its records acts. If no record is left then, the
     /// reply to the plant is the program's output for all of them, and the exit status.
     pub fn resume<K: Keep>(mut self, alloc: Global, keep: &mut K) -> TurnResult
-        ensures { ImportResumed K.meaning keep.old keep.new self result.poll result.keep_usable }
+        ensures resumed { ImportResumed K.meaning keep.old keep.new self result.poll (is_none result.fault) }
+        ensures met { IfSome result.fault (IsImportFault K.meaning keep.old keep.new self) }
     {
         self.import.resume(alloc, keep);
         if self.import.is_over() {
             let report = self.import.into_report();
+            let met = fault_in(&report);
             self.reserved
-                .write(alloc, &output_of_import(alloc, Ok(report)))
+                .write(alloc, &output_of_import(alloc, Ok(report)), met)
         } else {
             TurnResult {
                 poll: Poll::Pending(self),
-                keep_usable: true,
+                fault: None,
             }
         }
     }
@@ -59,10 +63,25 @@ impl PendingImport {
     /// of the records so far, the line of the fault on standard error, and the exit status of a failure.
     /// Output for which there is no memory is left out.
     pub fn abort(self, alloc: Global, fault: OfficeFault) -> TurnResult
-        ensures { IsReadyWith result.poll (λ reported. IsImportAborted self.lines (fault_text fault) reported result.keep_usable) }
+        ensures { IsReadyWith result.poll (λ reported. IsImportAborted self.lines (fault_text fault) reported (is_none result.fault)) }
     {
         let report = self.import.into_report();
         let done = output_of_stopped_import(alloc, &report, fault.line());
-        self.reserved.write(alloc, &done)
+        self.reserved.write(alloc, &done, KeepFault::Closed)
+    }
+}
+
+// The fault that the last record of an import met, or Memory.
+fn fault_in(report: &ImportReport) -> KeepFault
+    ensures { (result ≡ KeepFault.Memory) ⊎ Contains (outcomes_in report.now.lines.items) (Outcome.Fault result) }
+{
+    match report.lines.last() {
+        Some(
+            ImportLine {
+                outcome: Outcome::Fault(fault),
+                ..
+            },
+        ) => *fault,
+        _ => KeepFault::Memory,
     }
 }

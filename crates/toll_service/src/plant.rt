@@ -1,8 +1,10 @@
 //! What the plant asks of a server.
-ghost use Rattle.std.specs.Prelude.{◌≡◌, map, IfNone, IfOk, IfSome, OnErr};
+ghost use Rattle.std.specs.Cow.{cow_slice_items};
+ghost use Rattle.std.specs.Prelude.{◌≡◌, ◌⊎◌, map, [], IfNone, IfOk, IfSome, OnErr, is_none};
 ghost use Rattle.toll_programs.specs.Outputs.{printout_of};
+ghost use Rattle.toll_programs.specs.Printing.{fault_line};
 ghost use Rattle.toll_server.specs.declared.listener.Listener.{Listener};
-ghost use Rattle.toll_service.specs.Listeners.{BeginsOrRefuses, IsRequestedDone, IsInputServed};
+ghost use Rattle.toll_service.specs.Listeners.{BeginsOrRefuses, IsRequestedDone, IsInputServed, IsTurnFault};
 ghost use Rattle.toll_service.specs.Requested.{ImportFile, is_import, requested_by_words, requested_in};
 
 use crate::pending_import::PendingImport;
@@ -10,7 +12,7 @@ use crate::reserved_reply::ReservedReply;
 use crate::turn_result::TurnResult;
 use std::alloc::{AllocError, Global};
 use std::borrow::CowSlice;
-use toll_keep::Keep;
+use toll_keep::{Keep, KeepFault};
 use toll_plant::{Import, WordsFault, command_of};
 use toll_programs::{Output, Status, execute, output_of_import};
 use toll_protocol::Call;
@@ -24,12 +26,13 @@ pub fn answer_plant<K: Keep>(
     bytes: &[u8],
 ) -> Result<TurnResult, AllocError>
     ensures err { OnErr result (keep.new ≡ keep.old) }
-    ensures served { IfOk result (λ reply. IsInputServed K.meaning keep.old keep.new Listener.Plant bytes.now reply.poll reply.keep_usable) }
+    ensures served { IfOk result (λ reply. IsInputServed K.meaning keep.old keep.new Listener.Plant bytes.now reply.poll (is_none reply.fault)) }
+    ensures met { IfOk result (λ reply. IfSome reply.fault (IsTurnFault K.meaning keep.old keep.new Listener.Plant reply.poll)) }
 {
     let Some(call) = Call::read(alloc, bytes)? else {
         return Ok(TurnResult {
             poll: Poll::Ready(Vec::new(alloc)),
-            keep_usable: true,
+            fault: None,
         });
     };
     let reserved = ReservedReply::new(alloc)?;
@@ -37,7 +40,7 @@ pub fn answer_plant<K: Keep>(
         Some(file) => Ok(begin(alloc, file, reserved)),
         None => {
             let done = execute_words(alloc, keep, &call.words)?;
-            Ok(reserved.write(alloc, &done))
+            Ok(reserved.write(alloc, &done, fault_in(&done)))
         }
     }
 }
@@ -55,14 +58,18 @@ fn import_in<'a>(call: &Call<'a>) -> Option<&'a [u8]>
 
 // Begins an import, or replies why there is none.
 fn begin(alloc: Global, file: &[u8], reserved: ReservedReply) -> TurnResult
-    ensures { BeginsOrRefuses file.now result.poll result.keep_usable }
+    ensures begins { BeginsOrRefuses file.now result.poll (is_none result.fault) }
+    ensures met { IfSome result.fault (λ fault. fault ≡ KeepFault.Memory) }
 {
     match Import::of(alloc, file) {
         Ok(import) => TurnResult {
             poll: Poll::Pending(PendingImport::new(import, reserved)),
-            keep_usable: true,
+            fault: None,
         },
-        Err(fault) => reserved.write(alloc, &output_of_import(alloc, Err(fault))),
+        Err(fault) => {
+            let done = output_of_import(alloc, Err(fault));
+            reserved.write(alloc, &done, KeepFault::Memory)
+        }
     }
 }
 
@@ -78,6 +85,24 @@ fn execute_words<K: Keep>(alloc: Global, keep: &mut K, words: &[&str]) -> Result
             CowSlice::Owned(usage),
         )),
         Err(WordsFault::Memory) => Err(AllocError),
+    }
+}
+
+// The fault of which an output has the line and nothing else, or Memory.
+fn fault_in(done: &Output) -> KeepFault
+    ensures { (result ≡ KeepFault.Memory) ⊎ ((cow_slice_items done.now.stdout ≡ []) × (cow_slice_items done.now.stderr ≡ fault_line result)) }
+{
+    let line: &[u8] = &done.stderr;
+    if !done.stdout.is_empty() {
+        KeepFault::Memory
+    } else if line == b"fault Damaged\n".as_slice() {
+        KeepFault::Damaged
+    } else if line == b"fault Disk\n".as_slice() {
+        KeepFault::Disk
+    } else if line == b"fault Closed\n".as_slice() {
+        KeepFault::Closed
+    } else {
+        KeepFault::Memory
     }
 }
 

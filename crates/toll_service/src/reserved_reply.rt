@@ -4,6 +4,7 @@ ghost use Rattle.toll_protocol.specs.PlantMessages.{IsResponse};
 
 use crate::turn_result::TurnResult;
 use std::alloc::{AllocError, Global};
+use toll_keep::KeepFault;
 use toll_programs::{Output, Status};
 use toll_protocol::Response;
 use toll_server::Poll;
@@ -19,9 +20,9 @@ pub struct ReservedReply {
 }
 
 impl ReservedReply {
-    ghost use Rattle.std.specs.Prelude.{◌≡◌};
+    ghost use Rattle.std.specs.Prelude.{◌≡◌, ◌⊎◌, IfSome, is_none};
     ghost use Rattle.toll_programs.specs.Outputs.{printout_of};
-    ghost use Rattle.toll_service.specs.Listeners.{IsReadyWith, IsFrameResponse, IsFrameResponseIfRoom};
+    ghost use Rattle.toll_service.specs.Listeners.{IsReadyWith, IsFailureResponse, IsFrameResponse, IsFrameResponseIfRoom};
     ghost use Rattle.toll_service.specs.Unwritten.{status_alone, status_unwritten};
 
     /// Takes the memory.
@@ -37,15 +38,18 @@ impl ReservedReply {
         }
     }
 
-    /// The reply to the plant. If there is no memory for all of the output, it is the exit status alone, as
-    /// of a program that can write nothing.
-    pub fn write(self, alloc: Global, done: &Output) -> TurnResult
-        ensures { IsReadyWith result.poll (IsFrameResponseIfRoom result.keep_usable (printout_of done.now)) }
+    /// The reply to the plant, and the fault that was met if the output is that of a failure. If there is no
+    /// memory for all of the output, the reply is the exit status alone, as of a program that can write nothing,
+    /// and the fault of a failure is Memory.
+    pub fn write(self, alloc: Global, done: &Output, met: KeepFault) -> TurnResult
+        ensures frame { IsReadyWith result.poll (IsFrameResponseIfRoom (is_none result.fault) (printout_of done.now)) }
+        ensures met { IfSome result.fault (λ fault. (fault ≡ KeepFault.Memory)
+            ⊎ ((fault ≡ met) × IsReadyWith result.poll (λ reported. IsFailureResponse (printout_of done.now) reported))) }
     {
         match done.as_response().encode(alloc) {
             Ok(frame) => TurnResult {
                 poll: Poll::Ready(frame),
-                keep_usable: done.status.code() != Status::Failed.code(),
+                fault: (done.status == Status::Failed).then_some(met),
             },
             Err(_) => self.write_status(ReservedReply::code_unwritten(done)),
         }
@@ -53,13 +57,14 @@ impl ReservedReply {
 
     // The reply with this exit status and no output.
     fn write_status(self, status: u8) -> TurnResult
-        ensures { IsReadyWith result.poll (IsFrameResponse result.keep_usable (status_alone status)) }
+        ensures frame { IsReadyWith result.poll (IsFrameResponse (is_none result.fault) (status_alone status)) }
+        ensures met { IfSome result.fault (λ fault. fault ≡ KeepFault.Memory) }
     {
         let ReservedReply { mut frame } = self;
         frame[STATUS_PLACE] = status;
         TurnResult {
             poll: Poll::Ready(frame),
-            keep_usable: status != Status::Failed.code(),
+            fault: (status == Status::Failed.code()).then_some(KeepFault::Memory),
         }
     }
 

@@ -7,7 +7,7 @@ mod services;
 
 use crate::served::fake_network::{FakeNetwork, Log};
 use std::alloc::{AllocError, Global};
-use toll_keep::{Keep, MemKeep};
+use toll_keep::{Keep, KeepFault, MemKeep};
 use toll_protocol::Response;
 use toll_server::{Listener, Poll, ServingEnd};
 use toll_service::{KeepService, TurnResult, answer_at, serve_keep};
@@ -86,12 +86,12 @@ const SIDE_BY_SIDE: &[Client<'static>] = &[ADD_AGAIN, PLACE, IMPORT, BAD_IMPORT,
 
 // The outcome of one more turn, if an import is left.
 fn resume<K: Keep>(alloc: Global, keep: &mut K, reply: TurnResult) -> TurnResult {
-    let TurnResult { poll, keep_usable } = reply;
+    let TurnResult { poll, fault } = reply;
     match poll {
         Poll::Pending(importing) => importing.resume(alloc, keep),
         Poll::Ready(bytes) => TurnResult {
             poll: Poll::Ready(bytes),
-            keep_usable,
+            fault,
         },
     }
 }
@@ -128,30 +128,30 @@ fn status_of(reply: &TurnResult) -> Option<u8> {
     }
 }
 
-// Whether this is the response, and the keep stays usable or not.
-fn tells(reply: &TurnResult, reported: &[u8], keep_usable: bool) -> bool {
+// Whether this is the response, and the fault that was met.
+fn tells(reply: &TurnResult, reported: &[u8], fault: Option<KeepFault>) -> bool {
     match &reply.poll {
-        Poll::Ready(bytes) => bytes.as_slice() == reported && reply.keep_usable == keep_usable,
+        Poll::Ready(bytes) => bytes.as_slice() == reported && reply.fault == fault,
         Poll::Pending(_) => false,
     }
 }
 
-// Whether the response to this client is exactly this, and the keep stays usable or not.
+// Whether the response to this client is exactly this, and the fault that was met.
 fn is_expected<K: Keep>(
     alloc: Global,
     keep: &mut K,
     visit: &Client<'_>,
-    keep_usable: bool,
+    fault: Option<KeepFault>,
 ) -> Result<bool, AllocError> {
     let reply = answer_whole(alloc, keep, visit.listener, visit.bytes)?;
-    Ok(tells(&reply, visit.expected, keep_usable))
+    Ok(tells(&reply, visit.expected, fault))
 }
 
 #[test]
 fn each_listener_replies_as_the_program_would(rt: HostRuntime) -> Result<(), AllocError> {
     let mut keep = MemKeep::new(rt.alloc());
     for visit in VISITS {
-        let is_right = is_expected(rt.alloc(), &mut keep, visit, true)?;
+        let is_right = is_expected(rt.alloc(), &mut keep, visit, None)?;
         assert!(rt; is_right, "at {:?}", visit.bytes);
     }
     Ok(())
@@ -161,7 +161,7 @@ fn each_listener_replies_as_the_program_would(rt: HostRuntime) -> Result<(), All
 fn clients_side_by_side_get_their_own_replies(rt: HostRuntime) -> Result<(), AllocError> {
     let mut keep = MemKeep::new(rt.alloc());
     for visit in SETUP {
-        let is_right = is_expected(rt.alloc(), &mut keep, visit, true)?;
+        let is_right = is_expected(rt.alloc(), &mut keep, visit, None)?;
         assert!(rt; is_right, "at {:?}", visit.bytes);
     }
     let mut office = KeepService::new(keep);
@@ -174,7 +174,7 @@ fn clients_side_by_side_get_their_own_replies(rt: HostRuntime) -> Result<(), All
     );
     assert_eq!(rt; served, ServingEnd::All);
     assert_eq!(rt; log.replied.get(), SIDE_BY_SIDE.len());
-    let placed = is_expected(rt.alloc(), &mut office.keep, &LIST, true)?;
+    let placed = is_expected(rt.alloc(), &mut office.keep, &LIST, None)?;
     assert!(rt; placed);
     Ok(())
 }
@@ -183,7 +183,7 @@ fn clients_side_by_side_get_their_own_replies(rt: HostRuntime) -> Result<(), All
 fn a_frame_that_was_cut_does_nothing(rt: HostRuntime) -> Result<(), AllocError> {
     let mut keep = MemKeep::new(rt.alloc());
     let reply = answer_alone(rt.alloc(), &mut keep, Listener::Plant, CUT)?;
-    assert!(rt; tells(&reply, b"", true));
+    assert!(rt; tells(&reply, b"", None));
     let reply = answer_alone(rt.alloc(), &mut keep, Listener::Plant, NO_COMMAND)?;
     assert_eq!(rt; status_of(&reply), Some(2));
     Ok(())
@@ -196,9 +196,10 @@ fn after_a_fault_the_keep_is_left(rt: HostRuntime) -> Result<(), AllocError> {
         expected: NO_MEMORY,
         ..ADD_OWNER
     };
-    let is_right = is_expected(rt.alloc(), &mut keep, &refused, false)?;
+    let met = Some(KeepFault::Memory);
+    let is_right = is_expected(rt.alloc(), &mut keep, &refused, met)?;
     assert!(rt; is_right);
-    let is_right = is_expected(rt.alloc(), &mut keep, &ADD_OWNER, true)?;
+    let is_right = is_expected(rt.alloc(), &mut keep, &ADD_OWNER, None)?;
     assert!(rt; is_right);
     Ok(())
 }

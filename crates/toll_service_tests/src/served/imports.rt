@@ -5,7 +5,7 @@ use crate::served::{
 };
 use std::alloc::{AllocError, Global};
 use std::test::Fail;
-use toll_keep::{Keep, MemKeep};
+use toll_keep::{Keep, KeepFault, MemKeep};
 use toll_plant::GROUP_RECORDS;
 use toll_protocol::{Call, EncodeFault, Response};
 use toll_server::{Listener, ServingEnd};
@@ -89,7 +89,7 @@ fn are_told<K: Keep>(
     visits: &[Client<'static>],
 ) -> Result<bool, AllocError> {
     for visit in visits {
-        if !is_expected(alloc, keep, visit, true)? {
+        if !is_expected(alloc, keep, visit, None)? {
             return Ok(false);
         }
     }
@@ -108,7 +108,7 @@ fn each_group_finds_what_was_done_before_it(rt: HostRuntime) -> Result<(), Fail>
     }
     let reply = resume(rt.alloc(), &mut keep, reply);
     let wanted = told_with_others(rt.alloc())?;
-    assert!(rt; tells(&reply, &wanted, true));
+    assert!(rt; tells(&reply, &wanted, None));
     Ok(())
 }
 
@@ -121,7 +121,7 @@ fn behind_a_fault_no_group_acts(rt: HostRuntime) -> Result<(), Fail> {
     let mut keep = Refusing::new(keep, Refused::Behind(0));
     let reply = resume(rt.alloc(), &mut keep, reply);
     let wanted = told_with_a_fault(rt.alloc())?;
-    assert!(rt; tells(&reply, &wanted, false));
+    assert!(rt; tells(&reply, &wanted, Some(KeepFault::Memory)));
     Ok(())
 }
 

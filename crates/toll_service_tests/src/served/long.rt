@@ -42,7 +42,7 @@ fn is_whole(alloc: Global, reply: &TurnResult, output: &[u8]) -> Result<bool, En
         output,
         error: b"",
     };
-    Ok(tells(reply, &reported.encode(alloc)?, true))
+    Ok(tells(reply, &reported.encode(alloc)?, None))
 }
 
 // A file that is as long as one may be, of one record that is none.

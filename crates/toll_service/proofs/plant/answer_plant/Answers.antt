@@ -1,4 +1,4 @@
-use Rattle.std.proofs.Common.{◌∙◌, ap, map, option_map, rules, subst, sym}
+use Rattle.std.proofs.Common.{◌∙◌, ap, is_none, map, option_map, rules, subst, sym}
 use Rattle.toll_protocol.specs.PlantMessages.{IsCall}
 use Rattle.toll_programs.specs.Outputs.{printout_of}
 use Rattle.toll_service.specs.Listeners.{IsRequestedDone}
@@ -10,7 +10,7 @@ pub returns-in-Some-import_in-clause-served : goal.returns-in-Some-import_in-cla
 returns-in-Some-import_in-clause-served g c =
     let read = c.in-Some.call in
     let asks : IsCall c.args.bytes.now (map (λ word. word.now) read.words.items) (option_map (λ file. file.now) read.file) = search rules in
-    import_turn g.K.Keep.meaning c.args.keep.now c.args.bytes.now c.begin.result.poll c.begin.result.keep_usable _ _ c.in-Some-import_in.file.now asks c.in-Some-import_in.ensures.some c.begin.ensures
+    import_turn g.K.Keep.meaning c.args.keep.now c.args.bytes.now c.begin.result.poll (is_none c.begin.result.fault) _ _ c.in-Some-import_in.file.now asks c.in-Some-import_in.ensures.some c.begin.ensures.begins
 
 pub returns-clause-served : goal.returns-clause-served
 returns-clause-served g c =
@@ -18,5 +18,5 @@ returns-clause-served g c =
     let p = printout_of c.in_ok-done-in-None.done in
     let asks : IsCall c.args.bytes.now (map (λ word. word.now) read.words.items) (option_map (λ file. file.now) read.file) = search rules in
     let wants = c.in-None.ensures.none ∙ ap (λ words. requested_by_words (map (λ w. w.now) words)) (sym c.deref.ensures.value) in
-    plant_turn g.K.Keep.meaning c.args.keep.now c.execute_words.new.keep c.args.bytes.now c.write.result.poll c.write.result.keep_usable _ _ p asks
-    (subst (λ wanted. IsRequestedDone g.K.Keep.meaning c.args.keep.now c.execute_words.new.keep wanted p) (sym wants) c.in_ok-done-in-None.ensures.done) c.write.ensures
+    plant_turn g.K.Keep.meaning c.args.keep.now c.execute_words.new.keep c.args.bytes.now c.write.result.poll (is_none c.write.result.fault) _ _ p asks
+    (subst (λ wanted. IsRequestedDone g.K.Keep.meaning c.args.keep.now c.execute_words.new.keep wanted p) (sym wants) c.in_ok-done-in-None.ensures.done) c.write.ensures.frame

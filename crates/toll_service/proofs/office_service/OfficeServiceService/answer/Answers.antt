@@ -1,32 +1,36 @@
-use Rattle.std.proofs.Common.{◌≡◌, ◌∙◌, ap, inl, inr, rules, subst, sym}
+use Rattle.std.proofs.Common.{◌≡◌, ◌∙◌, Some, ap, inl, inr, rules, subst, sym}
+use Rattle.toll_keep.specs.declared.fault.KeepFault.TheVariants.{Damaged}
 use Rattle.toll_service.specs.Common.{Request}
 use Rattle.toll_service.specs.Damages.{IsNoted, KnowsNoMore}
+use Rattle.toll_service.specs.Listeners.{ReportsFault}
 use Rattle.toll_service.specs.Openings.{IsNoneOpened}
 use Rattle.toll_service.specs.Sessions.{AreAsLeft, IsSessionIdle, IsAnsweredAtHand, IsWithheld, state_of_session}
 use Rattle.toll_service.proofs.DamageLemmas.{noted_behind, noted_none}
 use Rattle.toll_service.proofs.office_service.OfficeServiceService.answer.Goals as goal
-use Rattle.toll_service.proofs.office_service.OfficeServiceService.answer.Goals.{then-not-reply, else-not-reply}
+use Rattle.toll_service.proofs.office_service.OfficeServiceService.answer.Goals.{in-Some, in_default-fault}
 
-pub returns-after-not-reply : goal.returns-after-not-reply
-returns-after-not-reply g c =
+pub returns-after-reply : goal.returns-after-reply
+returns-after-reply g c =
     let first = c.args.self.now.session in
     let known = first.damage in
     let old = state_of_session first in
+    let reply = c.in-Ok-answer.reply in
     let Kept : Type 0 = AreAsLeft g.O.KeepOpener.is_found first in
-    let session : c.logged.new.self.session ≡ c.if-not-reply.self.session = c.logged.ensures.session in
-    let noted : (state_of_session c.if-not-reply.self.session ≡ state_of_session c.answer.new.self)
-    × IsNoted g.K.Keep.meaning g.O.KeepOpener.is_opened g.O.KeepOpener.is_probed Kept known c.if-not-reply.self.session.damage c.args.listener c.args.bytes.now c.in-Ok-answer.reply.poll =
-    elim (c.if-not-reply.branch) [
-      | then-not-reply w ↦ (
+    let Reports : Type 0 = ReportsFault Damaged reply.poll in
+    let session : c.logged.new.self.session ≡ c.match-reply.self.session = c.logged.ensures.session in
+    let noted : (state_of_session c.match-reply.self.session ≡ state_of_session c.answer.new.self)
+    × IsNoted g.K.Keep.meaning g.O.KeepOpener.is_opened g.O.KeepOpener.is_probed Kept Reports known c.match-reply.self.session.damage c.args.listener c.args.bytes.now =
+    elim (c.match-reply.branch) [
+      | in-Some w ↦ (
         ap (λ s. state_of_session s.session) w.self-is ∙ w.note_damage.ensures.state,
-        subst (λ s. IsNoted g.K.Keep.meaning g.O.KeepOpener.is_opened g.O.KeepOpener.is_probed Kept known s.session.damage c.args.listener c.args.bytes.now c.in-Ok-answer.reply.poll) (sym w.self-is)
-            (noted_behind g.K.Keep.meaning g.O.KeepOpener.is_opened g.O.KeepOpener.is_probed Kept known c.answer.new.self.damage w.note_damage.new.self.damage c.args.listener c.args.bytes.now c.in-Ok-answer.reply.poll
-            c.in-Ok-answer.ensures.damage w.note_damage.ensures.noted),
+        subst (λ s. IsNoted g.K.Keep.meaning g.O.KeepOpener.is_opened g.O.KeepOpener.is_probed Kept Reports known s.session.damage c.args.listener c.args.bytes.now) (sym w.self-is)
+            (noted_behind g.K.Keep.meaning g.O.KeepOpener.is_opened g.O.KeepOpener.is_probed Kept (w.in-Some.fault ≡ Damaged) Reports known c.answer.new.self.damage w.note_damage.new.self.damage c.args.listener c.args.bytes.now
+            c.in-Ok-answer.ensures.damage (λ is met. c.in-Ok-answer.ensures.reports is (w.in-Some.is ∙ ap (λ fault. Some fault) met)) w.note_damage.ensures.noted),
       )
-      | else-not-reply w ↦ (
+      | in_default-fault w ↦ (
         ap (λ s. state_of_session s.session) w.self-is,
-        subst (λ s. IsNoted g.K.Keep.meaning g.O.KeepOpener.is_opened g.O.KeepOpener.is_probed Kept known s.session.damage c.args.listener c.args.bytes.now c.in-Ok-answer.reply.poll) (sym w.self-is)
-            (noted_none g.K.Keep.meaning g.O.KeepOpener.is_opened g.O.KeepOpener.is_probed Kept known c.answer.new.self.damage c.args.listener c.args.bytes.now c.in-Ok-answer.reply.poll c.in-Ok-answer.ensures.damage),
+        subst (λ s. IsNoted g.K.Keep.meaning g.O.KeepOpener.is_opened g.O.KeepOpener.is_probed Kept Reports known s.session.damage c.args.listener c.args.bytes.now) (sym w.self-is)
+            (noted_none g.K.Keep.meaning g.O.KeepOpener.is_opened g.O.KeepOpener.is_probed Kept Reports known c.answer.new.self.damage c.args.listener c.args.bytes.now c.in-Ok-answer.ensures.damage),
       )
     ] in
     let state : state_of_session c.logged.new.self.session ≡ state_of_session c.answer.new.self = ap (λ s. state_of_session s) session ∙ noted.0 in
@@ -34,8 +38,8 @@ returns-after-not-reply g c =
       subst (λ s. IsAnsweredAtHand g.K.Keep.meaning g.O.KeepOpener.is_opened Kept old (Request c.args.listener c.args.bytes.now) c.logged.result s) (sym state)
           (subst (λ p. IsAnsweredAtHand g.K.Keep.meaning g.O.KeepOpener.is_opened Kept old (Request c.args.listener c.args.bytes.now) p (state_of_session c.answer.new.self)) (sym c.logged.ensures.poll)
           c.in-Ok-answer.ensures.ok),
-      subst (λ s. IsNoted g.K.Keep.meaning g.O.KeepOpener.is_opened g.O.KeepOpener.is_probed Kept known s.damage c.args.listener c.args.bytes.now c.logged.result) (sym session)
-          (subst (λ p. IsNoted g.K.Keep.meaning g.O.KeepOpener.is_opened g.O.KeepOpener.is_probed Kept known c.if-not-reply.self.session.damage c.args.listener c.args.bytes.now p) (sym c.logged.ensures.poll) noted.1),
+      subst (λ s. IsNoted g.K.Keep.meaning g.O.KeepOpener.is_opened g.O.KeepOpener.is_probed Kept (ReportsFault Damaged c.logged.result) known s.damage c.args.listener c.args.bytes.now) (sym session)
+          (subst (λ p. IsNoted g.K.Keep.meaning g.O.KeepOpener.is_opened g.O.KeepOpener.is_probed Kept (ReportsFault Damaged p) known c.match-reply.self.session.damage c.args.listener c.args.bytes.now) (sym c.logged.ensures.poll) noted.1),
     ))
 
 pub returns-in-Err-answer : goal.returns-in-Err-answer
