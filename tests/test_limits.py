@@ -125,6 +125,17 @@ def test_a_full_server_drops_the_client_that_has_been_sending_longest(serve: Cal
         assert 5 <= sum(dropped) <= 7 and dropped == sorted(dropped, reverse=True)
 
 
+def test_a_server_without_descriptors_drops_who_has_been_sending_longest(serve: Callable[..., Server]) -> None:
+    server = serve()
+    with server.connect(b"GET /"), server.connect(b"GET /"):
+        assert server.ask(request("/orders")).startswith(b"HTTP/1.1 200")
+        taken = len(os.listdir(f"/proc/{server.process.pid}/fd"))
+        subprocess.run(["prlimit", f"--pid={server.process.pid}", f"--nofile={taken}"], check=True)
+        began = time.monotonic()
+        assert server.ask(request("/orders")).startswith(b"HTTP/1.1 ")
+        assert time.monotonic() - began < DROPPED_AFTER - 2  # so nobody was dropped for being slow
+
+
 def test_who_reads_or_sends_slowly_is_dropped_after_ten_seconds(serve: Callable[..., Server]) -> None:
     server = serve()
     stock = request("/stock", ASKER)
@@ -183,4 +194,5 @@ def test_a_client_that_never_ends_its_request_does_not_keep_a_server_from_its_en
             for _ in range(100):  # the port closes as soon as the last has connected
                 server.connect().close()
                 time.sleep(0.01)
+        assert not os.path.exists(f"{server.db}.sock")  # which closes with the port
         assert server.process.wait(DROPPED_AFTER + SOON) == 0
