@@ -253,3 +253,8 @@ def test_with_ample_memory_300_receipts_are_accepted(new: New, at_work: Office) 
     assert answer.status == 0 and answer.out.endswith(wanted)
     with at_work.serve() as server:
         assert "".join(at_work.plant(*line.split()).out + server.ask(question) + "\n" for line in lines) == wanted
+
+
+def test_with_ample_memory_a_script_of_3000_lines_is_answered(new: New) -> None:
+    answer = new().run(["script"], stdin=b"unit-add U1\n" * 3000)
+    assert answer == Result(0, "accepted\n" + "refused 5 UnitExists\n" * 2999)
