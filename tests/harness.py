@@ -245,7 +245,7 @@ class Preloaded(Office):
         """Nothing further is to be disturbed, where the library may be told so."""
 
 
-FAIL, SHORT, TORN, KILLED_BEFORE, KILLED_AFTER = range(1, 6)
+FAIL, SHORT, TORN, KILLED_BEFORE, KILLED_AFTER, STOPPED_AT_MODE, NO_NETWORK = range(1, 8)
 
 
 class Disk(Preloaded):

@@ -2,6 +2,7 @@
 is, and where one comes, goes or is killed on the way; and what owners notice of damage, locks and changes of the
 files."""
 import contextlib
+import errno
 import fcntl
 import functools
 import itertools
@@ -23,8 +24,8 @@ import pytest
 
 from tests import socket_client as client
 from tests.attempts import Import, New
-from tests.harness import (ACCEPTED, KILLED_AFTER, KILLED_BEFORE, PATIENCE, REPEATED, UNAVAILABLE, Disk, Office, Result,
-                           Server, content, fault, meanwhile, put, wrong_outcomes)
+from tests.harness import (ACCEPTED, FAIL, KILLED_AFTER, KILLED_BEFORE, NO_NETWORK, PATIENCE, REPEATED, STOPPED_AT_MODE,
+                           UNAVAILABLE, Disk, Office, Result, Server, content, fault, meanwhile, put, wrong_outcomes)
 from tests.lines import ACTUALS, many_actuals
 
 LOCKED, LOST, NOT_OURS, DAMAGED = (fault(name) for name in ("Locked", "Lost", "NotOurs", "Damaged"))
@@ -224,6 +225,26 @@ def test_another_user_cannot_use_the_socket_and_a_socket_of_another_user_is_not_
             assert server.lines() == [DOOR_BEGAN]
 
 
+def is_stopped(pid: int) -> bool:
+    return pathlib.Path(f"/proc/{pid}/stat").read_text().rpartition(")")[2].split()[0] == "T"
+
+
+def test_a_client_that_comes_before_the_socket_has_its_mode_is_turned_away(disks: list[Disk], work: str) -> None:
+    office, path = disks[0], client.path_of(disks[0])
+    put(work, office.db)
+    office.disturb(0)
+    with office.serve(office.env) as server:
+        os.unlink(path)
+        office.disturb(0, STOPPED_AT_MODE)
+        server.connect().close()
+        while not is_stopped(server.process.pid):
+            time.sleep(0.01)
+        with client.connect(path) as peer:
+            office.disturb(0)
+            server.process.send_signal(signal.SIGCONT)
+            assert client.take_parcel(peer) == b"" and has_socket(office)
+
+
 # Locks, damage, and what others do to the files
 
 def test_faults_are_said_when_they_begin_and_end_and_a_changed_file_when_it_is_opened_anew(at_work: Office) -> None:
@@ -236,6 +257,15 @@ def test_faults_are_said_when_they_begin_and_end_and_a_changed_file_when_it_is_o
         by_others(at_work, "INSERT INTO units VALUES ('U9')")
         assert is_answered(server) and at_work.plant("unit-add", "U9").status == 1
         assert re.fullmatch(r"opened anew in \d+ ms", "\n".join(server.lines()[2:]))
+
+
+def test_a_fault_that_follows_another_begins_when_that_one_has_ended(at_work: Office) -> None:
+    with at_work.serve() as server:
+        with locked(at_work):
+            assert not is_answered(server)
+            os.truncate(at_work.db, 0)
+        assert not is_answered(server)
+        assert server.lines() == ["fault Locked began", "fault Locked ended", "fault NotOurs began"]
 
 
 def test_a_server_has_its_file_open_before_it_listens_and_says_so_where_it_cannot(at_work: Office) -> None:
@@ -272,6 +302,8 @@ def test_damage_of_one_owner_costs_the_others_no_opening_and_is_known_until_the_
     with at_work.serve() as server:
         by_others(at_work, "UPDATE lots SET disposition = 9 WHERE owner = 'ACME'")
         assert [owner_statuses(server) for _ in range(20)] == [["503", "200"]] * 20
+        assert [line for line in server.lines() if not line.startswith("opened")] == [
+            "damaged rows of ACME", "fault Unavailable began", "fault Unavailable ended"]
         for_owners = openings(server)
         answers = [(at_work.plant("stock", "ACME"), owner_statuses(server)[1]) for _ in range(10)]
         assert answers == [(DAMAGED, "200")] * 10
@@ -281,6 +313,36 @@ def test_damage_of_one_owner_costs_the_others_no_opening_and_is_known_until_the_
         assert openings(server) == count, "a command that meets no damage has the server forget it"
         by_others(at_work, "UPDATE lots SET disposition = 0 WHERE owner = 'ACME'")
         assert owner_statuses(server) == ["200", "200"] and at_work.plant("stock", "ACME").status == 0
+
+
+def test_a_file_that_is_opened_beside_100_clients_stays_open(at_work: Office) -> None:
+    with locked(at_work) as lock, at_work.serve() as server, contextlib.ExitStack() as clients:
+        for _ in range(100):
+            clients.enter_context(server.connect())
+        lock.close()
+        assert [is_answered(server) for _ in range(5)] == [True] * 5 and openings(server) == 0
+
+
+def test_rows_of_all_owners_are_read_before_the_first_request(disks: list[Disk], work: str) -> None:
+    put(work, disks[0].db)
+    disks[0].disturb(0)
+    with disks[0].serve(disks[0].env) as server:
+        disks[0].disturb(0)
+        assert owner_statuses(server) == ["200", "200"] and "r" not in disks[0].calls()
+
+
+def test_what_others_wrote_is_seen_if_a_look_at_the_files_fails(disks: list[Disk], work: str) -> None:
+    office = disks[0]
+    put(work, office.db)
+    office.disturb(0)
+    with office.serve(office.env) as server:
+        server.ask(ORDERS)
+        looks = [number for number, kind in enumerate(office.calls(), 1) if kind == "i"]
+        assert len(looks) > 1
+        for number in looks:
+            by_others(office, f"INSERT INTO orders VALUES ('ACME', 'X-{number}', 'R', 1, 0)")
+            office.disturb(number, FAIL, errno.EIO)
+            assert f'"X-{number}"' in server.ask(ORDERS) or f'"X-{number}"' in server.ask(ORDERS), number
 
 
 def test_a_link_to_the_file_is_the_file_with_one_lock_and_one_socket(at_work: Office) -> None:
@@ -427,6 +489,19 @@ def test_a_server_refuses_a_log_that_sqlite_would_read_to_an_earlier_end(
     assert answers == (["503", "503"], NOT_OURS, ["fault NotOurs began"], True)
 
 
+def test_bytes_that_others_wrote_in_place_are_read_if_the_time_of_writing_is_put_back(at_work: Office) -> None:
+    file = pathlib.Path(at_work.db)
+    sqlite(at_work.db, "PRAGMA wal_checkpoint(TRUNCATE)")
+    with at_work.serve() as server:
+        assert is_answered(server)
+        before, rows = file.stat(), file.read_bytes()
+        assert rows.count(b"ACMEKEY1") == 1
+        with open(file, "r+b") as place:
+            place.write(rows.replace(b"ACMEKEY1", b"ACMEKEY2"))
+        os.utime(file, ns=(before.st_atime_ns, before.st_mtime_ns))
+        assert not is_answered(server) and server.ask(ORDERS.replace("KEY1", "KEY2")).startswith("200 ")
+
+
 def test_a_log_is_served_again_once_its_byte_is_put_back(at_work: Office) -> None:
     with at_work.serve() as server:
         assert server.ask('> ACME ACMEKEY1 POST /orders {"order":"O-2","recipe":"R","batches":1}').startswith("200 ")
@@ -466,6 +541,18 @@ def test_a_log_that_a_command_wrote_and_closed_is_taken(at_work: Office) -> None
 
 
 # Servers that stop or take long
+
+def test_a_server_whose_network_fails_ends_with_3(disks: list[Disk], work: str) -> None:
+    office = disks[0]
+    put(work, office.db)
+    office.disturb(0)
+    with office.serve(office.env) as server:
+        assert is_answered(server)
+        office.disturb(0, NO_NETWORK, errno.EBADF)
+        server.connect().close()
+        assert server.has_ended(PATIENCE) and server.process.returncode == 3 and server.lines() == ["fault Net"]
+
+
 
 def test_a_command_waits_five_seconds_for_a_server_that_is_stopped(at_work: Office) -> None:
     with at_work.serve() as server:
@@ -563,7 +650,8 @@ def test_a_command_that_is_taken_and_not_answered_is_lost(at_work: Office, greet
 def test_an_answer_is_passed_on_as_it_is(at_work: Office, greeting: bytes) -> None:
     with false_server(at_work, greeting, client.answer(1, b"one\n", b"two\n")) as received:
         assert at_work.plant("unit-add", "U2") == Result(1, "one\n", "two\n")
-    assert received == [client.question("unit-add", "U2")]
+        assert at_work.plant("unit-add", "U2", closed="2>&1") == Result(1, "one\ntwo\n")
+    assert received == [client.question("unit-add", "U2")] * 2
 
 
 # Clients that end or are killed
