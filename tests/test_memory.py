@@ -9,6 +9,7 @@
 Of many requests the first are refused and then one in so many; `-m long` refuses every one, for hours.
 """
 import contextlib
+import itertools
 import math
 import os
 import sqlite3
@@ -20,7 +21,7 @@ from typing import Any, Protocol
 import pytest
 
 from tests.attempts import FAULTED, UNHARMED, Command, Import, New, Request, make_version_1
-from tests.harness import JOBS, UNAVAILABLE, Office, Preloaded, Result, content, fault, wrong_outcomes
+from tests.harness import JOBS, UNAVAILABLE, Office, Preloaded, Result, content, fault, put, wrong_outcomes
 from tests.lines import (AT_WORK, BACK_FROM_P1, HOUSE_MAKES, RECALLED, REQUESTS, SCRIPTS, SERVED, STOCK, TESTED,
                          WITH_WATER, lot_body, stock_body)
 
@@ -241,6 +242,20 @@ def test_a_refused_request_for_memory_changes_nothing(run: tuple[str, Run], offi
         points += [(at, sys.maxsize) for at in sample(requests, most if most == EVERY else MOST_WITH_LATER)]
     wrong = wrong_outcomes(offices, lambda office, at: tried.attempt(office, *at), points, (UNHARMED, FAULTED))
     assert points and wrong == {}
+
+
+def test_a_turn_that_lacks_memory_is_a_fault_for_the_operator_also_without_a_reply(offices: list[Refusing], work: str
+                                                                                    ) -> None:
+    outcomes = []
+    for at in range(1, 16):
+        put(work, offices[0].db)
+        offices[0].refuse(at, at, accepts=1)
+        with offices[0].serve(offices[0].env) as server:
+            reply = server.ask("> ACME ACMEKEY1 GET /orders")
+            outcomes.append((reply[:3], [line for line in server.lines() if line.startswith("fault ")]))
+    in_turn = list(itertools.dropwhile(lambda outcome: not outcome[1], outcomes))  # the first meet it before
+    assert ("", ["fault Unavailable began"]) in in_turn
+    assert [outcome for outcome in in_turn if (outcome[0] == "200") == bool(outcome[1])] == []
 
 
 def test_with_ample_memory_300_receipts_are_accepted(new: New, at_work: Office) -> None:
