@@ -2,6 +2,7 @@
 mod fake_network;
 mod given_up;
 mod imports;
+mod known_opener;
 mod long;
 mod services;
 
