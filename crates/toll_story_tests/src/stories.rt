@@ -8,6 +8,7 @@ use toll_stories::{
 };
 
 /// Offices in lists.
+#[derive(Drop)]
 struct Lists;
 
 impl Offices for Lists {

@@ -8,6 +8,7 @@ use toll_stories::{
 };
 
 /// Offices in tables that are given back and taken over again after each chapter.
+#[derive(Drop)]
 struct Tables;
 
 impl Offices for Tables {
@@ -22,6 +23,7 @@ impl Offices for Tables {
 }
 
 /// Offices in tables of which nothing is remembered.
+#[derive(Drop)]
 struct BareTables;
 
 impl Offices for BareTables {
