@@ -80,7 +80,7 @@ class Follower:
     def megabytes(self) -> int:
         """Its memory, in which shared pages count by their share."""
         lines = Path(f"/proc/{self.process.pid}/smaps_rollup").read_text().splitlines()
-        return next(int(it.split()[1]) // 1000 for it in lines if it.startswith("Pss:"))
+        return next(int(line.split()[1]) // 1000 for line in lines if line.startswith("Pss:"))
 
 
 @contextlib.contextmanager
@@ -114,7 +114,7 @@ def lags(folder: str, verb: str, answered: list[float]) -> tuple[list[float], in
             at += 1
         seconds.append(max(0.0, counts[at][0] - answer))
         between = max(between, sum(answer < came for came, _ in counts[:at]))
-    return seconds, between, sum(it.header.kind == "file" for it in chain.pieces_of(of, 0, of.last))
+    return seconds, between, sum(piece.header.kind == "file" for piece in chain.pieces_of(of, 0, of.last))
 
 
 def beside(office: Any, owners: int, verb: str) -> Figures:
@@ -127,9 +127,9 @@ def beside(office: Any, owners: int, verb: str) -> Figures:
             words = [__file__, server.port, owners, verb, RATE, SECONDS, first]
             first += RATE * SECONDS
             with server.clients("/orders", owner=owner_name(owners - 1), pause=PAUSE, seconds=SECONDS) as seen:
-                told = subprocess.run([sys.executable, *map(str, words)], check=True, stdout=subprocess.PIPE, text=True)
-            times[:] = [*times, *map(float, told.stdout.split())]
-            yield f"{name}: requests a second that changed a row", round(len(told.stdout.split()) / SECONDS)
+                answered = subprocess.run([sys.executable, *map(str, words)], check=True, stdout=subprocess.PIPE, text=True).stdout.split()
+            times[:] = [*times, *map(float, answered)]
+            yield f"{name}: requests a second that changed a row", round(len(answered) / SECONDS)
             yield from ((f"{name}: {which}", seen[which]) for which in ("99 of 100", "slowest", "not answered 200"))
 
         yield from busy("no follower")

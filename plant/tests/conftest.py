@@ -87,8 +87,8 @@ class Server:
 
     def __init__(self, program: str, db: pathlib.Path) -> None:
         self.office = Office(str(db), program, PATIENCE)
-        self.it = subprocess.Popen([program, "--db", db, "serve", "0", "1000000"], stdout=subprocess.PIPE, stderr=subprocess.PIPE, text=True)
-        self.port = int(self.it.stdout.readline().split()[1])
+        self.process = subprocess.Popen([program, "--db", db, "serve", "0", "1000000"], stdout=subprocess.PIPE, stderr=subprocess.PIPE, text=True)
+        self.port = int(self.process.stdout.readline().split()[1])
 
     def ask(self, owner: str, method: str, path: str, body: str = "") -> tuple[int, dict]:
         """The status and the body of the reply to an owner's request."""
@@ -106,8 +106,8 @@ class Server:
 
     def end(self) -> str:
         """Ends it, and gives what it wrote on standard error."""
-        self.it.terminate()
-        return self.it.communicate()[1]
+        self.process.terminate()
+        return self.process.communicate()[1]
 
 
 class Plant:

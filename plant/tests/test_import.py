@@ -268,7 +268,7 @@ def test_a_server_that_is_killed_within_a_line_is_reported(at_work, begun_server
     frame = client.read_frame
     with at_work.serve() if is_served else contextlib.nullcontext() as running:
         def stop():
-            process = running.it if is_served else begun_servers[0]
+            process = running.process if is_served else begun_servers[0]
 
             def read_frame(peer, most):
                 if most > client.MOST_GREETING:

@@ -9,11 +9,11 @@ from hilpoven.standby.book import Book
 
 
 def follower_of(db: pathlib.Path, folder: pathlib.Path, office: str = "here", timeline: int = 1) -> follower.Follower:
-    """A follower of an office's file into a folder, which writes a piece with each look; what it tells is in `told`."""
+    """A follower of an office's file into a folder, which writes a piece with each look; what it tells is in `messages`."""
     folder.mkdir(mode=0o700, exist_ok=True)
-    told: list[str] = []
-    made = follower.Follower(str(db), 1.0, Book(str(folder), str(db), f"{db}.journal", office, timeline), 7, told.append)
-    made.told = told
+    messages: list[str] = []
+    made = follower.Follower(str(db), 1.0, Book(str(folder), str(db), f"{db}.journal", office, timeline), 7, messages.append)
+    made.messages = messages
     made.resume()
     return made
 
@@ -38,5 +38,5 @@ def rows_of(db: str | pathlib.Path) -> dict[str, list[tuple]]:
     """All rows of all tables of a file that nobody writes."""
     with contextlib.closing(sqlite3.connect(db)) as base:
         assert base.execute("PRAGMA integrity_check").fetchall() == [("ok",)]
-        names = [it for it, in base.execute("SELECT name FROM sqlite_master WHERE type = 'table' ORDER BY name")]
-        return {it: sorted(base.execute(f"SELECT * FROM {it}")) for it in names}
+        names = [name for name, in base.execute("SELECT name FROM sqlite_master WHERE type = 'table' ORDER BY name")]
+        return {name: sorted(base.execute(f"SELECT * FROM {name}")) for name in names}

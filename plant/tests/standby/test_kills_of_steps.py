@@ -61,8 +61,8 @@ def try_promotions(at_work: Plant, room: pathlib.Path, kills: int) -> int:
         assert not standby.db.exists() or standby.content() == at_work.content(), at
         # whoever could have served it finds the folder marked
         assert not standby.db.exists() or list(pieces.glob("promoted-*")), at
-        told = standby.run("promote", pieces)
-        assert told.status == 0 and standby.content() == at_work.content(), (at, told)
+        promotion = standby.run("promote", pieces)
+        assert promotion.status == 0 and standby.content() == at_work.content(), (at, promotion)
         assert check(str(standby.journal)).wrong == [] and standby.run("verify").status == 0, at
     return done
 
@@ -79,7 +79,7 @@ def try_followers(at_work: Plant, room: pathlib.Path, kills: int) -> int:
             ended = kill_at(at, room / "count", at_work.program, "--db", at_work.db, "follow", "--to", pieces, more=FOLLOW)
             whole, done = whole or ended, done + (not ended)
             assert at_work.run("unit-add", f"U-{at}-{number}").status in (0, 1)
-        assert all(it.name.endswith((".piece", ".snapshot", ".json", ".made")) or it.name.startswith(".hilpoven.") for it in pieces.iterdir()), at
+        assert all(path.name.endswith((".piece", ".snapshot", ".json", ".made")) or path.name.startswith(".hilpoven.") for path in pieces.iterdir()), at
         name = f"{os.uname().nodename}:{at_work.db}"
         look(follower_of(at_work.db, pieces, name))
         for of in chain.chains_in(str(pieces)):

@@ -145,7 +145,7 @@ def test_the_file_is_never_opened_by_sqlite(tmp_path, monkeypatch):
     writer.put()
     monkeypatch.setattr(sqlite3, "connect", lambda *_, **__: pytest.fail("SQLite was opened"))
     look(follower_of(writer.db, tmp_path / "pieces"))
-    assert {it.suffix for it in (tmp_path / "pieces").iterdir()} <= {".snapshot", ".piece"}
+    assert {path.suffix for path in (tmp_path / "pieces").iterdir()} <= {".snapshot", ".piece"}
     with contextlib.suppress(FileNotFoundError):
         os.unlink(f"{writer.db}-none")
     writer.base.close()

@@ -63,8 +63,8 @@ class Machine:
         """Kills the server, the follower, or both, and begins it anew."""
         which = self.chance.choice(("server", "follower", "both"))
         if which != "follower":
-            self.server.it.kill()
-            self.server.it.communicate()
+            self.server.process.kill()
+            self.server.process.communicate()
         if which != "server":
             self.follower.kill()
             self.follower.wait()
@@ -99,9 +99,9 @@ class Machine:
         at = time.monotonic()
         self.is_over = True
         self.follower.kill()
-        self.server.it.kill()
+        self.server.process.kill()
         self.follower.wait()
-        self.server.it.communicate()
+        self.server.process.communicate()
         return at
 
 
@@ -166,9 +166,9 @@ def try_loss(laid: Plant, room: pathlib.Path, seed: int, seconds: float) -> int:
     shutil.rmtree(machine.plant.folder)
     standby = Plant(laid.program, room / "standby")
     standby.folder.mkdir(mode=0o700)
-    told = standby.run("promote", pieces)
-    assert told.status == 0, (seed, told, machine.log.read_text())
-    count, due = count_in(standby), sum(it < at - LIMIT for it in machine.answered)
+    promotion = standby.run("promote", pieces)
+    assert promotion.status == 0, (seed, promotion, machine.log.read_text())
+    count, due = count_in(standby), sum(moment < at - LIMIT for moment in machine.answered)
     assert due <= count <= len(machine.answered) + 1, (seed, due, count, len(machine.answered), machine.log.read_text())
     assert standby.content() == expected(laid, count, room / "expected"), seed
     assert standby.run("verify").status == 0, seed

@@ -35,13 +35,13 @@ def standby(program, tmp_path) -> Plant:
 
 def at(folder: pathlib.Path, number: int, end: str = "piece") -> pathlib.Path:
     """The file of a number."""
-    (found,) = folder.glob(f"*-{number:08}.{end}")
-    return found
+    (path,) = folder.glob(f"*-{number:08}.{end}")
+    return path
 
 
 def units(plant: Plant) -> list[str]:
     """The units that were added since the snapshot."""
-    return sorted(it for it, in plant.rows("SELECT unit FROM units WHERE unit LIKE 'U-%'"))
+    return sorted(unit for unit, in plant.rows("SELECT unit FROM units WHERE unit LIKE 'U-%'"))
 
 
 def cut(folder: pathlib.Path) -> None:
@@ -92,16 +92,16 @@ def reordered(folder: pathlib.Path) -> None:
 
 def of_another_chain(folder: pathlib.Path) -> None:
     """Piece 5 of another chain of the same office, under this one's name."""
-    found = chain.opened(str(at(folder, 5))).header
-    header = found.__class__(**{**found.__dict__, "chain": "0" * 12})
+    original = chain.opened(str(at(folder, 5))).header
+    header = original.__class__(**{**original.__dict__, "chain": "0" * 12})
     content = at(folder, 5).read_bytes()[piece.HEAD :]
     at(folder, 5).write_bytes(header.as_bytes() + content)
 
 
 def replaced(folder: pathlib.Path) -> None:
     """Piece 5 with another time, whole in itself."""
-    found = chain.opened(str(at(folder, 5))).header
-    header = found.__class__(**{**found.__dict__, "at": "2020-01-01T00:00:00.000Z"})
+    original = chain.opened(str(at(folder, 5))).header
+    header = original.__class__(**{**original.__dict__, "at": "2020-01-01T00:00:00.000Z"})
     content = at(folder, 5).read_bytes()[piece.HEAD :]
     at(folder, 5).write_bytes(header.as_bytes() + content)
 
@@ -116,52 +116,52 @@ FAULTS = {
 @pytest.mark.parametrize("damage", FAULTS)
 def test_a_damaged_piece_is_named_and_nothing_is_made_of_it(at_work, pieces, standby, damage):
     damage(pieces)
-    told = at_work.run("follow", "verify", pieces)
-    assert told.status == 1 and FAULTS[damage] in told.out, told
-    told = standby.run("promote", pieces)
-    assert told.status == 1 and "pieces can't be used" in told.err and FAULTS[damage] in told.err, told
+    done = at_work.run("follow", "verify", pieces)
+    assert done.status == 1 and FAULTS[damage] in done.out, done
+    done = standby.run("promote", pieces)
+    assert done.status == 1 and "pieces can't be used" in done.err and FAULTS[damage] in done.err, done
     assert list(standby.folder.iterdir()) == [] and not list(pieces.glob("promoted-*"))
     last = 5 if damage is replaced else 4
-    assert f"promote --until {last}" in told.err
+    assert f"promote --until {last}" in done.err
     assert standby.run("promote", "--until", 6, pieces).status == 1
     assert standby.run("promote", "--until", last, pieces).status == 0
-    assert units(standby) == [f"U-{it}" for it in range(1, last + 1)] and standby.run("verify").status == 0
+    assert units(standby) == [f"U-{unit}" for unit in range(1, last + 1)] and standby.run("verify").status == 0
 
 
 def test_a_damaged_snapshot_is_passed_over(at_work, pieces, standby):
     flip(at(pieces, 3, "snapshot"), piece.HEAD + 5_000)
     assert "00000003.snapshot was changed" in at_work.run("follow", "verify", pieces).out
-    told = standby.run("promote", pieces)
-    assert told.status == 0 and "not used: " in told.err and units(standby) == [f"U-{it}" for it in range(1, LAST + 1)]
+    done = standby.run("promote", pieces)
+    assert done.status == 0 and "not used: " in done.err and units(standby) == [f"U-{unit}" for unit in range(1, LAST + 1)]
 
 
 def test_a_gap_before_a_snapshot_costs_nothing(pieces, standby):
     at(pieces, 2).unlink()
-    told = standby.run("promote", pieces)
-    assert told.status == 0 and "piece 2 of" in told.err and units(standby) == [f"U-{it}" for it in range(1, LAST + 1)]
+    done = standby.run("promote", pieces)
+    assert done.status == 0 and "piece 2 of" in done.err and units(standby) == [f"U-{unit}" for unit in range(1, LAST + 1)]
 
 
 def test_without_a_snapshot_there_is_no_office(pieces, standby):
     for number in (0, 3):
         at(pieces, number, "snapshot").unlink()
-    told = standby.run("promote", pieces)
-    assert told.status == 1 and "no snapshot of" in told.err and list(standby.folder.iterdir()) == []
+    done = standby.run("promote", pieces)
+    assert done.status == 1 and "no snapshot of" in done.err and list(standby.folder.iterdir()) == []
     assert standby.run("promote", standby.folder).status == 2
 
 
 @pytest.mark.parametrize("number", range(LAST + 1))
 def test_each_piece_gives_the_office_of_its_time(pieces, standby, number):
     assert standby.run("promote", "--until", number, pieces).status == 0
-    assert units(standby) == [f"U-{it}" for it in range(1, number + 1)]
-    words = [it["words"][1] for it in standby.lines() if it["event"] == "asked" and it["words"][0] == "unit-add"]
-    assert words == [f"U-{it}" for it in range(1, max(number, 3 if number == 3 else 0) + 1)]
+    assert units(standby) == [f"U-{unit}" for unit in range(1, number + 1)]
+    words = [line["words"][1] for line in standby.lines() if line["event"] == "asked" and line["words"][0] == "unit-add"]
+    assert words == [f"U-{unit}" for unit in range(1, max(number, 3 if number == 3 else 0) + 1)]
 
 
 def test_a_follower_goes_on_behind_a_damaged_chain_with_a_new_one(at_work, pieces, standby):
     os.truncate(at(pieces, LAST), 10)
     made = follower_of(at_work.db, pieces, f"{os.uname().nodename}:{at_work.db}")
     look(made)
-    assert "can't be continued" in made.told[0] and len(chain.chains_in(str(pieces))) == 2
+    assert "can't be continued" in made.messages[0] and len(chain.chains_in(str(pieces))) == 2
     assert standby.run("promote", pieces).status == 0 and standby.content() == at_work.content()
 
 
@@ -171,15 +171,15 @@ def test_a_damaged_chain_doesn_t_lead_back_to_an_older_one(at_work, pieces, stan
     pieces.mkdir(mode=0o700)
     name = f"{os.uname().nodename}:{at_work.db}"
     look(follower_of(at_work.db, pieces, name))  # another chain, which ends later
-    for it in pieces.with_name("kept").iterdir():
-        shutil.copy2(it, pieces / it.name)
+    for path in pieces.with_name("kept").iterdir():
+        shutil.copy2(path, pieces / path.name)
     assert at_work.run("unit-add", "LAST").status == 0
     newest = chain.newest_in(str(pieces))
     look(follower_of(at_work.db, pieces, name))
     assert chain.newest_in(str(pieces)).name == newest.name
     os.truncate(chain.newest_in(str(pieces)).newest, 10)
-    told = standby.run("promote", pieces)
-    assert told.status == 1 and "is cut" in told.err and not standby.db.exists()
+    done = standby.run("promote", pieces)
+    assert done.status == 1 and "is cut" in done.err and not standby.db.exists()
 
 
 def test_a_page_that_no_piece_has_is_found_by_the_next_snapshot(at_work, pieces, standby):
@@ -192,7 +192,7 @@ def test_a_page_that_no_piece_has_is_found_by_the_next_snapshot(at_work, pieces,
     look(made)
     made.digests.of[1] = b"another page"
     made.make_snapshot()
-    assert "weren't as the pieces have them" in made.told[-1]
+    assert "weren't as the pieces have them" in made.messages[-1]
     assert standby.run("promote", pieces).status == 0 and standby.content() == at_work.content()
 
 
@@ -209,7 +209,7 @@ def test_a_day_has_a_snapshot_and_old_ones_go(at_work, pieces, standby, monkeypa
         look(made)
         look(made)
     kept = chain.newest_in(str(pieces))
-    days = [chain.opened(it).header.at[:10] for it in kept.snapshots.values()]
+    days = [chain.opened(path).header.at[:10] for path in kept.snapshots.values()]
     assert days == ["2030-01-02", "2030-01-03", "2030-01-04"] and min(kept.pieces) == kept.first_snapshot + 1 and len(chain.chains_in(str(pieces))) == 1
     monkeypatch.undo()
     assert standby.run("promote", pieces).status == 0 and standby.content() == at_work.content()

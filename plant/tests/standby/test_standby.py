@@ -18,12 +18,12 @@ from hilpoven.standby import chain, follower, state
 def following(plant: Plant, to: str, *words: str):
     """A follower as a process of its own, which is ended at the end."""
     log = open(plant.folder / "follower.log", "a+")
-    it = subprocess.Popen([HILPOVEN, "--db", plant.db, "follow", "--to", to, *words], stderr=log, stdout=log, env=environment(TOLL=plant.program))
+    process = subprocess.Popen([HILPOVEN, "--db", plant.db, "follow", "--to", to, *words], stderr=log, stdout=log, env=environment(TOLL=plant.program))
     try:
-        yield it
+        yield process
     finally:
-        it.kill()
-        it.wait()
+        process.kill()
+        process.wait()
         log.close()
 
 
@@ -54,11 +54,11 @@ def pieces(at_work) -> pathlib.Path:
 
 
 def test_the_promoted_office_is_the_office_with_its_journal(at_work, pieces, standby):
-    told = standby.run("promote", pieces)
-    assert told.status == 0 and "is the office of piece 2" in told.out and "timeline 2 begins" in told.out, told
+    done = standby.run("promote", pieces)
+    assert done.status == 0 and "is the office of piece 2" in done.out and "timeline 2 begins" in done.out, done
     assert standby.content() == at_work.content() and standby.rows("SELECT * FROM owners") == at_work.rows("SELECT * FROM owners")
     assert standby.toll("stock", "ACME").out == at_work.toll("stock", "ACME").out
-    words = [it.get("words") for it in standby.lines() if it["event"] == "asked"]
+    words = [line.get("words") for line in standby.lines() if line["event"] == "asked"]
     assert words[:2] == [["unit-add", "PRESS"], ["unit-add", "DRYER"]] and words[2][0] == "promote"
     assert check(str(standby.journal), file=str(standby.db)).wrong == []
     assert standby.run("verify").status == 0 and standby.run("unit-add", "OVEN").out == "accepted\n"
@@ -66,8 +66,8 @@ def test_the_promoted_office_is_the_office_with_its_journal(at_work, pieces, sta
 
 
 def test_a_promotion_is_tried_without_a_trace(at_work, pieces, standby):
-    told = standby.run("promote", "--check", pieces)
-    assert told.status == 0 and "the office of piece 2 is sound" in told.out
+    done = standby.run("promote", "--check", pieces)
+    assert done.status == 0 and "the office of piece 2 is sound" in done.out
     assert list(standby.folder.iterdir()) == [] and not list(pieces.glob("promoted-*"))
     assert at_work.run("unit-add", "OVEN").status == 0
 
@@ -75,19 +75,19 @@ def test_a_promotion_is_tried_without_a_trace(at_work, pieces, standby):
 def test_the_old_office_is_refused_when_it_comes_back(at_work, pieces, standby):
     assert standby.run("promote", pieces).status == 0
     before = at_work.content()
-    told = at_work.run("follow", "--to", pieces, "--check")
-    assert told.status == 1 and "timeline 2 has begun" in told.err
+    done = at_work.run("follow", "--to", pieces, "--check")
+    assert done.status == 1 and "timeline 2 has begun" in done.err
     for words in (["unit-add", "OVEN"], ["import", "-"], ["backup", str(pieces)], ["follow", "--to", str(pieces)]):
-        told = at_work.run(*words, stdin="")
-        assert told.status == 1 and "timeline 2 has begun" in told.err, (words, told)
-    told = at_work.run("follow", "status", pieces)
-    assert told.status == 1 and "timeline 2 has begun" in told.err
+        done = at_work.run(*words, stdin="")
+        assert done.status == 1 and "timeline 2 has begun" in done.err, (words, done)
+    done = at_work.run("follow", "status", pieces)
+    assert done.status == 1 and "timeline 2 has begun" in done.err
     assert at_work.content() == before and at_work.run("list", "lots").status == 0
     assert standby.run("unit-add", "OVEN").out == "accepted\n" and standby.run("follow", "--to", pieces, "--check").status == 0
 
 
 def test_the_unit_of_the_server_doesn_t_begin_over_an_office_that_was_superseded(at_work, pieces, standby):
-    (line,) = [it for it in (ROOT / "packaging" / "toll@.service").read_text().splitlines() if it.startswith("ExecStartPre=") and "superseded" in it]
+    (line,) = [line for line in (ROOT / "packaging" / "toll@.service").read_text().splitlines() if line.startswith("ExecStartPre=") and "superseded" in line]
     words = line.removeprefix("ExecStartPre=").replace("${FILE}", str(at_work.db))
     assert subprocess.run(words, shell=True).returncode == 0
     assert standby.run("promote", pieces).status == 0 and at_work.run("follow", "--to", pieces, "--check").status == 1
@@ -102,8 +102,8 @@ def test_the_promoted_machine_is_followed_and_promoted_back(at_work, pieces, sta
     look(made)
     assert standby.run("unit-add", "OVEN").status == 0
     look(made)
-    told = at_work.run("promote", pieces)
-    assert told.status == 0 and "timeline 3 begins; what was there is in " in told.out
+    done = at_work.run("promote", pieces)
+    assert done.status == 0 and "timeline 3 begins; what was there is in " in done.out
     assert at_work.content() == standby.content() and at_work.run("unit-add", "MILL").out == "accepted\n"
     assert standby.run("follow", "--to", pieces, "--check").status == 1 and standby.run("unit-add", "LATE").status == 1
 
@@ -115,13 +115,13 @@ def test_a_moment_is_restored(at_work, pieces):
     site_file = site.load.__defaults__[0]
     site_file.write_text(site_file.read_text().replace('follow = {"to": ', "[follow]\nto = ").replace("}", ""))
     before, lines = at_work.content(), len(at_work.lines())
-    told = at_work.run("restore", "--at", at)
-    assert told.status == 0 and f"the office of {at} is in place" in told.out, told
-    assert [it for it in before["units"] if it not in at_work.content()["units"]] == [("DRYER",)]
+    done = at_work.run("restore", "--at", at)
+    assert done.status == 0 and f"the office of {at} is in place" in done.out, done
+    assert [row for row in before["units"] if row not in at_work.content()["units"]] == [("DRYER",)]
     assert len(at_work.lines()) == lines + 2 and at_work.lines()[-2]["words"][:3] == ["restore", "--at", at]
     assert at_work.run("verify").status in (0, 1) and at_work.run("unit-add", "DRYER").out == "accepted\n"
-    told = at_work.run("restore", "--at", "2020-01-01")
-    assert told.status == 1 and "the oldest is of" in told.err
+    done = at_work.run("restore", "--at", "2020-01-01")
+    assert done.status == 1 and "the oldest is of" in done.err
     for words in (["--at", "yesterday"], [], ["x.db", "--at", at], ["--foreign", "--at", at]):
         assert at_work.run("restore", *words).status == 2
 
@@ -135,8 +135,8 @@ def test_a_served_office_is_followed_within_seconds(at_work, standby):
         assert server.ask("ACME", "POST", "/orders", '{"order":"O-9","recipe":"BRINE-10","batches":1}')[0] == 200
         time.sleep(3)
         assert at_work.run("follow", "status", folder).out.startswith("0.0 seconds behind: 0 commands")
-        told = server.end()
-    assert "opened anew" not in told and "fault" not in told
+        errors = server.end()
+    assert "opened anew" not in errors and "fault" not in errors
     assert standby.run("promote", folder).status == 0 and standby.content() == at_work.content()
 
 
@@ -148,7 +148,7 @@ def test_commands_without_a_server_are_followed(at_work, standby):
             assert at_work.run("unit-add", f"U-{number}").out == "accepted\n"
         time.sleep(3)
     assert standby.run("promote", folder).status == 0 and standby.content() == at_work.content()
-    assert [it for it in at_work.lines() if it not in standby.lines()] == []
+    assert [line for line in at_work.lines() if line not in standby.lines()] == []
 
 
 def test_a_restore_and_a_carry_over_are_followed(at_work, standby):
@@ -170,7 +170,7 @@ def test_a_restore_and_a_carry_over_are_followed(at_work, standby):
     assert standby.run("promote", folder).status == 0 and standby.content() == at_work.content()
     assert (standby.folder / "office-1.db").read_bytes() == (at_work.folder / "office-1.db").read_bytes()
     assert standby.run("years", "files").out == at_work.run("years", "files").out
-    assert [it.content() for it in (standby, at_work)][0]["units"] == at_work.content()["units"]
+    assert [plant.content() for plant in (standby, at_work)][0]["units"] == at_work.content()["units"]
 
 
 def test_a_follower_that_was_off_makes_one_piece_of_all(at_work, standby, pieces):
@@ -185,13 +185,13 @@ def test_a_follower_that_was_off_makes_one_piece_of_all(at_work, standby, pieces
 def test_a_folder_has_one_follower_and_one_office(at_work, pieces):
     with following(at_work, str(pieces)):
         assert eventually(lambda: (pieces / "follower.json").exists())
-        told = at_work.run("follow", "--to", pieces)
-        assert told.status == 1 and "another follower writes into" in told.err
+        done = at_work.run("follow", "--to", pieces)
+        assert done.status == 1 and "another follower writes into" in done.err
     other = Plant(at_work.program, at_work.folder / "other")
     other.folder.mkdir(mode=0o700)
     assert other.run("new", other.db).status == 0
-    told = other.run("follow", "--to", pieces)
-    assert told.status == 1 and "has pieces of" in told.err and "folder of its own" in told.err
+    done = other.run("follow", "--to", pieces)
+    assert done.status == 1 and "has pieces of" in done.err and "folder of its own" in done.err
 
 
 def test_two_followers_into_two_folders_go_on_side_by_side(at_work, standby):
@@ -273,12 +273,12 @@ def remote(plant: Plant, folder: pathlib.Path, rsh: pathlib.Path):
     settings = plant.folder / "remote.toml"
     settings.write_text(f'file = "{plant.db}"\ntoll = "{plant.program}"\n[follow]\nto = "there:{folder}"\nrsh = "{rsh}"\n')
     log = open(plant.folder / "follower.log", "a+")
-    it = subprocess.Popen([HILPOVEN, "follow"], stderr=log, env=environment(HILPOVEN_SETTINGS=settings))
+    process = subprocess.Popen([HILPOVEN, "follow"], stderr=log, env=environment(HILPOVEN_SETTINGS=settings))
     try:
-        yield it
+        yield process
     finally:
-        it.kill()
-        it.wait()
+        process.kill()
+        process.wait()
 
 
 def test_pieces_go_to_another_machine_and_wait_for_the_network(at_work, standby, rsh, tmp_path):
@@ -308,8 +308,8 @@ def test_a_snapshot_that_isn_t_there_is_told(at_work, standby, rsh, tmp_path):
     with remote(at_work, there, rsh):
         assert eventually(lambda: number_in(at_work.folder / "follow") >= 0)
         time.sleep(2)
-        told = at_work.run("follow", "status").out
-        assert "1 piece still to be sent" in told and "0.0 seconds behind" not in told
+        status = at_work.run("follow", "status").out
+        assert "1 piece still to be sent" in status and "0.0 seconds behind" not in status
         (tmp_path / "down").unlink()
         assert eventually(lambda: at_work.run("follow", "status").out.startswith("0.0 seconds behind"), 40)
     assert standby.run("promote").status == 0
@@ -317,14 +317,14 @@ def test_a_snapshot_that_isn_t_there_is_told(at_work, standby, rsh, tmp_path):
 
 def test_a_follower_learns_that_the_other_machine_was_promoted(at_work, standby, rsh, monkeypatch):
     there = standby.folder / "follow"
-    with remote(at_work, there, rsh) as it:
+    with remote(at_work, there, rsh) as process:
         assert eventually(lambda: number_in(there) >= 0)
         assert standby.run("promote").status == 0
-        assert it.wait(40) == 1
+        assert process.wait(40) == 1
     assert "timeline 2 has begun" in (at_work.folder / "follower.log").read_text()
     assert at_work.run("unit-add", "LATE").status == 1
-    with remote(at_work, there, rsh) as it:
-        assert it.wait(20) == 1
+    with remote(at_work, there, rsh) as process:
+        assert process.wait(20) == 1
 
 
 def test_another_machine_s_folder_has_one_follower(at_work, standby, rsh):
@@ -332,8 +332,8 @@ def test_another_machine_s_folder_has_one_follower(at_work, standby, rsh):
     with remote(at_work, there, rsh):
         assert eventually(lambda: number_in(there) >= 0)
     shutil.rmtree(at_work.folder / "follow")
-    with remote(at_work, there, rsh) as it:
-        assert it.wait(20) == 1
+    with remote(at_work, there, rsh) as process:
+        assert process.wait(20) == 1
     assert "has pieces of another follower" in (at_work.folder / "follower.log").read_text()
 
 
@@ -342,8 +342,8 @@ def test_another_machine_s_folder_has_one_follower(at_work, standby, rsh):
 def test_a_member_follows_nothing_and_names_no_folder(at_work, pieces):
     at_work.settle()
     for words in (["follow"], ["follow", "--to", "/tmp/x"], ["follow", "--check"], ["promote", str(pieces)], ["follow", "verify", str(pieces)], ["follow", "status", "/etc"]):
-        told = at_work.as_member(*words)
-        assert told.status == 2 and "for root and the office's user alone" in told.err, (words, told)
+        done = at_work.as_member(*words)
+        assert done.status == 2 and "for root and the office's user alone" in done.err, (words, done)
     assert at_work.as_member("follow", "status").status == 2 and at_work.as_member("promote").status == 2
     os.rename(pieces, at_work.folder / "follow")
     assert at_work.as_member("follow", "verify").status == 0
@@ -352,8 +352,8 @@ def test_a_member_follows_nothing_and_names_no_folder(at_work, pieces):
 
 @pytest.mark.parametrize("to", ["-e sh:/x", "host;id:/x", ":/x", "host:", "h ost:/x"])
 def test_a_target_is_words_of_no_program(at_work, to):
-    told = at_work.run("follow", "--to", to, "--check")
-    assert told.status in (1, 2) and "is no HOST:FOLDER" in told.err
+    done = at_work.run("follow", "--to", to, "--check")
+    assert done.status in (1, 2) and "is no HOST:FOLDER" in done.err
 
 
 def test_a_folder_that_others_may_change_is_refused(at_work, pieces, standby):

@@ -30,7 +30,7 @@ UsePAM no
 
 def run(*words: object, **more: object) -> subprocess.CompletedProcess:
     """A program that has to end well."""
-    return subprocess.run([str(it) for it in words], check=True, capture_output=True, text=True, **more)
+    return subprocess.run([str(word) for word in words], check=True, capture_output=True, text=True, **more)
 
 
 class Machine:
@@ -102,8 +102,8 @@ def test_a_machine_is_lost_and_refused_when_it_is_back(machines, laid, tmp_path)
         first.inside("ip", "link", "set", "v0", "down")
         assert server.ask("ACME", "POST", "/orders", '{"order":"LATE","recipe":"BRINE-10","batches":1}')[0] == 200
         began = time.monotonic()
-        told = second.plant.run("promote")
-        assert told.status == 0, told
+        promotion = second.plant.run("promote")
+        assert promotion.status == 0, promotion
         times["promoted"] = time.monotonic() - began
         assert second.plant.rows("SELECT count(*) FROM moves WHERE mkey GLOB 'N*'") == [(60,)]
         with second.plant.serve() as other:
@@ -115,8 +115,8 @@ def test_a_machine_is_lost_and_refused_when_it_is_back(machines, laid, tmp_path)
     log.seek(0)
     assert "timeline 2 has begun" in log.read()
     # the machine comes back: its unit looks first, and neither the server nor a command goes on
-    told = subprocess.run(["ip", "netns", "exec", first.name, str(HILPOVEN), "follow", "--check"], env=settings, capture_output=True, text=True)
-    assert told.returncode == 1 and "timeline 2 has begun" in told.stderr
+    done = subprocess.run(["ip", "netns", "exec", first.name, str(HILPOVEN), "follow", "--check"], env=settings, capture_output=True, text=True)
+    assert done.returncode == 1 and "timeline 2 has begun" in done.stderr
     assert subprocess.run(["test", "!", "-e", f"{first.plant.db}.superseded"]).returncode == 1
     assert first.plant.run("unit-add", "LATE").status == 1 and second.plant.run("unit-add", "OVEN").out == "accepted\n"
     print(times)

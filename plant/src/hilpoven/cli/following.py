@@ -138,7 +138,7 @@ def follow_status(context: Context, folder: str | None) -> None:
     lag = lag_of(context.file, folder := folder or folder_of(context))
     if lag is None:
         raise Failure(f"nobody follows into {folder}", WRONG_USE, "`hilpoven follow` does")
-    for line in [*(f"ATTENTION: {it}" for it in lag.faults), *lag.lines]:
+    for line in [*(f"ATTENTION: {fault}" for fault in lag.faults), *lag.lines]:
         click.echo(printable(line))
     sys.exit(REFUSED if lag.faults or lag.seconds > context.settings.follow.behind else 0)
 

@@ -115,7 +115,7 @@ class Book:
 
     def digests(self) -> Digests:
         """The digests of all pages behind the last piece, which are read from the folder."""
-        of = next((it for it in chain.chains_in(self.folder) if it.name == self.chain), None)
+        of = next((candidate for candidate in chain.chains_in(self.folder) if candidate.name == self.chain), None)
         if of is None or not of.snapshots:
             return Digests()
         return chain.digests(chain.pieces_of(of, max(of.snapshots), of.last))

@@ -52,10 +52,10 @@ def chains_in(folder: str) -> list[Chain]:
         raise Failure(f"{folder} can't be looked at: {error.strerror}") from error
     for name in names:
         if match := NAME.fullmatch(name):
-            timeline, chain, number, kind = int(match[1]), match[2], int(match[3]), match[4]
-            of = chains.setdefault((timeline, chain), Chain(timeline, chain))
+            timeline, chain_name, number, kind = int(match[1]), match[2], int(match[3]), match[4]
+            of = chains.setdefault((timeline, chain_name), Chain(timeline, chain_name))
             (of.snapshots if kind == SNAPSHOT else of.pieces)[number] = os.path.join(folder, name)
-    return sorted(chains.values(), key=lambda it: (it.timeline, began(it)))
+    return sorted(chains.values(), key=lambda chain: (chain.timeline, began(chain)))
 
 
 def began(chain: Chain) -> float:
@@ -168,7 +168,7 @@ class Report:
 
     def route_to(self, end: int) -> tuple[int, int]:
         """The newest snapshot from which pieces that can be used reach a number; fails if none do."""
-        starts = [it for it in self.snapshots if it <= end <= self.end_from(it)]
+        starts = [start for start in self.snapshots if start <= end <= self.end_from(start)]
         if not starts:
             raise Failure(f"piece {end} of {self.chain.name} can't be reached: {'; '.join(self.wrong[:5])}", REFUSED)
         return max(starts), end
@@ -202,8 +202,8 @@ def pieces_of(chain: Chain, start: int, end: int) -> Iterator[Piece]:
 def digests(pieces: Iterable[Piece]) -> Digests:
     """The digests of the pages that pieces give."""
     made = Digests()
-    for it in pieces:
-        made.put({number: digest_of(page) for number, page in it.pages()}, it.header.size)
+    for opened_piece in pieces:
+        made.put({number: digest_of(page) for number, page in opened_piece.pages()}, opened_piece.header.size)
     return made
 
 
@@ -222,9 +222,9 @@ def build(pieces: Iterable[Piece], room: str) -> Built:
     file, journal, earlier = os.path.join(room, "copy.db"), os.path.join(room, "copy.journal"), dict[str, str]()
     last: Header | None = None
     with open(file, "xb", 0) as base, open(journal, "xb") as lines:
-        for it in pieces:
-            last = it.header
-            for number, page in it.pages():
+        for opened_piece in pieces:
+            last = opened_piece.header
+            for number, page in opened_piece.pages():
                 os.pwrite(base.fileno(), page, (number - 1) * len(page))
             os.ftruncate(base.fileno(), last.size * last.page_size)
             if last.journal and last.journal_from != lines.tell():
@@ -232,8 +232,8 @@ def build(pieces: Iterable[Piece], room: str) -> Built:
                     raise Failure(f"{last.name} has lines of a journal that isn't that of the pieces before it")
                 lines.seek(0)
                 lines.truncate()
-            lines.writelines(it.lines())
-            named = it.earlier()
+            lines.writelines(opened_piece.lines())
+            named = opened_piece.earlier()
             earlier = earlier if named is None else named
     if last is None:
         raise Failure("there are no pieces")
@@ -275,7 +275,7 @@ def prune(folder: str, name: str, days: int) -> list[str]:
     oldest that stays, and other chains to which nothing came for so long; the names of what was removed."""
     oldest, gone = time.time() - days * 86_400, list[str]()
     for of in chains_in(folder):
-        stay = [it for it, path in of.snapshots.items() if seconds_in(folder, os.path.basename(path)) >= oldest]
+        stay = [number for number, path in of.snapshots.items() if seconds_in(folder, os.path.basename(path)) >= oldest]
         stay = stay or ([max(of.snapshots)] if of.snapshots and of.name == name else [])
         is_old = of.name != name and seconds_in(folder, os.path.basename(of.newest)) < oldest
         if not stay and not is_old:
@@ -296,5 +296,5 @@ def at_of(chain: Chain, number: int) -> str:
 def last_before(chain: Chain, moment: float) -> int:
     """The number of the last piece that was made before a moment, in seconds since 1970."""
     numbers = sorted({*chain.pieces, chain.first_snapshot})
-    place = bisect.bisect(numbers, moment, key=lambda it: seconds_of(at_of(chain, it)))
+    place = bisect.bisect(numbers, moment, key=lambda number: seconds_of(at_of(chain, number)))
     return numbers[max(0, place - 1)]

@@ -218,17 +218,17 @@ def own_chains(book: Book) -> list[Chain]:
     timeline, or of a later timeline."""
     chains = chain.chains_in(book.folder)
     require_latest(book.file, book.timeline, book.folder, chains)
-    own = [it for it in chains if it.timeline == book.timeline]
-    for it in own:
-        if (office := chain.office_of(it)) not in ("", book.office):
+    own = [candidate for candidate in chains if candidate.timeline == book.timeline]
+    for own_chain in own:
+        if (office := chain.office_of(own_chain)) not in ("", book.office):
             raise Failure(f"{book.folder} has pieces of {office}", REFUSED, "each office needs a folder of its own")
-    return [it for it in own if it.snapshots]
+    return [candidate for candidate in own if candidate.snapshots]
 
 
 def require_latest(file: str, own: int, folder: str, chains: list[Chain]) -> None:
     """Fails if a folder has pieces or a mark of a later timeline than an office's own."""
     marked = timeline.latest(os.listdir(folder))
-    if (latest := max([marked, *(it.timeline for it in chains)], default=0)) > own:
+    if (latest := max([marked, *(other.timeline for other in chains)], default=0)) > own:
         raise timeline.supersede(file, latest, folder)
 
 

@@ -49,7 +49,11 @@ def latest(folder: str, until: int | None = None) -> Choice:
 
 def at_moment(folder: str, moment: float, last_timeline: int) -> Choice:
     """The pieces up to a moment, in seconds since 1970, of the newest chain that begins before it."""
-    chains = [it for it in chain.chains_in(folder) if it.timeline <= last_timeline and it.snapshots]
+    chains = [
+        candidate
+        for candidate in chain.chains_in(folder)
+        if candidate.timeline <= last_timeline and candidate.snapshots
+    ]
     for of in reversed(chains):
         first = chain.opened(of.snapshots[of.first_snapshot]).header
         if chain.seconds_of(first.at) <= moment:
@@ -62,7 +66,7 @@ def at_moment(folder: str, moment: float, last_timeline: int) -> Choice:
 
 def oldest(chains: list[Chain]) -> str:
     """From when on offices can be made."""
-    times = [chain.at_of(it, it.first_snapshot) for it in chains]
+    times = [chain.at_of(candidate, candidate.first_snapshot) for candidate in chains]
     return f"the oldest is of {min(times)}" if times else ""
 
 

@@ -78,18 +78,18 @@ class Remote:
 
     def send(self, folder: str, names: list[str]) -> Job:
         """Begins to send files of a folder."""
-        content = "".join(f"{it}\n" for it in names)
+        content = "".join(f"{name}\n" for name in names)
         return self.begin(["--files-from=-", f"{folder}/", self.address], names, content)
 
     def names(self, *patterns: str) -> Job:
         """Begins to list the files there whose names fit one of these patterns."""
-        chosen = [f"--include={it}" for it in patterns]
+        chosen = [f"--include={pattern}" for pattern in patterns]
         return self.begin(["--recursive", "--list-only", *chosen, "--exclude=*", self.address])
 
     def remove(self, names: list[str]) -> Job:
         """Begins to remove these files there, and no others."""
         with tempfile.TemporaryDirectory() as empty:
-            chosen = "".join(f"+ /{it}\n" for it in names)
+            chosen = "".join(f"+ /{name}\n" for name in names)
             words = ["--recursive", "--delete", "--include-from=-", "--exclude=*", f"{empty}/", self.address]
             job = self.begin(words, names, chosen)
             job.process.wait()
@@ -119,4 +119,6 @@ def keeping_connected(rsh: str, folder: str) -> str:
         raise Failure(f"rsh in [follow]: {error}", WRONG_USE) from error
     if not words or os.path.basename(words[0]) != "ssh" or len(os.fsencode(folder)) > LONGEST:
         return rsh
-    return shlex.join([*words, *(it for option in CONNECTION for it in ("-o", option)), "-S", f"{folder}/{CONTROL}"])
+    return shlex.join(
+        [*words, *(word for option in CONNECTION for word in ("-o", option)), "-S", f"{folder}/{CONTROL}"]
+    )

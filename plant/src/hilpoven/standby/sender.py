@@ -40,7 +40,7 @@ class Sender:
     def add(self, name: str, at: float) -> None:
         """Has a piece or a snapshot sent."""
         if name.endswith(piece.ENDS[piece.SNAPSHOT]):
-            self.bulk += [it for it in os.listdir(self.folder) if it.startswith(chain.EARLIER)] + [name]
+            self.bulk += [earlier for earlier in os.listdir(self.folder) if earlier.startswith(chain.EARLIER)] + [name]
         else:
             self.unsent[name] = at
 
@@ -59,7 +59,7 @@ class Sender:
             self.job = None
         if self.bulk_job and (ended := self.bulk_job.end()):
             if self.has_come(ended[1]):
-                self.bulk = [it for it in self.bulk if it not in self.bulk_job.names]
+                self.bulk = [name for name in self.bulk if name not in self.bulk_job.names]
                 self.begun |= chains_of(self.bulk_job.names)
             self.bulk_job = None
         if time.monotonic() >= self.rests_until:
@@ -74,8 +74,8 @@ class Sender:
     def unsent_since(self) -> float:
         """When the first was made of what isn't there: of pieces, and of the snapshots of a chain that has none there,
         without which its pieces give nothing. It is 0 if all is there."""
-        needed = [it for it in self.bulk if chains_of([it]) - self.begun]
-        return min([*self.unsent.values(), *(chain.seconds_in(self.folder, it) for it in needed)], default=0.0)
+        needed = [name for name in self.bulk if chains_of([name]) - self.begun]
+        return min([*self.unsent.values(), *(chain.seconds_in(self.folder, name) for name in needed)], default=0.0)
 
     def next_job(self) -> Job | None:
         """What is to be done next; `None` if there is nothing."""
@@ -116,8 +116,10 @@ class Sender:
 
     def compare(self, there: list[str]) -> None:
         """Has all that isn't there sent; fails if there are pieces of another follower."""
-        here = sorted(it for it in os.listdir(self.folder) if piece.NAME.fullmatch(it) or it.startswith(chain.EARLIER))
-        own = {match[2] for it in here if (match := piece.NAME.fullmatch(it))}
+        here = sorted(
+            name for name in os.listdir(self.folder) if piece.NAME.fullmatch(name) or name.startswith(chain.EARLIER)
+        )
+        own = {match[2] for name in here if (match := piece.NAME.fullmatch(name))}
         for match in filter(None, map(piece.NAME.fullmatch, there)):
             if int(match[1]) == self.timeline and match[2] not in own:
                 raise Failure(
@@ -125,9 +127,11 @@ class Sender:
                     REFUSED,
                     "name a folder of its own for each follower, or move the pieces there elsewhere",
                 )
-        missing = [it for it in here if it not in set(there)]
-        self.unsent = {it: chain.seconds_in(self.folder, it) for it in missing if it.endswith(".piece")} | self.unsent
-        self.bulk = [it for it in missing if it not in self.unsent]
+        missing = [name for name in here if name not in set(there)]
+        self.unsent = {
+            name: chain.seconds_in(self.folder, name) for name in missing if name.endswith(".piece")
+        } | self.unsent
+        self.bulk = [name for name in missing if name not in self.unsent]
         self.begun = chains_of(there)
         self.is_known = True
 
@@ -135,11 +139,11 @@ class Sender:
 def chains_of(names: list[str]) -> set[str]:
     """The chains of which there are snapshots among files of these names."""
     matches = filter(None, map(piece.NAME.fullmatch, names))
-    return {it[2] for it in matches if it[4] == piece.SNAPSHOT}
+    return {match[2] for match in matches if match[4] == piece.SNAPSHOT}
 
 
 def require_latest(file: str, own: int, to: str, names: list[str]) -> None:
     """Fails if names in a folder are pieces or a mark of a later timeline than an office's own."""
     pieces = filter(None, map(piece.NAME.fullmatch, names))
-    if (latest := max([timeline.latest(names), *(int(it[1]) for it in pieces)])) > own:
+    if (latest := max([timeline.latest(names), *(int(match[1]) for match in pieces)])) > own:
         raise timeline.supersede(file, latest, to)

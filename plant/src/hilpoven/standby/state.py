@@ -43,7 +43,7 @@ class State:
     @property
     def behind(self) -> float:
         """By how many seconds the pieces are behind, or at most are if the follower doesn't look."""
-        ends = [it for it in (self.waiting, self.unsent_since, self.looked if self.is_silent else 0) if it]
+        ends = [moment for moment in (self.waiting, self.unsent_since, self.looked if self.is_silent else 0) if moment]
         return max(0.0, time.time() - min(ends)) if ends else 0.0
 
     @property

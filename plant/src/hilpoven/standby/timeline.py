@@ -68,7 +68,7 @@ def mark_of(number: int) -> str:
 def latest(names: Iterable[str]) -> int:
     """The latest timeline that marks of a folder name; 0 if there is none."""
     marks = filter(None, map(MARK.fullmatch, names))
-    return max((int(it[1]) for it in marks), default=0)
+    return max((int(mark[1]) for mark in marks), default=0)
 
 
 def supersede(file: str, number: int, where: str) -> Failure:
