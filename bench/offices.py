@@ -96,9 +96,9 @@ class Genealogy:
         """The rows of the owner's movements, in the order of their keys."""
         yield from (receipt(owner, f"A{n:05}", f"R-{n + 1:05}", "RAW") for n in range(self.raw))
         yield from (receipt(owner, f"B{n:05}", f"T-{n + 1:05}", f"T-{n % 100 + 1:03}") for n in range(self.tested))
-        made = max(1, self.actuals // 80)
+        products = max(1, self.actuals // 80)
         batches = (self.movements - self.raw - self.tested) // self.actuals
-        makers = min(batches, (MOST_LOTS - self.raw - self.tested) // made)  # the others produce nothing
+        makers = min(batches, (MOST_LOTS - self.raw - self.tested) // products)  # the others produce nothing
         for batch in range(1, batches + 1):
             before = min(batch // 2, makers)
             consumed: list[Lot] = [(owner, product(before, 0), "PRODUCT") if before else (HOUSE, WATER, "WATER")]
@@ -108,7 +108,7 @@ class Genealogy:
                 if place < self.actuals // 2 or batch > makers:
                     yield actual(owner, batch, place, consumed[place % len(consumed)], CONSUMED)
                 else:
-                    yield actual(owner, batch, place, (owner, product(batch, place % made), "PRODUCT"), PRODUCED)
+                    yield actual(owner, batch, place, (owner, product(batch, place % products), "PRODUCT"), PRODUCED)
 
 
 @dataclass(frozen=True)
@@ -128,8 +128,8 @@ class Dense:
         for batch in range(1, self.batches + 1):
             for place in range(2 * self.across):
                 is_made, at = divmod(place, self.across)
-                made = batch - 1 + is_made
-                lot = (owner, product(made, at), "PRODUCT") if made else (HOUSE, WATER, "WATER")
+                maker = batch - 1 + is_made
+                lot = (owner, product(maker, at), "PRODUCT") if maker else (HOUSE, WATER, "WATER")
                 yield actual(owner, batch, place, lot, PRODUCED if is_made else CONSUMED)
 
 

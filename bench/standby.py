@@ -153,8 +153,8 @@ def beside(office: Any, owners: int, verb: str) -> Figures:
 def usual(office: Any, _: int) -> Figures:
     """64 owners, who place orders."""
 
-    def fill(made: Any) -> None:
-        with offices.filling(made, [Genealogy(2_000, raw=2_000), *[Genealogy(0, raw=0)] * (OWNERS - 1)]) as base:
+    def fill(new_office: Any) -> None:
+        with offices.filling(new_office, [Genealogy(2_000, raw=2_000), *[Genealogy(0, raw=0)] * (OWNERS - 1)]) as base:
             base.execute(offices.ORDERS, (PLACED,))
 
     office.fill(fill)

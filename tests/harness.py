@@ -84,9 +84,9 @@ def content(db: str) -> Any:
         with contextlib.closing(sqlite3.connect(copy)) as base:
             if base.execute("PRAGMA integrity_check").fetchall() != [("ok",)]:
                 return "no sound database"
-            made = base.execute("SELECT type, name, sql FROM sqlite_master ORDER BY name").fetchall()
+            schema = base.execute("SELECT type, name, sql FROM sqlite_master ORDER BY name").fetchall()
             return {name: (sql, kind == "table" and sorted(base.execute(f"SELECT * FROM {name}")))
-                    for kind, name, sql in made}
+                    for kind, name, sql in schema}
     except sqlite3.Error as error:
         return f"no database: {error}"
     finally:

@@ -89,10 +89,10 @@ RUNS: dict[str, Callable[[New, str], Command | Request]] = {
 @pytest.fixture(scope="module", params=RUNS)
 def run(request: pytest.FixtureRequest, new: New, work: str, disks: list[Disk]) -> Disturbed:
     """What is disturbed, and the kinds of its calls."""
-    made = RUNS[request.param](new, work)
+    disturbed = RUNS[request.param](new, work)
     disks[0].disturb(0)
-    assert made.attempt(disks[0]) == UNHARMED
-    return made, disks[0].calls()
+    assert disturbed.attempt(disks[0]) == UNHARMED
+    return disturbed, disks[0].calls()
 
 
 @pytest.mark.parametrize("way", WAYS, ids=[way.name for way in WAYS])

@@ -723,9 +723,9 @@ def wrong_kills(disks: list[Disk], base: str, words: list[str], done: list[Resul
             server.ask(ORDERS)
             before = len(office.calls())
             office.aim(before + at, way)
-            answer, made = office.plant(*words), len(office.calls()) - before
+            answer, calls = office.plant(*words), len(office.calls()) - before
             office.leave()
-        return answer, made
+        return answer, calls
 
     points = range(1, min(60, answer_and_calls(disks[0], 0, 0)[1]) + 1)
     assert len(points) > 10

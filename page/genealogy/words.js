@@ -30,8 +30,8 @@ export class Words {
   get summary() {
     const { back, forward } = this.#traces;
     const sum = trace => (trace.length > 1 ? `${count(trace.length - 1, "lot")} over ${count(trace.at(-1).steps, "step")}` : "none");
-    const made = back[0].owner === PLANT ? "" : `Made of: ${sum(back)}. `;
-    return `${made}Went into: ${sum(forward)}. Arrows lead from a lot to what it went into.`;
+    const sources = back[0].owner === PLANT ? "" : `Made of: ${sum(back)}. `;
+    return `${sources}Went into: ${sum(forward)}. Arrows lead from a lot to what it went into.`;
   }
 
   showTable() {

@@ -99,8 +99,8 @@ function lotsMade(batch) {
   const lots = batch?.lots ?? [];
   if (lots.length === 0) return batch && html("p", { class: "soft" }, "It has made no lot yet.");
   const names = lots.flatMap((name, i) => [i > 0 && ", ", link(toLot(name), name)]);
-  const made = html("p", { class: "made" }, html("span", { class: "soft" }, `Made ${count(lots.length, "lot")}: `), names);
-  return lots.length <= NAMED ? made : html("details", {}, html("summary", {}, `Made ${count(lots.length, "lot")}`), made);
+  const line = html("p", { class: "made" }, html("span", { class: "soft" }, `Made ${count(lots.length, "lot")}: `), names);
+  return lots.length <= NAMED ? line : html("details", {}, html("summary", {}, `Made ${count(lots.length, "lot")}`), line);
 }
 
 const materialOf = (page, { material, owner }) => (owner === page.who.owner ? link(toStock({ material }), material)

@@ -21,9 +21,9 @@ def recorded_edges(base: sqlite3.Connection) -> set[tuple]:
 
 def linked_edges(base: sqlite3.Connection, links: list) -> set[tuple]:
     """The pairs of lots of which the second contains some of the first, by links."""
-    made = [(row[:3], row[3:]) for row in base.execute(MADE)]
+    lots_of_batches = [(row[:3], row[3:]) for row in base.execute(MADE)]
     lots = {(link, (link.owner, link.lot)) for link in links if link.lot}
-    lots |= {(link, lot) for link in links if not link.lot for batch, lot in made if batch == (link.owner, link.order, link.batch)}
+    lots |= {(link, lot) for link in links if not link.lot for batch, lot in lots_of_batches if batch == (link.owner, link.order, link.batch)}
     return {((link.of_owner, link.of_lot), lot) for link, lot in lots}
 
 

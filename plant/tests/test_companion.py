@@ -29,7 +29,7 @@ def folder(at_work) -> pathlib.Path:
     return path
 
 
-def made(plant: Plant, folder: pathlib.Path) -> str:
+def refresh(plant: Plant, folder: pathlib.Path) -> str:
     """What the command tells: how many files it wrote, left and removed."""
     done = plant.run("companion", "--out", folder)
     assert (done.status, done.err) == (0, ""), done
@@ -46,7 +46,7 @@ def states(folder: pathlib.Path) -> dict[str, tuple]:
 
 
 def test_each_owner_has_one_that_the_folders_group_reads(at_work, folder):
-    assert made(at_work, folder) == "2 written, 0 as before, 0 removed"
+    assert refresh(at_work, folder) == "2 written, 0 as before, 0 removed"
     assert {path.name: path.stat().st_mode & 0o777 for path in folder.iterdir()} == {"ACME.json": 0o640, "BOLT.json": 0o640, folders.MARK: 0o600}
     assert [material["material"] for material in said(folder, "BOLT")["materials"]] == ["PIGMENT"]
     assert not [path for path in folder.iterdir() if "KEY1" in path.read_text()]
@@ -57,7 +57,7 @@ def test_it_says_what_was_recorded_and_noted(at_work, folder):
     for words in NOTES:
         done = at_work.run(*words)
         assert done.status == 0, (words, done)
-    made(at_work, folder)
+    refresh(at_work, folder)
     companion = said(folder)
     brine, salt, water = companion["materials"]
     assert brine == {"owner": "ACME", "material": "BRINE", "measure": "kg", "description": "Brine, 10 %", "tests": [
@@ -90,7 +90,7 @@ def test_it_says_what_was_recorded_and_noted(at_work, folder):
 def test_recipients_of_shipments_are_named(at_work, folder):
     at_work.run(*NOTES[0])
     assert at_work.run("ship", "ACME", "K9", "S-1", "BAY1", 5, 261105, "--to", "NORD", "--document", "LS 7").status == 0
-    made(at_work, folder)
+    refresh(at_work, folder)
     assert {name: said(folder)["movements"][-1][name] for name in ("kind", "to", "document")} == {"kind": "shipment", "to": "NORD", "document": "LS 7"}
 
 
@@ -99,7 +99,7 @@ def test_recipients_of_shipments_are_named(at_work, folder):
 def test_the_plants_own_test_is_a_signature_or_a_hold(at_work, folder, results, expected):
     site.load.__defaults__[0].write_text('[quality]\ntest = "QA"\npersons = 1\n')
     at_work.lay("material-add ACME GLUE kg\ntest-add ACME GLUE QA 1 1\nreceive ACME K9 GLUE G-1 BAY 5 101\n" + "".join(f"result ACME G-1 QA {result} 261101\n" for result in results))
-    made(at_work, folder)
+    refresh(at_work, folder)
     lot = next(row for row in said(folder)["lots"] if row["lot"] == "G-1")
     assert lot["release"] == expected and "tests" not in next(material for material in said(folder)["materials"] if material["material"] == "GLUE")
     assert ("signed" in lot, "held" in lot) == (results[-1:] == [1], results[-1:] == [0])
@@ -108,7 +108,7 @@ def test_the_plants_own_test_is_a_signature_or_a_hold(at_work, folder, results, 
 def test_a_hold_by_the_plants_word_alone_stops_no_release(at_work, folder):
     at_work.lay("material-add ACME GLUE kg\nreceive ACME K9 GLUE G-1 BAY 5 101")
     assert at_work.run("hold", "ACME", "G-1", "--reason", "wet bag").status == 0
-    made(at_work, folder)
+    refresh(at_work, folder)
     lot = next(row for row in said(folder)["lots"] if row["lot"] == "G-1")
     assert lot["release"] == {"possible": True} and lot["held"]["text"] == "wet bag" and isinstance(lot["held"]["day"], int)
 
@@ -116,17 +116,17 @@ def test_a_hold_by_the_plants_word_alone_stops_no_release(at_work, folder):
 # When it writes
 
 def test_nothing_is_written_where_nothing_changed(at_work, folder):
-    made(at_work, folder)
+    refresh(at_work, folder)
     before, mark = states(folder), (folder / folders.MARK).stat()
     for _ in range(2):
-        assert made(at_work, folder) == "0 written, 2 as before, 0 removed"
+        assert refresh(at_work, folder) == "0 written, 2 as before, 0 removed"
     assert states(folder) == before and (folder / folders.MARK).stat().st_ino == mark.st_ino
 
 
 def test_nothing_is_copied_where_nothing_changed(at_work, folder, monkeypatch):
-    made(at_work, folder)
+    refresh(at_work, folder)
     monkeypatch.setattr(making, "write", None)
-    assert made(at_work, folder) == "0 written, 2 as before, 0 removed"
+    assert refresh(at_work, folder) == "0 written, 2 as before, 0 removed"
 
 
 CHANGES = {
@@ -144,24 +144,24 @@ CHANGES = {
 @pytest.mark.parametrize("change", CHANGES)
 def test_a_change_shows_in_the_files_that_it_changes_and_in_no_other(at_work, folder, change):
     """Otherwise an owner would see when others work."""
-    made(at_work, folder)
+    refresh(at_work, folder)
     before = states(folder)
     time.sleep(0.03)
     do, owners = CHANGES[change]
     do(at_work)
     count = len(before) + (change == "a new owner")
-    assert made(at_work, folder) == f"{len(owners)} written, {count - len(owners)} as before, 0 removed"
+    assert refresh(at_work, folder) == f"{len(owners)} written, {count - len(owners)} as before, 0 removed"
     after = states(folder)
     assert {name.removesuffix(".json") for name in after if after[name] != before.get(name)} == owners
-    assert made(at_work, folder) == f"0 written, {count} as before, 0 removed"
+    assert refresh(at_work, folder) == f"0 written, {count} as before, 0 removed"
 
 
 def test_one_of_an_owner_that_is_gone_goes_and_nothing_else(at_work, folder):
-    made(at_work, folder)
+    refresh(at_work, folder)
     for name in ("NOBODY.json", "lower.json", "README"):
         (folder / name).write_text("{}")
     at_work.toll("unit-add", "PRESS")
-    assert made(at_work, folder) == "0 written, 2 as before, 1 removed"
+    assert refresh(at_work, folder) == "0 written, 2 as before, 1 removed"
     assert sorted(path.name for path in folder.iterdir()) == [folders.MARK, "ACME.json", "BOLT.json", "README", "lower.json"]
 
 
@@ -170,18 +170,18 @@ def test_each_version_has_another_second(at_work, folder):
     seconds = []
     for number in range(4):
         at_work.toll("receive", "ACME", f"K9{number}", "SALT", "S-9", "BAY1", 1, 104)
-        made(at_work, folder)
+        refresh(at_work, folder)
         seconds.append(int((folder / "ACME.json").stat().st_mtime))
     assert sorted(set(seconds)) == seconds
 
 
 def test_made_is_since_when_it_says_so(at_work, folder):
-    made(at_work, folder)
+    refresh(at_work, folder)
     first = said(folder)["made"]
     assert abs(time.mktime(time.strptime(first, "%Y-%m-%dT%H:%M:%SZ")) - time.timezone - time.time()) < 60
     time.sleep(1.1)
     at_work.toll("receive", "BOLT", "K9", "PIGMENT", "P-1", "BAY2", 1, 104)
-    made(at_work, folder)
+    refresh(at_work, folder)
     assert said(folder)["made"] == first < said(folder, "BOLT")["made"]
 
 
@@ -195,18 +195,18 @@ def test_a_folder_of_something_else_is_left_alone(at_work, folder, others):
 
 
 def test_no_link_is_followed_and_no_pipe_is_waited_for(at_work, folder):
-    made(at_work, folder)
+    refresh(at_work, folder)
     kept = at_work.folder / "kept"
     kept.write_text("kept")
     for name in ("ACME.json", "BOLT.json", folders.MARK):
         (folder / name).unlink()
         (folder / name).symlink_to(kept)
     os.mkfifo(folder / folders.MAKING)
-    assert made(at_work, folder) == "2 written, 0 as before, 0 removed"
+    assert refresh(at_work, folder) == "2 written, 0 as before, 0 removed"
     assert kept.read_text() == "kept" and not any(path.is_symlink() for path in folder.iterdir())
     (folder / "ACME.json").unlink()
     os.mkfifo(folder / "ACME.json")
-    assert made(at_work, folder) == "1 written, 1 as before, 0 removed"
+    assert refresh(at_work, folder) == "1 written, 1 as before, 0 removed"
 
 
 @pytest.mark.parametrize("path, why", [("nowhere", "is no folder"), ("office.db", "is no folder"), ("", "no folder is named")])
@@ -235,7 +235,7 @@ def test_a_named_office_has_its_folder(at_work, monkeypatch, tmp_path):
 
 
 def test_an_office_that_is_away_leaves_all_as_it_was(at_work, folder):
-    made(at_work, folder)
+    refresh(at_work, folder)
     before = states(folder)
     at_work.db.rename(at_work.folder / "away")
     done = at_work.run("companion", "--out", folder)
@@ -243,7 +243,7 @@ def test_an_office_that_is_away_leaves_all_as_it_was(at_work, folder):
 
 
 def test_two_runs_follow_each_other(at_work, folder):
-    made(at_work, folder)
+    refresh(at_work, folder)
     descriptor = os.open(folder, os.O_RDONLY)
     import fcntl
 
@@ -251,12 +251,12 @@ def test_two_runs_follow_each_other(at_work, folder):
     done = at_work.run("companion", "--out", folder, options=("--wait", "0.1"))
     assert done.status == 3 and "another run makes the companions" in done.err
     os.close(descriptor)
-    assert made(at_work, folder) == "0 written, 2 as before, 0 removed"
+    assert refresh(at_work, folder) == "0 written, 2 as before, 0 removed"
 
 
 def test_a_kill_leaves_each_file_whole(at_work, folder):
     """Killed at steps all over a run, each file is as before or new, and the next run makes all of it."""
-    made(at_work, folder)
+    refresh(at_work, folder)
     old = states(folder)
     at_work.toll("receive", "ACME", "K9", "SALT", "S-9", "BAY1", 5, 104)
     words = ["companion", "--out", str(folder)]
@@ -269,18 +269,18 @@ def test_a_kill_leaves_each_file_whole(at_work, folder):
         assert kill_at(Plant(at_work.program, at_work.folder), step, words, "") == 0
         for name, (_, _, content) in states(folder).items():
             assert name == folders.MAKING or content in (old[name][2], new[name]) or content[40:] == new[name][40:], (step, name)
-    made(at_work, folder)
+    refresh(at_work, folder)
     assert said(folder)["movements"][-1]["key"] == "K9" and folders.MAKING not in states(folder)
 
 
 def test_a_full_disk_leaves_each_file_whole(at_work, folder):
-    made(at_work, folder)
+    refresh(at_work, folder)
     before = states(folder)
     at_work.toll("receive", "ACME", "K9", "SALT", "S-9", "BAY1", 5, 104)
     code = "import resource, signal, os, sys; signal.signal(signal.SIGXFSZ, signal.SIG_IGN); resource.setrlimit(resource.RLIMIT_FSIZE, (1000, 1000)); os.execv(sys.argv[1], sys.argv[1:])"
     done = subprocess.run(["/usr/bin/python3", "-c", code, HILPOVEN, "--db", at_work.db, "companion", "--out", folder], capture_output=True, text=True, env=environment(TOLL=at_work.program))
     assert done.returncode == 3 and "Traceback" not in done.stderr and states(folder) == before
-    assert made(at_work, folder) == "1 written, 1 as before, 0 removed"
+    assert refresh(at_work, folder) == "1 written, 1 as before, 0 removed"
 
 
 # How old they are

@@ -86,18 +86,18 @@ def test_a_count_of_400_sublots_with_7_differences_closes(office):
 
 
 def test_a_workbook_is_read_back_as_it_was_made(office):
-    made = office.folder / "count.xlsx"
-    with open(made, "wb") as file:
+    path = office.folder / "count.xlsx"
+    with open(path, "wb") as file:
         subprocess.run([HILPOVEN, "--db", office.db, "count", "sheet", "BOLT", "--day", "261120", "--xlsx"], stdout=file, check=True)
-    book = openpyxl.load_workbook(made)
+    book = openpyxl.load_workbook(path)
     sheet = book.active
     assert [cell.value for cell in sheet[1]] == HEADER.split(",") and sheet.max_row == 134
     assert all(cell.number_format == "@" and isinstance(cell.value, (str, type(None))) for row in sheet.iter_rows(min_row=2) for cell in row)
     for row in sheet.iter_rows(min_row=2):
         row[7].value = row[6].value
     sheet["H2"].value, sheet["I2"].value = "90", "wet"
-    book.save(made)
-    done = office.run("count", "import", made)
+    book.save(path)
+    done = office.run("count", "import", path)
     assert done.out.splitlines()[-1] == "133 sublots: 132 as on hand, 0 there already, 1 recorded, 0 not counted, 0 refused" and done.status == 0
     assert office.rows("SELECT owner, kind, amount, day FROM moves WHERE mkey LIKE 'COUNT-%'") == [("BOLT", 3, 10, 261120)]
 

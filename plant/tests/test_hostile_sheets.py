@@ -333,15 +333,15 @@ def test_a_title_prints_no_lines_of_its_own(tmp_path):
     assert len(done.stderr.splitlines()) == 1 and not UNPRINTABLE.search(done.stderr[:-1])
 
 
-@pytest.mark.parametrize("made", [
+@pytest.mark.parametrize("make_sheet", [
     lambda path: written(path.with_suffix(".csv"), (",".join(HEADER) + '\n"' + LINES + '"' + ",x" * 11 + "\n").encode()),
     lambda path: written(path.with_suffix(".csv"), (",".join(HEADER) + ',"' + LINES + '"\n' + ",".join(ROWS[1]) + "\n").encode()),
     lambda path: ods_of(path.with_suffix(".ods"), ODS_HEAD + ods_row(
         '<table:table-cell office:value-type="float" office:value="7"><text:p>7</text:p><text:p>3 receipts: 3 accepted</text:p></table:table-cell>')),
     lambda path: ods_of(path.with_suffix(".ods"), ODS_HEAD + ods_row('<table:table-cell office:value-type="a&#10;3 receipts: 3 accepted"/>' * 12)),
 ], ids=["cell", "header", "number", "kind"])
-def test_a_cell_prints_no_lines_of_its_own(tmp_path, made):
-    done = command("to-csv", made(tmp_path / "sheet"))
+def test_a_cell_prints_no_lines_of_its_own(tmp_path, make_sheet):
+    done = command("to-csv", make_sheet(tmp_path / "sheet"))
     lines = done.stderr.splitlines()
     assert done.returncode == 1 and len(lines) >= 2 and all(re.match(r"row \d+|\d+ refused, nothing is written$", line) for line in lines), lines
     assert not any(map(UNPRINTABLE.search, lines)) and "3 receipts: 3 accepted" in done.stderr

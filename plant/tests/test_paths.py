@@ -99,8 +99,8 @@ def test_a_member_works_by_names_and_streams(at_work):
     assert at_work.as_member("import", "-", stdin=SHEET).status == 0
     assert at_work.as_member("to-csv", "-", stdin=SHEET).out.startswith("key,owner,order")
     assert "<html" in at_work.as_member("board").out
-    made = at_work.as_member("backup").out.splitlines()[0]
-    assert at_work.as_member("restore", os.path.basename(made)).status == 0
+    backup = at_work.as_member("backup").out.splitlines()[0]
+    assert at_work.as_member("restore", os.path.basename(backup)).status == 0
     assert [entry["words"][0] for entry in at_work.lines() if entry["event"] != "told"] == ["unit-add", "import", "board", "backup", "restore"]
 
 
@@ -157,13 +157,13 @@ def test_no_output_goes_over_an_offices_files(at_work, sheet, name, more):
 
 
 def test_other_files_are_replaced_only_where_that_is_asked_for(at_work, sheet):
-    made = at_work.folder / "made.csv"
-    made.write_text("mine")
-    made.chmod(0o640)
-    done = at_work.run("to-csv", sheet, made)
-    assert done.status == 2 and "is there already" in done.err and "--force" in done.err and made.read_text() == "mine"
-    assert at_work.run("to-csv", "--force", sheet, made).status == 0
-    assert made.read_text() == SHEET.replace("\n", "\n") and made.stat().st_mode & 0o777 == 0o640
+    path = at_work.folder / "made.csv"
+    path.write_text("mine")
+    path.chmod(0o640)
+    done = at_work.run("to-csv", sheet, path)
+    assert done.status == 2 and "is there already" in done.err and "--force" in done.err and path.read_text() == "mine"
+    assert at_work.run("to-csv", "--force", sheet, path).status == 0
+    assert path.read_text() == SHEET.replace("\n", "\n") and path.stat().st_mode & 0o777 == 0o640
     assert not list(at_work.folder.glob(".hilpoven.*"))
 
 
@@ -172,21 +172,21 @@ def test_the_folder_of_an_output_is_found_once(tmp_path):
     (tmp_path / "two").mkdir()
     link = tmp_path / "link"
     link.symlink_to("one")
-    with paths.target(link / "made") as made:
+    with paths.target(link / "made") as target:
         link.unlink()
         link.symlink_to("two")
-        made.give("text")
+        target.give("text")
     assert (tmp_path / "one" / "made").read_text() == "text" and os.listdir(tmp_path / "two") == []
 
 
 def test_a_room_that_was_swapped_gets_nothing(tmp_path):
     """Whoever may write in a folder of an output gets nothing by putting a link in the place of what is made there."""
     (tmp_path / "elsewhere").mkdir()
-    with paths.target(tmp_path / "made") as made, made.room() as (room, path):
+    with paths.target(tmp_path / "made") as target, target.room() as (room, path):
         os.rename(path, tmp_path / "away")
         os.symlink(tmp_path / "elsewhere", path)
         pathlib.Path(paths.open_path(room), "text").write_text("text")
-        made.put(room, "text")
+        target.put(room, "text")
     assert (tmp_path / "made").read_text() == "text" and os.listdir(tmp_path / "elsewhere") == []
 
 

@@ -92,23 +92,23 @@ def test_a_sheet_that_hides_nothing_is_taken(sheet):
 
 
 def test_hidden_rows_are_refused_unless_asked_for(sheet, tmp_path):
-    made = sheet(ROWS, hidden_rows=(2, 3, 5))
-    done = to_csv(made, tmp_path / "made.csv")
+    path = sheet(ROWS, hidden_rows=(2, 3, 5))
+    done = to_csv(path, tmp_path / "made.csv")
     assert done.status == 1 and not (tmp_path / "made.csv").exists()
     assert done.err.splitlines() == ["row 2: it and those down to row 3 are hidden; --hidden takes it", "row 5: it is hidden; --hidden takes it",
                                         "2 refused, nothing is written"]
-    asked = to_csv("--hidden", made)
+    asked = to_csv("--hidden", path)
     assert (asked.status, asked.out) == (0, GOOD)
     assert asked.err.splitlines() == ["row 2: it and those down to row 3 are hidden; taken all the same", "row 5: it is hidden; taken all the same"]
 
 
 def test_hidden_columns_are_refused_unless_asked_for(sheet):
-    made = sheet(ROWS, hidden_columns=("B", "L"))
-    done = to_csv(made)
+    path = sheet(ROWS, hidden_columns=("B", "L"))
+    done = to_csv(path)
     assert done.status == 1 and done.out == ""
     assert done.err.splitlines() == ["row 1, column B: its column is hidden; --hidden takes it", "row 1, column L: its column is hidden; --hidden takes it",
                                         "2 refused, nothing is written"]
-    assert to_csv("--hidden", made).out == GOOD
+    assert to_csv("--hidden", path).out == GOOD
 
 
 def test_hidden_rows_that_are_empty_are_no_matter(sheet):
@@ -116,16 +116,16 @@ def test_hidden_rows_that_are_empty_are_no_matter(sheet):
 
 
 def test_a_hidden_sheet_is_refused_unless_it_is_named(tmp_path, sheet):
-    made = sheet(ROWS, state="hidden")
-    assert is_told(to_csv(made), 1)
-    assert to_csv("--sheet", "Sheet" if made.suffix == ".xlsx" else "Actuals", made).out == GOOD
+    path = sheet(ROWS, state="hidden")
+    assert is_told(to_csv(path), 1)
+    assert to_csv("--sheet", "Sheet" if path.suffix == ".xlsx" else "Actuals", path).out == GOOD
 
 
 def test_a_row_of_no_height_is_hidden(tmp_path):
     body = "".join(f'<row r="{n}"{height}>{"".join(INLINE.format(cell) for cell in row)}</row>'
                    for n, (row, height) in enumerate(zip(ROWS, ["", "", ' ht="0" customHeight="1"', "", ""]), 1))
-    made = patched(xlsx(tmp_path / "sheet.xlsx", ROWS), "xl/worksheets/sheet1.xml", sheet_of(body))
-    assert to_csv(made).err.splitlines()[0] == "row 3: it is hidden; --hidden takes it"
+    path = patched(xlsx(tmp_path / "sheet.xlsx", ROWS), "xl/worksheets/sheet1.xml", sheet_of(body))
+    assert to_csv(path).err.splitlines()[0] == "row 3: it is hidden; --hidden takes it"
 
 
 # Too much
@@ -159,17 +159,17 @@ XLSX_BODIES = {
 
 @pytest.mark.parametrize("name", XLSX_BODIES)
 def test_an_xlsx_that_is_too_much_is_told_is_told(tmp_path, name):
-    made = patched(xlsx(tmp_path / "sheet.xlsx", ROWS), "xl/worksheets/sheet1.xml", sheet_of(XLSX_BODIES[name]))
-    assert made.stat().st_size < 2_000_000
-    assert is_told(bounded_to_csv(made), 1)
+    path = patched(xlsx(tmp_path / "sheet.xlsx", ROWS), "xl/worksheets/sheet1.xml", sheet_of(XLSX_BODIES[name]))
+    assert path.stat().st_size < 2_000_000
+    assert is_told(bounded_to_csv(path), 1)
 
 
 def test_a_far_cell_that_is_empty_is_no_matter(tmp_path):
-    made = xlsx(tmp_path / "sheet.xlsx", ROWS)
-    book = openpyxl.load_workbook(made)
+    path = xlsx(tmp_path / "sheet.xlsx", ROWS)
+    book = openpyxl.load_workbook(path)
     book.active["XFD1048576"].number_format = "0.00"
-    book.save(made)
-    assert bounded_to_csv(made).out == GOOD
+    book.save(path)
+    assert bounded_to_csv(path).out == GOOD
 
 
 def ods_row(cells, times=1):
@@ -188,9 +188,9 @@ ODS_BODIES = {
 
 @pytest.mark.parametrize("name", ODS_BODIES)
 def test_an_ods_that_is_too_much_is_told_is_told(tmp_path, name):
-    made = ods_of(tmp_path / "sheet.ods", ODS_BODIES[name])
-    assert made.stat().st_size < 1_000_000
-    assert is_told(bounded_to_csv(made), 1)
+    path = ods_of(tmp_path / "sheet.ods", ODS_BODIES[name])
+    assert path.stat().st_size < 1_000_000
+    assert is_told(bounded_to_csv(path), 1)
 
 
 @pytest.mark.parametrize("text", [

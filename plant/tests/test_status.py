@@ -83,9 +83,9 @@ def test_the_newest_backup_is_told_and_its_age(at_work):
     assert done.status == 1 and f"ATTENTION: there is no backup in {folder}" in done.out
     at_work.run("backup")
     assert at_work.run("status").status == 0
-    made = next(folder.glob("*.db"))
+    backup = next(folder.glob("*.db"))
     old = time.time() - 50 * 3600
-    os.utime(made, (old, old))
+    os.utime(backup, (old, old))
     done = at_work.run("status")
     assert done.status == 1 and "ATTENTION: the newest backup is 50 hours old" in done.out
     assert f"hilpoven_last_backup_timestamp_seconds {int(old)}\n" in at_work.run("status", "--prometheus").out

@@ -36,10 +36,10 @@ def test_a_backup_is_the_office(at_work):
     folder.mkdir()
     done = at_work.run("backup", folder)
     assert done.status == 0
-    made = done.out.splitlines()[0]
-    assert sorted(os.listdir(folder)) == [os.path.basename(made), f"{os.path.basename(made)}.journal"] and os.stat(made).st_mode & 0o777 == 0o600
-    assert at_work.content(made) == at_work.content() and at_work.rows("SELECT * FROM owners", made) == at_work.rows("SELECT * FROM owners")
-    assert at_work.toll("stock", "ACME", db=made).out == at_work.toll("stock", "ACME").out
+    backup = done.out.splitlines()[0]
+    assert sorted(os.listdir(folder)) == [os.path.basename(backup), f"{os.path.basename(backup)}.journal"] and os.stat(backup).st_mode & 0o777 == 0o600
+    assert at_work.content(backup) == at_work.content() and at_work.rows("SELECT * FROM owners", backup) == at_work.rows("SELECT * FROM owners")
+    assert at_work.toll("stock", "ACME", db=backup).out == at_work.toll("stock", "ACME").out
 
 
 def test_the_newest_are_kept_and_others_are_let_be(at_work):
@@ -48,8 +48,8 @@ def test_the_newest_are_kept_and_others_are_let_be(at_work):
     others = ["office-x-20200101-000000.db", "other-20200101-000000.db", "office-20200101-000000.db.txt"]
     for name in [*others, "office-20200101-000000.db", "office-20200102-000000.db", "office-20200103-000000.db"]:
         (folder / name).write_text("")
-    made = at_work.run("backup", folder, "--keep", "2").out.splitlines()[0]
-    assert set(os.listdir(folder)) == {*others, "office-20200103-000000.db", os.path.basename(made), f"{os.path.basename(made)}.journal"}
+    backup = at_work.run("backup", folder, "--keep", "2").out.splitlines()[0]
+    assert set(os.listdir(folder)) == {*others, "office-20200103-000000.db", os.path.basename(backup), f"{os.path.basename(backup)}.journal"}
 
 
 def test_the_last_of_each_day_is_kept(at_work):
@@ -70,8 +70,8 @@ def test_names_of_all_kinds_are_backed_up(at_work, name):
     folder = at_work.folder / "backups"
     folder.mkdir()
     assert at_work.run("backup", folder, db=db).status == 0
-    made, _ = sorted(os.listdir(folder))
-    assert at_work.run("restore", folder / made, db=db).status == 0
+    backup, _ = sorted(os.listdir(folder))
+    assert at_work.run("restore", folder / backup, db=db).status == 0
 
 
 @pytest.mark.parametrize("number", [signal.SIGTERM, signal.SIGINT, signal.SIGHUP])
@@ -112,38 +112,38 @@ def backed_up(plant: Plant) -> str:
 
 
 def test_restore_puts_it_in_place_and_keeps_what_was_there(at_work):
-    made, saved = backed_up(at_work), at_work.content()
+    backup, saved = backed_up(at_work), at_work.content()
     at_work.lay("unit-add PRESS")
     changed = at_work.content()
-    done = at_work.run("restore", made)
-    assert done.status == 0 and at_work.content() == saved and os.path.exists(made)
+    done = at_work.run("restore", backup)
+    assert done.status == 0 and at_work.content() == saved and os.path.exists(backup)
     aside = done.out.split("what was there is in ")[1].strip()
     assert at_work.content(os.path.join(aside, "office.db")) == changed
     assert at_work.run("unit-add", "PRESS").out == "accepted\n"
 
 
 def test_restore_stops_on_a_server(at_work):
-    made = backed_up(at_work)
+    backup = backed_up(at_work)
     before = at_work.content()
     with at_work.serve() as server:
-        done = at_work.run("restore", made)
+        done = at_work.run("restore", backup)
         assert done.status == 3 and "a server serves" in done.err and "systemctl stop toll" in done.err
         os.unlink(f"{at_work.db}.sock")
         assert server.ask("ACME", "GET", "/stock")[0] == 200
-        done = at_work.run("restore", made)
+        done = at_work.run("restore", backup)
         assert done.status == 3 and "a server serves" in done.err
         while os.path.exists(f"{at_work.db}.sock"):
             os.unlink(f"{at_work.db}.sock")
             time.sleep(0.5)  # the server makes it anew when it notices who has gone
-        done = at_work.run("restore", made)
+        done = at_work.run("restore", backup)
         assert done.status == 3 and "is open in process" in done.err
     assert at_work.content() == before
 
 
 def test_restore_looks_at_the_backup_first(at_work):
-    made, before = backed_up(at_work), at_work.content()
+    backup, before = backed_up(at_work), at_work.content()
     cut = at_work.folder / "cut.db"
-    cut.write_bytes(open(made, "rb").read()[:5000])
+    cut.write_bytes(open(backup, "rb").read()[:5000])
     text = at_work.folder / "text.db"
     text.write_text("no office")
     other = at_work.folder / "other.db"
@@ -156,21 +156,21 @@ def test_restore_looks_at_the_backup_first(at_work):
 
 
 def test_restore_takes_the_log_of_a_backup_with_it(at_work):
-    made = backed_up(at_work)
-    base = sqlite3.connect(made)
+    backup = backed_up(at_work)
+    base = sqlite3.connect(backup)
     base.execute("PRAGMA wal_autocheckpoint = 0")
     base.execute("INSERT INTO units VALUES ('PRESS')")
     base.commit()
-    assert at_work.run("restore", made).status == 1
-    assert at_work.run("restore", "--foreign", made).status == 0
+    assert at_work.run("restore", backup).status == 1
+    assert at_work.run("restore", "--foreign", backup).status == 0
     base.close()
     assert ("PRESS",) in at_work.rows("SELECT unit FROM units")
 
 
 def test_restore_works_where_the_file_is_gone(at_work):
-    made, saved = backed_up(at_work), at_work.content()
+    backup, saved = backed_up(at_work), at_work.content()
     os.unlink(at_work.db)
-    assert at_work.run("restore", made).status == 0 and at_work.content() == saved
+    assert at_work.run("restore", backup).status == 0 and at_work.content() == saved
 
 
 def test_verify_finds_a_sublot_that_does_not_add_up(at_work):
@@ -213,8 +213,8 @@ def test_each_line_that_adds_a_row_is_looked_for(at_work, line):
 
 
 def test_verify_asks_for_no_row_from_before_a_restore(at_work):
-    made = backed_up(at_work)
-    assert at_work.run("unit-add", "PRESS").status == at_work.run("restore", made).status == 0
+    backup = backed_up(at_work)
+    assert at_work.run("unit-add", "PRESS").status == at_work.run("restore", backup).status == 0
     assert ("PRESS",) not in at_work.rows("SELECT unit FROM units") and at_work.run("verify").status == 0
 
 
@@ -263,14 +263,14 @@ def test_a_new_backup_is_never_removed(at_work):
 def test_backups_are_removed_in_the_order_in_which_they_were_made(at_work, monkeypatch):
     folder = at_work.folder / "backups"
     at_work.settle(keep=2)
-    made = []
+    names = []
     for year in (2026, 2031, 2025, 2024):
         monkeypatch.setattr(time, "time", lambda: (year - 1970) * 365.25 * 86400)
-        made.append(os.path.basename(at_work.run("backup").out.splitlines()[0]))
-    assert names_in(folder) == sorted(made[2:])
-    assert {path.name for path in folder.iterdir()} == {*made[2:], *(f"{name}.journal" for name in made[2:])}
+        names.append(os.path.basename(at_work.run("backup").out.splitlines()[0]))
+    assert names_in(folder) == sorted(names[2:])
+    assert {path.name for path in folder.iterdir()} == {*names[2:], *(f"{name}.journal" for name in names[2:])}
     monkeypatch.undo()
-    assert [entry["words"] for entry in at_work.lines() if entry.get("words", [""])[0] == "prune"] == [["prune", made[0]], ["prune", made[1]]]
+    assert [entry["words"] for entry in at_work.lines() if entry.get("words", [""])[0] == "prune"] == [["prune", names[0]], ["prune", names[1]]]
 
 
 def test_a_backup_of_the_future_wants_attention(at_work, monkeypatch):
@@ -291,28 +291,28 @@ def test_two_backups_of_one_second_are_two(at_work, monkeypatch):
 def test_the_journal_notes_each_backup_with_its_hash_and_lies_beside_it(at_work):
     at_work.settle()
     at_work.run("unit-add", "PRESS")
-    made = at_work.run("backup").out.splitlines()[0]
+    backup = at_work.run("backup").out.splitlines()[0]
     entry = next(entry for entry in at_work.lines() if entry.get("words", [""])[0] == "backup")
-    assert entry["backup"] == os.path.basename(made) and entry["sha256"] == hashlib.sha256(open(made, "rb").read()).hexdigest()
-    kept = [json.loads(line) for line in open(f"{made}.journal")]
+    assert entry["backup"] == os.path.basename(backup) and entry["sha256"] == hashlib.sha256(open(backup, "rb").read()).hexdigest()
+    kept = [json.loads(line) for line in open(f"{backup}.journal")]
     assert kept == at_work.lines()[:len(kept)] and kept[-1] == entry
 
 
 def test_a_journal_that_is_gone_comes_back_with_a_backup(at_work):
     at_work.settle()
     at_work.run("unit-add", "PRESS")
-    made = at_work.run("backup").out.splitlines()[0]
+    backup = at_work.run("backup").out.splitlines()[0]
     lines = at_work.lines()[:3]
     for path in at_work.folder.glob("office.db*"):
         path.unlink()
-    assert at_work.run("restore", os.path.basename(made)).status == 0
+    assert at_work.run("restore", os.path.basename(backup)).status == 0
     assert at_work.lines()[:3] == lines and at_work.run("journal", "verify").status == 0
     assert at_work.run("unit-add", "OVEN").out == "accepted\n"
 
 
-def changed(made: str, path, sql: str) -> str:
+def changed(backup: str, path, sql: str) -> str:
     """A copy of a backup that was changed."""
-    shutil.copyfile(made, path)
+    shutil.copyfile(backup, path)
     with contextlib.closing(sqlite3.connect(path)) as base, base:
         base.execute(sql)
     return str(path)
@@ -320,13 +320,13 @@ def changed(made: str, path, sql: str) -> str:
 
 def test_restore_takes_what_this_journal_made(at_work):
     at_work.settle()
-    made = at_work.run("backup").out.splitlines()[0]
+    backup = at_work.run("backup").out.splitlines()[0]
     before = at_work.content()
-    other = changed(made, at_work.folder / "changed.db", "UPDATE units SET unit = 'PRESS' WHERE unit = 'MIXER'")
+    other = changed(backup, at_work.folder / "changed.db", "UPDATE units SET unit = 'PRESS' WHERE unit = 'MIXER'")
     done = at_work.run("restore", other)
     assert done.status == 1 and "is no backup that" in done.err and "--foreign" in done.err and at_work.content() == before
-    shutil.copyfile(other, made)  # in the place of a backup
-    assert at_work.run("restore", made).status == 1 and at_work.as_member("restore", os.path.basename(made)).status == 1
+    shutil.copyfile(other, backup)  # in the place of a backup
+    assert at_work.run("restore", backup).status == 1 and at_work.as_member("restore", os.path.basename(backup)).status == 1
     assert at_work.content() == before
     assert at_work.run("restore", "--foreign", other).status == 0 and ("PRESS",) in at_work.rows("SELECT unit FROM units")
     entry = at_work.lines()[-2]
@@ -336,42 +336,42 @@ def test_restore_takes_what_this_journal_made(at_work):
 
 def test_verify_compares_backups_with_what_the_journal_notes(at_work):
     at_work.settle()
-    made = at_work.run("backup").out.splitlines()[0]
+    backup = at_work.run("backup").out.splitlines()[0]
     assert at_work.run("verify").status == 0 and "backups: 1 as the journal notes them" in at_work.run("verify").out
-    with contextlib.closing(sqlite3.connect(made)) as base, base:
+    with contextlib.closing(sqlite3.connect(backup)) as base, base:
         base.execute("UPDATE units SET unit = 'PRESS' WHERE unit = 'MIXER'")
     done = at_work.run("verify")
-    assert done.status == 1 and f"backups: {made} isn't the file that was made" in done.out
+    assert done.status == 1 and f"backups: {backup} isn't the file that was made" in done.out
 
 
 def test_restore_takes_nothing_whose_sums_are_wrong(at_work):
     at_work.settle()
-    made = at_work.run("backup").out.splitlines()[0]
+    backup = at_work.run("backup").out.splitlines()[0]
     before = at_work.content()
-    forged = changed(made, at_work.folder / "forged.db", "UPDATE sublots SET amount = amount + 1000")
+    forged = changed(backup, at_work.folder / "forged.db", "UPDATE sublots SET amount = amount + 1000")
     done = at_work.run("restore", "--foreign", forged)
     assert done.status == 3 and "its movements come to" in done.err and at_work.content() == before
 
 
 def test_restore_asks_the_port_too(at_work):
     at_work.settle()
-    made = at_work.run("backup").out.splitlines()[0]
+    backup = at_work.run("backup").out.splitlines()[0]
     with socket.create_server(("127.0.0.1", 0)) as silent:
         at_work.settle(port=silent.getsockname()[1])
-        done = at_work.run("restore", made)
+        done = at_work.run("restore", backup)
         assert done.status == 3 and "a server listens at the office's port" in done.err
-    assert at_work.run("restore", made).status == 0
+    assert at_work.run("restore", backup).status == 0
 
 
 def test_a_failed_restore_is_answered_in_the_journal(at_work, monkeypatch):
     at_work.settle()
-    made = at_work.run("backup").out.splitlines()[0]
+    backup = at_work.run("backup").out.splitlines()[0]
 
     def fail(file: str) -> str:
         raise OSError(28, "No space left on device", file)
     monkeypatch.setattr(backups, "move_aside", fail)
     with pytest.raises(OSError):
-        at_work.run("restore", made)
+        at_work.run("restore", backup)
     assert check(str(at_work.journal)).unanswered == [] and "No space left" in at_work.lines()[-1]["error"]
 
 

@@ -3,7 +3,9 @@ import ast
 import pathlib
 import sys
 
-EMPTY = {"it", "found", "told", "look_at", "thing"}
+EMPTY = {"it", "found", "told", "look_at", "thing", "made"}
+# Fields of JSON that the documents name, and the ends of the paths of the sources that have them.
+FIELDS = {"made": ("plant/src/hilpoven/register/facts.py", "plant/src/hilpoven/companion/lots.py", "plant/tests/register/test_facts.py")}
 PARTS = ("id", "arg", "attr", "name", "asname", "rest")  # where a node of a source has a name
 
 
@@ -15,7 +17,8 @@ def empty_names(source):
 
 
 def main(paths):
-    wrong = [f"{path}:{line}: `{name}` doesn't say what it names" for path in paths for line, name in empty_names(path.read_text())]
+    wrong = [f"{path}:{line}: `{name}` doesn't say what it names" for path in paths for line, name in empty_names(path.read_text())
+             if not str(path).endswith(FIELDS.get(name, ()))]
     print("".join(f"{line}\n" for line in wrong), end="")
     return bool(wrong)
 

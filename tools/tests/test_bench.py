@@ -25,8 +25,8 @@ TABLES = re.findall(r'"(CREATE TABLE .*?)"', KINDS)
 @pytest.mark.parametrize("genealogy", [*map(Dense, (1, 10, 20, 50, 100)), Genealogy(19_900), offices.AT_THE_LIMITS])
 def test_a_genealogy_keeps_the_limits_of_an_owner(genealogy: Dense | Genealogy) -> None:
     rows = list(genealogy.moves("OWNER-01"))
-    made = [row[3:5] for row in rows if row[2] in (RECEIVED, PRODUCED)]
-    assert len(rows) <= offices.MOST_MOVEMENTS and len(set(made)) <= offices.MOST_LOTS
+    lots = [row[3:5] for row in rows if row[2] in (RECEIVED, PRODUCED)]
+    assert len(rows) <= offices.MOST_MOVEMENTS and len(set(lots)) <= offices.MOST_LOTS
     assert max(collections.Counter(row[8:10] for row in rows if row[8]).values()) <= offices.MOST_OF_BATCH
     assert [row[1] for row in rows] == sorted({row[1] for row in rows})
     there: set[offices.Row] = {(HOUSE, WATER)}
@@ -38,12 +38,12 @@ def test_a_genealogy_keeps_the_limits_of_an_owner(genealogy: Dense | Genealogy) 
 @pytest.mark.parametrize("across, batches", [(10, 480), (20, 250), (100, 49), (50, 100), (1, 5_000)])
 def test_a_dense_genealogy_has_all_edges_between_neighbours(across: int, batches: int) -> None:
     assert Dense(across).batches == batches
-    made, consumed = (collections.defaultdict[offices.Row, set[offices.Row]](set) for _ in range(2))
+    produced, consumed = (collections.defaultdict[offices.Row, set[offices.Row]](set) for _ in range(2))
     for row in Dense(across).moves("O"):
-        (made if row[2] == PRODUCED else consumed)[row[8:10]].add(row[3:5])
+        (produced if row[2] == PRODUCED else consumed)[row[8:10]].add(row[3:5])
     orders = [offices.batch_name(number) for number in range(1, batches + 1)]
-    assert consumed[orders[0]] == {(HOUSE, WATER)} and all(len(made[order]) == across for order in orders)
-    assert all(consumed[later] == made[earlier] for earlier, later in zip(orders, orders[1:]))
+    assert consumed[orders[0]] == {(HOUSE, WATER)} and all(len(produced[order]) == across for order in orders)
+    assert all(consumed[later] == produced[earlier] for earlier, later in zip(orders, orders[1:]))
 
 
 def test_half_of_a_dense_genealogy_is_the_front_of_all() -> None:

@@ -298,6 +298,13 @@ def test_a_name_that_says_more_or_that_another_gave_is_none_of_those(tmp_path, c
     assert (empty_names.main([tmp_path / "source.py"]), capsys.readouterr().out) == (0, "")
 
 
+def test_a_field_of_json_is_none_of_those_where_the_documents_name_it(tmp_path, capsys):
+    for path, is_wrong in ((tmp_path / empty_names.FIELDS["made"][0], False), (tmp_path / "source.py", True)):
+        path.parent.mkdir(parents=True, exist_ok=True)
+        path.write_text("made: int\n")
+        assert empty_names.main([path]) == is_wrong, capsys.readouterr().out
+
+
 def test_the_gate_runs_this_and_nothing_else():
     lines = [line for line in (ROOT / ".ci" / "run").read_text().splitlines() if line and not line.startswith(("#", "set ", "cd ", "trap "))]
     assert lines == ["./check"]

@@ -62,10 +62,10 @@ class Site:
 
 @pytest.fixture(scope="module")
 def site(tmp_path_factory):
-    made = Site(tmp_path_factory.mktemp("site"))
-    assert "3 written" in made.refresh()
-    yield made
-    made.end()
+    new_site = Site(tmp_path_factory.mktemp("site"))
+    assert "3 written" in new_site.refresh()
+    yield new_site
+    new_site.end()
 
 
 def own_alone(owner, body):
@@ -211,13 +211,13 @@ def test_nginx_reads_companions_as_a_group_and_no_other_account_does():
             shutil.chown(site.folder, group="www-data")
             site.folder.chmod(0o2710)
             site.refresh()
-            made = site.folder / "ACME.json"
-            assert (made.group(), made.stat().st_mode & 0o777) == ("www-data", 0o640) and own_alone("ACME", site.get("ACME").body)
-            for user, path in (("nobody", made), ("www-data", site.folder / ".companions")):
+            companion = site.folder / "ACME.json"
+            assert (companion.group(), companion.stat().st_mode & 0o777) == ("www-data", 0o640) and own_alone("ACME", site.get("ACME").body)
+            for user, path in (("nobody", companion), ("www-data", site.folder / ".companions")):
                 done = subprocess.run(["setpriv", "--reuid", user, "--regid", user if user != "nobody" else "nogroup", "--clear-groups", "cat", path], capture_output=True, text=True)
                 assert done.returncode and "Permission denied" in done.stderr, (user, done)
             assert subprocess.run(["setpriv", "--reuid", "www-data", "--regid", "www-data", "--clear-groups", "ls", site.folder], capture_output=True).returncode
-            made.chmod(0o600)
+            companion.chmod(0o600)
             reply = site.get("ACME")
             assert (reply.status, reply.value()) == (500, {"error": "Unavailable"})
         finally:

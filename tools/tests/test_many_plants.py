@@ -21,9 +21,9 @@ def sites(tmp_path):
     for folder in ("conf.d", "sites-enabled", "ssl", "logs", "temporary"):
         (tmp_path / folder).mkdir()
     for name, (host, port) in PLANTS.items():
-        made = site_of(Machine(nginx=str(tmp_path)), Plan(name, host, "/etc/ssl/x.pem", "/etc/ssl/private/x.key"), port)
-        assert not made.shared
-        for file in (made.machine, made.office):
+        site = site_of(Machine(nginx=str(tmp_path)), Plan(name, host, "/etc/ssl/x.pem", "/etc/ssl/private/x.key"), port)
+        assert not site.shared
+        for file in (site.machine, site.office):
             file.put()
     return tmp_path
 

@@ -25,7 +25,7 @@ def stub(folder, usage=USAGE):
 
 
 @pytest.fixture(scope="module")
-def made(tmp_path_factory):
+def packages(tmp_path_factory):
     """The current folder, which gets the packages if none is given."""
     top = tmp_path_factory.mktemp("package")
     done = tool("package", "--program", stub(top), cwd=top, timeout=900)
@@ -34,14 +34,14 @@ def made(tmp_path_factory):
 
 
 @pytest.fixture(scope="module")
-def unpacked(made):
+def unpacked(packages):
     """What the packages install, and the tarball beside it in /usr/local."""
-    root = made / "root"
-    for package in made.glob("*.deb"):
+    root = packages / "root"
+    for package in packages.glob("*.deb"):
         subprocess.run(["dpkg-deb", "-x", package, root], check=True)
     local = root / "usr/local"
     local.mkdir()
-    subprocess.run(["tar", "-C", local, "--strip-components=1", "-xzf", *made.glob("*-x86_64.tar.gz")], check=True)
+    subprocess.run(["tar", "-C", local, "--strip-components=1", "-xzf", *packages.glob("*-x86_64.tar.gz")], check=True)
     return root
 
 
@@ -51,20 +51,20 @@ def fields(package):
     return dict(re.findall(r"(?m)^([\w-]+): (.*)$", printed))
 
 
-def test_the_folder_gets_the_packages_and_nothing_else(made):
-    files = {re.sub(r"[\d.]+(-\d+)?(?=[._-])", "V", file.name, count=1) for file in made.iterdir() if file.is_file()}
+def test_the_folder_gets_the_packages_and_nothing_else(packages):
+    files = {re.sub(r"[\d.]+(-\d+)?(?=[._-])", "V", file.name, count=1) for file in packages.iterdir() if file.is_file()}
     assert files == {"program", "toll_V_amd64.deb", "hilpoven_V_all.deb", "hilpoven-papers_V_all.deb",
                      "toll-V-x86_64.tar.gz", "hilpoven_V.dsc", "hilpoven_V.orig.tar.gz", "hilpoven_V.debian.tar.xz"}
-    assert not [file for file in made.iterdir() if file.name.startswith((".", "package"))]
+    assert not [file for file in packages.iterdir() if file.name.startswith((".", "package"))]
 
 
-def test_the_source_package_has_the_tracked_files(made):
-    words = ["dpkg-source", "--no-check", "--skip-patches", "-x", *made.glob("*.dsc"), made / "source"]
+def test_the_source_package_has_the_tracked_files(packages):
+    words = ["dpkg-source", "--no-check", "--skip-patches", "-x", *packages.glob("*.dsc"), packages / "source"]
     subprocess.run(words, check=True, capture_output=True)
     git = ["git", "-c", f"safe.directory={ROOT}", "-C", ROOT, "ls-files"]
     listed = subprocess.run(git, capture_output=True, text=True, check=True).stdout.splitlines()
     tracked = {path for path in listed if (ROOT / path).exists()}
-    packed = {str(path.relative_to(made / "source")) for path in (made / "source").rglob("*") if not path.is_dir()}
+    packed = {str(path.relative_to(packages / "source")) for path in (packages / "source").rglob("*") if not path.is_dir()}
     assert packed == tracked and "debian/README.source" in tracked
 
 
@@ -126,8 +126,8 @@ def test_each_file_has_one_version_and_a_program_that_of_its_usage(tmp_path, usa
     assert versions.versions(program) == {**dict.fromkeys(files, hilpoven.VERSION), program: version}
 
 
-def test_the_packages_and_the_command_have_the_version(made, unpacked):
-    assert {re.sub(r"-\d+$", "", fields(deb)["Version"]) for deb in made.glob("*.deb")} == {hilpoven.VERSION}
+def test_the_packages_and_the_command_have_the_version(packages, unpacked):
+    assert {re.sub(r"-\d+$", "", fields(deb)["Version"]) for deb in packages.glob("*.deb")} == {hilpoven.VERSION}
     assert (unpacked / f"usr/lib/python3/dist-packages/hilpoven-{hilpoven.VERSION}.dist-info").is_dir()
 
 
@@ -158,9 +158,9 @@ def test_the_gate_installs_what_a_build_needs():
     assert {provided.get(package, package) for package in names} <= set(BUILD_NEEDS)
 
 
-def test_a_server_and_its_command_need_no_compiler(made):
+def test_a_server_and_its_command_need_no_compiler(packages):
     """WeasyPrint brings one. If it is there, apt keeps it, because an installed package suggests it."""
-    command, papers = (fields(*made.glob(f"{name}_*.deb")) for name in ("hilpoven", "hilpoven-papers"))
+    command, papers = (fields(*packages.glob(f"{name}_*.deb")) for name in ("hilpoven", "hilpoven-papers"))
     heavy = {"weasyprint", "graphviz"}
     assert not heavy & {package.split()[0] for package in (command["Depends"] + ", " + command["Recommends"]).split(", ")}
     assert heavy | {"hilpoven-papers"} <= set(command["Suggests"].split(", "))

@@ -51,7 +51,7 @@ def companion(office, owner):
     of = lambda word: [line[1:] for line in lines if line[0] == word]
     movements = [moved for moved in map(movement, lines) if moved and moved.pop("owner") in (owner, "HOUSE")]
     movements = [row for row in movements if row["lotOwner"] == owner or row.get("order")]
-    made = first_makers(movements, owner)
+    makers = first_makers(movements, owner)
     tests = tests_of(of("test-add"), owner)
     return {
         "version": 1,
@@ -63,8 +63,8 @@ def companion(office, owner):
             for whose, name, measure in of("material-add")
             if whose in (owner, "HOUSE")
         ],
-        "batches": batches_of(office, owner, of("open"), made),
-        "lots": lots_of(office, owner, of("result"), tests, made),
+        "batches": batches_of(office, owner, of("open"), makers),
+        "lots": lots_of(office, owner, of("result"), tests, makers),
         "movements": movements,
         "links": [],
         "parties": [{"party": "NORTH", "description": "Northern Drums Ltd", "roles": ["customer"]}],
@@ -132,14 +132,14 @@ def tests_of(rows, owner):
 
 def first_makers(movements, owner):
     """The batch that made each lot first."""
-    made = {}
+    makers = {}
     for row in movements:
         if row.get("use") == "produced" and row["lotOwner"] == owner:
-            made.setdefault(row["lot"], {"order": row["order"], "batch": row["batch"]})
-    return made
+            makers.setdefault(row["lot"], {"order": row["order"], "batch": row["batch"]})
+    return makers
 
 
-def batches_of(office, owner, opened, made):
+def batches_of(office, owner, opened, makers):
     """The batches as the office tells them, each with its lots."""
     counts, rows = defaultdict(int), []
     for whose, order, _ in opened:
@@ -147,7 +147,7 @@ def batches_of(office, owner, opened, made):
             continue
         counts[order] += 1
         reply = json.loads(office.ask(owner, f"{owner}KEY1", "GET", f"/batches/{order}/{counts[order]}")[1])
-        lots = [lot for lot, maker in made.items() if maker == {"order": order, "batch": counts[order]}]
+        lots = [lot for lot, maker in makers.items() if maker == {"order": order, "batch": counts[order]}]
         rows.append(
             {
                 **{name: reply[name] for name in ("order", "batch", "unit", "state", "closed")},
@@ -158,12 +158,12 @@ def batches_of(office, owner, opened, made):
     return rows
 
 
-def lots_of(office, owner, results, tests, made):
+def lots_of(office, owner, results, tests, makers):
     """The lots in stock, with why each can't be released."""
     latest = {(lot, test): int(value.replace("M", "-")) for whose, lot, test, value, _ in results if whose == owner}
     stock = json.loads(office.ask(owner, f"{owner}KEY1", "GET", "/stock")[1])["lots"]
     return [
-        {"lot": row["lot"], **made.get(row["lot"], {}), "release": release_of(row, tests[row["material"]], latest)}
+        {"lot": row["lot"], **makers.get(row["lot"], {}), "release": release_of(row, tests[row["material"]], latest)}
         for row in stock
     ]
 

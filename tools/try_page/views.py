@@ -87,8 +87,8 @@ def order(t):
     t.shot("07-order", "an order with its batches: states as they are, requirements beside actuals as bars, one above what is required")
     t.expect(not b.seen("button", "Cancel"), "an order that was begun can be cancelled")
     records, _ = t.downloaded("csv-O-1")
-    made = [record["Actual"] for record in records if record["Use"] == '="produced"']
-    t.expect(made == ["980", "1002", "410", "0", "0"] and len(records) == 15, f"the file of O-1 has {records}")
+    produced = [record["Actual"] for record in records if record["Use"] == '="produced"']
+    t.expect(produced == ["980", "1002", "410", "0", "0"] and len(records) == 15, f"the file of O-1 has {records}")
     t.to_order("O-5")
     b.wait("The plant has opened no batch of it yet.")
     b.find("button", "Cancel")

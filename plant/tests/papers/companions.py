@@ -164,8 +164,8 @@ class Known(Filled):
                  movement.get("toSublot", ""), int(movement.get("voided", False))) for movement in said["movements"]]
         assert moves_said == [(key, KINDS[kind], *rest) for key, kind, *rest in moves]
         assert [movement.get("use") for movement in said["movements"]] == [{4: "consumed", 5: "produced"}.get(kind) for _, kind, *_ in moves]
-        made = self.rows("SELECT ord, number, lot FROM moves WHERE owner = :owner AND kind = 5 AND (owner, mkey) NOT IN (SELECT owner, mkey FROM voids) GROUP BY 1, 2, 3", owner=owner)
-        assert {(batch["order"], batch["batch"], lot) for batch in said["batches"] for lot in batch["lots"]} == set(made)
+        produced = self.rows("SELECT ord, number, lot FROM moves WHERE owner = :owner AND kind = 5 AND (owner, mkey) NOT IN (SELECT owner, mkey FROM voids) GROUP BY 1, 2, 3", owner=owner)
+        assert {(batch["order"], batch["batch"], lot) for batch in said["batches"] for lot in batch["lots"]} == set(produced)
         tests = self.rows("SELECT material, test, low, high FROM tests WHERE owner = :owner AND test <> 'QA'", owner=owner)
         own = [material for material in said["materials"] if material["owner"] == owner]
         assert sorted((material["material"], test["test"], test["low"], test["high"]) for material in own for test in material.get("tests", ())) == sorted(tests)

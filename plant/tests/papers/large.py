@@ -21,10 +21,10 @@ require ACME R 1 produced ACME SALT 1000
 receive ACME K1 SALT S-1 BAY1 500000 261101
 > ACME POST /lots/S-1/release
 > ACME POST /orders {"order":"O-1","recipe":"R","batches":99}""")
-    sheet, made, taken, batch = plant.folder / "actuals.csv", 0, ("S-1", "BAY1"), 0
+    sheet, descendants, taken, batch = plant.folder / "actuals.csv", 0, ("S-1", "BAY1"), 0
     with plant.serve() as server:
-        while made < DESCENDANTS:
-            batch, count = batch + 1, min(OF_BATCH, DESCENDANTS - made)
+        while descendants < DESCENDANTS:
+            batch, count = batch + 1, min(OF_BATCH, DESCENDANTS - descendants)
             rows = [f"C{batch},ACME,O-1,{batch},1,consumed,SALT,ACME,{taken[0]},{taken[1]},10,261102"]
             rows += [f"P{batch}-{number},ACME,O-1,{batch},1,produced,SALT,ACME,L{batch:02d}-{number:03d},TOTE1,{1000 + number},261103" for number in range(count)]
             sheet.write_text(HEADER + "\n".join(rows) + "\n")
@@ -34,7 +34,7 @@ receive ACME K1 SALT S-1 BAY1 500000 261101
             for at in range(0, count, 20):
                 assert server.ask("ACME", "POST", f"/lots/L{batch:02d}-{at:03d}/release")[0] == 200
             assert plant.toll("ship", "ACME", f"S{batch}", f"L{batch:02d}-000", "TOTE1", 50, 261104).status == 0
-            made, taken = made + count, (f"L{batch:02d}-000", "TOTE1")
+            descendants, taken = descendants + count, (f"L{batch:02d}-000", "TOTE1")
     return plant
 
 
@@ -61,10 +61,10 @@ require {owner} {recipe} 1 produced {owner} {material} {MOST}""")
     keys = {owner: owner.replace("-", "") for owner in owners}
     order_all(plant, owners, keys)
     for number, owner in enumerate(owners):
-        order, made = long_name("ORDER-", number), long_name("LOT-", number)
+        order, product = long_name("ORDER-", number), long_name("LOT-", number)
         rows = [("open", owner, order, long_name("UNIT-", number)), ("do", owner, order, 1, "start"),
                 ("actual", "K1", owner, order, 1, 1, "consumed", water, "HOUSE", lot, tank, 10_000_000, 261102),
-                ("actual", "K2", owner, order, 1, 1, "produced", long_name("MATERIAL-", number), owner, made, long_name("TOTE-", number), MOST, 261103)]
+                ("actual", "K2", owner, order, 1, 1, "produced", long_name("MATERIAL-", number), owner, product, long_name("TOTE-", number), MOST, 261103)]
         rows += [("do", owner, order, 1, "done"), ("close", owner, order, 1)] if number % 2 else []
         for words in rows:
             assert plant.toll(*words).status == 0, words

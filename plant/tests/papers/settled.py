@@ -97,7 +97,7 @@ def with_losses(rows: list[tuple], allowances: dict[str, int]) -> list[list[str]
         parts = 1
         for _, required in products:
             parts *= required
-        number, parts = sum(made * parts // required for made, required in products), parts * len(products)
+        number, parts = sum(amount * parts // required for amount, required in products), parts * len(products)
         more: list[object] = ["", "", "", "", ""]
         if use == "consumed" and products:
             expected = rounded(standard * number, parts)

@@ -30,10 +30,10 @@ def hostile(program, tmp_path_factory) -> Plant:
 @pytest.fixture(scope="module", params=[SHEET, ROLL])
 def labels(hostile, request) -> tuple[str, pathlib.Path]:
     """Its labels of a size."""
-    return request.param, made(hostile, LONGEST, LONGEST, "--size", request.param)
+    return request.param, labels_of(hostile, LONGEST, LONGEST, "--size", request.param)
 
 
-def made(plant: Plant, *words: object) -> pathlib.Path:
+def labels_of(plant: Plant, *words: object) -> pathlib.Path:
     """The labels that these words make, in a new file."""
     target = plant.folder / f"labels{len(list(plant.folder.glob('labels*.pdf')))}.pdf"
     done = plant.run("labels", *words, "--out", target)
@@ -97,7 +97,7 @@ def test_nothing_lies_over_anything_else(labels):
 @pytest.mark.parametrize("owner, lot, sublot", [("ACME", "B-1", "TOTE1"), ("A", "LOT-261128-01", "TOTE-000001"), (LONGEST, LONGEST, LONGEST)])
 def test_modules_are_whole_dots_within_a_margin_of_four(plant, owner, lot, sublot):
     plant.lay(f"owner-add {owner} {LONGEST}KEY1\nmaterial-add {owner} SALT kg\nreceive {owner} K1 SALT {lot} {sublot} 5 261128")
-    (page,) = printed(made(plant, owner, lot, "--size", ROLL))
+    (page,) = printed(labels_of(plant, owner, lot, "--size", ROLL))
     dots, margin = code_of(page)
     text = f"{owner}/{lot}/{sublot}"
     module, rest = divmod(len(dots), next(side for most, side in SIDES.items() if len(text) <= most))
@@ -107,9 +107,9 @@ def test_modules_are_whole_dots_within_a_margin_of_four(plant, owner, lot, sublo
 
 
 def test_what_is_read_goes_into_commands(at_work):
-    pages = [read(page)[0] for lot in ("S-1", "B-1") for page in printed(made(at_work, "ACME", lot, "--size", ROLL))]
+    pages = [read(page)[0] for lot in ("S-1", "B-1") for page in printed(labels_of(at_work, "ACME", lot, "--size", ROLL))]
     assert sorted(pages) == ["ACME/B-1/TOTE1", "ACME/B-1/TOTE2", "ACME/S-1/BAY1"]
-    (house,) = read(printed(made(at_work, "HOUSE", "W-101"))[0])
+    (house,) = read(printed(labels_of(at_work, "HOUSE", "W-101"))[0])
     for words in (["ship", "K20", "ACME/S-1/BAY1", 5, 102], ["actual", "K21", "ACME", "O-1", 1, 1, "consumed", "SALT", "ACME/S-1/BAY1", 6, 102],
                   ["actual", "K22", "ACME", "O-1", 1, 1, "consumed", "WATER", house, 7, 102], ["actual", "K23", "ACME", "O-1", 1, 2, "produced", "BRINE", "ACME/B-1/TOTE2", 8, 102]):
         assert set(words) & {*pages, house} and at_work.run(*words).out == "accepted\n", words
@@ -128,8 +128,8 @@ def text_of(path: pathlib.Path) -> str:
 def test_a_label_has_its_sublot_and_nothing_else(at_work):
     day = datetime.date.today()
     texts = [f"owner ACME lot S-1 sublot BAY1 material SALT amount 4,700 kg ✓ released when printed, {date}" for date in (day, datetime.date.today())]
-    assert text_of(made(at_work, "ACME", "S-1")) in texts
-    path = made(at_work, "ACME", "B-1", "--size", ROLL)
+    assert text_of(labels_of(at_work, "ACME", "S-1")) in texts
+    path = labels_of(at_work, "ACME", "B-1", "--size", ROLL)
     assert path.stat().st_mode & 0o777 == 0o600
     text = text_of(path)
     assert "900 kg ◇ quarantined when printed" in text and "80 kg ◇ quarantined" in text and text.count("BRINE") == 2
@@ -141,18 +141,18 @@ def test_a_label_has_its_sublot_and_nothing_else(at_work):
 def test_a_label_says_that_its_lot_is_held(at_work):
     for lot in ("S-1", "B-1"):
         assert at_work.run("hold", "ACME", lot, "--reason", "metal in drum 7", "--day", 102).status == 0
-    text = text_of(made(at_work, "ACME", "S-1"))
+    text = text_of(labels_of(at_work, "ACME", "S-1"))
     assert "✕ held (released) when printed, 20" in text and "metal" not in text
-    path = made(at_work, "ACME", "B-1", "TOTE1", "--size", ROLL)
+    path = labels_of(at_work, "ACME", "B-1", "TOTE1", "--size", ROLL)
     assert "✕ held (quarantined) when printed, 20" in text_of(path)
     look_at_words(path, ROLL, WORDS + 1)
 
 
 def test_it_makes_labels_of_what_holds_something_or_is_named(at_work):
     at_work.lay("split ACME K30 B-1 TOTE2 TOTE3 80 102")
-    (page,) = printed(made(at_work, "ACME", "B-1"))
+    (page,) = printed(labels_of(at_work, "ACME", "B-1"))
     assert read(page) == ["ACME/B-1/TOTE1", "ACME/B-1/TOTE3"]
-    assert "sublot TOTE2 material BRINE amount 0 kg" in text_of(made(at_work, "ACME/B-1/TOTE2"))
+    assert "sublot TOTE2 material BRINE amount 0 kg" in text_of(labels_of(at_work, "ACME/B-1/TOTE2"))
     assert at_work.lines()[-1]["words"] == ["labels", "ACME", "B-1", "TOTE2"]
 
 

@@ -50,8 +50,8 @@ def test_papers_are_for_their_user_alone(at_work):
 
 
 def test_a_tar_has_the_same_files(at_work):
-    with at_work.begun(*RECALL, "--no-pdf", at_work.folder / "made") as made:
-        assert made.communicate()[1] == "" and made.returncode == 0
+    with at_work.begun(*RECALL, "--no-pdf", at_work.folder / "made") as process:
+        assert process.communicate()[1] == "" and process.returncode == 0
     with open(at_work.folder / "x.tar", "wb") as out:
         subprocess.run([HILPOVEN, "--db", at_work.db, *RECALL, "--no-pdf", "--tar"], stdout=out, env={**os.environ, "TOLL": at_work.program}, check=True)
     with tarfile.open(at_work.folder / "x.tar") as tar:
@@ -91,12 +91,12 @@ def test_without_room_nothing_is_made(at_work, most):
         resource.setrlimit(resource.RLIMIT_FSIZE, (most, most))
         signal.signal(signal.SIGXFSZ, signal.SIG_IGN)
     at_work.folder.joinpath("target").mkdir()
-    with at_work.begun(*RECALL, at_work.folder / "target" / "made", preexec_fn=no_room) as made:
-        error = made.communicate()[1]
-    if made.returncode == 0:
+    with at_work.begun(*RECALL, at_work.folder / "target" / "made", preexec_fn=no_room) as process:
+        error = process.communicate()[1]
+    if process.returncode == 0:
         assert most == 200_000 and error == ""
         return
-    assert made.returncode == 3 and len(lines_of(error)) == 1 and error.startswith("hilpoven: "), error
+    assert process.returncode == 3 and len(lines_of(error)) == 1 and error.startswith("hilpoven: "), error
     assert left(at_work) == [] and os.listdir(at_work.folder / "target") == []
 
 
@@ -106,9 +106,9 @@ def test_a_full_disk_leaves_nothing(at_work):
     if subprocess.run(["mount", "-t", "tmpfs", "-o", "size=60k", "none", room], capture_output=True).returncode:
         pytest.skip("nothing can be mounted here")
     try:
-        with at_work.begun(*RECALL, room / "made") as made:
-            error = made.communicate()[1]
-        assert made.returncode == 3 and lines_of(error) == [error.splitlines()[0]] and "No space left" in error, error
+        with at_work.begun(*RECALL, room / "made") as process:
+            error = process.communicate()[1]
+        assert process.returncode == 3 and lines_of(error) == [error.splitlines()[0]] and "No space left" in error, error
         assert os.listdir(room) == [] and left(at_work) == []
     finally:
         subprocess.run(["umount", room], check=True)
@@ -121,9 +121,9 @@ def test_without_rights_nothing_is_made(reachable):
     target.mkdir(mode=0o755)
     for path in [reachable.folder, *reachable.folder.glob("office.db*")]:
         os.chown(path, NOBODY, NOBODY)
-    with reachable.begun(*RECALL, target / "made", user=NOBODY) as made:
-        error = made.communicate()[1]
-    assert made.returncode == 3 and len(lines_of(error)) == 1 and "can't write in" in error and "--tar" in error, error
+    with reachable.begun(*RECALL, target / "made", user=NOBODY) as process:
+        error = process.communicate()[1]
+    assert process.returncode == 3 and len(lines_of(error)) == 1 and "can't write in" in error and "--tar" in error, error
     assert left(reachable) == [] and os.listdir(target) == []
 
 
@@ -148,13 +148,13 @@ def try_kills(plant: Plant, kills: int, *more: str) -> int:
     """Kills a recall at so many steps: nothing of it is left, or all of it is made; how often it was killed."""
     before = sorted(path.name for path in plant.folder.iterdir())
     whole, done = kill_at(plant, 0, [*RECALL, "whole", *more]), 0
-    made = sorted(path.name for path in (plant.folder / "whole").rglob("*"))
+    files = sorted(path.name for path in (plant.folder / "whole").rglob("*"))
     shutil.rmtree(plant.folder / "whole")
     for step in sorted({1 + at * (whole - 1) // (kills - 1) for at in range(kills)}):
         done += not kill_at(plant, step, [*RECALL, "made", *more])
         assert left(plant) in ([], ["made"]), step
         if (plant.folder / "made").exists():
-            assert sorted(path.name for path in (plant.folder / "made").rglob("*")) == made, step
+            assert sorted(path.name for path in (plant.folder / "made").rglob("*")) == files, step
             shutil.rmtree(plant.folder / "made")
         rest = {path.name for path in plant.folder.iterdir()} - {"count", "office.db.lock", "office.db.journal", *(path.name for path in plant.folder.glob(".hilpoven.*"))}
         assert rest <= set(before), (step, rest)
@@ -174,14 +174,14 @@ def test_many_kills_leave_nothing(at_work):
 @pytest.mark.parametrize("number", (signal.SIGINT, signal.SIGTERM, signal.SIGHUP, signal.SIGKILL))
 @pytest.mark.parametrize("after", (0, 0.2, 0.5, 1.0))
 def test_a_signal_leaves_nothing(at_work, number, after):
-    with at_work.begun(*RECALL, at_work.folder / "made") as made:
-        while made.poll() is None and not list(at_work.folder.glob(".hilpoven.*")):
+    with at_work.begun(*RECALL, at_work.folder / "made") as process:
+        while process.poll() is None and not list(at_work.folder.glob(".hilpoven.*")):
             time.sleep(0.01)
         time.sleep(after)
-        made.send_signal(number)
-        error = made.communicate()[1]
-    assert made.returncode in (0, -number, 128 + number) and error == "", error
-    assert left(at_work) == (["made"] if made.returncode == 0 else [])
+        process.send_signal(number)
+        error = process.communicate()[1]
+    assert process.returncode in (0, -number, 128 + number) and error == "", error
+    assert left(at_work) == (["made"] if process.returncode == 0 else [])
 
 
 def test_no_key_is_in_a_copy(at_work, monkeypatch):

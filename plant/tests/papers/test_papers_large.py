@@ -15,8 +15,8 @@ MOST_PAGES = 40  # of a recall of 5,000 lots of which every 20th has another dis
 def made_in(plant, *words: object) -> tuple[float, float]:
     """Makes papers as a process of its own: the seconds of the clock that it took, and those of processors."""
     before, began = resource.getrusage(resource.RUSAGE_CHILDREN), time.monotonic()
-    with plant.begun("papers", *words, plant.folder / "made") as made:
-        assert made.communicate()[1] == "" and made.returncode == 0
+    with plant.begun("papers", *words, plant.folder / "made") as process:
+        assert process.communicate()[1] == "" and process.returncode == 0
     after = resource.getrusage(resource.RUSAGE_CHILDREN)
     return time.monotonic() - began, after.ru_utime + after.ru_stime - before.ru_utime - before.ru_stime
 

@@ -168,20 +168,20 @@ def test_over_all_files_links_add_what_they_add_in_one(week, is_carried):
     if is_carried:  # of the newest file alone there is what its lots say of each other, also those that were noted before
         assert below(week, ("recall", "ACME", "C-1")) == [] and below(week, ("recall", "ACME", "BU-1")) == ["1 ACME BU-1R quarantined 400 0 *"]
         assert below(week, ("recall", "HOUSE", "AF-1")) == ["1 ACME BU-1 released 300 0 *", "2 ACME BU-1R quarantined 400 0 *"]
-    made = week.folder / "made"
-    assert week.run("papers", "recall", "HOUSE", "AF-1", made, "--no-pdf").status == 0
-    for folder in (made / "plant", made / "owners" / "ACME"):
+    papers = week.folder / "made"
+    assert week.run("papers", "recall", "HOUSE", "AF-1", papers, "--no-pdf").status == 0
+    for folder in (papers / "plant", papers / "owners" / "ACME"):
         lots = figures.read_csv(folder / "lots.csv")
         assert [row for row in lots if "BU-1R" in row][0].count("*") == 1
         assert [row[-1] for row in figures.read_csv(folder / "links.csv")] == ["it foamed", "drums leaked"] and "Noted by the plant" in (folder / "recall.html").read_text()
 
 
 def test_a_recall_on_paper_marks_what_links_add(week):
-    made = week.folder / "made"
-    assert week.run("papers", "recall", "ACME", "C-1", made, "--no-pdf").status == 0
-    assert (made / "plant" / "recall.txt").read_text() == week.run("recall", "ACME", "C-1").out
-    assert sorted(path.name for path in (made / "owners").iterdir()) == ["ACME"]
-    for folder in (made / "plant", made / "owners" / "ACME"):
+    papers = week.folder / "made"
+    assert week.run("papers", "recall", "ACME", "C-1", papers, "--no-pdf").status == 0
+    assert (papers / "plant" / "recall.txt").read_text() == week.run("recall", "ACME", "C-1").out
+    assert sorted(path.name for path in (papers / "owners").iterdir()) == ["ACME"]
+    for folder in (papers / "plant", papers / "owners" / "ACME"):
         rows = {name: figures.read_csv(folder / f"{name}.csv") for name in ("lots", "running", "shipments", "released", "batches", "sublots", "links")}
         marked = {name: sorted(cell for row in of for cell in row if cell.startswith(("BU-", "O-1")) and ":" not in cell and "*" in row) for name, of in rows.items()}
         assert marked == {"lots": ["BU-1R", "BU-2-RW", "BU-3", "O-1/3"], "running": ["O-1/3"], "shipments": ["BU-3"], "released": ["BU-3"],
@@ -193,10 +193,10 @@ def test_a_recall_on_paper_marks_what_links_add(week):
 
 def test_an_open_batch_that_contains_a_lot_by_a_link_is_to_be_held(week):
     assert week.run("link", "ACME", "AF-1", "--of-owner", "HOUSE", "--batch", "O-1", 3, "--why", "use").status == 0
-    made = week.folder / "made"
-    assert week.run("papers", "recall", "HOUSE", "AF-1", made, "--no-pdf").status == 0
-    assert figures.read_csv(made / "plant" / "running.csv") == [["ACME", "O-1/3", "*", "KETTLE", "running", "HOUSE AF-1 *"]]
-    assert "which your batches consumed or your lots contain" in (made / "owners" / "ACME" / "recall.html").read_text()
+    papers = week.folder / "made"
+    assert week.run("papers", "recall", "HOUSE", "AF-1", papers, "--no-pdf").status == 0
+    assert figures.read_csv(papers / "plant" / "running.csv") == [["ACME", "O-1/3", "*", "KETTLE", "running", "HOUSE AF-1 *"]]
+    assert "which your batches consumed or your lots contain" in (papers / "owners" / "ACME" / "recall.html").read_text()
     assert "ACME O-1/3, also AF-1 *" in week.run("board").out
 
 
@@ -214,17 +214,17 @@ def test_many_links_with_long_reasons_stand_whole_on_paper(week, monkeypatch):
 
 
 def test_cards_records_statements_and_the_board_show_links(week):
-    def made(*words: object) -> pathlib.Path:
+    def folder_of(*words: object) -> pathlib.Path:
         folder = week.folder / "-".join(map(str, words))
         done = week.run("papers", *words, folder, "--no-pdf")
         assert done.status == 0, done
         return folder
 
-    links = {words: [row[-2] for row in figures.read_csv(made(*words) / "links.csv")] for words in (
+    links = {words: [row[-2] for row in figures.read_csv(folder_of(*words) / "links.csv")] for words in (
         ("lot", "ACME", "BU-1"), ("lot", "HOUSE", "AF-1"), ("batch", "ACME", "O-1", 1), ("statement", "ACME", "--from", 261101, "--to", 261130))}
     assert list(links.values()) == [["use", "return"], ["use"], ["use"], ["use", "rework", "return"]]
     assert ["made of", "HOUSE", "AF-1", "*"] in figures.read_csv(week.folder / "lot-ACME-BU-1" / "beside.csv")
-    assert not (made("batch", "ACME", "O-1", 2) / "links.csv").exists()
+    assert not (folder_of("batch", "ACME", "O-1", 2) / "links.csv").exists()
     for words in (("show", "lot", "ACME", "BU-1"), ("show", "batch", "ACME", "O-1", 1), ("years", "lot", "ACME", "BU-1"), ("years", "statement", "ACME")):
         assert "noted by the plant\n" in week.run(*words).out and "it foamed" in week.run(*words).out, words
     board = week.run("board").out

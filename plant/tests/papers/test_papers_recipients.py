@@ -32,7 +32,7 @@ def noted(at_work):
     return at_work
 
 
-def made(plant, *words):
+def folder_of(plant, *words):
     """The folder of a paper without a PDF."""
     folder = plant.folder / "made"
     done = plant.run("papers", *words, folder, "--no-pdf")
@@ -46,7 +46,7 @@ def test_a_paper_with_notes_reads_as_it_was_looked_at(noted, words):
 
 
 def test_what_is_not_noted_is_told_first(noted):
-    page = (made(noted, "recall", "HOUSE", "W-101") / "plant" / "recall.html").read_text()
+    page = (folder_of(noted, "recall", "HOUSE", "W-101") / "plant" / "recall.html").read_text()
     order = [page.index(part) for part in ("Who has it", "Nobody noted who has 1 of 3 shipments", "hilpoven note movement ACME K7 --to PARTY", "Nord Foods Ltd", "What to do first")]
     assert order == sorted(order)
     assert noted.run("note", "movement", "ACME", "K7", "--to", "NORD").status == 0
@@ -59,10 +59,10 @@ def test_what_is_not_noted_is_told_first(noted):
 
 def test_an_owner_has_its_own_parties_alone_and_the_plants_suppliers_stay_there(noted):
     assert noted.run("party", "add", "BOLT", "BOLTON", "--name", "Bolton Mills", "--role", "customer").status == 0
-    folder = made(noted, "recall", "HOUSE", "W-101")
+    folder = folder_of(noted, "recall", "HOUSE", "W-101")
     for file in (folder / "owners").rglob("*.*"):
         assert not re.search("SPRING|Spring Waters|BOLTON|Bolton Mills|D 1002", file.read_text()), file
-    assert "SPRING" in (made(noted_again(noted), "lot", "HOUSE", "W-102") / "lot.html").read_text()
+    assert "SPRING" in (folder_of(noted_again(noted), "lot", "HOUSE", "W-102") / "lot.html").read_text()
 
 
 def noted_again(plant):
@@ -73,7 +73,7 @@ def noted_again(plant):
 
 def test_without_notes_a_paper_says_nothing_of_them(at_work):
     at_work.lay(SHIPPED)
-    folder = made(at_work, "recall", "HOUSE", "W-101")
+    folder = folder_of(at_work, "recall", "HOUSE", "W-101")
     assert sorted(path.stem for path in (folder / "plant").glob("*.csv")) == ["batches", "flows", "lots", "released", "running", "shipments", "sublots", "sums"]
     for file in folder.rglob("*.*"):
         assert "noted" not in file.read_text() and "Who has it" not in file.read_text(), file
@@ -115,5 +115,5 @@ def test_a_delivery_note_is_for_one_recipient_and_one_document(noted):
         assert done.status == 1 and why in done.err and not (noted.folder / "made").exists()
     done = noted.run("papers", "certificate", "ACME", "S-2", "--shipment", "K8", noted.folder / "made", "--no-pdf")
     assert done.status == 1 and "there is no shipment K8 of ACME S-2" in done.err
-    page = (made(noted, "delivery-note", "ACME", "K7") / "delivery.html").read_text()
+    page = (folder_of(noted, "delivery-note", "ACME", "K7") / "delivery.html").read_text()
     assert "recipient" not in page.lower().split("</style>")[1] and "K7" in page

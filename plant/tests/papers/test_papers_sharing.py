@@ -32,10 +32,10 @@ def run_recall(plant, *words, **more):
 
 def test_an_owner_who_is_named_plant_has_papers_of_its_own(at_work):
     assert at_work.lay(NAMES).run(*RECALL, at_work.folder / "made", "--no-pdf").status == 0
-    made = at_work.folder / "made"
-    assert sorted(str(path.relative_to(made)) for path in made.glob("*/*") if path.is_dir()) == ["owners/ACME", "owners/PLANT"]
-    assert (made / "plant" / "recall.txt").exists() and not (made / "owners" / "PLANT" / "recall.txt").exists()
-    names = [str(path.relative_to(made)).lower() for path in made.rglob("*")]
+    folder = at_work.folder / "made"
+    assert sorted(str(path.relative_to(folder)) for path in folder.glob("*/*") if path.is_dir()) == ["owners/ACME", "owners/PLANT"]
+    assert (folder / "plant" / "recall.txt").exists() and not (folder / "owners" / "PLANT" / "recall.txt").exists()
+    names = [str(path.relative_to(folder)).lower() for path in folder.rglob("*")]
     assert len(set(names)) == len(names)
 
 

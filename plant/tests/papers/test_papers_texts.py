@@ -30,8 +30,8 @@ def text_of(file: pathlib.Path) -> str:
 
 def look_at_texts(plant: Plant, words: str, names: dict[str, str]) -> None:
     """Makes a paper, whose PDFs read as they were looked at."""
-    made = plant.run("papers", *words.split(), plant.folder / "made")
-    assert (made.status, made.err) == (0, "")
+    done = plant.run("papers", *words.split(), plant.folder / "made")
+    assert (done.status, done.err) == (0, "")
     for file, name in names.items():
         text, golden = text_of(plant.folder / "made" / file), GOLDEN / f"{name}.txt"
         if "HILPOVEN_GOLDEN" in os.environ:

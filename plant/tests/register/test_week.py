@@ -71,8 +71,8 @@ def shipped_of(folder: pathlib.Path) -> dict[str, tuple[str, ...]]:
 
 
 def test_a_recall_on_paper_begins_with_who_has_it(week, tmp_path):
-    made = paper(week, tmp_path / "made", "ACME", "C-2611-07")
-    for folder in (made / "plant", made / "owners" / "ACME"):
+    papers = paper(week, tmp_path / "made", "ACME", "C-2611-07")
+    for folder in (papers / "plant", papers / "owners" / "ACME"):
         assert shipped_of(folder) == {"S1": ("BU-0001", "", "650", "NORD", "LS 4711"), "S2": ("BU-0001", "", "300", "ALP", ""),
                                       "S3": ("BU-0003", "*", "905", "ALP", "LS 4712")}
         got = {(row["noted_party"], row["noted_contact"], row["noted_phone"]): row["amount"] for row in table(folder / "recipients.csv")}
@@ -85,9 +85,9 @@ def test_a_recall_on_paper_begins_with_who_has_it(week, tmp_path):
 
 
 def test_a_recall_of_what_the_recipe_doesn_t_have_reaches_the_batch(week, tmp_path):
-    made = paper(week, tmp_path / "made", "HOUSE", "AF-1")
-    assert {row["lot"]: row["noted"] for row in table(made / "plant" / "lots.csv")} == {"AF-1": "", "BU-0001": "*", "BU-0001C": "*", "BU-0001R": "*"}
-    assert {row["amount"] for row in table(made / "owners" / "ACME" / "recipients.csv")} == {"650", "300"}
+    papers = paper(week, tmp_path / "made", "HOUSE", "AF-1")
+    assert {row["lot"]: row["noted"] for row in table(papers / "plant" / "lots.csv")} == {"AF-1": "", "BU-0001": "*", "BU-0001C": "*", "BU-0001R": "*"}
+    assert {row["amount"] for row in table(papers / "owners" / "ACME" / "recipients.csv")} == {"650", "300"}
 
 
 def test_no_receipt_of_the_week_looks_like_the_end_of_a_trace(week):
@@ -108,10 +108,10 @@ def rows_over_all(plant: Plant, *lot: str) -> dict[str, tuple]:
 @pytest.mark.parametrize("lot", REACHED)
 def test_over_a_carry_over_recalls_reach_the_same(carried, lot, tmp_path):
     assert rows_over_all(carried, *lot) == REACHED[lot]
-    made = paper(carried, tmp_path / "made", *lot)
-    marked = {row["lot"]: (row["on_hand"], row["shipped"]) for row in table(made / "plant" / "lots.csv") if row["noted"] == "*"}
+    papers = paper(carried, tmp_path / "made", *lot)
+    marked = {row["lot"]: (row["on_hand"], row["shipped"]) for row in table(papers / "plant" / "lots.csv") if row["noted"] == "*"}
     assert marked == {name: (str(on_hand), str(shipped)) for name, (_, _, on_hand, shipped) in REACHED[lot].items()}
-    shipments = {row["lot"]: row["noted_party"] for row in table(made / "plant" / "shipments.csv")}
+    shipments = {row["lot"]: row["noted_party"] for row in table(papers / "plant" / "shipments.csv")}
     assert shipments == {name: {"BU-0001": "ALP", "BU-0003": "ALP"}[name] for name in shipments} and shipments
 
 

@@ -4,24 +4,25 @@ import pathlib
 import sqlite3
 import tempfile
 
-from hilpoven.standby import chain, follower
+from hilpoven.standby import chain
 from hilpoven.standby.book import Book
+from hilpoven.standby.follower import Follower
 
 
-def follower_of(db: pathlib.Path, folder: pathlib.Path, office: str = "here", timeline: int = 1) -> follower.Follower:
+def follower_of(db: pathlib.Path, folder: pathlib.Path, office: str = "here", timeline: int = 1) -> Follower:
     """A follower of an office's file into a folder, which writes a piece with each look; what it tells is in `messages`."""
     folder.mkdir(mode=0o700, exist_ok=True)
     messages: list[str] = []
-    made = follower.Follower(str(db), 1.0, Book(str(folder), str(db), f"{db}.journal", office, timeline), 7, messages.append)
-    made.messages = messages
-    made.resume()
-    return made
+    follower = Follower(str(db), 1.0, Book(str(folder), str(db), f"{db}.journal", office, timeline), 7, messages.append)
+    follower.messages = messages
+    follower.resume()
+    return follower
 
 
-def look(made: follower.Follower) -> None:
+def look(follower: Follower) -> None:
     """Looks, and writes what is new."""
-    made.step()
-    made.write_pending()
+    follower.step()
+    follower.write_pending()
 
 
 @contextlib.contextmanager

@@ -44,10 +44,10 @@ def steps(whole: int, kills: int) -> list[int]:
 def try_promotions(at_work: Plant, room: pathlib.Path, kills: int) -> int:
     """Kills a promotion at so many steps; how often it was killed."""
     pieces, done, whole = room / "pieces", 0, 0
-    made = follower_of(at_work.db, pieces)
-    look(made)
+    follower = follower_of(at_work.db, pieces)
+    look(follower)
     assert at_work.run("unit-add", "OVEN").status == 0
-    look(made)
+    look(follower)
     for step in [0, *range(kills)]:
         folder = room / "standby"
         shutil.rmtree(folder, ignore_errors=True)

@@ -64,15 +64,15 @@ class Writer:
 def try_writer(folder: pathlib.Path, seed: int, page_size: int, steps: int = 40) -> None:
     """Looks at random moments; each time the pieces give what SQLite has."""
     writer = Writer(folder / "office.db", seed, page_size)
-    made, chance = follower_of(writer.db, folder / "pieces"), random.Random(-seed)
+    follower, chance = follower_of(writer.db, folder / "pieces"), random.Random(-seed)
     for _ in range(steps):
         writer.step()
         if chance.random() < 0.5:
-            look(made)
+            look(follower)
             with built(folder / "pieces") as office:
                 assert rows_of(office.file)["t"] == writer.rows()
         if chance.random() < 0.1:  # the follower is killed, and another one goes on
-            made = follower_of(writer.db, folder / "pieces")
+            follower = follower_of(writer.db, folder / "pieces")
     writer.base.close()
 
 
@@ -180,7 +180,7 @@ def test_all_of_a_file_is_read_while_its_log_runs_away(tmp_path, monkeypatch):
         writer.base.execute("INSERT INTO t VALUES (?, ?)", (10_000 + number, "x" * 9000))
     writer.base.execute("PRAGMA wal_checkpoint(RESTART)")
     writer.put()
-    made = follower_of(writer.db, tmp_path / "pieces")
+    follower = follower_of(writer.db, tmp_path / "pieces")
     monkeypatch.setattr(capture.lock, "held", lambda *_: pytest.fail("the lock was taken"))
     emitted, calls = [], iter(range(100))
 
@@ -190,14 +190,14 @@ def test_all_of_a_file_is_read_while_its_log_runs_away(tmp_path, monkeypatch):
             writer.base.execute("PRAGMA wal_checkpoint(RESTART)")
             writer.base.execute("UPDATE t SET text = text || 'z' WHERE number = 10000")
 
-    with made.book.writer("snapshot", 0) as piece:
+    with follower.book.writer("snapshot", 0) as piece:
 
         def emit(number: int, page: bytes) -> None:
             emitted.append(number)
             piece.page(number, page)
 
         looked = capture.Scan(str(writer.db), 1.0, emit, capture.Digests(), run_away).look()
-        made.book.finish(piece, looked.watch.place, looked.page_size, looked.size)
+        follower.book.finish(piece, looked.watch.place, looked.page_size, looked.size)
     assert looked.size <= len(emitted) < looked.size + 20 and next(calls) > 8
     with built(tmp_path / "pieces") as office:
         assert rows_of(office.file)["t"] == writer.rows()
@@ -207,19 +207,19 @@ def test_all_of_a_file_is_read_while_its_log_runs_away(tmp_path, monkeypatch):
 def test_a_file_that_runs_away_in_each_look_is_told_and_nothing_is_made_of_it(tmp_path):
     writer = Writer(tmp_path / "office.db", 7)
     writer.put()
-    made = follower_of(writer.db, tmp_path / "pieces")
+    follower = follower_of(writer.db, tmp_path / "pieces")
 
     def run_away() -> None:
         for _ in range(2):
             writer.base.execute("INSERT OR REPLACE INTO t VALUES (1, 'z')")
             writer.base.execute("PRAGMA wal_checkpoint(RESTART)")
 
-    made.write_between = run_away
+    follower.write_between = run_away
     with pytest.raises(capture.Failure, match="its log began anew"):
-        look(made)
+        look(follower)
     assert list((tmp_path / "pieces").iterdir()) == []
-    del made.write_between
-    look(made)
+    del follower.write_between
+    look(follower)
     with built(tmp_path / "pieces") as office:
         assert rows_of(office.file)["t"] == writer.rows()
     writer.base.close()

@@ -15,13 +15,13 @@ LAST = 6
 def pieces(at_work) -> pathlib.Path:
     """A snapshot, pieces 1 to 6 of a unit each, and a snapshot behind piece 3."""
     folder = at_work.folder / "pieces"
-    made = follower_of(at_work.db, folder, f"{os.uname().nodename}:{at_work.db}")
-    look(made)
+    follower = follower_of(at_work.db, folder, f"{os.uname().nodename}:{at_work.db}")
+    look(follower)
     for number in range(1, LAST + 1):
         assert at_work.run("unit-add", f"U-{number}").status == 0
-        look(made)
+        look(follower)
         if number == 3:
-            made.make_snapshot()
+            follower.make_snapshot()
     of = chain.newest_in(str(folder))
     assert list(of.pieces) == list(range(1, LAST + 1)) and list(of.snapshots) == [0, 3]
     return folder
@@ -159,9 +159,9 @@ def test_each_piece_gives_the_office_of_its_time(pieces, standby, number):
 
 def test_a_follower_goes_on_behind_a_damaged_chain_with_a_new_one(at_work, pieces, standby):
     os.truncate(at(pieces, LAST), 10)
-    made = follower_of(at_work.db, pieces, f"{os.uname().nodename}:{at_work.db}")
-    look(made)
-    assert "can't be continued" in made.messages[0] and len(chain.chains_in(str(pieces))) == 2
+    follower = follower_of(at_work.db, pieces, f"{os.uname().nodename}:{at_work.db}")
+    look(follower)
+    assert "can't be continued" in follower.messages[0] and len(chain.chains_in(str(pieces))) == 2
     assert standby.run("promote", pieces).status == 0 and standby.content() == at_work.content()
 
 
@@ -184,30 +184,30 @@ def test_a_damaged_chain_doesn_t_lead_back_to_an_older_one(at_work, pieces, stan
 
 def test_a_page_that_no_piece_has_is_found_by_the_next_snapshot(at_work, pieces, standby):
     """As if a look had missed it."""
-    made = follower_of(at_work.db, pieces, f"{os.uname().nodename}:{at_work.db}")
-    look(made)
-    made.digests = made.book.digests()
-    made.digests.of[1] = b"another page"
+    follower = follower_of(at_work.db, pieces, f"{os.uname().nodename}:{at_work.db}")
+    look(follower)
+    follower.digests = follower.book.digests()
+    follower.digests.of[1] = b"another page"
     assert at_work.run("unit-add", "OVEN").status == 0
-    look(made)
-    made.digests.of[1] = b"another page"
-    made.make_snapshot()
-    assert "weren't as the pieces have them" in made.messages[-1]
+    look(follower)
+    follower.digests.of[1] = b"another page"
+    follower.make_snapshot()
+    assert "weren't as the pieces have them" in follower.messages[-1]
     assert standby.run("promote", pieces).status == 0 and standby.content() == at_work.content()
 
 
 def test_a_day_has_a_snapshot_and_old_ones_go(at_work, pieces, standby, monkeypatch):
-    made = follower_of(at_work.db, pieces, f"{os.uname().nodename}:{at_work.db}")
-    made.days = 2
-    look(made)
+    follower = follower_of(at_work.db, pieces, f"{os.uname().nodename}:{at_work.db}")
+    follower.days = 2
+    look(follower)
     real = book.now()
     for number, day in enumerate(("2030-01-01", "2030-01-02", "2030-01-03", "2030-01-04")):
         at_time = chain.seconds_of(f"{day}T00:00:01.000Z")
         monkeypatch.setattr(book, "now", lambda day=day: f"{day}{real[10:]}")
         monkeypatch.setattr(chain.time, "time", lambda at_time=at_time: at_time)
         assert at_work.run("unit-add", f"DAY-{number}").status == 0
-        look(made)
-        look(made)
+        look(follower)
+        look(follower)
     kept = chain.newest_in(str(pieces))
     days = [chain.opened(path).header.at[:10] for path in kept.snapshots.values()]
     assert days == ["2030-01-02", "2030-01-03", "2030-01-04"] and min(kept.pieces) == kept.first_snapshot + 1 and len(chain.chains_in(str(pieces))) == 1

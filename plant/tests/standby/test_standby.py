@@ -10,8 +10,9 @@ import pytest
 from conftest import HILPOVEN, ROOT, Plant, environment, eventually, script
 from following import follower_of, look
 from hilpoven.core import settings as site
+from hilpoven.core.failure import Failure
 from hilpoven.journal.query import check
-from hilpoven.standby import chain, follower, state
+from hilpoven.standby import chain, state
 
 
 @contextlib.contextmanager
@@ -44,11 +45,11 @@ def standby(program, tmp_path) -> Plant:
 def pieces(at_work) -> pathlib.Path:
     """Pieces of the office at work and of what followed: a unit, which the journal has, and another one."""
     folder = at_work.folder / "pieces"
-    made = follower_of(at_work.db, folder, f"{os.uname().nodename}:{at_work.db}")
-    look(made)
+    follower = follower_of(at_work.db, folder, f"{os.uname().nodename}:{at_work.db}")
+    look(follower)
     for name in ("PRESS", "DRYER"):
         assert at_work.run("unit-add", name).status == 0
-        look(made)
+        look(follower)
     assert number_in(folder) == 2
     return folder
 
@@ -98,10 +99,10 @@ def test_the_promoted_machine_is_followed_and_promoted_back(at_work, pieces, sta
     """The first machine becomes the standby of the second one, in the same folder, and has the office again."""
     assert standby.run("promote", pieces).status == 0
     name = f"{os.uname().nodename}:{standby.db}"
-    made = follower_of(standby.db, pieces, name, 2)
-    look(made)
+    follower = follower_of(standby.db, pieces, name, 2)
+    look(follower)
     assert standby.run("unit-add", "OVEN").status == 0
-    look(made)
+    look(follower)
     done = at_work.run("promote", pieces)
     assert done.status == 0 and "timeline 3 begins; what was there is in " in done.out
     assert at_work.content() == standby.content() and at_work.run("unit-add", "MILL").out == "accepted\n"
@@ -152,21 +153,21 @@ def test_commands_without_a_server_are_followed(at_work, standby):
 
 
 def test_a_restore_and_a_carry_over_are_followed(at_work, standby):
-    folder, made = at_work.folder / "pieces", None
+    folder = at_work.folder / "pieces"
     (at_work.folder / "backups").mkdir(mode=0o700)
     backup = at_work.run("backup", at_work.folder / "backups").out.splitlines()[0]
     assert at_work.run("unit-add", "PRESS").status == 0
-    made = follower_of(at_work.db, folder)
-    look(made)
+    follower = follower_of(at_work.db, folder)
+    look(follower)
     assert at_work.run("restore", backup).status == 0
-    look(made)
+    look(follower)
     assert ("PRESS",) not in at_work.content()["units"]
     for words in (["do", "ACME", "O-1", 1, "done"], ["close", "ACME", "O-1", 1]):
         assert at_work.run(*words).status == 0
     assert at_work.run("carry-over").status == 0
-    look(made)
+    look(follower)
     assert at_work.run("unit-add", "OVEN").status == 0
-    look(made)
+    look(follower)
     assert standby.run("promote", folder).status == 0 and standby.content() == at_work.content()
     assert (standby.folder / "office-1.db").read_bytes() == (at_work.folder / "office-1.db").read_bytes()
     assert standby.run("years", "files").out == at_work.run("years", "files").out
@@ -208,17 +209,17 @@ def test_two_followers_into_two_folders_go_on_side_by_side(at_work, standby):
 
 def test_a_full_disk_is_told_and_pieces_go_on(at_work, pieces, standby, monkeypatch):
     """The office serves on, and what came meanwhile is in the next piece."""
-    made = follower_of(at_work.db, pieces, f"{os.uname().nodename}:{at_work.db}")
-    look(made)
+    follower = follower_of(at_work.db, pieces, f"{os.uname().nodename}:{at_work.db}")
+    look(follower)
     before = number_in(pieces)
-    made.book.reserve = 10**18
+    follower.book.reserve = 10**18
     for number in range(5):
         assert at_work.run("unit-add", f"U-{number}").out == "accepted\n"
-        with pytest.raises(follower.Failure, match="kept for the office"):
-            look(made)
+        with pytest.raises(Failure, match="kept for the office"):
+            look(follower)
     assert number_in(pieces) == before and not list(pieces.glob("*.made"))
-    made.book.reserve = 0
-    look(made)
+    follower.book.reserve = 0
+    look(follower)
     assert standby.run("promote", pieces).status == 0 and standby.content() == at_work.content()
 
 
@@ -240,8 +241,8 @@ def test_a_disk_without_any_room_still_tells_it(pieces, monkeypatch):
 
 
 def test_a_fault_of_the_disk_in_the_midst_leaves_whole_pieces(at_work, pieces, standby, monkeypatch):
-    made = follower_of(at_work.db, pieces, f"{os.uname().nodename}:{at_work.db}")
-    look(made)
+    follower = follower_of(at_work.db, pieces, f"{os.uname().nodename}:{at_work.db}")
+    look(follower)
     real, calls = os.fsync, []
 
     def failing(descriptor: int) -> None:
@@ -254,9 +255,9 @@ def test_a_fault_of_the_disk_in_the_midst_leaves_whole_pieces(at_work, pieces, s
         assert at_work.toll("unit-add", f"U-{number}").status == 0
         with monkeypatch.context() as patch:
             patch.setattr(os, "fsync", failing)
-            with contextlib.suppress(OSError, follower.Failure):
-                look(made)
-    look(made)
+            with contextlib.suppress(OSError, Failure):
+                look(follower)
+    look(follower)
     assert standby.run("promote", pieces).status == 0 and standby.content() == at_work.content()
 
 
@@ -364,10 +365,10 @@ def test_a_folder_that_others_may_change_is_refused(at_work, pieces, standby):
 
 def test_names_in_pieces_lead_nowhere(at_work, pieces, standby):
     """A piece that names an earlier file outside the folder is refused, whoever wrote it."""
-    made = follower_of(at_work.db, pieces, f"{os.uname().nodename}:{at_work.db}")
-    look(made)
-    made.book.earlier = {"../evil.db": "0" * 64}
+    follower = follower_of(at_work.db, pieces, f"{os.uname().nodename}:{at_work.db}")
+    look(follower)
+    follower.book.earlier = {"../evil.db": "0" * 64}
     (pieces / f"earlier-{'0' * 64}.db").write_bytes(b"x")
-    with made.book.writer("file", 0) as piece:
-        made.book.finish(piece, made.watch.place, 4096, made.book.last.size)
+    with follower.book.writer("file", 0) as piece:
+        follower.book.finish(piece, follower.watch.place, 4096, follower.book.last.size)
     assert "isn't the earlier file" in standby.run("promote", pieces).err and not standby.db.exists()

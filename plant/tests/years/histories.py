@@ -272,10 +272,10 @@ def named_again(growing: Growing, parts: list[list[Step]], chance: float) -> dic
     free: dict[str, list[tuple[str, int]]] = {}
     for number, part in enumerate(parts):
         for step in part:
-            made = {"receive": (1, 4), "actual": (8, 9)}.get(step.words[0]) if step.words else None
-            if not made or (step.words[0] == "actual" and step.words[6] != "produced"):
+            places = {"receive": (1, 4), "actual": (8, 9)}.get(step.words[0]) if step.words else None
+            if not places or (step.words[0] == "actual" and step.words[6] != "produced"):
                 continue
-            owner, lot = step.words[made[0]], step.words[made[1]]
+            owner, lot = step.words[places[0]], step.words[places[1]]
             is_new = not any(lot in earlier.words for before in parts[:number] for earlier in before)
             if number and is_new and lot not in again and free.get(owner) and growing.random.random() < chance:
                 again[lot] = free[owner].pop()

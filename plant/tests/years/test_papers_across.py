@@ -18,10 +18,10 @@ MADE = re.compile(r"Made on [^<]*")
 def papers_of(plant: Plant, db: pathlib.Path, *words: object) -> dict[str, str]:
     """What is in a paper's folder, but for when and of which files it was made."""
     with tempfile.TemporaryDirectory(dir=plant.folder) as folder:
-        made = pathlib.Path(folder) / "made"
-        done = plant.run("papers", *words, made, "--no-pdf", db=db)
+        papers = pathlib.Path(folder) / "made"
+        done = plant.run("papers", *words, papers, "--no-pdf", db=db)
         assert done.status == 0, (words, done)
-        return {str(path.relative_to(made)): MADE.sub("", path.read_text()) for path in made.rglob("*") if path.is_file()}
+        return {str(path.relative_to(papers)): MADE.sub("", path.read_text()) for path in papers.rglob("*") if path.is_file()}
 
 
 def try_papers(program: str, seed: int, each: int) -> None:

@@ -40,7 +40,7 @@ def board(context: Context, target: str | None, force: bool) -> None:
             {
                 "panels": panels,
                 "is_noted": any(row.is_noted for panel in panels for row in panel.rows),
-                "made": f"{local:%Y-%m-%d %H:%M}",
+                "made_at": f"{local:%Y-%m-%d %H:%M}",
                 "seconds": int(now.timestamp()),
                 "reloads": RELOADS,
                 "turns": TURNS,

@@ -31,14 +31,14 @@ def to_csv(source: str, target: str | None, force: bool, **given: Any) -> None:
     """
     if target and os.path.exists(target) and os.path.exists(source) and os.path.samefile(source, target):
         raise Failure(f"{target} is the sheet itself", WRONG_USE)
-    made_in = paths.target(target, force) if target else contextlib.nullcontext()
-    with made_in as made:
+    opening = paths.target(target, force) if target else contextlib.nullcontext()
+    with opening as output:
         sheet = sheet_of(source, given)
         text = text_of_all(sheet)
         for finding in sorted(sheet.let):
             click.echo(str(finding), err=True)
-        if made:
-            made.give(text)
+        if output:
+            output.give(text)
         else:
             sys.stdout.write(text)
             sys.stdout.flush()

@@ -87,9 +87,9 @@ def week_in(folder: str, program: str) -> Iterator[Week]:
     os.environ.pop("HILPOVEN_SETTINGS", None)  # those of another office, if it is set
     context = Context(site.load(settings.name))
     tell_line("hilpoven: a sample week begins, which takes some seconds")
-    made = give(context, ["new"])
-    if made.status:
-        raise Failure(f"no sample is made: {made.text.strip()}")
+    reply = give(context, ["new"])
+    if reply.status:
+        raise Failure(f"no sample is made: {reply.text.strip()}")
     with contextlib.closing(client.PlantSocket(context.file)) as plant:
         server, port = client.begin_server(program, plant, client.BEGINS)
         try:
@@ -105,10 +105,10 @@ def listening(week: Week, port: int) -> Listener:
     served = Site(week.port)
     if companions.COMMAND not in hilpoven.commands:
         return Listener(served, port, lambda: None)
-    made = companions.Companions(os.path.join(week.folder, "companions"), week.give)
-    made.make()
-    served.more[companions.PATH] = made.reply
-    return Listener(served, port, made.refresh)
+    week_companions = companions.Companions(os.path.join(week.folder, "companions"), week.give)
+    week_companions.make()
+    served.more[companions.PATH] = week_companions.reply
+    return Listener(served, port, week_companions.refresh)
 
 
 def show(week: Week, port: int, program: str) -> None:

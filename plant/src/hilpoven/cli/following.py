@@ -195,12 +195,12 @@ def promote(context: Context, folder: str | None, until: int | None, is_check: b
         last, choice = promoting.tried(office, folder, until)
         tell_of(choice, f"the office of piece {choice.end} is sound; it was made at {last.at}, {age_of(last.at)} ago")
         return
-    made, choice = promoting.promote(office, folder, context.place, context.journal(), until)
+    promoted, choice = promoting.promote(office, folder, context.place, context.journal(), until)
     register.notes_of(context.journal())
-    last = made.last
+    last = promoted.last
     tell_of(choice, f"{context.file} is the office of piece {choice.end}, made at {last.at}, {age_of(last.at)} ago")
-    aside = f"; what was there is in {made.aside}" if made.aside else ""
-    click.echo(printable(f"timeline {made.timeline} begins{aside}"))
+    aside = f"; what was there is in {promoted.aside}" if promoted.aside else ""
+    click.echo(printable(f"timeline {promoted.timeline} begins{aside}"))
     tell(f"Serve it: systemctl enable --now {context.place.unit}\nThen lead owners and the plant here.")
 
 

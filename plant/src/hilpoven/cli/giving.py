@@ -44,8 +44,8 @@ def invoked(context: Context, words: list[str]) -> object:
     with root:
         name, command, rest = hilpoven.resolve_command(root, words)
         assert command  # a name that isn't there is a failure
-        with command.make_context(name, rest, parent=root) as made:
-            return command.invoke(made)
+        with command.make_context(name, rest, parent=root) as ctx:
+            return command.invoke(ctx)
 
 
 @contextlib.contextmanager

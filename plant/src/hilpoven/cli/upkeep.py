@@ -28,26 +28,26 @@ def new(context: Context, file: str | None) -> None:
 
     Example: hilpoven new /var/lib/toll/office.db
     """
-    made = Context(context.settings, file or context.db, context.unnoted)
-    if has_bytes(made.file):
-        raise Failure(f"{made.file} is there already", WRONG_USE)
-    if has_bytes(f"{made.file}-wal"):
+    new_context = Context(context.settings, file or context.db, context.unnoted)
+    if has_bytes(new_context.file):
+        raise Failure(f"{new_context.file} is there already", WRONG_USE)
+    if has_bytes(f"{new_context.file}-wal"):
         raise Failure(
-            f"a log of this name is there: {made.file}-wal",
+            f"a log of this name is there: {new_context.file}-wal",
             WRONG_USE,
             "a file of this name was moved away; its log belongs to it",
         )
-    folder = os.path.dirname(made.file)
+    folder = os.path.dirname(new_context.file)
     if not os.path.isdir(folder):
         raise Failure(f"{folder} is no folder", WRONG_USE)
-    rights.become_owner(made.file)
-    office, journal = made.unseen_office(), made.journal()
+    rights.become_owner(new_context.file)
+    office, journal = new_context.unseen_office(), new_context.journal()
     require_no_notes(journal)
     with journal.noted(office.file, ["new"]) as note:
         note.answer = office.ask_patiently(["stock", "HOUSE"])
     if note.answer.status:
         raise Failure(f"no office was made: {note.answer.error.strip()}")
-    click.echo(printable(f"{made.file} is a new office; its journal is {journal.path}"))
+    click.echo(printable(f"{new_context.file} is a new office; its journal is {journal.path}"))
     if os.stat(folder).st_mode & 0o022:
         tell(f"Others may put files into {folder}: chmod 700 keeps them out.")
 
@@ -91,8 +91,8 @@ def backup(context: Context, folder: str | None, keep: int | None, days: int | N
     settings = context.settings
     office, journal = context.office(), context.journal()
     days = settings.days if days is None else days
-    made = backups.make(office, folder or backups_of(context), keep or settings.keep, days, journal)
-    click.echo(made)
+    path = backups.make(office, folder or backups_of(context), keep or settings.keep, days, journal)
+    click.echo(path)
     checked = query.check(journal.path)
     click.echo(f"journal {checked.lines} {checked.head}")
 
@@ -174,8 +174,8 @@ def restored_at(context: Context, moment: float) -> tuple[str, str]:
     from .following import folder_of
 
     office, folder = context.unseen_office(), folder_of(context)
-    made = promoting.restore_at(office, folder, context.place, context.journal(), moment)
-    return f"the office of {made.last.at}", made.aside
+    restored = promoting.restore_at(office, folder, context.place, context.journal(), moment)
+    return f"the office of {restored.last.at}", restored.aside
 
 
 @click.command()

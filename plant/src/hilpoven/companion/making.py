@@ -102,10 +102,10 @@ def write(context: "Context", folder: Folder, office: "Office") -> Counts:
     from .subject import subjects
 
     written, owners = 0, set()
-    made = time.strftime("%Y-%m-%dT%H:%M:%SZ", time.gmtime())
+    made_at = time.strftime("%Y-%m-%dT%H:%M:%SZ", time.gmtime())
     with copies.tables(office) as base:
         for subject in subjects(base, context.register(base)):
-            content = encoded(contents_of(subject, context.settings.plant), made)
+            content = encoded(contents_of(subject, context.settings.plant), made_at)
             owners.add(subject.owner)
             if folder.read(name_of(subject.owner))[FRONT_BYTES:] != content[FRONT_BYTES:]:
                 folder.give(name_of(subject.owner), content, READABLE)
@@ -116,9 +116,9 @@ def write(context: "Context", folder: Folder, office: "Office") -> Counts:
     return Counts(written, len(owners) - written, len(gone))
 
 
-def encoded(contents: dict[str, Any], made: str) -> bytes:
+def encoded(contents: dict[str, Any], made_at: str) -> bytes:
     """A companion's bytes."""
     import json
 
     text = json.dumps(contents, ensure_ascii=False, separators=(",", ":"))
-    return (FRONT.format(made) + text[1:]).encode()
+    return (FRONT.format(made_at) + text[1:]).encode()

@@ -31,9 +31,9 @@ def orders(subject: Subject) -> list[Value]:
 def batches(subject: Subject) -> list[Value]:
     """Its batches, each with what its recipe requires, what was recorded, and the lots that it made."""
     recorded = {tuple(line): amount for *line, amount in subject.rows(RECORDED)}
-    made: defaultdict[tuple[str, int], list[str]] = defaultdict(list)
+    lots: defaultdict[tuple[str, int], list[str]] = defaultdict(list)
     for order, number, lot in subject.rows(MADE):
-        made[order, number].append(lot)
+        lots[order, number].append(lot)
     required: defaultdict[str, list[tuple[int, Role, str, str, int]]] = defaultdict(list)
     for recipe, segment, role, owner, material, amount in subject.rows(LINES):
         required[recipe].append((segment, Role(role), owner, material, amount))
@@ -53,6 +53,6 @@ def batches(subject: Subject) -> list[Value]:
             }
             for segment, role, owner, material, amount in required[recipe]
         ]
-        batch["lots"] = made[order, number]
+        batch["lots"] = lots[order, number]
         values.append(batch)
     return values

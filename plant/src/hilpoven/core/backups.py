@@ -58,12 +58,12 @@ def newest(file: str, folder: str, journal: Journal) -> tuple[str, list[str]]:
     """The backup of a file that was made last, empty where there is none; and those that are dated later than now: the
     clock was wrong when they were made, or is wrong now."""
     try:
-        made = all_of(file, folder, journal)
+        backups = all_of(file, folder, journal)
     except Failure:
         return "", []
     latest = time.strftime("%Y%m%d-%H%M%S", time.gmtime(time.time() + TOLERANCE))
-    return next(iter(made), ""), [
-        backup for backup in made if backup[-len("YYYYMMDD-HHMMSS.db") : -len(".db")] > latest
+    return next(iter(backups), ""), [
+        backup for backup in backups if backup[-len("YYYYMMDD-HHMMSS.db") : -len(".db")] > latest
     ]
 
 
@@ -111,8 +111,8 @@ def prune(office: Office, folder: str, keep: int, days: int, journal: Journal, n
     for name in filter(re.compile(form_of(office.file) + re.escape(JOURNAL)).fullmatch, os.listdir(folder)):
         if not os.path.lexists(os.path.join(folder, name.removesuffix(JOURNAL))):
             os.unlink(os.path.join(folder, name))  # of a backup that was killed before it had its name
-    made = all_of(office.file, folder, journal)
-    old = sorted(set(made) - {new, *made[:keep], *last_of_days(made)[:days]})
+    backups = all_of(office.file, folder, journal)
+    old = sorted(set(backups) - {new, *backups[:keep], *last_of_days(backups)[:days]})
     if not old:
         return
     with journal.noted(office.file, ["prune", *(os.path.basename(path) for path in old)]) as note:
@@ -123,10 +123,10 @@ def prune(office: Office, folder: str, keep: int, days: int, journal: Journal, n
         note.answer = Answer(0, "removed\n", "")
 
 
-def last_of_days(made: list[str]) -> list[str]:
+def last_of_days(backups: list[str]) -> list[str]:
     """Of backups, of which the newest is the first, the last one of each day."""
     last: dict[str, str] = {}
-    for path in made:
+    for path in backups:
         last.setdefault(path[-len("YYYYMMDD-HHMMSS.db") : -len("-HHMMSS.db")], path)
     return list(last.values())
 

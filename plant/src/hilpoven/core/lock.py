@@ -20,13 +20,13 @@ def opened(file: str) -> int:
     """The lock, opened as `toll` opens it; fails where it can't be, which `toll` tells as a lock that is taken."""
     try:
         with contextlib.suppress(FileExistsError):
-            return made(file)
+            return create(file)
         return os.open(name_of(file), os.O_RDWR | os.O_CLOEXEC)
     except OSError as error:
         raise Failure(f"{name_of(file)} can't be opened: {error.strerror}", advice=advice(file)) from error
 
 
-def made(file: str) -> int:
+def create(file: str) -> int:
     """A new lock. One that root makes belongs to the office's user, who couldn't open it otherwise."""
     descriptor = os.open(name_of(file), os.O_RDWR | os.O_CREAT | os.O_EXCL | os.O_CLOEXEC, 0o600)
     if os.geteuid() == 0 and os.path.exists(file):

@@ -89,10 +89,10 @@ class Target:
                     os.fchown(file.fileno(), state.st_uid, state.st_gid)
             self.put(room, "made")
 
-    def put(self, room: int, made: str) -> None:
+    def put(self, room: int, name: str) -> None:
         """Gives what was made in a room its name."""
         self.require_free()
-        os.rename(made, self.name, src_dir_fd=room, dst_dir_fd=self.folder)
+        os.rename(name, self.name, src_dir_fd=room, dst_dir_fd=self.folder)
 
     @contextlib.contextmanager
     def room(self) -> Iterator[tuple[int, str]]:
@@ -131,11 +131,11 @@ def target(path: str | os.PathLike[str], replaces: bool = False) -> Iterator[Tar
         why = " is no folder" if isinstance(error, (FileNotFoundError, NotADirectoryError)) else f": {error.strerror}"
         raise Failure(f"{folder}{why}", WRONG_USE) from error
     try:
-        made = Target(str(path), descriptor, parent, name, replaces)
-        made.require_free()
+        new_target = Target(str(path), descriptor, parent, name, replaces)
+        new_target.require_free()
         if not os.access(".", os.W_OK | os.X_OK, dir_fd=descriptor):
             advice = "standard output takes it: --tar for papers"
             raise Failure(f"{rights.name_of(os.geteuid())} can't write in {folder}", FAULT, advice)
-        yield made
+        yield new_target
     finally:
         os.close(descriptor)

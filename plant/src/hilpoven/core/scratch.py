@@ -90,8 +90,8 @@ def remove_left(parent: str) -> None:
         left = [os.path.join(parent, name) for name in os.listdir(parent) if name.startswith(PREFIX)]
     for folder in left:
         with contextlib.suppress(OSError), held(folder):
-            made = os.stat(folder, follow_symlinks=False)
-            if made.st_uid == os.geteuid() and made.st_mtime < time.time() - LEFT_SINCE:
+            state = os.stat(folder, follow_symlinks=False)
+            if state.st_uid == os.geteuid() and state.st_mtime < time.time() - LEFT_SINCE:
                 remove(folder)
 
 

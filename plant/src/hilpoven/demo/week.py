@@ -68,8 +68,8 @@ class Week:
             is_taken = status == 0
         if not is_taken:
             raise Failure(f"the sample week stops at `{line}`: {output.strip()}")
-        if made := KEY.search(output):
-            self.keys[line.split()[2]] = made[1]
+        if match := KEY.search(output):
+            self.keys[line.split()[2]] = match[1]
 
     def words_of(self, line: str) -> list[str]:
         """The words of a line, in which a sheet has its path."""

@@ -60,8 +60,8 @@ class Row:
     about: str
     beside: str
     below: str
-    taken: int | None = None
-    made: int | None = None
+    consumed: int | None = None
+    produced: int | None = None
     is_alarm: bool = False
 
     @property
@@ -72,7 +72,7 @@ class Row:
     @property
     def height(self) -> int:
         """How high it is."""
-        return EDGE + LINE * (1 + bool(self.below) + (self.taken is not None or self.made is not None))
+        return EDGE + LINE * (1 + bool(self.below) + (self.consumed is not None or self.produced is not None))
 
 
 @dataclass
@@ -150,10 +150,10 @@ def unit(source: Source, batch: Batch, links: list[Link]) -> Row:
     answered, requirements = batch_of(source.newest.answer("batch", *map(str, batch.id)))
     agree(f"batch {batch.id}", answered, batch.status)
     agree(f"the requirements of {batch.id}", [astuple(line) for line in requirements], recorded)
-    taken, made = (share([row[4:] for row in recorded if row[1] == use]) for use in ("consumed", "produced"))
+    consumed, produced = (share([row[4:] for row in recorded if row[1] == use]) for use in ("consumed", "produced"))
     contained = [link.of_lot for link in links if link.container == batch.id]
     also = f", also {some_of(contained)} {MARK}" if contained else ""
-    return Row(batch.unit, batch.state.word, f"{batch.id}{also}", taken, made, batch.state in ALARMS)
+    return Row(batch.unit, batch.state.word, f"{batch.id}{also}", consumed, produced, batch.state in ALARMS)
 
 
 def some_of(names: list[str]) -> str:

@@ -84,11 +84,11 @@ def page(source: Source, asked: LotId, names: Sequence[str], stock: Stock, day: 
     sublots = sublots_of(base, [asked])
     check_stock(source, [asked.owner], {asked: lot}, sublots)
     amounts = chosen(lot, {name: amount for (_, name), amount in sublots.items()}, names)
-    made = [label(lot, name, amount, stock, at % stock.count) for at, (name, amount) in enumerate(amounts)]
+    labels = [label(lot, name, amount, stock, at % stock.count) for at, (name, amount) in enumerate(amounts)]
     values = {
         "title": f"Labels of lot {asked}",
         "lot": lot,
-        "pages": [made[at : at + stock.count] for at in range(0, len(made), stock.count)],
+        "pages": [labels[at : at + stock.count] for at in range(0, len(labels), stock.count)],
         "stock": stock,
         "status": status(source, lot, day),
         "dots": dots,

@@ -43,7 +43,7 @@ class Document:
         """Its page. On paper its long tables have places, but for those that don't fit, which are set as others are."""
         sheets = {sheet.name: sheet for sheet in self.on_paper}
         width = ACROSS if self.is_across else UPRIGHT
-        values = {"title": self.title, "is_plants": self.for_plant, "made": footer, "sheets": sheets, "width": width}
+        values = {"title": self.title, "is_plants": self.for_plant, "footer": footer, "sheets": sheets, "width": width}
         values |= self.values
         set_in_lines = {name: table for name, table in (tables or {}).items() if table.fits}
         return render(self.name, values, set_in_lines, [name for name in tables or {} if name not in set_in_lines])

@@ -158,8 +158,8 @@ def steps_of(source: Source, recall: Recall) -> list[Step]:
         nearest = min(recall.steps[lot] for lot in [*consumed, *(link.contained for link in links[name])])
         is_noted = all(recall.trace.recorded.get(lot) != nearest for lot in consumed)
         taken = {lot: amounts[name, Kind.CONSUMED, lot] for lot in consumed}
-        made = {lot: amounts[name, Kind.PRODUCED, lot] for lot in sorted(onward)}
-        steps.append(Step(1 + nearest, batch, taken, made, links[name], is_noted))
+        produced = {lot: amounts[name, Kind.PRODUCED, lot] for lot in sorted(onward)}
+        steps.append(Step(1 + nearest, batch, taken, produced, links[name], is_noted))
     return sorted(steps, key=lambda step: (step.number, step.batch.id))
 
 

@@ -52,13 +52,13 @@ class Column:
 
 def columns(text: str) -> list[Column]:
     """Columns by their names, each with another head, `lot=of_lot`, a kind, `day:day`, or a place, `measure@beside`."""
-    made = []
+    listed = []
     for word in text.split():
         match = FORM.fullmatch(word)
         assert match, word
         name, head, kind, place = match.groups()
-        made.append(Column(name, (head or name).replace("_", " "), kind or "name", place or ""))
-    return made
+        listed.append(Column(name, (head or name).replace("_", " "), kind or "name", place or ""))
+    return listed
 
 
 def percent(part: int, whole: int) -> str:

@@ -186,9 +186,9 @@ def tests_as_measured(
 def add_origin(overview: Overview, base: Base, name: LotId) -> None:
     """Adds the batch that made a lot, if one did."""
     sql = "(b.owner, b.ord, b.number) IN (SELECT owner, ord, number FROM lots WHERE owner = ? AND lot = ?)"
-    for made in read_batches(base, sql, name):
-        unit, state, closed = made.status
-        overview.facts["batch"] = f"{made.id.name}, recipe {made.recipe}, unit {unit}, {state}, {closed}"
+    for batch in read_batches(base, sql, name):
+        unit, state, closed = batch.status
+        overview.facts["batch"] = f"{batch.id.name}, recipe {batch.recipe}, unit {unit}, {state}, {closed}"
 
 
 def recipients(base: Base, name: LotId, register: Register) -> list[Row]:

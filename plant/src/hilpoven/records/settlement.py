@@ -200,24 +200,24 @@ def products_of(base: Base, genealogy: Genealogy, owner: str, settled: list[Run]
     linked = lots_of(base, {link.contained for link in genealogy.links})
     for run in settled:
         sums, own = run.sums(), {run.lots[move.lot].material: run.lots[move.lot].measure for move in run.actuals}
-        made = {item.material for item in sums if item.use == Role.PRODUCED}
+        produced = {item.material for item in sums if item.use == Role.PRODUCED}
         taken = {move.lot for move in run.actuals if move.kind == Kind.CONSUMED}
         for item, amount in sums.items():
             if item.use == Role.PRODUCED:
                 products[item.material, own[item.material]].produced += amount
-            elif item.source == owner and item.material in made:
+            elif item.source == owner and item.material in produced:
                 products[item.material, own[item.material]].reworked += amount
         for link in genealogy.links_in_batch(run.batch.id):
             lot, is_besides = linked[link.contained], link.why == Why.USE
             is_besides |= link.why == Why.REWORK and link.contained not in taken
-            if is_besides and link.amount and is_own(lot, owner, made):
+            if is_besides and link.amount and is_own(lot, owner, produced):
                 products[lot.material, lot.measure].reworked += link.amount
     return dict(sorted(products.items()))
 
 
-def is_own(lot: Lot, owner: str, made: Iterable[str]) -> bool:
+def is_own(lot: Lot, owner: str, materials: Iterable[str]) -> bool:
     """Whether a lot is of the owner, and of one of these materials."""
-    return lot.id.owner == owner and lot.material in made
+    return lot.id.owner == owner and lot.material in materials
 
 
 def receipts_of(

@@ -76,8 +76,8 @@ def write(path: str, text: str, is_new: bool) -> None:
     """Writes a file that everybody may read, whole or not at all, in a folder that nobody else may change. A new one
     replaces nothing."""
     folder = paths.private(os.path.dirname(path))
-    made = os.path.join(folder, scratch.PREFIX + os.urandom(8).hex())
-    descriptor = os.open(made, os.O_WRONLY | os.O_CREAT | os.O_EXCL | os.O_NOFOLLOW, 0o600)
+    temporary = os.path.join(folder, scratch.PREFIX + os.urandom(8).hex())
+    descriptor = os.open(temporary, os.O_WRONLY | os.O_CREAT | os.O_EXCL | os.O_NOFOLLOW, 0o600)
     try:
         with open(descriptor, "w") as file:
             file.write(text)
@@ -85,14 +85,14 @@ def write(path: str, text: str, is_new: bool) -> None:
             os.fchmod(file.fileno(), MODE)
             os.fsync(file.fileno())
         if is_new:
-            os.link(made, path)
+            os.link(temporary, path)
         else:
-            os.rename(made, path)
+            os.rename(temporary, path)
     except FileExistsError:
         raise Failure(f"{path} is there, and setup didn't write it", WRONG_USE) from None
     finally:
         with contextlib.suppress(FileNotFoundError):
-            os.unlink(made)
+            os.unlink(temporary)
 
 
 def take_back(path: str, before: str) -> None:

@@ -40,8 +40,8 @@ class Plan:
     def require_certificate(self) -> None:
         """Fails where the two files aren't a certificate with its key."""
         if absent := [path for path in (self.certificate, self.key) if not os.path.isfile(path)]:
-            made = f"openssl req -x509 -newkey rsa:2048 -nodes -days 30 -subj /CN={self.host}"
-            advice = f"for a trial: {made} -keyout {self.key} -out {self.certificate}" if len(absent) == 2 else ""
+            command = f"openssl req -x509 -newkey rsa:2048 -nodes -days 30 -subj /CN={self.host}"
+            advice = f"for a trial: {command} -keyout {self.key} -out {self.certificate}" if len(absent) == 2 else ""
             raise Failure(f"there is no file {absent[0]}", WRONG_USE, advice)
         if os.stat(self.key).st_mode & EVERYBODY:
             raise Failure(f"everybody may read {self.key}", WRONG_USE, f"chmod 600 {self.key}")

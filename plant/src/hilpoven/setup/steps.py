@@ -115,10 +115,10 @@ def are_active(machine: Machine, units: list[str]) -> bool:
 def site_for_owners(setup: Setup) -> Done:
     """The site, by nginx; what nginx doesn't take is taken back."""
     machine, plan = setup.machine, setup.plan
-    made = site_of(machine, plan, setup.settings.port)
-    if other := made.other_of_host(plan.host):
+    site = site_of(machine, plan, setup.settings.port)
+    if other := site.other_of_host(plan.host):
         raise Failure(f"{other} has a site of {plan.host}", WRONG_USE, "each office has a host name of its own")
-    wanted = [made.office] if made.shared else [made.machine, made.office]
+    wanted = [site.office] if site.shared else [site.machine, site.office]
     changed = [file for file in wanted if file.state() is files.State.CHANGED]
     is_new = replaced(machine, wanted)
     is_running = machine.run(["systemctl", "is-active", "--quiet", "nginx"]).status == 0
@@ -130,12 +130,12 @@ def site_for_owners(setup: Setup) -> Done:
             advice="nginx -T shows its sites",
         )
     remarks = [f"{file.path} was changed by hand and stays" for file in changed]
-    remarks += [f"{made.shared} has the machine's part"] if made.shared else []
+    remarks += [f"{site.shared} has the machine's part"] if site.shared else []
     remarks += [
         f"{site_path} answers at port 80, where a key goes unencrypted: remove it"
-        for site_path in made.others_at_port_80()
+        for site_path in site.others_at_port_80()
     ]
-    return Done(is_new or not is_running, "; ".join([f"{made.office.path}: the site of {plan.host}", *remarks]))
+    return Done(is_new or not is_running, "; ".join([f"{site.office.path}: the site of {plan.host}", *remarks]))
 
 
 def replaced(machine: Machine, wanted: list[files.Written]) -> bool:

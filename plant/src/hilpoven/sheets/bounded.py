@@ -29,16 +29,16 @@ def run(work: Callable[[], Made]) -> Made:
             child.start()
         try:
             sender.close()
-            made: Made | Failure = receiver.recv()
+            outcome: Made | Failure = receiver.recv()
         except EOFError:
             child.join()
             raise ended(child.exitcode) from None
         finally:
             child.kill()
             child.join()
-    if isinstance(made, Failure):
-        raise made
-    return made
+    if isinstance(outcome, Failure):
+        raise outcome
+    return outcome
 
 
 def ended(status: int | None) -> Failure:

@@ -79,13 +79,13 @@ class Book:
             raise Failure(f"the disk of {self.folder} has {free:,} MB free, and {kept:,} are kept for the office")
         return piece.writer(self.folder, kind)
 
-    def finish(self, made: Writer, place: Place, page_size: int, size: int) -> Header:
+    def finish(self, new_piece: Writer, place: Place, page_size: int, size: int) -> Header:
         """Adds the journal's new lines, all of them to a snapshot, and the header, and gives a piece its name."""
-        kind = made.kind
+        kind = new_piece.kind
         new = lines.behind(self.journal, Taken() if kind == SNAPSHOT else self.taken)
-        new.copy(made.lines)
+        new.copy(new_piece.lines)
         if kind == SNAPSHOT or self.needs_earlier:
-            made.name_earlier(self.earlier)
+            new_piece.name_earlier(self.earlier)
         header = Header(
             kind=kind,
             office=self.office,
@@ -95,17 +95,17 @@ class Book:
             before=self.before,
             at=now(),
             page_size=page_size,
-            pages=made.pages,
+            pages=new_piece.pages,
             size=size,
             journal_from=new.start,
-            journal=made.journal,
+            journal=new_piece.journal,
             journal_hash=new.taken.hash,
-            earlier=made.earlier,
-            sha256=made.digest.hexdigest(),
+            earlier=new_piece.earlier,
+            sha256=new_piece.digest.hexdigest(),
             log=piece.as_values(place.log),
             file=list(place.file),
         )
-        made.finish(header)
+        new_piece.finish(header)
         self.named = dict(self.earlier)
         if kind == SNAPSHOT:
             self.snapshot = header

@@ -201,10 +201,10 @@ def pieces_of(chain: Chain, start: int, end: int) -> Iterator[Piece]:
 
 def digests(pieces: Iterable[Piece]) -> Digests:
     """The digests of the pages that pieces give."""
-    made = Digests()
+    collected = Digests()
     for opened_piece in pieces:
-        made.put({number: digest_of(page) for number, page in opened_piece.pages()}, opened_piece.header.size)
-    return made
+        collected.put({number: digest_of(page) for number, page in opened_piece.pages()}, opened_piece.header.size)
+    return collected
 
 
 @dataclass

@@ -89,10 +89,10 @@ class Follower:
             return
         size = self.pending.size or last.size
         content = {number: page for number, page in sorted(self.pending.content.items()) if number <= size}
-        with self.book.writer(LOG, self.held + new.count) as made:
+        with self.book.writer(LOG, self.held + new.count) as new_piece:
             for number, page in content.items():
-                made.page(number, page)
-            self.book.finish(made, self.watch.place, made.page_size or last.page_size, size)
+                new_piece.page(number, page)
+            self.book.finish(new_piece, self.watch.place, new_piece.page_size or last.page_size, size)
         if self.digests:
             self.digests.put({number: capture.digest_of(page) for number, page in content.items()}, size)
         self.pending = Pages()
@@ -111,13 +111,13 @@ class Follower:
         self.digests = self.digests or self.book.digests()
         self.book.collect_earlier()
         self.watch, self.why, self.pending = None, why, Pages()
-        with self.book.writer(FILE, size_of(self.file)) as made:
-            scan = Scan(self.file, self.wait, made.page, self.digests)
+        with self.book.writer(FILE, size_of(self.file)) as new_piece:
+            scan = Scan(self.file, self.wait, new_piece.page, self.digests)
             looked = scan.look()
             is_same = self.book.last and self.book.last.size == looked.size and not scan.emitted
             if not is_same or self.book.needs_earlier:
                 self.state.waits(0)
-                self.book.finish(made, looked.watch.place, looked.page_size, looked.size)
+                self.book.finish(new_piece, looked.watch.place, looked.page_size, looked.size)
                 self.digests.put(scan.emitted, looked.size)
                 self.has_written()
         self.watch = looked.watch
@@ -127,15 +127,15 @@ class Follower:
         """Makes a snapshot of the state behind the last piece. Pieces go on meanwhile."""
         self.book.collect_earlier()
         size = size_of(self.file) + size_of(f"{self.file}-wal") + size_of(self.book.journal)
-        with self.book.writer(SNAPSHOT, size) as made:
-            scan = Scan(self.file, self.wait, made.page, Digests(), self.write_between)
+        with self.book.writer(SNAPSHOT, size) as new_piece:
+            scan = Scan(self.file, self.wait, new_piece.page, Digests(), self.write_between)
             looked = scan.look(self.agrees)
             if self.book.last is None:
                 self.watch = looked.watch
             if self.watch is None:
                 return
             self.write_pending()
-            header = self.book.finish(made, self.watch.place, looked.page_size, looked.size)
+            header = self.book.finish(new_piece, self.watch.place, looked.page_size, looked.size)
         if self.sender:
             self.sender.add(header.name, chain.seconds_of(header.at))
         known, self.digests = self.digests, Digests()

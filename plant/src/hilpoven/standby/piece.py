@@ -224,11 +224,11 @@ class Writer:
 @contextlib.contextmanager
 def writer(folder: str, kind: str) -> Iterator[Writer]:
     """A piece that is made in a folder, where nobody else makes one; what isn't finished is removed."""
-    made = Writer(folder, kind)
+    new_piece = Writer(folder, kind)
     try:
-        yield made
+        yield new_piece
     finally:
         with contextlib.suppress(OSError):
-            made.file.close()
+            new_piece.file.close()
         with contextlib.suppress(FileNotFoundError):
-            os.unlink(made.path)
+            os.unlink(new_piece.path)

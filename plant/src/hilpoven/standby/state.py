@@ -64,10 +64,10 @@ class Saved:
         text = json.dumps({**content, "looked": 0})
         if time.monotonic() - self.at < EVERY[text == self.text]:
             return False
-        self.at, self.text, made = time.monotonic(), text, f"{self.path}.made"
+        self.at, self.text, temporary = time.monotonic(), text, f"{self.path}.made"
         with contextlib.suppress(OSError):
-            write(made, json.dumps(content), os.O_CREAT | os.O_TRUNC)
-            os.rename(made, self.path)
+            write(temporary, json.dumps(content), os.O_CREAT | os.O_TRUNC)
+            os.rename(temporary, self.path)
             return True
         with contextlib.suppress(OSError):
             write(self.path, json.dumps(content).ljust(os.path.getsize(self.path)), 0)

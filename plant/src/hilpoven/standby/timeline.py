@@ -39,12 +39,12 @@ def write(path: str, content: dict[str, Any]) -> None:
     """Writes a small file, whole or not at all, and has it on the disk."""
     folder = os.path.dirname(path)
     with scratch.folder(folder) as room:
-        made = os.path.join(room, "made")
-        with open(made, "x") as file:
+        temporary = os.path.join(room, "made")
+        with open(temporary, "x") as file:
             json.dump(content, file)
             file.write("\n")
-        scratch.sync(made)
-        os.rename(made, path)
+        scratch.sync(temporary)
+        os.rename(temporary, path)
     scratch.sync(folder)
 
 
