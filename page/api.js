@@ -171,8 +171,8 @@ export class Office {
 
 /** What is waited, a quarter more or less, so that windows don't ask in step; longer where the reply says so. */
 function restBefore(tries, reply) {
-  const said = Number(reply?.after ?? 0) * 1000 || 0;
-  return Math.max(RESTS[tries] * (0.75 + Math.random() / 2), Math.min(said, 30_000));
+  const delay = Number(reply?.after ?? 0) * 1000 || 0;
+  return Math.max(RESTS[tries] * (0.75 + Math.random() / 2), Math.min(delay, 30_000));
 }
 
 /** The value of the office's reply. A proxy answers too, as it likes: what isn't as the office has it is strange. */

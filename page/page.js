@@ -51,11 +51,11 @@ export class Page {
 
   /**
    * Does what a button asks for, and draws the view anew, refused or not: it may be that another window
-   * changed it. `before` reads what stands before; `said(reply, stood)` gives the text and the tone of what is
+   * changed it. `before` reads what stands before; `notice(reply, stood)` gives the text and the tone of what is
    * told, and a bad one is as good as a refusal. `stands` tells whether it is done already, where a reply was
    * lost. Once the owner has logged off, it is given up, and nothing is told of it.
    */
-  async act(button, path, { body, before, stands, said, refused }) {
+  async act(button, path, { body, before, stands, notice, refused }) {
     const get = target => this.#app.office.ask(this.who, "GET", target, { signal: this.#over });
     button.disabled = true;
     acting += 1;
@@ -63,7 +63,7 @@ export class Page {
     try {
       const stood = await asBefore(before?.(get));
       const reply = await this.#app.office.carry(this.who, path, { body, signal: this.#over, stands: stands && (() => stands(get)) });
-      await this.#done(said(reply, stood), refused);
+      await this.#done(notice(reply, stood), refused);
     } catch (error) {
       await this.#notDone(error, refused);
     } finally {

@@ -105,12 +105,12 @@ def asks_of(method: str, path: str, status: int) -> list[Ask]:
 
 # What the page says
 
-def resolved(said: dict[str, Any]) -> Any:
-    """What is said, or what its reference leads to."""
-    place: Any = said
-    if "$ref" in said:
+def resolved(node: dict[str, Any]) -> Any:
+    """A node of the page, or what its reference leads to."""
+    place: Any = node
+    if "$ref" in node:
         place = PAGE
-        for part in said["$ref"][2:].split("/"):
+        for part in node["$ref"][2:].split("/"):
             place = place[part]
     return place
 

@@ -31,7 +31,7 @@ export function cancelButton(page, name) {
       const text = "A cancelled order stays cancelled. The plant opens no batch of it.";
       if (!await ask(page.signal, { title: `Cancel order ${name}?`, text, yes: "Cancel the order" })) return;
       await page.act(button, `/orders/${name}/cancel`, {
-        said: () => ({ text: `Order ${name} is cancelled.` }),
+        notice: () => ({ text: `Order ${name} is cancelled.` }),
         stands: async get => (await get(`/orders/${name}`)).status === "cancelled",
       });
     },

@@ -4,7 +4,7 @@ import { html } from "../dom.js";
 import { ask } from "../question.js";
 
 const decision = (page, name, way, done) => button => page.act(button, `/lots/${name}/${way}`, {
-  said: () => ({ text: `Lot ${name} is ${done}.` }),
+  notice: () => ({ text: `Lot ${name} is ${done}.` }),
   stands: async get => (await get(`/lots/${name}`)).disposition === done,
 });
 

@@ -55,7 +55,7 @@ function newOrder(page, rows) {
     await page.act(button, "/orders", {
       body,
       before: get => standing(get, body.order),
-      said: (reply, stood) => {
+      notice: (reply, stood) => {
         const result = outcome(reply, stood);
         if (result.tone !== "bad") draft.clear();
         return result;

@@ -36,7 +36,7 @@ def refresh(plant: Plant, folder: pathlib.Path) -> str:
     return done.out.split(": ")[1].rpartition(",")[0]
 
 
-def said(folder: pathlib.Path, owner: str = "ACME") -> dict:
+def companion_of(folder: pathlib.Path, owner: str = "ACME") -> dict:
     return json.loads((folder / f"{owner}.json").read_text())
 
 
@@ -48,7 +48,7 @@ def states(folder: pathlib.Path) -> dict[str, tuple]:
 def test_each_owner_has_one_that_the_folders_group_reads(at_work, folder):
     assert refresh(at_work, folder) == "2 written, 0 as before, 0 removed"
     assert {path.name: path.stat().st_mode & 0o777 for path in folder.iterdir()} == {"ACME.json": 0o640, "BOLT.json": 0o640, folders.MARK: 0o600}
-    assert [material["material"] for material in said(folder, "BOLT")["materials"]] == ["PIGMENT"]
+    assert [material["material"] for material in companion_of(folder, "BOLT")["materials"]] == ["PIGMENT"]
     assert not [path for path in folder.iterdir() if "KEY1" in path.read_text()]
     assert not [path for path in at_work.folder.iterdir() if path.name.startswith(".hilpoven.")]
 
@@ -58,7 +58,7 @@ def test_it_says_what_was_recorded_and_noted(at_work, folder):
         done = at_work.run(*words)
         assert done.status == 0, (words, done)
     refresh(at_work, folder)
-    companion = said(folder)
+    companion = companion_of(folder)
     brine, salt, water = companion["materials"]
     assert brine == {"owner": "ACME", "material": "BRINE", "measure": "kg", "description": "Brine, 10 %", "tests": [
         {"test": "DENSITY", "low": 1100, "high": 1250},
@@ -84,14 +84,14 @@ def test_it_says_what_was_recorded_and_noted(at_work, folder):
     assert companion["reasons"] == [{"command": "void", "key": "K2", "text": "wrong lot"}]
     assert "plant" not in companion and companion["version"] == 1 and companion["owner"] == "ACME"
     assert {row["what"]: (row["count"], row["most"]) for row in companion["full"]}["movements"] == (6, 20_000)
-    assert said(folder, "BOLT")["parties"] == said(folder, "BOLT")["links"] == said(folder, "BOLT")["reasons"] == []
+    assert companion_of(folder, "BOLT")["parties"] == companion_of(folder, "BOLT")["links"] == companion_of(folder, "BOLT")["reasons"] == []
 
 
 def test_recipients_of_shipments_are_named(at_work, folder):
     at_work.run(*NOTES[0])
     assert at_work.run("ship", "ACME", "K9", "S-1", "BAY1", 5, 261105, "--to", "NORD", "--document", "LS 7").status == 0
     refresh(at_work, folder)
-    assert {name: said(folder)["movements"][-1][name] for name in ("kind", "to", "document")} == {"kind": "shipment", "to": "NORD", "document": "LS 7"}
+    assert {name: companion_of(folder)["movements"][-1][name] for name in ("kind", "to", "document")} == {"kind": "shipment", "to": "NORD", "document": "LS 7"}
 
 
 @pytest.mark.parametrize("results, expected", [
@@ -100,8 +100,8 @@ def test_the_plants_own_test_is_a_signature_or_a_hold(at_work, folder, results, 
     site.load.__defaults__[0].write_text('[quality]\ntest = "QA"\npersons = 1\n')
     at_work.lay("material-add ACME GLUE kg\ntest-add ACME GLUE QA 1 1\nreceive ACME K9 GLUE G-1 BAY 5 101\n" + "".join(f"result ACME G-1 QA {result} 261101\n" for result in results))
     refresh(at_work, folder)
-    lot = next(row for row in said(folder)["lots"] if row["lot"] == "G-1")
-    assert lot["release"] == expected and "tests" not in next(material for material in said(folder)["materials"] if material["material"] == "GLUE")
+    lot = next(row for row in companion_of(folder)["lots"] if row["lot"] == "G-1")
+    assert lot["release"] == expected and "tests" not in next(material for material in companion_of(folder)["materials"] if material["material"] == "GLUE")
     assert ("signed" in lot, "held" in lot) == (results[-1:] == [1], results[-1:] == [0])
 
 
@@ -109,7 +109,7 @@ def test_a_hold_by_the_plants_word_alone_stops_no_release(at_work, folder):
     at_work.lay("material-add ACME GLUE kg\nreceive ACME K9 GLUE G-1 BAY 5 101")
     assert at_work.run("hold", "ACME", "G-1", "--reason", "wet bag").status == 0
     refresh(at_work, folder)
-    lot = next(row for row in said(folder)["lots"] if row["lot"] == "G-1")
+    lot = next(row for row in companion_of(folder)["lots"] if row["lot"] == "G-1")
     assert lot["release"] == {"possible": True} and lot["held"]["text"] == "wet bag" and isinstance(lot["held"]["day"], int)
 
 
@@ -177,12 +177,12 @@ def test_each_version_has_another_second(at_work, folder):
 
 def test_made_is_since_when_it_says_so(at_work, folder):
     refresh(at_work, folder)
-    first = said(folder)["made"]
+    first = companion_of(folder)["made"]
     assert abs(time.mktime(time.strptime(first, "%Y-%m-%dT%H:%M:%SZ")) - time.timezone - time.time()) < 60
     time.sleep(1.1)
     at_work.toll("receive", "BOLT", "K9", "PIGMENT", "P-1", "BAY2", 1, 104)
     refresh(at_work, folder)
-    assert said(folder)["made"] == first < said(folder, "BOLT")["made"]
+    assert companion_of(folder)["made"] == first < companion_of(folder, "BOLT")["made"]
 
 
 # Where it writes
@@ -270,7 +270,7 @@ def test_a_kill_leaves_each_file_whole(at_work, folder):
         for name, (_, _, content) in states(folder).items():
             assert name == folders.MAKING or content in (old[name][2], new[name]) or content[40:] == new[name][40:], (step, name)
     refresh(at_work, folder)
-    assert said(folder)["movements"][-1]["key"] == "K9" and folders.MAKING not in states(folder)
+    assert companion_of(folder)["movements"][-1]["key"] == "K9" and folders.MAKING not in states(folder)
 
 
 def test_a_full_disk_leaves_each_file_whole(at_work, folder):

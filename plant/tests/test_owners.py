@@ -33,8 +33,8 @@ def test_a_random_key_is_printed_once_and_works(at_work):
 @pytest.mark.parametrize("words, first", [(("owner", "add", "CARL"), "accepted"), (("owner", "key", "ACME"), "the key of ACME is changed")])
 def test_without_a_key_one_is_made(at_work, words, first):
     done = at_work.run(*words, stdin="")
-    said, key = done.out.splitlines()
-    assert (done.status, said) == (0, first) and re.fullmatch("key [A-Za-z0-9]{32}", key) and key_of(at_work, words[2]) == [(key[4:],)]
+    answer, key = done.out.splitlines()
+    assert (done.status, answer) == (0, first) and re.fullmatch("key [A-Za-z0-9]{32}", key) and key_of(at_work, words[2]) == [(key[4:],)]
     assert key[4:] not in at_work.journal.read_text()
 
 

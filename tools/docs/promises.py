@@ -57,11 +57,11 @@ def wrong_body_in(path: Path) -> WrongBody:
     head, *lines = path.read_text().split("\n")
     guarded = GUARDED.fullmatch(head)
     promise, words = guarded.groups("") if guarded else ("", "")
-    said, replacements = {"file": "", "old": ""}, []
+    fields, replacements = {"file": "", "old": ""}, []
     for kind, _, text in (line.partition(":") for line in lines):
-        said[kind] = text.strip() if kind == "file" else text.removeprefix(" ")
+        fields[kind] = text.strip() if kind == "file" else text.removeprefix(" ")
         if kind == "new":
-            replacements.append((said["file"], said["old"], said["new"]))
+            replacements.append((fields["file"], fields["old"], fields["new"]))
     return WrongBody(path, promise, words, replacements)
 
 

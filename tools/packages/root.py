@@ -71,12 +71,12 @@ class Root:
         unit.write_text("[Service]\nType=oneshot\nExecStart=sh /root/script\n")
         wanted = unit.parent / "multi-user.target.wants" / unit.name
         wanted.symlink_to(f"../{unit.name}")
-        said = output(*BOOT, "-D", self.folder, stdin=subprocess.DEVNULL,
-                      env={**os.environ, "SYSTEMD_NSPAWN_UNIFIED_HIERARCHY": "1"})
+        console = output(*BOOT, "-D", self.folder, stdin=subprocess.DEVNULL,
+                         env={**os.environ, "SYSTEMD_NSPAWN_UNIFIED_HIERARCHY": "1"})
         wanted.unlink()
         unit.unlink()
         if not printed.exists():
-            raise Failed(f"systemd didn't come up: {said.strip()[-500:]}")
+            raise Failed(f"systemd didn't come up: {console.strip()[-500:]}")
         return printed.read_text()
 
     def session(self, name: str) -> None:

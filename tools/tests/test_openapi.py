@@ -18,14 +18,14 @@ METHODS = ("get", "post")
 VALIDATOR = ["perl", "-MJSON::Validator", "-e", 'print "$_\\n" for @{JSON::Validator->new->schema(shift)->schema->errors}']
 
 
-def resolved(said):
-    """What is said, or what its reference leads to."""
-    while "$ref" in said:
+def resolved(node):
+    """A node of the page, or what its reference leads to."""
+    while "$ref" in node:
         place = PAGE
-        for part in said["$ref"][2:].split("/"):
+        for part in node["$ref"][2:].split("/"):
             place = place[part]
-        said = place
-    return said
+        node = place
+    return node
 
 
 def operations():
@@ -36,8 +36,8 @@ def operations():
 def bodies():
     """Each body of the page, by the words on where it stands."""
     for path, method, operation in operations():
-        for name, said in {"the request": operation.get("requestBody", {}), **operation["responses"]}.items():
-            for content in resolved(said).get("content", {}).values():
+        for name, body in {"the request": operation.get("requestBody", {}), **operation["responses"]}.items():
+            for content in resolved(body).get("content", {}).values():
                 yield f"{method} {path}, {name}", content
 
 
@@ -122,7 +122,7 @@ def test_each_body_has_examples_that_fit(where, content):
 def test_each_schema_and_each_field_is_described():
     for name, schema in SCHEMAS.items():
         fields = {"": schema, **schema.get("properties", {})}
-        assert [field for field, said in fields.items() if "description" not in resolved(said)] == [], name
+        assert [field for field, node in fields.items() if "description" not in resolved(node)] == [], name
 
 
 def test_a_client_elsewhere_finds_the_server():

@@ -223,7 +223,7 @@ def test_the_licences_of_all_linked_libraries_are_in_the_copyright():
     """By the library's name, each holder, and the licence's last sentence; of Apache-2.0 Debian has the text."""
     def plain(text):
         return " ".join(re.sub(r"(?m)^ \.$", "", text).split())
-    said, wrong = plain((ROOT / "debian/copyright").read_text()), []
+    copyright_text, wrong = plain((ROOT / "debian/copyright").read_text()), []
     for library in sorted(linked_libraries()):
         for file in sorted((LIBRARIES / library).glob("LICENSE*")):
             if file.name == "LICENSE-APACHE" and (LIBRARIES / library / "LICENSE-MIT").exists():
@@ -231,5 +231,5 @@ def test_the_licences_of_all_linked_libraries_are_in_the_copyright():
             text = file.read_text()
             holders = re.findall(r"(?mi)^ *copyright (?:\(c\)|©) (?:20\d\d,? )?(.*)$", text)
             end = "Apache-2.0" if "Apache License" in text[:100] else plain(text)[-400:]
-            wrong += [(file, words) for words in (library, *holders, end) if words not in said]
+            wrong += [(file, words) for words in (library, *holders, end) if words not in copyright_text]
     assert wrong == []

@@ -573,10 +573,10 @@ def test_what_the_site_tells_by_itself_is_in_the_contract(site):
         for method in set(ways) & set(METHODS):
             responses = responses_of(path, method)
             for status, error, retry_after in [*answers, (429, "TooManyRequests", "1"), (502, "Unavailable", "1")]:
-                said = responses.get(str(status), responses["default"])
+                response = responses.get(str(status), responses["default"])
                 if str(status) in responses and status in (429, 502, 504):
-                    assert "retry-after" in said["headers"]
-                assert "application/json" in said.get("content", {}) or status == 501, f"{method} {path} {status}"
+                    assert "retry-after" in response["headers"]
+                assert "application/json" in response.get("content", {}) or status == 501, f"{method} {path} {status}"
                 assert retry_after is None or str(status) in responses
 
 

@@ -123,14 +123,14 @@ class Clicks:
             return f"{name} was cancelled; choose another name."
         return f"Order {name} was placed before" if was_there else f"Order {name} is placed"
 
-    def press(self, button, answer, said, status, answered):
+    def press(self, button, answer, confirmation, status, answered):
         if status == 409 and answered["error"] == "NotQuarantined":
             # a page that shows the lot as it is doesn't offer this
             return not self.b.seen("button", button)
         self.b.click("button", button)
         if answer:
             self.b.click("dialog button", answer)
-        return self.says(said if status == 200 else str(answered["code"]))
+        return self.says(confirmation if status == 200 else str(answered["code"]))
 
     def says(self, words):
         until(lambda: self.b.text("#told") + self.b.text("#wrong"), "something is told")

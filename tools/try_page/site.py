@@ -87,24 +87,24 @@ class Office:
         def asked():
             done = subprocess.run([self.toll, "--db", self.file, *line.split()], capture_output=True, text=True)
             return None if "fault Locked" in done.stderr else (done.stdout + done.stderr).strip() or "(nothing)"
-        said = until(asked, f"{line} gets the lock")
-        if said == "accepted":
+        reply = until(asked, f"{line} gets the lock")
+        if reply == "accepted":
             self.lines.append(line)
-        return said
+        return reply
 
     def plants(self, lines):
         for line in filter(None, (line.strip() for line in lines.splitlines())):
-            said = self.plant(line)
-            if said != "accepted":
-                raise SystemExit(f"try-page: the office told {said!r} to {line!r}")
+            reply = self.plant(line)
+            if reply != "accepted":
+                raise SystemExit(f"try-page: the office told {reply!r} to {line!r}")
 
     def actuals(self, records):
         """Imports actuals: key, owner, order, batch, segment, use, material, lot's owner, lot, sublot, amount, day."""
         sheet = self.file.with_suffix(".csv")
         sheet.write_text("key,owner,order,batch,segment,use,material,lot_owner,lot,sublot,amount,day\n" + "\n".join(records) + "\n")
-        said = self.plant(f"import {sheet}").splitlines()[-1]
-        if said != f"accepted {len(records)} repeated 0 refused 0 bad 0 fault 0":
-            raise SystemExit(f"try-page: the import said {said!r}")
+        reply = self.plant(f"import {sheet}").splitlines()[-1]
+        if reply != f"accepted {len(records)} repeated 0 refused 0 bad 0 fault 0":
+            raise SystemExit(f"try-page: the import said {reply!r}")
         self.lines += [f"actual {record.replace(',', ' ')}" for record in records]
 
     def serve(self):

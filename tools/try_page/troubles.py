@@ -234,19 +234,19 @@ def strange(t):
     """Texts that would be HTML stay texts, and scripts and styles that aren't the page's own aren't taken."""
     b = t.browser
     t.entered()
-    said = b.later("""const done = arguments[0];
+    shown = b.later("""const done = arguments[0];
         import('/owner/dom.js').then(({html, link}) => {
             const text = '<img src=x onerror=top.hit=1><b>bold</b>';
             document.querySelector('#view').append(html('p', {title: text}, text, link('#/stock', text)));
             done([document.querySelectorAll('main img, main b').length, document.querySelector('#view > p').innerText]);
         })""")
-    t.expect(said == [0, "<img src=x onerror=top.hit=1><b>bold</b>" * 2], f"a text is read as HTML: {said}")
+    t.expect(shown == [0, "<img src=x onerror=top.hit=1><b>bold</b>" * 2], f"a text is read as HTML: {shown}")
     t.shot("34-strange-texts", "texts that would be HTML are shown as they are")
-    said = b.js("try { document.body.insertAdjacentHTML('beforeend', '<p>'); return 'done'; } catch (error) { return error.name; }")
-    t.expect(said == "TypeError", f"HTML of a text is {said}")
-    said = b.js("""const paragraph = document.createElement('p'); document.body.append(paragraph); paragraph.setAttribute('style', 'color: red');
+    error = b.js("try { document.body.insertAdjacentHTML('beforeend', '<p>'); return 'done'; } catch (error) { return error.name; }")
+    t.expect(error == "TypeError", f"HTML of a text is {error}")
+    effects = b.js("""const paragraph = document.createElement('p'); document.body.append(paragraph); paragraph.setAttribute('style', 'color: red');
         try { paragraph.setAttribute('onclick', 'window.hit = 3'); } catch { } paragraph.click(); return [window.hit ?? 0, getComputedStyle(paragraph).color]""")
-    t.expect(said == [0, "rgb(23, 33, 43)"], f"a script or a style within the page is taken: {said}")
+    t.expect(effects == [0, "rgb(23, 33, 43)"], f"a script or a style within the page is taken: {effects}")
     moving(t)
     b.reload()
     b.heading("Orders")

@@ -124,10 +124,10 @@ class Known(Filled):
         assert sorted(path.name for path in folder.iterdir() if path.suffix == ".json") == sorted(f"{owner}.json" for owner in self.owners)
         return {owner: json.loads((folder / f"{owner}.json").read_text()) for owner in self.owners}
 
-    def look_for_others(self, owner: str, said: dict) -> None:
+    def look_for_others(self, owner: str, companion: dict) -> None:
         """No word of others is in an owner's companion, and no figure that isn't its own."""
-        text = json.dumps(said, ensure_ascii=False)
-        named = {link["from"]["lot"] for link in said["links"] if link["from"]["owner"] == HOUSE}
+        text = json.dumps(companion, ensure_ascii=False)
+        named = {link["from"]["lot"] for link in companion["links"] if link["from"]["owner"] == HOUSE}
         own_links = [link for link in self.links_of(owner) if link.of_owner == HOUSE]
         assert named <= {link.of_lot for link in own_links}
         foreign = self.papers.foreign(owner) - named
@@ -155,25 +155,25 @@ class Known(Filled):
         figures |= {note["day"] for line in self.plant.lines() for note in line.get("notes", ()) if note["owner"] == owner and "day" in note}
         return figures | {link.amount for link in self.links_of(owner) if link.amount}
 
-    def look_at_rows(self, owner: str, said: dict) -> None:
+    def look_at_rows(self, owner: str, companion: dict) -> None:
         """What it says is what the tables have, by queries that are written for this alone."""
         moves = self.rows("SELECT mkey, kind, day, lot, lot_owner, sublot, amount, (SELECT material FROM lots AS l WHERE l.owner = lot_owner AND l.lot = m.lot), ord, number, segment, "
                           "target, (owner, mkey) IN (SELECT owner, mkey FROM voids) FROM moves AS m WHERE owner = :owner ORDER BY rowid", owner=owner)
         assert all(row[7] for row in moves)
         moves_said = [(movement["key"], movement["kind"], movement["day"], movement["lot"], movement["lotOwner"], movement["sublot"], movement["amount"], movement["material"], movement.get("order", ""), movement.get("batch", 0), movement.get("segment", 0),
-                 movement.get("toSublot", ""), int(movement.get("voided", False))) for movement in said["movements"]]
+                 movement.get("toSublot", ""), int(movement.get("voided", False))) for movement in companion["movements"]]
         assert moves_said == [(key, KINDS[kind], *rest) for key, kind, *rest in moves]
-        assert [movement.get("use") for movement in said["movements"]] == [{4: "consumed", 5: "produced"}.get(kind) for _, kind, *_ in moves]
+        assert [movement.get("use") for movement in companion["movements"]] == [{4: "consumed", 5: "produced"}.get(kind) for _, kind, *_ in moves]
         produced = self.rows("SELECT ord, number, lot FROM moves WHERE owner = :owner AND kind = 5 AND (owner, mkey) NOT IN (SELECT owner, mkey FROM voids) GROUP BY 1, 2, 3", owner=owner)
-        assert {(batch["order"], batch["batch"], lot) for batch in said["batches"] for lot in batch["lots"]} == set(produced)
+        assert {(batch["order"], batch["batch"], lot) for batch in companion["batches"] for lot in batch["lots"]} == set(produced)
         tests = self.rows("SELECT material, test, low, high FROM tests WHERE owner = :owner AND test <> 'QA'", owner=owner)
-        own = [material for material in said["materials"] if material["owner"] == owner]
+        own = [material for material in companion["materials"] if material["owner"] == owner]
         assert sorted((material["material"], test["test"], test["low"], test["high"]) for material in own for test in material.get("tests", ())) == sorted(tests)
         assert [material["material"] for material in own] == sorted(self.materials[owner]) and all("description" in material for material in own)
-        assert {gauge["count"] for gauge in said["full"] if gauge["what"] == "movements"} == {len(moves)}
-        assert said["plant"] == PLANT and said["version"] == 1 and said["owner"] == owner
+        assert {gauge["count"] for gauge in companion["full"] if gauge["what"] == "movements"} == {len(moves)}
+        assert companion["plant"] == PLANT and companion["version"] == 1 and companion["owner"] == owner
 
-    def look_at_replies(self, owner: str, said: dict) -> None:
+    def look_at_replies(self, owner: str, companion: dict) -> None:
         """What it says is what `toll` replies, and a lot that can be released is released, on a copy of the office, and no other one."""
         copy = Plant(self.plant.program, self.plant.folder / "copy")
         copy.folder.mkdir(exist_ok=True)
@@ -182,14 +182,14 @@ class Known(Filled):
             if (source := pathlib.Path(f"{self.plant.db}{end}")).exists():
                 shutil.copyfile(source, f"{copy.db}{end}")
         with copy.serve() as server:
-            assert server.ask(owner, "GET", "/orders") == (200, {"orders": said["orders"]})
-            stock = [{**{name: lot[name] for name in ("amount", "disposition", "lot", "material")}} for lot in said["lots"]]
+            assert server.ask(owner, "GET", "/orders") == (200, {"orders": companion["orders"]})
+            stock = [{**{name: lot[name] for name in ("amount", "disposition", "lot", "material")}} for lot in companion["lots"]]
             assert [{name: field for name, field in lot.items() if name != "measure"} for lot in server.ask(owner, "GET", "/stock")[1]["lots"]] == stock
-            for batch in said["batches"]:
+            for batch in companion["batches"]:
                 reply = server.ask(owner, "GET", f"/batches/{batch['order']}/{batch['batch']}")[1]
                 assert (reply["unit"], reply["state"], reply["closed"]) == (batch["unit"], batch["state"], batch.get("closed", False))
                 assert reply["requirements"] == batch["lines"]
-            for lot in said["lots"]:
+            for lot in companion["lots"]:
                 reply, is_quarantined = server.ask(owner, "GET", f"/lots/{lot['lot']}")[1], lot["disposition"] == "quarantined"
                 assert reply["origin"] == (f"{lot['order']}/{lot['batch']}" if "order" in lot else "receipts") and ("release" in lot) == is_quarantined
                 if is_quarantined:
@@ -218,8 +218,8 @@ class Known(Filled):
 def try_office(program: str, folder: pathlib.Path, seed: int) -> Known:
     """Looks at the companions of an office."""
     office = Known(program, folder, seed)
-    for owner, said in office.companions().items():
-        office.look_for_others(owner, said)
-        office.look_at_rows(owner, said)
-        office.look_at_replies(owner, said)
+    for owner, companion in office.companions().items():
+        office.look_for_others(owner, companion)
+        office.look_at_rows(owner, companion)
+        office.look_at_replies(owner, companion)
     return office

@@ -234,8 +234,8 @@ def movement(context: Context, owner: str, key: str, **given: str | None) -> Non
             ("--supplier-lot", "supplier_lot"),
             ("--document", "document"),
         ]
-        said = [word for option, name in options if given[name] for word in (option, str(given[name]))]
-        record(desk, ["note", "movement", owner, key, *said], facts)
+        words = [word for option, name in options if given[name] for word in (option, str(given[name]))]
+        record(desk, ["note", "movement", owner, key, *words], facts)
 
 
 @note_group.command("list")

@@ -43,8 +43,8 @@ def add(context: Context, owner: str, party: str, roles: tuple[str, ...], **text
 
     Example: hilpoven party add ACME NORD --name 'Nord Foods Ltd' --phone '+44 20 7946 0000' --role customer
     """
-    said = {name: text for name, text in texts.items() if text}
-    note = Party(owner, party, roles=tuple(role for role in Role if role in roles), **said)
+    given = {name: text for name, text in texts.items() if text}
+    note = Party(owner, party, roles=tuple(role for role in Role if role in roles), **given)
     with making.desk(context) as desk:
         require_owner(desk.base, owner)
         record(desk, ["party", "add", owner, party], note)

@@ -59,9 +59,9 @@ def decimals_of(base: sqlite3.Connection, register: Register, values: Values) ->
 
 def beside_test(context: Context, values: Values, given: dict[str, Any]) -> Beside:
     """What is noted of a test that is added."""
-    said = {name: given[name] for name in ("unit", "decimals", "method") if given[name]}
+    facts = {name: given[name] for name in ("unit", "decimals", "method") if given[name]}
     with making.desk(context) as desk:
-        return Beside(desk.members([TestFacts(values["OWNER"], values["MATERIAL"], values["TEST"], **said)]))
+        return Beside(desk.members([TestFacts(values["OWNER"], values["MATERIAL"], values["TEST"], **facts)]))
 
 
 def read_result(context: Context, line: Line, words: list[str], given: dict[str, Any]) -> Typed:

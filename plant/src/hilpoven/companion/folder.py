@@ -77,15 +77,15 @@ class Folder:
     def mark(self) -> dict[str, Any]:
         """Of what the companions were made, and whose there are; nothing where that isn't known."""
         try:
-            said = json.loads(self.read(MARK))
+            mark = json.loads(self.read(MARK))
         except ValueError:
             return {}
-        return said if isinstance(said, dict) else {}
+        return mark if isinstance(mark, dict) else {}
 
-    def put_mark(self, said: dict[str, Any]) -> None:
+    def put_mark(self, mark: dict[str, Any]) -> None:
         """Notes of what the companions were made, once they are on the disk."""
         os.fsync(self.descriptor)
-        self.give(MARK, json.dumps(said).encode(), PRIVATE)
+        self.give(MARK, json.dumps(mark).encode(), PRIVATE)
 
     def touch(self) -> None:
         """Notes that the companions are those of now."""

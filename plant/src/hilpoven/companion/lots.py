@@ -29,8 +29,8 @@ def lots(subject: Subject) -> list[Value]:
         lot = {"lot": name, "material": material, "disposition": disposition, "amount": on_hand.get(name, 0)}
         if order:
             lot |= {"order": order, "batch": number}
-        if said := noted_of(subject, LotId(subject.owner, name)):
-            lot |= said
+        if noted := noted_of(subject, LotId(subject.owner, name)):
+            lot |= noted
         if code == Disposition.QUARANTINED:
             lot["release"] = release(name, material)
         if name in bounds:

@@ -139,16 +139,16 @@ def named(gauge: Gauge) -> str:
 
 def check_server(context: Context, health: Health) -> None:
     """Asks the server, where one is there or is to be there."""
-    said, port = server.greeting(context.file), context.settings.port
+    greeting, port = server.greeting(context.file), context.settings.port
     status = client.status_at(port) if port else 0
-    health.serves = status == 403 if port else bool(said)
+    health.serves = status == 403 if port else bool(greeting)
     if port and status != 403:
         health.bad.append(
             f"the server at port {port} " + (f"answers {status}, not 403" if status else "doesn't answer")
         )
     owners = f"answers at port {port}; " if health.serves and port else ""
     none = "takes no commands: each opens the file itself" if owners else "none: each command opens the file itself"
-    plant = f"takes the plant's commands ({said})" if said else none
+    plant = f"takes the plant's commands ({greeting})" if greeting else none
     health.lines.append(f"server: {owners}{plant}")
 
 
@@ -206,8 +206,8 @@ def standby_metrics(lag: Lag) -> list[tuple[str, str, list[tuple[str, float]]]]:
     """How far a standby is behind, as Prometheus reads it."""
     return [
         ("standby_behind_seconds", "By how many seconds the standby is behind.", [("", round(lag.seconds, 1))]),
-        ("standby_unsent_pieces", "Pieces that aren't on the other machine yet.", [("", lag.said.unsent)]),
-        ("standby_looked_timestamp_seconds", "When the follower looked last.", [("", int(lag.said.looked))]),
+        ("standby_unsent_pieces", "Pieces that aren't on the other machine yet.", [("", lag.state.unsent)]),
+        ("standby_looked_timestamp_seconds", "When the follower looked last.", [("", int(lag.state.looked))]),
     ]
 
 

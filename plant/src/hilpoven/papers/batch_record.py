@@ -107,10 +107,10 @@ def amounts_of(actuals: list[Move], kind: Kind) -> dict[LotId, int]:
 def with_quality(sheet: Sheet, source: Source, reader: str) -> Sheet:
     """A table of lots with what the plant's quality says of each; of its own lots only the plant reads it."""
     lots = [LotId(str(row[0]), str(row[1])) for row in sheet.rows]
-    said = [quality.text_of(source.base, source.register, lot) if reader in ("", lot.owner) else "" for lot in lots]
-    if not any(said):
+    texts = [quality.text_of(source.base, source.register, lot) if reader in ("", lot.owner) else "" for lot in lots]
+    if not any(texts):
         return sheet
-    rows = [(*row, text) for row, text in zip(sheet.rows, said)]
+    rows = [(*row, text) for row, text in zip(sheet.rows, texts)]
     return Sheet(sheet.name, [*sheet.columns, *columns(f"noted_quality={quality.COLUMN}:text")], rows)
 
 

@@ -54,7 +54,7 @@ class Known(NamedTuple):
 
     days: dict[LotId, int]
     tests: dict[LotId, list[OpenTest]]
-    said: dict[LotId, quality.Status]
+    statuses: dict[LotId, quality.Status]
     genealogy: Genealogy
 
 
@@ -62,7 +62,7 @@ def lots(source: Source, owners: list[str]) -> Panel:
     """The lots on hand that are held, out of limits or past their day, those that expire soon, and those that wait for
     results, a signature or their release."""
     known = known_of(source)
-    held = [lot for lot, status in known.said.items() if status.state == quality.State.HELD]
+    held = [lot for lot, status in known.statuses.items() if status.state == quality.State.HELD]
     select(source.base, [*known.days, *held])
     shown = [lot for lot in read_lots(source.base, CONCERNED) if lot.on_hand]
     check(source, owners, shown)
@@ -86,8 +86,8 @@ def known_of(source: Source) -> Known:
     last = last_day_within(SOON)
     days = {LotId(*name): last_day(facts) for name, facts in source.register.lots.items()}
     near = {lot: day for lot, day in days.items() if day and day <= last}
-    said = quality.statuses(source.base, source.register)
-    return Known(near, tests, said, Genealogy(source.base, source.register.links))
+    statuses = quality.statuses(source.base, source.register)
+    return Known(near, tests, statuses, Genealogy(source.base, source.register.links))
 
 
 def check(source: Source, owners: list[str], shown: list[Lot]) -> None:
@@ -108,7 +108,7 @@ def check(source: Source, owners: list[str], shown: list[Lot]) -> None:
 def waiting_of(source: Source, known: Known, lot: Lot) -> Waiting:
     """Why a lot is on the board, and its row."""
     why, text = waits_for(source, known, lot)
-    day, status = known.days.get(lot.id), known.said.get(lot.id)
+    day, status = known.days.get(lot.id), known.statuses.get(lot.id)
     if status and status.state == quality.State.HELD:
         return Waiting(Wait.HELD, Row(str(lot.id), f"held {MARK}", shortened(status.reason), is_alarm=True))
     if day is not None and why != Wait.FAILED:

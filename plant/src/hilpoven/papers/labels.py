@@ -103,8 +103,8 @@ def page(source: Source, asked: LotId, names: Sequence[str], stock: Stock, day: 
 def status(source: Source, lot: Lot, day: datetime.date) -> str:
     """What a label says of its lot's disposition, and that it is held if the plant's quality says so."""
     word = lot.disposition.word
-    said = quality.statuses(source.base, source.register, lot.id).get(lot.id)
-    if said and said.state == quality.State.HELD:
+    quality_status = quality.statuses(source.base, source.register, lot.id).get(lot.id)
+    if quality_status and quality_status.state == quality.State.HELD:
         return f"{SIGNS['rejected']} held ({word}) when printed, {day}"
     return f"{SIGNS[word]} {word} when printed, {day}"
 

@@ -64,14 +64,14 @@ def documents(source: Source, asked: LotId) -> list[Document]:
     sums = {**{kind.total: balance.amounts[kind] for kind in COUNTED}, "on hand": lot.on_hand}
     if reasons := reasons_of_lot(source.register, asked, moves):
         sheets.append(reasons)
-    said = quality.text_of(source.base, source.register, asked)
+    quality_text = quality.text_of(source.base, source.register, asked)
     if noted := noted_movements(register, lot, moves):
         sheets.append(noted)
     values = {
         "facts": {
             **about,
             "disposition": disposition,
-            **({quality.COLUMN: said} if said else {}),
+            **({quality.COLUMN: quality_text} if quality_text else {}),
             "on hand": lot.on_hand,
         },
         "remarks": overview.remarks,

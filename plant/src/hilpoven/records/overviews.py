@@ -133,8 +133,8 @@ def lot(base: Base, owner: str, name: str, register: Register = NOTHING_NOTED) -
     )
     add_origin(overview, base, LotId(owner, name))
     words = {"owner": owner, "lot": name, "material": facts["material"]}
-    if said := quality.text_of(base, register, LotId(owner, name)):
-        overview.facts[quality.COLUMN] = said
+    if quality_text := quality.text_of(base, register, LotId(owner, name)):
+        overview.facts[quality.COLUMN] = quality_text
     tests = add_tests(overview, base, register, LotId(owner, name), str(facts["material"]))
     overview.add("sublots", base.execute(SUBLOTS, words))
     overview.add("ledger", base.execute(LEDGER, words))

@@ -28,8 +28,8 @@ class MovementFacts(Note):
     @property
     def sentence(self) -> str:
         """Which movement, and what is known of it."""
-        said = {"party": self.party, "the supplier's lot": self.supplier_lot, "document": self.document}
-        return f"movement {self.key} of {self.owner}: {in_words(said)}"
+        facts = {"party": self.party, "the supplier's lot": self.supplier_lot, "document": self.document}
+        return f"movement {self.key} of {self.owner}: {in_words(facts)}"
 
 
 @dataclass(frozen=True)
@@ -94,8 +94,8 @@ class TestFacts(Note):
     @property
     def sentence(self) -> str:
         """Which test, and what is known of it."""
-        said = {"name": self.name, "unit": self.unit, "decimals": self.decimals, "method": self.method}
-        return f"test {self.test} of {self.owner} {self.material}: {in_words(said)}"
+        facts = {"name": self.name, "unit": self.unit, "decimals": self.decimals, "method": self.method}
+        return f"test {self.test} of {self.owner} {self.material}: {in_words(facts)}"
 
 
 @dataclass(frozen=True)

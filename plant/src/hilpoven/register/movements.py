@@ -52,8 +52,8 @@ def require_party(parties: Parties, owner: str, name: str, task: Task) -> None:
 
 def facts_of(owner: str, key: str, given: Mapping[str, str | None]) -> MovementFacts | None:
     """What is given of a movement; `None` if nothing is."""
-    said = {member: str(given[member]) for member in MEMBERS if given.get(member)}
-    return MovementFacts(owner, key, **said) if said else None
+    members = {member: str(given[member]) for member in MEMBERS if given.get(member)}
+    return MovementFacts(owner, key, **members) if members else None
 
 
 def cells_of(facts: Facts, owner: str, key: str) -> tuple[str, ...]:

@@ -17,6 +17,6 @@ class Note:
         raise NotImplementedError
 
 
-def in_words(said: Mapping[str, object]) -> str:
+def in_words(facts: Mapping[str, object]) -> str:
     """What a note says of a thing, by what each is called; what it doesn't say is left out."""
-    return ", ".join(f"{name} {value}" for name, value in said.items() if value)
+    return ", ".join(f"{name} {value}" for name, value in facts.items() if value)

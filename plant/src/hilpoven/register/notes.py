@@ -205,8 +205,8 @@ MAY_BE_ZERO = {"value", "day"}  # members of which 0 says something
 
 def to_json(note: Note) -> dict[str, Any]:
     """A note as a member of a line of the journal; what is empty is left out."""
-    said = {name: value for name, value in asdict(note).items() if value or name in MAY_BE_ZERO}
-    return {"kind": note.KIND, **said}
+    members = {name: value for name, value in asdict(note).items() if value or name in MAY_BE_ZERO}
+    return {"kind": note.KIND, **members}
 
 
 def is_name(value: Any) -> bool:

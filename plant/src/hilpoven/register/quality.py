@@ -99,10 +99,10 @@ def own_tests(register: Register, tests: Iterable[Test]) -> list[Test]:
 
 def with_statuses(columns: list[str], rows: list[Row], base: Base, register: Register) -> tuple[list[str], list[Row]]:
     """A table of lots with what the plant's quality says of each; unchanged if it says nothing of any of them."""
-    said = statuses(base, register)
+    lot_statuses = statuses(base, register)
     owner, lot = columns.index("owner"), columns.index("lot")
     lots = [LotId(str(row[owner]), str(row[lot])) for row in rows]
-    texts = [said[named].text if named in said else None for named in lots]
+    texts = [lot_statuses[named].text if named in lot_statuses else None for named in lots]
     if not any(texts):
         return columns, rows
     return [*columns, COLUMN], [(*row, text) for row, text in zip(rows, texts)]

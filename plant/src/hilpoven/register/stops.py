@@ -69,17 +69,19 @@ class Stops:
         if not any(noted.is_own and isinstance(from_json(noted.value), Held) for noted in notes):
             return {}
         with snapshot.opened(self.context.office_to_read()) as base:
-            said = quality.statuses(base, self.context.register(base))
+            statuses = quality.statuses(base, self.context.register(base))
         return {
-            lot: status for lot, status in said.items() if status.is_note_alone and status.state == quality.State.HELD
+            lot: status
+            for lot, status in statuses.items()
+            if status.is_note_alone and status.state == quality.State.HELD
         }
 
     @functools.cached_property
     def tested(self) -> frozenset[LotId]:
         """The lots whose materials have the plant's own test."""
         with snapshot.opened(self.context.office_to_read()) as base:
-            said = quality.statuses(base, self.context.register(base))
-        return frozenset(lot for lot, status in said.items() if not status.is_note_alone)
+            statuses = quality.statuses(base, self.context.register(base))
+        return frozenset(lot for lot, status in statuses.items() if not status.is_note_alone)
 
     def left_of(
         self, records: "list[Record]", note: "Callable[[Record, str], None]", advance: Callable[[int], None]

@@ -130,14 +130,14 @@ def compare(desk: Desk, sheet: Sheet) -> Count:
             count.refused.append(Finding(record.row, sheet.places["lot"], fault, "lot"))
             continue
         try:
-            said = of_row(desk, record, held.get(place, 0), known[place[0]].material, taken)
+            result = of_row(desk, record, held.get(place, 0), known[place[0]].material, taken)
         except Failure as failure:
             count.refused.append(Finding(record.row, sheet.places["counted"], failure.message, "counted"))
             continue
-        if isinstance(said, Outcome):
-            count.outcomes[said] += 1
+        if isinstance(result, Outcome):
+            count.outcomes[result] += 1
         else:
-            count.differences.append(said)
+            count.differences.append(result)
     count.left_out = left_out(desk.base, {(lot.id.owner, lot.material) for lot in known.values()}, seen)
     return count
 
@@ -178,8 +178,8 @@ def is_recorded(base: Base, record: Record) -> bool:
 
 def key_of(record: Record) -> str:
     """The key by which a difference is recorded: the same one of the same row."""
-    said = [*record.values.values(), record.noted["counted"]]
-    return f"COUNT-{hashlib.sha256(' '.join(said).encode()).hexdigest()[:10].upper()}"
+    cells = [*record.values.values(), record.noted["counted"]]
+    return f"COUNT-{hashlib.sha256(' '.join(cells).encode()).hexdigest()[:10].upper()}"
 
 
 def difference_of(desk: Desk, record: Record, key: str, material: str, taken: set[LotId]) -> Difference:

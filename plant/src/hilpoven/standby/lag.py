@@ -25,7 +25,7 @@ class Lag:
     """A standby's follower as it says itself, whether it looks, how many seconds the standby is behind, and how many
     commands and requests aren't in pieces; `None` if that can't be told."""
 
-    said: State
+    state: State
     is_silent: bool
     seconds: float
     commands: int | None
@@ -33,35 +33,35 @@ class Lag:
     @property
     def lines(self) -> list[str]:
         """What is told of it."""
-        said, pieces = self.said, "pieces" if self.said.unsent != 1 else "piece"
-        at = time.strftime("%Y-%m-%d %H:%M:%S", time.localtime(said.at))
+        state, pieces = self.state, "pieces" if self.state.unsent != 1 else "piece"
+        at = time.strftime("%Y-%m-%d %H:%M:%S", time.localtime(state.at))
         count = "an unknown number of" if self.commands is None else f"{self.commands:,}"
         of = "command or request" if self.commands == 1 else "commands and requests"
-        lines = [f"{self.seconds:.1f} seconds behind: {count} {of} in no piece; piece {said.piece} is of {at}"]
-        lines += [f"{said.unsent:,} {pieces} still to be sent to {said.to}"] if said.unsent else []
+        lines = [f"{self.seconds:.1f} seconds behind: {count} {of} in no piece; piece {state.piece} is of {at}"]
+        lines += [f"{state.unsent:,} {pieces} still to be sent to {state.to}"] if state.unsent else []
         return lines
 
     @property
     def faults(self) -> list[str]:
         """What keeps it from going on."""
-        silent = f"its follower hasn't looked for {time.time() - self.said.looked:,.0f} seconds"
-        return [*([silent] if self.is_silent else []), *([self.said.fault] if self.said.fault else [])]
+        silent = f"its follower hasn't looked for {time.time() - self.state.looked:,.0f} seconds"
+        return [*([silent] if self.is_silent else []), *([self.state.fault] if self.state.fault else [])]
 
 
 def lag_of(file: str, folder: str) -> Lag | None:
     """How far the pieces in a folder are behind an office's file, which may be on another machine; `None` if nobody
     follows into it."""
-    said = state.load(folder)
-    if said is None:
+    follower_state = state.load(folder)
+    if follower_state is None:
         return None
-    if not said.is_silent:
-        return Lag(said, False, said.behind, said.commits)
+    if not follower_state.is_silent:
+        return Lag(follower_state, False, follower_state.behind, follower_state.commits)
     if not os.path.exists(file):
-        return Lag(said, True, said.behind, said.commits)
+        return Lag(follower_state, True, follower_state.behind, follower_state.commits)
     new = commits_since(file, folder)
-    since = [said.unsent_since] if said.unsent_since else []
-    since += [said.waiting or said.looked] if new != 0 else []
-    return Lag(said, True, time.time() - min(since) if since else 0.0, new)
+    since = [follower_state.unsent_since] if follower_state.unsent_since else []
+    since += [follower_state.waiting or follower_state.looked] if new != 0 else []
+    return Lag(follower_state, True, time.time() - min(since) if since else 0.0, new)
 
 
 def commits_since(file: str, folder: str) -> int | None:
