@@ -59,9 +59,9 @@ async function drawBatches(page, records, { order: name, batches: most }, place)
     const numbers = Array.from({ length: Math.min(AT_A_TIME, most - at + 1) }, (_, i) => at + i);
     const replies = await Promise.all(numbers.map(n => batchOf(page, name, n)));
     const none = replies.indexOf(null);
-    const there = none < 0 ? replies : replies.slice(0, none);
-    read.push(...there);
-    place.append(...there.map(batch => card(page, records, batch)));
+    const batches = none < 0 ? replies : replies.slice(0, none);
+    read.push(...batches);
+    place.append(...batches.map(batch => card(page, records, batch)));
     if (none >= 0) break;
   }
   return read;

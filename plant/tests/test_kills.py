@@ -145,9 +145,9 @@ def try_restore(laid: Plant, folder: pathlib.Path, kills: int) -> int:
         ended = kill_at(plant, at, ["restore", str(kept)], "")
         whole = whole or ended
         done += not ended
-        there = plant.content() if plant.db.exists() else None
-        assert there in (None, saved, changed) and (there == changed or changed in old_rows(plant)), at
-        if there is None:
+        content = plant.content() if plant.db.exists() else None
+        assert content in (None, saved, changed) and (content == changed or changed in old_rows(plant)), at
+        if content is None:
             assert "there is no file" in plant.run("stock", "ACME").err
         assert plant.run("restore", kept).status == 0 and plant.content() == saved
         assert check(str(plant.journal)).wrong == []

@@ -87,10 +87,10 @@ def test_who_came_by_sudo_from_another_is_a_member(monkeypatch, started, caller,
 def test_a_member_names_no_path(at_work, words):
     at_work.settle()
     (at_work.folder / "sheet.csv").write_text(SHEET)
-    before, there = at_work.content(), sorted(at_work.folder.rglob("*"))
+    before, files = at_work.content(), sorted(at_work.folder.rglob("*"))
     done = at_work.as_member(*shlex.split(words.format(db=at_work.db, folder=at_work.folder)), stdin=SHEET)
     assert done.status == 2 and done.out == "" and done.err.startswith("hilpoven: "), done
-    assert at_work.content() == before and sorted(at_work.folder.rglob("*")) == there
+    assert at_work.content() == before and sorted(at_work.folder.rglob("*")) == files
 
 
 def test_a_member_works_by_names_and_streams(at_work):
@@ -148,12 +148,12 @@ def test_no_output_goes_over_an_offices_files(at_work, sheet, name, more):
     with sqlite3.connect(at_work.folder / "old") as base:
         base.execute("CREATE TABLE t (a)")
     before, kept = at_work.content(), at_work.journal.read_bytes()
-    there = {path: (os.lstat(path).st_ino, os.lstat(path).st_mode) for path in at_work.folder.iterdir()}
+    files = {path: (os.lstat(path).st_ino, os.lstat(path).st_mode) for path in at_work.folder.iterdir()}
     for words in (["to-csv", sheet, at_work.folder / name, *more], ["board", "--out", at_work.folder / name, *more]):
         done = at_work.run(*words)
         assert done.status == 2 and done.err.startswith("hilpoven: "), done
     assert at_work.content() == before and at_work.journal.read_bytes() == kept
-    assert {path: (os.lstat(path).st_ino, os.lstat(path).st_mode) for path in at_work.folder.iterdir()} == there
+    assert {path: (os.lstat(path).st_ino, os.lstat(path).st_mode) for path in at_work.folder.iterdir()} == files
 
 
 def test_other_files_are_replaced_only_where_that_is_asked_for(at_work, sheet):

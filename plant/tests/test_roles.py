@@ -62,11 +62,11 @@ def test_each_subcommand_has_a_role_or_changes_nothing():
 @pytest.mark.parametrize("role", OF_EACH_ROLE)
 def test_a_member_of_another_group_gives_no_command_of_a_role(at_work, role):
     settle(at_work, **{role: ["man"]})
-    before, there, lines = at_work.content(), sorted(at_work.folder.iterdir()), at_work.lines()
+    before, files, lines = at_work.content(), sorted(at_work.folder.iterdir()), at_work.lines()
     for text in OF_EACH_ROLE[role]:
         done = by(at_work, DAEMON, *text.split())
         assert done.status == 2 and done.out == "" and f" is for the members of man alone, by the role {role} of the settings" in done.err, (text, done)
-    assert at_work.content() == before and sorted(at_work.folder.iterdir()) == there and at_work.lines() == lines
+    assert at_work.content() == before and sorted(at_work.folder.iterdir()) == files and at_work.lines() == lines
 
 
 def test_a_member_of_the_group_may_and_so_may_root(at_work):

@@ -134,11 +134,11 @@ def test_each_value_is_checked_at_once_and_asked_again(at_work):
     assert status == 0 and "KEY: k9 is read as K9" in text and asked_of(at_work) == ["scrap ACME K9 S-1 BAY1 5 103"]
 
 
-@pytest.mark.parametrize("line, prompt, there, new", [("unit-add", "UNIT (", "kettle", "PRESS"), ("material-add ACME", "MATERIAL (", "SALT", "SUGAR"),
+@pytest.mark.parametrize("line, prompt, existing, new", [("unit-add", "UNIT (", "kettle", "PRESS"), ("material-add ACME", "MATERIAL (", "SALT", "SUGAR"),
                                                       ("scrap ACME --lot S-1 --sublot BAY1 --amount 5 --day 103", "[next]: ", "K4", "K9")])
-def test_a_new_name_is_not_there_yet(at_work, line, prompt, there, new):
+def test_a_new_name_is_not_there_yet(at_work, line, prompt, existing, new):
     measure: list[Step] = [("MEASURE (1 to 8 letters): ", "kg")] if "material" in line else []
-    status, text = typed(at_work, line, [(prompt, there), f"`{there.upper()}` is there already", (prompt, new), *measure, (CONFIRM, "")])
+    status, text = typed(at_work, line, [(prompt, existing), f"`{existing.upper()}` is there already", (prompt, new), *measure, (CONFIRM, "")])
     assert status == 0 and new in asked_of(at_work)[0]
 
 
@@ -461,10 +461,10 @@ def test_clerks_at_once_get_keys_of_their_own(at_work):
 
 def test_the_same_again_without_a_terminal_is_not_done(at_work):
     assert at_work.run(*next_receipt(5)).status == 0
-    there = at_work.lines()
+    lines = at_work.lines()
     done = at_work.run(*next_receipt(5))
     assert done == (1, "", "hilpoven: the same movement of ACME is recorded with key K7; nothing is done\n  if this is another one, give its key: --key K8\n")
-    assert at_work.lines() == there and received(at_work) == [("ACME", "K7", 5)]
+    assert at_work.lines() == lines and received(at_work) == [("ACME", "K7", 5)]
     assert at_work.run(*next_receipt(6)).status == 0
     assert at_work.run("receive", "ACME", "K20", "SALT", "S-9", "BAY9", 5, 103) == (0, "accepted\n", "")
 
@@ -563,12 +563,12 @@ words stock A; words nothing ""; words stock "'"; ls asked 2> /dev/null; root_co
 def test_completion_changes_nothing_and_waits_for_nobody(at_work):
     at_work.settle()
     assert at_work.run("list", "owners").status == 0  # which makes the lock
-    before, there = at_work.content(), sorted(os.listdir(at_work.folder))
+    before, names = at_work.content(), sorted(os.listdir(at_work.folder))
     assert completed(at_work, "stock A") == ["ACME"] and at_work.content() == before and at_work.lines() == []
     with open(f"{at_work.db}.lock") as held:
         fcntl.flock(held, fcntl.LOCK_EX)
         assert completed(at_work, "stock A") == []
-    assert sorted(os.listdir(at_work.folder)) == there
+    assert sorted(os.listdir(at_work.folder)) == names
 
 
 def test_what_is_no_office_completes_nothing(at_work):

@@ -29,10 +29,10 @@ def test_a_genealogy_keeps_the_limits_of_an_owner(genealogy: Dense | Genealogy) 
     assert len(rows) <= offices.MOST_MOVEMENTS and len(set(lots)) <= offices.MOST_LOTS
     assert max(collections.Counter(row[8:10] for row in rows if row[8]).values()) <= offices.MOST_OF_BATCH
     assert [row[1] for row in rows] == sorted({row[1] for row in rows})
-    there: set[offices.Row] = {(HOUSE, WATER)}
+    existing: set[offices.Row] = {(HOUSE, WATER)}
     for row in rows:  # what is consumed was made before
-        assert row[2] != CONSUMED or row[3:5] in there
-        there.add(row[3:5])
+        assert row[2] != CONSUMED or row[3:5] in existing
+        existing.add(row[3:5])
 
 
 @pytest.mark.parametrize("across, batches", [(10, 480), (20, 250), (100, 49), (50, 100), (1, 5_000)])

@@ -175,9 +175,9 @@ def test_debians_command_is_isolated(unpacked):
 
 @pytest.mark.parametrize("folder", ["usr/lib/python3/dist-packages", "usr/local/share/hilpoven/src"])
 def test_each_file_of_the_command_is_packaged(unpacked, folder):
-    here, there = ROOT / "plant/src", unpacked / folder
-    files = {file.relative_to(here) for file in (here / "hilpoven").rglob("*") if file.is_file() and file.suffix != ".pyc"}
-    packaged = {file.relative_to(there) for file in (there / "hilpoven").rglob("*") if file.is_file()}
+    source, installed = ROOT / "plant/src", unpacked / folder
+    files = {file.relative_to(source) for file in (source / "hilpoven").rglob("*") if file.is_file() and file.suffix != ".pyc"}
+    packaged = {file.relative_to(installed) for file in (installed / "hilpoven").rglob("*") if file.is_file()}
     assert packaged == files and len(files) > 50
 
 

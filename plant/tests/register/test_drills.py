@@ -25,9 +25,9 @@ def under_way(plant: Plant) -> bool:
 
 def refused(plant: Plant, *words: object, status: int = 1) -> str:
     """Why a command does nothing."""
-    there = plant.lines()
+    lines = plant.lines()
     done = plant.run(*words)
-    assert (done.status, done.out) == (status, "") and plant.lines() == there, done
+    assert (done.status, done.out) == (status, "") and plant.lines() == lines, done
     return done.err
 
 

@@ -101,8 +101,8 @@ def test_the_register_is_what_a_fold_from_the_first_line_gives_at_each_step(tmp_
     journal, asked = Journal(str(folder / "office.db.journal"), str(folder / "office.db")), []
     for step, count, note in steps:
         add(journal, step, count, note, asked)
-        there, fresh = file.notes_of(journal), folded_anew(journal)
-        assert is_same(there, fresh) if fresh.notes else not there.notes
+        stored, fresh = file.notes_of(journal), folded_anew(journal)
+        assert is_same(stored, fresh) if fresh.notes else not stored.notes
         assert os.path.exists(file.path_of(journal.file)) == bool(fresh.notes)
         assert file.difference(journal) == ""
     assert list(file.rebuild(journal).notes.items()) == list(folded_anew(journal).notes.items())

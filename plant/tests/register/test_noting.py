@@ -42,10 +42,10 @@ def test_a_link_of_a_batch_and_of_the_plant_s_lot(settled):
     ("ACME B-1", 2, "link: LOT and OF-LOT stand behind OWNER"),
 ])
 def test_a_link_of_what_isn_t_there_is_refused(settled, words, status, why):
-    there = settled.lines()
+    lines = settled.lines()
     done = settled.run("link", *words.split(), "--why", "rework")
     assert done.status == status and done.out == "" and why in done.err, done
-    assert settled.lines() == there and not os.path.exists(file.path_of(str(settled.db)))
+    assert settled.lines() == lines and not os.path.exists(file.path_of(str(settled.db)))
 
 
 @pytest.mark.parametrize("text", ["a\nb", "\x1b[2J", "\u202e", "x" * 201, "\udcff", "\u0085"])

@@ -283,20 +283,20 @@ def remote(plant: Plant, folder: pathlib.Path, rsh: pathlib.Path):
 
 
 def test_pieces_go_to_another_machine_and_wait_for_the_network(at_work, standby, rsh, tmp_path):
-    there = standby.folder / "follow"
-    with remote(at_work, there, rsh):
-        assert eventually(lambda: number_in(there) >= 0)
+    target = standby.folder / "follow"
+    with remote(at_work, target, rsh):
+        assert eventually(lambda: number_in(target) >= 0)
         assert at_work.run("unit-add", "PRESS").status == 0
-        assert eventually(lambda: number_in(there) >= 1)
+        assert eventually(lambda: number_in(target) >= 1)
         (tmp_path / "down").touch()
-        sent = number_in(there)
+        sent = number_in(target)
         for number in range(3):
             assert at_work.run("unit-add", f"U-{number}").out == "accepted\n"
             time.sleep(1.2)
-        assert number_in(there) == sent and "No route to host" in (at_work.folder / "follower.log").read_text()
+        assert number_in(target) == sent and "No route to host" in (at_work.folder / "follower.log").read_text()
         assert eventually(lambda: "still to be sent" in at_work.run("follow", "status").out)
         (tmp_path / "down").unlink()
-        assert eventually(lambda: number_in(there) == number_in(at_work.folder / "follow") > sent, 40)
+        assert eventually(lambda: number_in(target) == number_in(at_work.folder / "follow") > sent, 40)
         assert eventually(lambda: "gets pieces again" in (at_work.folder / "follower.log").read_text())
     assert standby.run("follow", "verify").status == 0
     assert standby.run("promote").status == 0 and standby.content() == at_work.content()
@@ -304,9 +304,9 @@ def test_pieces_go_to_another_machine_and_wait_for_the_network(at_work, standby,
 
 def test_a_snapshot_that_isn_t_there_is_told(at_work, standby, rsh, tmp_path):
     """Without one there is no office, whatever pieces there are."""
-    there = standby.folder / "follow"
+    target = standby.folder / "follow"
     (tmp_path / "down").touch()
-    with remote(at_work, there, rsh):
+    with remote(at_work, target, rsh):
         assert eventually(lambda: number_in(at_work.folder / "follow") >= 0)
         time.sleep(2)
         status = at_work.run("follow", "status").out
@@ -317,23 +317,23 @@ def test_a_snapshot_that_isn_t_there_is_told(at_work, standby, rsh, tmp_path):
 
 
 def test_a_follower_learns_that_the_other_machine_was_promoted(at_work, standby, rsh, monkeypatch):
-    there = standby.folder / "follow"
-    with remote(at_work, there, rsh) as process:
-        assert eventually(lambda: number_in(there) >= 0)
+    target = standby.folder / "follow"
+    with remote(at_work, target, rsh) as process:
+        assert eventually(lambda: number_in(target) >= 0)
         assert standby.run("promote").status == 0
         assert process.wait(40) == 1
     assert "timeline 2 has begun" in (at_work.folder / "follower.log").read_text()
     assert at_work.run("unit-add", "LATE").status == 1
-    with remote(at_work, there, rsh) as process:
+    with remote(at_work, target, rsh) as process:
         assert process.wait(20) == 1
 
 
 def test_another_machine_s_folder_has_one_follower(at_work, standby, rsh):
-    there = standby.folder / "follow"
-    with remote(at_work, there, rsh):
-        assert eventually(lambda: number_in(there) >= 0)
+    target = standby.folder / "follow"
+    with remote(at_work, target, rsh):
+        assert eventually(lambda: number_in(target) >= 0)
     shutil.rmtree(at_work.folder / "follow")
-    with remote(at_work, there, rsh) as process:
+    with remote(at_work, target, rsh) as process:
         assert process.wait(20) == 1
     assert "has pieces of another follower" in (at_work.folder / "follower.log").read_text()
 

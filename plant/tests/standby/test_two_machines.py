@@ -83,18 +83,18 @@ def rsh_of(folder: pathlib.Path) -> str:
 
 def test_a_machine_is_lost_and_refused_when_it_is_back(machines, laid, tmp_path):
     first, second, stack = machines
-    there = second.plant.folder / "follow"
-    there.mkdir(mode=0o700)
+    target = second.plant.folder / "follow"
+    target.mkdir(mode=0o700)
     for end in ("", "-wal"):
         if pathlib.Path(f"{laid.db}{end}").exists():
             shutil.copyfile(f"{laid.db}{end}", f"{first.plant.db}{end}")
-    settings = first.settle(f"root@10.231.7.2:{there}", rsh_of(tmp_path))
+    settings = first.settle(f"root@10.231.7.2:{target}", rsh_of(tmp_path))
     log = open(tmp_path / "log", "w+")
     follower = first.begin(HILPOVEN, "follow", env=settings, stderr=log)
     stack.callback(lambda: (follower.kill(), follower.wait()))
     times: dict[str, float] = {}
     with first.plant.serve() as server:
-        assert eventually(lambda: bool(chain.chains_in(str(there))), 60), log.seek(0) or log.read()
+        assert eventually(lambda: bool(chain.chains_in(str(target))), 60), log.seek(0) or log.read()
         for number in range(60):
             assert first.plant.toll("receive", "ACME", f"N{number}", "SALT", "S-77", "BAY1", 5, 102).out == "accepted\n"
         time.sleep(3)

@@ -100,8 +100,8 @@ class Growing:
 
     def sublot(self, owner: str, lot: str) -> str:
         """A sublot of a lot, seldom one that it may not have."""
-        there = self.sublots.get((owner, lot))
-        return self.some(there) if there and self.random.random() < 0.9 else self.some(SUBLOTS)
+        sublots = self.sublots.get((owner, lot))
+        return self.some(sublots) if sublots and self.random.random() < 0.9 else self.some(SUBLOTS)
 
     def came(self, owner: str, lot: str, material: str, sublot: str) -> None:
         """Something came into a sublot of a lot, which is mostly released then, where it may be."""
@@ -117,8 +117,8 @@ class Growing:
     def receive(self) -> None:
         """A lot comes, or more of one."""
         owner, material = self.some([("HOUSE", "WATER"), ("ACME", "RAW"), ("BOLT", "RAW"), ("ACME", "END")])
-        there = [lot for (whose, lot), of in self.lots.items() if (whose, of) == (owner, material)]
-        lot = self.some(there) if there and self.random.random() < 0.4 else self.name("L")
+        lots = [lot for (whose, lot), of in self.lots.items() if (whose, of) == (owner, material)]
+        lot = self.some(lots) if lots and self.random.random() < 0.4 else self.name("L")
         sublot, amount = self.some(SUBLOTS), self.some(["3", "100", "5000", "1000000000"])
         if self.say("receive", owner, self.name("K"), material, lot, sublot, amount, self.day):
             self.came(owner, lot, material, sublot)
@@ -134,9 +134,9 @@ class Growing:
 
     def test(self) -> None:
         """A result of a lot."""
-        there = [lot_id for lot_id, material in self.lots.items() if material in TESTS]
-        if there:
-            owner, lot = self.some(there)
+        lots = [lot_id for lot_id, material in self.lots.items() if material in TESTS]
+        if lots:
+            owner, lot = self.some(lots)
             good = self.random.random() < 0.8
             for test in TESTS[self.lots[owner, lot]]:
                 value = VALUES[test][self.random.randrange(2)] if good else self.some(VALUES[test])
@@ -158,8 +158,8 @@ class Growing:
         if self.lots:
             owner, lot = self.some([*[lot_id for lot_id in self.lots if self.lots[lot_id] not in ("WATER", "RAW")] * 3, *self.lots])
             for line in self.server.ask("stock", owner).output.splitlines():
-                there, sublot, *_, amount, _ = line.split()
-                if there == lot and amount != "0":
+                listed, sublot, *_, amount, _ = line.split()
+                if listed == lot and amount != "0":
                     self.say(self.some(["scrap", "ship"]), owner, self.name("K"), lot, sublot, amount, self.day)
 
     def order(self) -> None:
@@ -189,13 +189,13 @@ class Growing:
             for _ in range(self.random.randint(1, 6)):
                 if self.random.random() < 0.55:
                     segment, whose, material = self.some(TAKES[owner] + TAKES[owner][2:] * 2)
-                    there = [lot for (of, lot), made_of in self.lots.items() if (of, made_of) == (whose, material)]
-                    if there:
-                        self.actual(owner, order, number, segment, "consumed", material, whose, self.some(there))
+                    lots = [lot for (of, lot), made_of in self.lots.items() if (of, made_of) == (whose, material)]
+                    if lots:
+                        self.actual(owner, order, number, segment, "consumed", material, whose, self.some(lots))
                 else:
                     segment, material = self.some(MAKES[owner])
-                    there = [lot for (of, lot), made_of in self.lots.items() if (of, made_of) == (owner, material)]
-                    lot = self.some(there) if there and self.random.random() < 0.3 else self.name("L")
+                    lots = [lot for (of, lot), made_of in self.lots.items() if (of, made_of) == (owner, material)]
+                    lot = self.some(lots) if lots and self.random.random() < 0.3 else self.name("L")
                     self.actual(owner, order, number, segment, "produced", material, owner, lot)
 
     def actual(self, owner: str, order: str, number: str, segment: str, use: str, material: str, whose: str, lot: str) -> None:

@@ -36,10 +36,10 @@ def names(plant: Plant) -> list[str]:
 
 
 def test_an_open_batch_is_told_and_nothing_is_touched(at_work):
-    before, there = at_work.content(), names(at_work)
+    before, files = at_work.content(), names(at_work)
     done = carry(at_work)
     assert done.status == 1 and "batch O-1/1 of ACME is open, on KETTLE: close it first" in done.err
-    assert at_work.content() == before and names(at_work) == there
+    assert at_work.content() == before and names(at_work) == files
 
 
 def test_a_server_and_a_reader_are_told(ready):
@@ -111,10 +111,10 @@ def test_the_new_file_has_the_rights_of_the_old_one(ready):
 
 
 def test_a_plan_does_nothing(ready):
-    before, there = ready.content(), names(ready)
+    before, files = ready.content(), names(ready)
     with ready.serve():
         done = carry(ready, "--plan")
-    assert done.status == 0 and "keys C1-1 and so on" in done.out and ready.content() == before and names(ready) == there
+    assert done.status == 0 and "keys C1-1 and so on" in done.out and ready.content() == before and names(ready) == files
     rows = [line.split() for line in done.out.splitlines()]
     assert ["ACME", "movements", "5", "3", "20,000", "0", "%"] in rows
     assert ["ACME", "O-1", "BRINE-10", "3", "1", "2"] in rows
@@ -158,11 +158,11 @@ cancel C-1
     ("dispositions", "toll tells another stock of HOUSE")])
 def test_a_new_file_that_differs_is_removed(ready, monkeypatch, left_out, why):
     ready.lay('> ACME POST /orders {"order":"O-2","recipe":"BRINE-10","batches":1}')
-    before, there = ready.content(), names(ready)
+    before, files = ready.content(), names(ready)
     monkeypatch.setattr(steps, left_out, lambda base: iter(()))
     done = carry(ready)
     assert done.status == 3 and why in done.err and "nothing was changed" in done.err
-    assert ready.content() == before and names(ready) == [*there, "office.db.journal"] and ready.lines()[-1]["error"].startswith(why)
+    assert ready.content() == before and names(ready) == [*files, "office.db.journal"] and ready.lines()[-1]["error"].startswith(why)
     assert not any(name.startswith(".hilpoven") for name in os.listdir(ready.folder))
 
 

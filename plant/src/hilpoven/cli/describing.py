@@ -121,9 +121,9 @@ def test(context: Context, owner: str, material: str, test: str, **given: Any) -
     names = owner, material, test
     with making.desk(context) as desk:
         limits = describing.limits_of(desk.base, *names)
-        note, there = TestFacts(*names, **members_of(given)), facts_of_test(desk.register, *names)
+        note, earlier = TestFacts(*names, **members_of(given)), facts_of_test(desk.register, *names)
         describing.require_decimals(desk.base, desk.register, note)
-        facts = joined(there, note)
+        facts = joined(earlier, note)
         text = limits_text(limits, facts.decimals)
         title, decimals = f"test {test} of {owner} {material}", facts.decimals
         known = noted_overview(
@@ -131,7 +131,7 @@ def test(context: Context, owner: str, material: str, test: str, **given: Any) -
         )
         give(desk, ("test", *names), note, given, known)
         count = len(describing.values_of(desk.base, *names))
-    if facts.decimals != there.decimals:
+    if facts.decimals != earlier.decimals:
         also = f", and {counted(count, 'results')} so too" if count else ""
         tell(f"The limits are read as {text}{also}; toll has {limits_text(limits)}.")
 

@@ -137,12 +137,12 @@ def is_missing(base: Base, register: Register, step: Step) -> bool:
     owner, material, *rest = words
     if line.name == "material-add":
         row, names, value = base.execute(MATERIAL, (owner, material)).fetchone(), words[:2], rest[0]
-        there = row and str(row[0])
+        recorded = row and str(row[0])
     else:
         row, names = base.execute(LIMITS, words[:3]).fetchone(), words[:3]
         noted = facts_of_test(register, owner, material, rest[0]).decimals
-        there = row and limits_text(row, noted)
+        recorded = row and limits_text(row, noted)
         value = limits_text(map(value_of, rest[1:]), decimals or noted)
-    if there and there != value:
-        raise Failure(f"{' '.join(names)} is there already with {there}, and not with {value}", REFUSED)
-    return not there
+    if recorded and recorded != value:
+        raise Failure(f"{' '.join(names)} is there already with {recorded}, and not with {value}", REFUSED)
+    return not recorded

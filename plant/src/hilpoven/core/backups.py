@@ -70,8 +70,8 @@ def newest(file: str, folder: str, journal: Journal) -> tuple[str, list[str]]:
 def changed(file: str, folder: str, journal: Journal) -> tuple[int, list[str]]:
     """How many of the backups that a journal notes are in a folder, and those whose bytes aren't what it notes."""
     hashes = recorded(journal)
-    there = [backup for backup in all_of(file, folder, journal) if os.path.basename(backup) in hashes]
-    return len(there), [backup for backup in there if hash_of(backup) != hashes[os.path.basename(backup)]]
+    backups = [backup for backup in all_of(file, folder, journal) if os.path.basename(backup) in hashes]
+    return len(backups), [backup for backup in backups if hash_of(backup) != hashes[os.path.basename(backup)]]
 
 
 def make(office: Office, folder: str, keep: int, days: int, journal: Journal) -> str:

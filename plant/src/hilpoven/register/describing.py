@@ -71,14 +71,14 @@ def values_of(base: Base, owner: str, material: str, test: str) -> list[int]:
 def require_decimals(base: Base, register: Register, note: TestFacts) -> None:
     """Fails if a test has other decimals already, so that a limit or a result of it would be read differently."""
     names = note.owner, note.material, note.test
-    there = facts_of_test(register, *names).decimals
-    if not there or note.decimals in (0, there):
+    noted = facts_of_test(register, *names).decimals
+    if not noted or note.decimals in (0, noted):
         return
     values = [*limits_of(base, *names), *values_of(base, *names)]
     if value := next(filter(None, values), 0):
-        one, other = (as_measured(value, decimals, GROUP) for decimals in (there, note.decimals))
+        one, other = (as_measured(value, decimals, GROUP) for decimals in (noted, note.decimals))
         raise Failure(
-            f"test {note.test} of {note.owner} {note.material} has values with {there} decimals: {one} would be read "
+            f"test {note.test} of {note.owner} {note.material} has values with {noted} decimals: {one} would be read "
             f"as {other}",
             REFUSED,
             "if they were noted wrongly: `hilpoven note withdraw` takes them back, and all values are whole numbers "
@@ -115,9 +115,9 @@ def require_result(base: Base, register: Register, result: ResultId, bound: Boun
     noted = register.bounds.get(result)
     text = as_measured(value, facts.decimals, GROUP)
     if noted != bound and base.execute(HAS_RESULT, result).fetchone():
-        there, new = (f"{limit.sign if limit else ''}{text}" for limit in (noted, bound))
+        recorded, new = (f"{limit.sign if limit else ''}{text}" for limit in (noted, bound))
         raise Failure(
-            f"lot {LotId(owner, lot)} has the result {there} of {test} on day {day}: {new} couldn't be told from it",
+            f"lot {LotId(owner, lot)} has the result {recorded} of {test} on day {day}: {new} couldn't be told from it",
             REFUSED,
             "if that is wrong: `hilpoven note list` has the note of it, and `hilpoven note withdraw` takes it back"
             if noted

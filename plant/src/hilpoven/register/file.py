@@ -261,14 +261,14 @@ def difference(journal: Journal) -> str:
         return ""
     try:
         with locked(path, journal.file) as base:
-            there, fresh = caught_up(base, journal), Folded()
-            fold_on(journal.path, fresh, there.place.end)
+            stored, fresh = caught_up(base, journal), Folded()
+            fold_on(journal.path, fresh, stored.place.end)
     except (OSError, sqlite3.Error, Unusable) as error:
         return f"it isn't used: {reason_of(error)}"
     for what, is_equal in (
-        ("notes", list(there.notes.items()) == list(fresh.notes.items())),
-        ("answers", there.answers == fresh.answers),
-        ("names of the file", (there.files.moves, there.files.last) == (fresh.files.moves, fresh.files.last)),
+        ("notes", list(stored.notes.items()) == list(fresh.notes.items())),
+        ("answers", stored.answers == fresh.answers),
+        ("names of the file", (stored.files.moves, stored.files.last) == (fresh.files.moves, fresh.files.last)),
     ):
         if not is_equal:
             return f"its {what} aren't those of the journal; {REBUILD}"

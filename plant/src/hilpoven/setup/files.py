@@ -42,14 +42,14 @@ class Written:
             if not stat.S_ISREG(os.lstat(self.path).st_mode):
                 return State.FOREIGN
             with open(os.open(self.path, os.O_RDONLY | os.O_NOFOLLOW | os.O_NONBLOCK), errors="replace") as file:
-                there = file.read()
+                content = file.read()
         except FileNotFoundError:
             return State.ABSENT
-        if there == self.text():
+        if content == self.text():
             return State.SAME
-        if not (mark := MARKED.match(there)):
+        if not (mark := MARKED.match(content)):
             return State.FOREIGN
-        return State.EARLIER if sum_of(there[mark.end() :]) == mark[1] else State.CHANGED
+        return State.EARLIER if sum_of(content[mark.end() :]) == mark[1] else State.CHANGED
 
     def put(self) -> str | None:
         """Writes it, unless it is there or was changed; the text that it replaced, empty if there was none, and `None`

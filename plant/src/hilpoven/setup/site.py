@@ -38,10 +38,10 @@ def site_of(machine: Machine, plan: Plan, port: int) -> Site:
     """The files of an office's site, whose server has this port. nginx reads the machine's part first: files by their
     names, and conf.d before sites-enabled."""
     once_path, name = f"{machine.nginx}/conf.d/00-toll.conf", f"toll_{plan.name}.conf"
-    there = machine.nginx_files()
-    shared = next((path for path, text in there.items() if path != once_path and ZONE.search(text)), "")
+    texts = machine.nginx_files()
+    shared = next((path for path, text in texts.items() if path != once_path and ZONE.search(text)), "")
     path = f"{os.path.dirname(shared or once_path)}/{name}"
-    others = {other: text for other, text in there.items() if other not in (path, once_path)}
+    others = {other: text for other, text in texts.items() if other not in (path, once_path)}
     _, once, office = parts_of(machine)
     logs = "" if not any(LOG in text for text in others.values()) else plan.name
     office = filled(office, plan, port, logs).replace("/usr/share/toll/page/", f"{machine.page()}/")

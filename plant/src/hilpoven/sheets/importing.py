@@ -105,12 +105,12 @@ class Import:
         """Gives receipts, shipments or results line by line. A result with the value and day of one that stands isn't
         given."""
         line = LINES[GIVEN_BY[self.sheet.kind.name]]
-        there = standing_results(self.office) if self.sheet.kind == RESULTS else set()
+        standing = standing_results(self.office) if self.sheet.kind == RESULTS else set()
         journal = self.context.journal()
         with client.asker(self.office, len(self.sheet.records)) as ask, journal.series():
             for record in self.sheet.records:
                 words = [record.values[value_name.lower()] for value_name in line.values]
-                if tuple(words) in there:
+                if tuple(words) in standing:
                     self.note(record, THERE)
                 else:
                     beside = self.beside.get(record.row, {})
@@ -121,7 +121,7 @@ class Import:
                         return
                     self.note(record, (answer.output or answer.error).strip())
                     if self.sheet.kind == RESULTS and not answer.status:
-                        there.add(tuple(words))
+                        standing.add(tuple(words))
                 self.advance(1)
 
     def report(self, what: str) -> int:
@@ -165,8 +165,8 @@ class Import:
         """How many of these records the file has, whatever was answered."""
         is_results = self.sheet.kind == RESULTS
         names = list(self.sheet.kind.columns) if is_results else ["owner", "key"]
-        there = standing_results(self.office) if is_results else standing_keys(self.office)
-        return sum(tuple(record.values[name] for name in names) in there for record in records)
+        standing = standing_results(self.office) if is_results else standing_keys(self.office)
+        return sum(tuple(record.values[name] for name in names) in standing for record in records)
 
 
 def name_of(record: Record) -> str:

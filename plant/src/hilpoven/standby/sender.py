@@ -114,25 +114,25 @@ class Sender:
         self.rests_until = time.monotonic() + self.pause
         return not fault
 
-    def compare(self, there: list[str]) -> None:
+    def compare(self, remote_names: list[str]) -> None:
         """Has all that isn't there sent; fails if there are pieces of another follower."""
         here = sorted(
             name for name in os.listdir(self.folder) if piece.NAME.fullmatch(name) or name.startswith(chain.EARLIER)
         )
         own = {match[2] for name in here if (match := piece.NAME.fullmatch(name))}
-        for match in filter(None, map(piece.NAME.fullmatch, there)):
+        for match in filter(None, map(piece.NAME.fullmatch, remote_names)):
             if int(match[1]) == self.timeline and match[2] not in own:
                 raise Failure(
                     f"{self.remote.to} has pieces of another follower, such as {match[0]}",
                     REFUSED,
                     "name a folder of its own for each follower, or move the pieces there elsewhere",
                 )
-        missing = [name for name in here if name not in set(there)]
+        missing = [name for name in here if name not in set(remote_names)]
         self.unsent = {
             name: chain.seconds_in(self.folder, name) for name in missing if name.endswith(".piece")
         } | self.unsent
         self.bulk = [name for name in missing if name not in self.unsent]
-        self.begun = chains_of(there)
+        self.begun = chains_of(remote_names)
         self.is_known = True
 
 
