@@ -126,8 +126,8 @@ class Base:
             raise Refused("UnknownLot, WrongMaterial, WrongOrigin, NotReleased or NotQuarantined")
         if not is_made and (not held or held[0] < amount) or self.one(COUNT_OF_BATCH, *batch)[0] >= 200:
             raise Refused("UnknownSublot, NotEnough or LimitReached")
-        what = lot_owner, lot, sublot, "", material, *batch[1:], segment, amount, int(line["day"])
-        self.base.execute(PUT_MOVE, (owner, key, 4 + is_made, *what))
+        values = lot_owner, lot, sublot, "", material, *batch[1:], segment, amount, int(line["day"])
+        self.base.execute(PUT_MOVE, (owner, key, 4 + is_made, *values))
         if is_made:
             self.base.execute(PUT_LOT, (owner, lot, material, *batch[1:]))
         self.base.execute(PUT_AMOUNT, (lot_owner, lot, sublot, amount if is_made else -amount))

@@ -28,7 +28,7 @@ export function csvOf(columns, rows) {
 }
 
 /** The name of a file: whose it is, what, and the day on which it was made. */
-export const nameOf = (owner, what, day = new Date()) => `${owner}-${what}-${day.toLocaleDateString("sv")}.csv`;
+export const nameOf = (owner, subject, day = new Date()) => `${owner}-${subject}-${day.toLocaleDateString("sv")}.csv`;
 
 function save(name, text) {
   const address = URL.createObjectURL(new Blob([text], { type: "text/csv;charset=utf-8" }));
@@ -38,6 +38,6 @@ function save(name, text) {
 }
 
 /** A button that gives the rows as a file; `rows` is asked when it is clicked. */
-export const downloadButton = (page, what, columns, rows) => html("button", {
-  type: "button", class: "quiet", "data-key": `csv-${what}`, click: () => save(nameOf(page.who.owner, what), csvOf(columns, rows())),
+export const downloadButton = (page, subject, columns, rows) => html("button", {
+  type: "button", class: "quiet", "data-key": `csv-${subject}`, click: () => save(nameOf(page.who.owner, subject), csvOf(columns, rows())),
 }, "Download CSV");

@@ -56,7 +56,7 @@ const line = (columns, row, className) => html("tr", { role: "row", class: class
  * `columns`: name, title, cell(row), compare(a, b) where it sorts, and `values` where it stands in the file
  * (csv.js), which has the rows that are found. `search(row)`: the text that is searched. `choices`: name,
  * title, options, of(row), and `usual`, the option that is chosen where the address has none, with the words of
- * what it hides. `what`: one and many of the rows. `file`: what the file is called by. `classOf(row)`: the class of
+ * what it hides. `nouns`: one and many of the rows. `file`: what the file is called by. `classOf(row)`: the class of
  * a row. `elsewhere(text)`: what there is of a searched text where no row is found, or null.
  */
 export class Finder {
@@ -83,7 +83,7 @@ export class Finder {
   drawn = Promise.resolve();
 
   #fields() {
-    const { what, choices = [] } = this.#given;
+    const { nouns, choices = [] } = this.#given;
     const search = html("input", {
       type: "search", name: "search", value: this.#query.search, autocomplete: "off", "data-key": "search",
       input: event => this.#set("search", event.target.value.trim()),
@@ -92,8 +92,8 @@ export class Finder {
     const unfold = html("button", { type: "button", class: "small unfold", "aria-expanded": "false", click: () => {
       unfold.setAttribute("aria-expanded", String(form.classList.toggle("unfolded")));
     } }, "Filter and sort");
-    const form = html("form", { class: "fields", role: "search", "aria-label": `Find ${what[1]}`, submit: event => event.preventDefault() },
-      html("label", {}, `Search ${what[1]}`, search), unfold,
+    const form = html("form", { class: "fields", role: "search", "aria-label": `Find ${nouns[1]}`, submit: event => event.preventDefault() },
+      html("label", {}, `Search ${nouns[1]}`, search), unfold,
       choices.map(choice => html("label", { class: "choice" }, choice.title, this.#choice(choice))),
       this.#sorting());
     return form;
@@ -199,7 +199,7 @@ export class Finder {
       else head.removeAttribute("aria-sort");
     }
     const all = this.#given.rows.length;
-    const whole = all === 0 ? `No ${this.#given.what[1]} yet.` : count(all, ...this.#given.what);
+    const whole = all === 0 ? `No ${this.#given.nouns[1]} yet.` : count(all, ...this.#given.nouns);
     this.#count.textContent = rows.length === all ? whole : `${number(rows.length)} of ${whole}`;
     this.#tellBeyond(rows);
     this.drawn = inParts(this.#body, rows, row => line(this.#given.columns, row, this.#given.classOf?.(row)), AbortSignal.any([this.#drawing.signal, this.#page.signal]));

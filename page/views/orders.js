@@ -20,7 +20,7 @@ export async function orders(page) {
   const buttons = new CancelButtons(page);
   const finder = new Finder(page, {
     caption: "Orders",
-    what: ["order", "orders"],
+    nouns: ["order", "orders"],
     file: "orders",
     rows,
     search: order => `${order.order} ${order.recipe}`,

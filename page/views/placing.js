@@ -21,9 +21,9 @@ export async function standing(get, name) {
  */
 export function outcome({ order, recipe, batches, status }, before) {
   if (status === "cancelled") return { text: `${order} was cancelled; choose another name.`, tone: "bad" };
-  const what = `${batches} × ${recipe}`;
-  if (before) return { text: `Order ${order} was placed before: ${what}. It counts once.`, tone: "wait" };
-  return { text: `Order ${order} is placed: ${what}.`, tone: "good" };
+  const content = `${batches} × ${recipe}`;
+  if (before) return { text: `Order ${order} was placed before: ${content}. It counts once.`, tone: "wait" };
+  return { text: `Order ${order} is placed: ${content}.`, tone: "good" };
 }
 
 /** The field that is at fault where an order is refused. */

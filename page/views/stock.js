@@ -35,7 +35,7 @@ function lotsOf(page, rows) {
   const materials = [...new Set(rows.map(lot => lot.material))].sort(compareNames);
   return new Finder(page, {
     caption: "Lots in stock",
-    what: ["lot", "lots"],
+    nouns: ["lot", "lots"],
     file: "stock",
     rows,
     search: lot => `${lot.lot} ${lot.material}`,
@@ -76,7 +76,7 @@ function materialsOf(page, lots) {
   });
   return new Finder(page, {
     caption: "Stock by material",
-    what: ["material", "materials"],
+    nouns: ["material", "materials"],
     file: "stock-by-material",
     rows: sums(lots),
     search: total => total.material,

@@ -90,20 +90,20 @@ SHEETS = {
 }
 
 
-@pytest.mark.parametrize("what", SHEETS)
-def test_rows_of_sheets_with_such_days_are_refused(office, what):
-    header, row = SHEETS[what]
+@pytest.mark.parametrize("kind", SHEETS)
+def test_rows_of_sheets_with_such_days_are_refused(office, kind):
+    header, row = SHEETS[kind]
     days = (261111, 261109, 7, f"{YEAR}1112", 261130 if day(0) >= 261130 else 261113)
     sheet = "\n".join([header, *(row.format(n=20 + number, value=2 + number, day=when) for number, when in enumerate(days))])
-    done = office.run("import", "-", "--what", what, stdin=sheet)
+    done = office.run("import", "-", "--what", kind, stdin=sheet)
     column = "ABCDEFG"[header.count(",")]
-    assert done.status == 1 and done.err.splitlines() == [f"row 3, column {column} (day): {BEFORE.format('S-2' if what == 'receipts' else 'S-1')}; --yes takes it", f"row 4, column {column} (day): 7 {NO_DATE}; --yes takes it",
+    assert done.status == 1 and done.err.splitlines() == [f"row 3, column {column} (day): {BEFORE.format('S-2' if kind == 'receipts' else 'S-1')}; --yes takes it", f"row 4, column {column} (day): 7 {NO_DATE}; --yes takes it",
                                                          f"row 5, column {column} (day): {FUTURE}; --yes takes it"]
-    assert done.out == f"5 {what}: 2 accepted, 0 there already, 0 refused, 3 can't be read\n"
-    done = office.run("import", "-", "--what", what, "--yes", stdin=sheet)
-    assert (done.status, done.out) == (0, f"5 {what}: 3 accepted, 2 there already, 0 refused, 0 can't be read\n") and done.err.count("; taken") == 3
-    done = office.run("import", "-", "--what", what, stdin=sheet)
-    assert (done.status, done.out) == (0, f"5 {what}: 0 accepted, 5 there already, 0 refused, 0 can't be read; nothing was new\n")
+    assert done.out == f"5 {kind}: 2 accepted, 0 there already, 0 refused, 3 can't be read\n"
+    done = office.run("import", "-", "--what", kind, "--yes", stdin=sheet)
+    assert (done.status, done.out) == (0, f"5 {kind}: 3 accepted, 2 there already, 0 refused, 0 can't be read\n") and done.err.count("; taken") == 3
+    done = office.run("import", "-", "--what", kind, stdin=sheet)
+    assert (done.status, done.out) == (0, f"5 {kind}: 0 accepted, 5 there already, 0 refused, 0 can't be read; nothing was new\n")
 
 
 def test_the_day_of_a_count_is_looked_at(office):

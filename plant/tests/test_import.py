@@ -163,15 +163,15 @@ def test_a_fault_is_told_and_the_rest_is_given_again(at_work):
     assert at_work.run("import", path).out.startswith("1 actual: 1 accepted")
 
 
-@pytest.mark.parametrize("what, rows", [("actuals", f"{HEADER}K20,{CONSUMED},1,102\n"), ("receipts", "owner,key,material,lot,sublot,amount,day\nACME,K30,SALT,S-30,BAY1,5,102\n"),
+@pytest.mark.parametrize("kind, rows", [("actuals", f"{HEADER}K20,{CONSUMED},1,102\n"), ("receipts", "owner,key,material,lot,sublot,amount,day\nACME,K30,SALT,S-30,BAY1,5,102\n"),
                                         ("results", "owner,lot,test,value,day\nACME,B-1,PH,7,103\n")])
-def test_a_program_that_a_signal_ends_is_reported_with_what_is_recorded(at_work, what, rows):
+def test_a_program_that_a_signal_ends_is_reported_with_what_is_recorded(at_work, kind, rows):
     path = sheet(at_work, rows)
     program, at_work.program = at_work.program, str(script(at_work.folder / "toll", f"{at_work.program} \"$@\" > /dev/null 2>&1; kill -9 $$"))
-    done = at_work.run("import", "--what", what, path)
+    done = at_work.run("import", "--what", kind, path)
     assert done.status == 3 and "toll ended without an answer: 1 row got no answer, and 1 of them is recorded." in done.err, done
     at_work.program = program
-    assert "1 there already" in at_work.run("import", "--what", what, path).out
+    assert "1 there already" in at_work.run("import", "--what", kind, path).out
 
 
 def test_a_signal_ends_an_import_with_what_is_recorded(at_work):

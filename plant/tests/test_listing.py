@@ -228,7 +228,7 @@ def shown(plant, *words):
 
 def test_an_owner_is_shown_with_what_it_has_and_never_its_key(office):
     owner = shown(office, "owner", "ACME")
-    assert [owner[what] for what in ("materials", "recipes", "orders", "lots", "movements", "results")] == [2, 1, 1, 2, 5, 1]
+    assert [owner[kind] for kind in ("materials", "recipes", "orders", "lots", "movements", "results")] == [2, 1, 1, 2, 5, 1]
     assert owner["materials by name"] == [{"material": "BRINE", "measure": "kg", "lots": 1, "on hand": 980}, {"material": "SALT", "measure": "kg", "lots": 1, "on hand": 4700}]
     assert owner["open batches"] == [{"order": "O-1", "batch": 1, "unit": "KETTLE", "state": "running"}]
     assert "KEY1" not in office.run("show", "owner", "ACME").out and "BOLT" not in office.run("show", "owner", "ACME").out

@@ -32,8 +32,8 @@ def test_each_refusal_means_what_the_page_says():
 
 def test_each_limit_is_that_of_the_page():
     rows = dict(re.findall(r"^\| (.+?) \| ([\d,]+) \|$", REFUSALS.split("## How many")[1], re.M))
-    limits = {what.split()[0]: int(most.replace(",", "")) for what, most in rows.items() if not what.startswith(("owners", "units", "actuals"))}
-    assert limits == {what: most for what, (most, _) in gauge.OF_OWNER.items()}
+    limits = {kind.split()[0]: int(most.replace(",", "")) for kind, most in rows.items() if not kind.startswith(("owners", "units", "actuals"))}
+    assert limits == {kind: most for kind, (most, _) in gauge.OF_OWNER.items()}
     assert [int(rows[head]) for head in ("owners besides HOUSE", "units", "actuals of a batch")] == [gauge.OWNERS, gauge.UNITS, gauge.ACTUALS]
 
 

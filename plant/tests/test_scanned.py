@@ -211,13 +211,13 @@ SHEETS = {
 }
 
 
-@pytest.mark.parametrize("what", SHEETS)
-def test_the_lots_of_a_sheet_take_it(at_work, what):
-    header, rows = SHEETS[what]
+@pytest.mark.parametrize("kind", SHEETS)
+def test_the_lots_of_a_sheet_take_it(at_work, kind):
+    header, rows = SHEETS[kind]
     sheet = at_work.folder / "sheet.csv"
     sheet.write_text("\n".join([header, *(row for row, _ in rows)]))
-    assert at_work.run("to-csv", "--what", what, sheet).out.splitlines() == [header, *(wanted.replace(" ", ",") for _, wanted in rows)]
-    done = at_work.run("import", "--what", what, sheet)
+    assert at_work.run("to-csv", "--what", kind, sheet).out.splitlines() == [header, *(wanted.replace(" ", ",") for _, wanted in rows)]
+    done = at_work.run("import", "--what", kind, sheet)
     assert done.status == 0 and f"{len(rows)} accepted" in done.out, done
 
 

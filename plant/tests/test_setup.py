@@ -286,13 +286,13 @@ PATHS = ["/etc/../etc/passwd", "/tmp/a;b", "/tmp/a b", "/tmp/a\nb", "/tmp/{", "/
 OWNERS = ["acme", "-A", "A B", "A\nB", "x" * 17, "A;B"]
 
 
-@pytest.mark.parametrize("what, value", [*(("name", name) for name in NAMES), *(("host", host) for host in HOSTS), *(("certificate", path) for path in PATHS), *(("key", path) for path in PATHS),
-                                         *(("owner", owner) for owner in OWNERS)])
-def test_a_word_that_could_be_read_as_more_makes_nothing(machine, what, value):
+@pytest.mark.parametrize("field, value", [*(("name", name) for name in NAMES), *(("host", host) for host in HOSTS), *(("certificate", path) for path in PATHS), *(("key", path) for path in PATHS),
+                                          *(("owner", owner) for owner in OWNERS)])
+def test_a_word_that_could_be_read_as_more_makes_nothing(machine, field, value):
     before = files_of(machine)
     values = {"name": "north", "host": HOST, "certificate": machine.certificate[0], "key": machine.certificate[1], "owner": ""}
     with pytest.raises(Failure) as raised:
-        list(steps.take(steps.Setup(Plan(**{**values, what: value}), machine)))
+        list(steps.take(steps.Setup(Plan(**{**values, field: value}), machine)))
     assert raised.value.exit_code == 2 and files_of(machine) == before and machine.asked == []
 
 

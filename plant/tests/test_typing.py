@@ -135,7 +135,7 @@ def test_each_value_is_checked_at_once_and_asked_again(at_work):
 
 
 @pytest.mark.parametrize("line, prompt, existing, new", [("unit-add", "UNIT (", "kettle", "PRESS"), ("material-add ACME", "MATERIAL (", "SALT", "SUGAR"),
-                                                      ("scrap ACME --lot S-1 --sublot BAY1 --amount 5 --day 103", "[next]: ", "K4", "K9")])
+                                                         ("scrap ACME --lot S-1 --sublot BAY1 --amount 5 --day 103", "[next]: ", "K4", "K9")])
 def test_a_new_name_is_not_there_yet(at_work, line, prompt, existing, new):
     measure: list[Step] = [("MEASURE (1 to 8 letters): ", "kg")] if "material" in line else []
     status, text = typed(at_work, line, [(prompt, existing), f"`{existing.upper()}` is there already", (prompt, new), *measure, (CONFIRM, "")])

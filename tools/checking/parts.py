@@ -31,7 +31,7 @@ class Part(NamedTuple):
 class Skipped(NamedTuple):
     """What isn't run, since it takes too long, and the command that runs it."""
     command: str
-    what: str
+    subject: str
 
 
 def tracked():

@@ -268,7 +268,7 @@ def told_of(part):
 
 def tell_left_out(is_quick):
     """Tells what wasn't run, with the commands that run it."""
-    print("skipped for time:", *(f"    {skipped.command:30} {skipped.what}" for skipped in SKIPPED), sep="\n")
+    print("skipped for time:", *(f"    {skipped.command:30} {skipped.subject}" for skipped in SKIPPED), sep="\n")
     if is_quick:
         print("NOTHING WAS PROVED, and no wrong body was tried: ./check does both")
 

@@ -137,9 +137,9 @@ class Repository:
     def build(self, *words):
         return self.toll(*words, program="tools/build-program")
 
-    def noted(self, what="begin"):
+    def noted(self, event="begin"):
         """The crates with which this was done, in order."""
-        return [line.split()[1] for line in self.log().splitlines() if line.split()[0] == what]
+        return [line.split()[1] for line in self.log().splitlines() if line.split()[0] == event]
 
     def log(self):
         return (self.notes / "log").read_text() if (self.notes / "log").exists() else ""

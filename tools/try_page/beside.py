@@ -225,19 +225,19 @@ def foreign(t):
     with companion_offered(t) as b:
         b.wait("Failed tests")
         whole = text.read_text()
-        for what in (
+        for content in (
             "<html>Welcome",
             whole[:-5],
             json.dumps({**json.loads(whole), "version": 2}),
             json.dumps({**json.loads(whole), "owner": "BOLT"}),
             '{"error":"NoRoute"}',
         ):
-            t.companions.put("ACME", what)
+            t.companions.put("ACME", content)
             b.click("button", "Read again")
             b.wait("Lots in quarantine")
             t.expect(
                 b.text("#wrong") == "" and b.text("#who .owner") == "ACME",
-                f"{what[:20]} is taken for more than nothing",
+                f"{content[:20]} is taken for more than nothing",
             )
             t.companions.put("ACME", whole)
             b.click("button", "Read again")

@@ -262,7 +262,7 @@ class Browser:
         return [message["message"] for message in self.ask("POST", "/se/log", type="browser")]
 
 
-def until(holds, what, patience=PATIENCE):
+def until(holds, condition, patience=PATIENCE):
     """What `holds` gives, as soon as that is something."""
     ends = time.monotonic() + patience
     while True:
@@ -270,7 +270,7 @@ def until(holds, what, patience=PATIENCE):
         if outcome:
             return outcome
         if time.monotonic() > ends:
-            raise Failed(f"waited {patience} s for this: {what() if callable(what) else what}")
+            raise Failed(f"waited {patience} s for this: {condition() if callable(condition) else condition}")
         time.sleep(0.03)
 
 

@@ -69,12 +69,12 @@ class Clicks:
         if key != f"{owner}KEY1":
             return self.knock(owner, key)
         self.window_of(owner)
-        what = " ".join(filter(None, [owner, method, target, body]))
+        request = " ".join(filter(None, [owner, method, target, body]))
         if method == "POST":
             doing = self.post(owner, target, body and json.loads(body), status, answered)
         else:
             doing = self.look(method, target, status, answered)
-        self.t.expect(doing is not False, f"the day by clicks: {what}")
+        self.t.expect(doing is not False, f"the day by clicks: {request}")
         self.done, self.none = self.done + (doing is not None), self.none + (doing is None)
 
     def knock(self, owner, key):

@@ -153,7 +153,7 @@ def fill_large(office):
     office.actuals([record for batch in range(1, BATCHES + 1) for record in drums(batch)])
     for batch in range(1, CHAIN + 1):
         office.plants(f"open ACME CHAIN U-{BATCHES + batch}\ndo ACME CHAIN {batch} start")
-    actuals = lambda key, use, what: [f"{key}{number},ACME,CHAIN,{number},1,{use},{what(number)},1,102" for number in range(1, CHAIN + 1)]
+    actuals = lambda key, use, lot_of: [f"{key}{number},ACME,CHAIN,{number},1,{use},{lot_of(number)},1,102" for number in range(1, CHAIN + 1)]
     office.actuals(actuals("D", "produced", lambda number: f"CASK,ACME,C-{number},BAY1"))
     office.asks("ACME", *(("POST", f"/lots/C-{number}/release") for number in range(1, CHAIN + 1)))
     office.actuals(actuals("C", "consumed", lambda number: f"CASK,ACME,C-{number - 1},BAY1"))

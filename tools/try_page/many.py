@@ -31,7 +31,7 @@ def many(t):
     t.serve(small)
 
 
-def in_time(t, what, measured, **bounds):
+def in_time(t, subject, measured, **bounds):
     """Measures until all is within its bounds, as a moment may be a bad one; what takes long by itself takes long each time.
     The bounds are as much longer as the machine is slower now than one with nothing else to do. A slowed browser has none."""
     ends = time.monotonic() + PATIENCE
@@ -41,7 +41,7 @@ def in_time(t, what, measured, **bounds):
         times = (before + slower_now(t.browser)) / 2
         is_in_time = all(times_measured[name] < bound * times for name, bound in bounds.items())
         if is_in_time or t.browser.slowness or time.monotonic() > ends:
-            t.expect(is_in_time or t.browser.slowness, f"{what} take long, on a machine that is {times:.1f} times slower: {times_measured}")
+            t.expect(is_in_time or t.browser.slowness, f"{subject} take long, on a machine that is {times:.1f} times slower: {times_measured}")
             return times_measured
 
 

@@ -27,10 +27,10 @@ class Trial:
         self.wrong, self.shots, self.least, self.office_port = [], [], 21, free_port()
         self.office = self.proxy = self.browser = self.companions = None
 
-    def expect(self, holds, what):
+    def expect(self, holds, fault):
         if not holds:
-            self.wrong.append(what)
-            print("WRONG:", what, flush=True)
+            self.wrong.append(fault)
+            print("WRONG:", fault, flush=True)
 
     def serve(self, office):
         """Serves this office in place of the one before."""
@@ -39,10 +39,10 @@ class Trial:
         self.office = office
         office.serve()
 
-    def shot(self, name, what, whole=True):
+    def shot(self, name, caption, whole=True):
         """Keeps a picture, and looks at what is on it."""
         self.browser.shot(self.pictures / f"{name}.png", whole)
-        self.shots.append((name, what))
+        self.shots.append((name, caption))
         contrasts, others = self.looks("[contrasts(), names().concat(widths(), heads(), targets())]")
         self.least = min(self.least, contrasts["least"])
         for fault in contrasts["wrong"] + others:

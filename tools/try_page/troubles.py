@@ -164,11 +164,11 @@ def garbled(t):
     b = t.browser
     t.entered()
     t.office.end()
-    for what, reply in STRANGE.items():
+    for case, reply in STRANGE.items():
         with another(t.office_port, reply):
             b.click("#nav a", "Stock")
             b.wait(NOT_THE_OFFICES)
-            look_sane(t, what)
+            look_sane(t, case)
         b.js("location.hash = '#/nowhere'")
         b.heading("There is no such page")
     with another(t.office_port, STRANGE["a page in place of a reply"]):
@@ -183,13 +183,13 @@ def garbled(t):
     garbled_entering(t)
 
 
-def look_sane(t, what):
+def look_sane(t, case):
     """The page stands, the owner is still entered, and nothing of what came is on it."""
     b = t.browser
-    t.expect(b.text("h1") == "Stock" and b.seen("button", "Ask again") and b.seen("button", "Read again"), f"{what}: the view isn't one")
-    t.expect(b.js("return sessionStorage.length") == 1 and b.text("#who .owner") == "ACME", f"{what}: the owner is sent away")
-    t.expect(b.js("return [document.querySelectorAll('main img, main b, main script').length, window.hit ?? 0]") == [0, 0], f"{what} is read as HTML")
-    t.expect("Welcome" not in b.text("body") and "BOLD" not in b.text("body"), f"{what} is shown")
+    t.expect(b.text("h1") == "Stock" and b.seen("button", "Ask again") and b.seen("button", "Read again"), f"{case}: the view isn't one")
+    t.expect(b.js("return sessionStorage.length") == 1 and b.text("#who .owner") == "ACME", f"{case}: the owner is sent away")
+    t.expect(b.js("return [document.querySelectorAll('main img, main b, main script').length, window.hit ?? 0]") == [0, 0], f"{case} is read as HTML")
+    t.expect("Welcome" not in b.text("body") and "BOLD" not in b.text("body"), f"{case} is shown")
 
 
 def garbled_changes(t):
@@ -220,11 +220,11 @@ def garbled_entering(t):
     b.click("#who button", "Log off")
     b.heading("Log in")
     t.office.end()
-    for what in ("a page in place of a reply", "a proxy's 403"):
-        with another(t.office_port, STRANGE[what]):
+    for case in ("a page in place of a reply", "a proxy's 403"):
+        with another(t.office_port, STRANGE[case]):
             t.fill_in("ACME")
             b.wait(NOT_THE_OFFICES, "#wrong")
-            t.expect(b.text("h1") == "Log in" and b.js("return sessionStorage.length") == 0, f"{what} logs somebody in")
+            t.expect(b.text("h1") == "Log in" and b.js("return sessionStorage.length") == 0, f"{case} logs somebody in")
     t.office.serve()
     t.fill_in("ACME")
     b.heading("Home")

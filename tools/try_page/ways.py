@@ -148,24 +148,24 @@ def folded(t, name):
     t.to_orders()
 
 
-def narrow(t, name, what):
+def narrow(t, name, caption):
     b = t.browser
     b.js("document.querySelector('tbody tr:last-child').scrollIntoView({block: 'center'})")
     b.find("button[data-key^=cancel]")
-    t.shot(f"27-{name}-orders", f"{what}: the orders")
+    t.shot(f"27-{name}-orders", f"{caption}: the orders")
     b.click("#nav a", "Stock")
     b.heading("Stock")
-    t.shot(f"28-{name}-stock", f"{what}: the stock")
+    t.shot(f"28-{name}-stock", f"{caption}: the stock")
     b.click("tbody a", "BL-1")
     b.heading("Lot BL-1")
     t.pictured()
     t.check_sight("BL-1", "ACME/BL-1")
-    t.shot(f"29-{name}-lot", f"{what}: a lot; the picture begins at the asked lot")
+    t.shot(f"29-{name}-lot", f"{caption}: a lot; the picture begins at the asked lot")
     b.click("#nav a", "Orders")
     b.heading("Orders")
     b.click("tbody a", "O-1")
     b.wait("Batch 5")
-    t.shot(f"30-{name}-order", f"{what}: an order with its batches")
+    t.shot(f"30-{name}-order", f"{caption}: an order with its batches")
     b.click("#nav a", "Orders")
     b.heading("Orders")
 
@@ -174,12 +174,12 @@ def paper(t):
     """Prints three views; with pdftoppm (Debian's poppler-utils) their first sheets are kept as pictures too."""
     b = t.browser
     t.entered()
-    for name, what, lead in (("31-paper-order", "an order on paper", lambda: (t.to_order("O-1"), b.wait("Batch 5"))),
-                             ("32-paper-lot", "a lot on paper, its genealogy as a picture and as a table", lambda: (t.to_lot("BL-1"), t.pictured())),
-                             ("33-paper-stock", "the stock on paper", lambda: (b.click("#nav a", "Stock"), b.heading("Stock")))):
+    for name, caption, lead in (("31-paper-order", "an order on paper", lambda: (t.to_order("O-1"), b.wait("Batch 5"))),
+                                ("32-paper-lot", "a lot on paper, its genealogy as a picture and as a table", lambda: (t.to_lot("BL-1"), t.pictured())),
+                                ("33-paper-stock", "the stock on paper", lambda: (b.click("#nav a", "Stock"), b.heading("Stock")))):
         lead()
         b.printed(t.pictures / f"{name}.pdf")
         t.expect((t.pictures / f"{name}.pdf").read_bytes().startswith(b"%PDF"), f"{name} is no PDF")
         if shutil.which("pdftoppm"):
             subprocess.run(["pdftoppm", "-png", "-r", "80", "-f", "1", "-l", "1", "-singlefile", t.pictures / f"{name}.pdf", t.pictures / name], check=True)
-            t.shots.append((name, what))
+            t.shots.append((name, caption))

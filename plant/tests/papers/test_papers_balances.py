@@ -38,9 +38,9 @@ def shipped(program, tmp_path_factory) -> Plant:
     return Plant(program, tmp_path_factory.mktemp("shipped")).lay(AT_WORK + SHIPPED)
 
 
-@pytest.mark.parametrize("what", CHANGES)
-def test_a_row_that_was_changed_by_hand_is_told_by_its_lot(shipped, tmp_path, what):
-    sql, lot = CHANGES[what]
+@pytest.mark.parametrize("case", CHANGES)
+def test_a_row_that_was_changed_by_hand_is_told_by_its_lot(shipped, tmp_path, case):
+    sql, lot = CHANGES[case]
     plant = Plant(shipped.program, tmp_path)
     for end in ("", "-wal"):
         with contextlib.suppress(FileNotFoundError):
@@ -56,10 +56,10 @@ def test_a_row_that_was_changed_by_hand_is_told_by_its_lot(shipped, tmp_path, wh
 LIES = {"a lot less": "$d", "another number of steps": r"$s/^ *\([0-9]*\)/\19/", "another disposition": "s/released/rejected/", "another amount": r"$s/[0-9]*$/7/"}
 
 
-@pytest.mark.parametrize("what", LIES)
-def test_a_program_that_tells_something_else_is_not_believed(shipped, tmp_path, what):
+@pytest.mark.parametrize("lie", LIES)
+def test_a_program_that_tells_something_else_is_not_believed(shipped, tmp_path, lie):
     liar = tmp_path / "liar"
-    liar.write_text(f"#!/bin/sh\n'{shipped.program}' \"$@\" | sed '{LIES[what]}'\n")
+    liar.write_text(f"#!/bin/sh\n'{shipped.program}' \"$@\" | sed '{LIES[lie]}'\n")
     liar.chmod(0o700)
     lied = Plant(str(liar), shipped.folder)
     done = lied.run("papers", "recall", "HOUSE", "W-101", tmp_path / "made", "--no-pdf")

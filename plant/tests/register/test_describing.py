@@ -125,7 +125,7 @@ def test_a_material_is_added_with_limits_as_they_are_measured(settled):
         done = settled.run(*words)
         assert done.status == 0 and [line.rsplit(": ")[1] for line in done.out.splitlines()] == ["there already"] * 3
     for test, recorded, other in ((("PH", 650, 850), "6.50 to 8.50", "650.00 to 850.00"), (("PURITY", "9.8", "10.0", "--decimals", "PURITY", 1), "98 to 100", "9.8 to 10.0"),
-                               (("PH", "0.650", "0.850", "--decimals", "PH", 3), "6.50 to 8.50", "0.650 to 0.850")):
+                                  (("PH", "0.650", "0.850", "--decimals", "PH", 3), "6.50 to 8.50", "0.650 to 0.850")):
         done = settled.run(*NEW[:5], "--test", *test)
         assert done.status == 1 and done.out == "" and f"ACME SUGAR {test[0]} is there already with {recorded}, and not with {other}" in done.err
     assert settled.lines() == before

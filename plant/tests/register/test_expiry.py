@@ -89,17 +89,17 @@ K82,ACME,O-1,1,2,produced,BRINE,ACME,B-2,TOTE3,3,261121
 """
 
 
-@pytest.mark.parametrize("what, text, rows, column", [("shipments", SHIPMENTS, [3, 4], "F"), ("actuals", ACTUALS, [3], "L")])
-def test_sheets_warn_and_refuse_as_the_commands_do(aged, what, text, rows, column):
+@pytest.mark.parametrize("kind, text, rows, column", [("shipments", SHIPMENTS, [3, 4], "F"), ("actuals", ACTUALS, [3], "L")])
+def test_sheets_warn_and_refuse_as_the_commands_do(aged, kind, text, rows, column):
     sheet = aged.folder / "sheet.csv"
     sheet.write_text(text)
     refuses(aged, ship="refuse", actual="refuse")
-    done = aged.run("import", "--what", what, sheet)
-    assert done.status == 1 and done.out == f"3 {what}: {3 - len(rows)} accepted, 0 there already, 0 refused, {len(rows)} can't be read\n"
+    done = aged.run("import", "--what", kind, sheet)
+    assert done.status == 1 and done.out == f"3 {kind}: {3 - len(rows)} accepted, 0 there already, 0 refused, {len(rows)} can't be read\n"
     assert [line.split(":")[0] for line in done.err.splitlines()] == [f"row {row}, column {column} (day)" for row in rows]
     refuses(aged)
-    done = aged.run("import", "--what", what, sheet)
-    assert done.status == 0 and done.out == f"3 {what}: {len(rows)} accepted, {3 - len(rows)} there already, 0 refused, 0 can't be read\n"
+    done = aged.run("import", "--what", kind, sheet)
+    assert done.status == 0 and done.out == f"3 {kind}: {len(rows)} accepted, {3 - len(rows)} there already, 0 refused, 0 can't be read\n"
     assert [line.split(":")[0] for line in done.err.splitlines()] == [f"row {row}, column {column} (day)" for row in rows]
 
 

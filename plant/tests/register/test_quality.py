@@ -91,17 +91,17 @@ def test_a_login_signs_nothing_that_it_recorded_in_words(office, by, name):
     assert by(office, "bert", "sign", "ACME", "P-9").out == "accepted\n"
 
 
-@pytest.mark.parametrize("what, sheet", [
+@pytest.mark.parametrize("kind, sheet", [
     ("receipts", "owner,key,material,lot,sublot,amount,day\nACME,K20,PASTE,P-9,BAY1,5,103\n"), ("results", "owner,lot,test,value,day\nACME,P-9,PH,8,103\n"),
     ("shipments", SHIPMENTS + "ACME,K21,P-9,BAY1,1,103\n")])
-def test_a_login_signs_nothing_that_it_recorded_by_a_sheet(office, by, what, sheet):
+def test_a_login_signs_nothing_that_it_recorded_by_a_sheet(office, by, kind, sheet):
     settle(office, '[quality]\ntest = "QA"\npersons = 2\n')
     for words in ("receive ACME K20 PASTE P-9 BAY1 5 103", "result ACME P-9 PH 7 103"):
         assert by(office, "cora", *words.split()).status == 0
-    if what == "shipments":
+    if kind == "shipments":
         assert by(office, "bert", "sign", "ACME", "P-9").status == 0
         office.lay("> ACME POST /lots/P-9/release\n")
-    assert by(office, "anna", "import", "--what", what, "-", stdin=sheet).status == 0
+    assert by(office, "anna", "import", "--what", kind, "-", stdin=sheet).status == 0
     assert by(office, "bert", "hold", "ACME", "P-9", "--reason", "look").status == 0
     assert by(office, "anna", "sign", "ACME", "P-9").status == 1
     assert by(office, "bert", "sign", "ACME", "P-9").status == 0

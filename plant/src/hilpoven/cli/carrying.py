@@ -24,8 +24,8 @@ def print_plan(work: Work) -> None:
     """Prints how full the new file begins, and which orders stay behind."""
     with work.reading() as base:
         gauges = [
-            (owner, what, before, after, most, f"{after * 100 // most} %")
-            for owner, what, before, after, most in steps.fullness(base)
+            (owner, kind, before, after, most, f"{after * 100 // most} %")
+            for owner, kind, before, after, most in steps.fullness(base)
         ]
         count = steps.count(base)
     click.echo(

@@ -137,7 +137,7 @@ def verify(context: Context, heads: tuple[str, ...]) -> None:
     for finding in [*checked.wrong, *checked.notes]:
         click.echo(finding)
     for entry in checked.unanswered:
-        click.echo(printable(f"{entry.get('time')} {history.who(entry)}: {history.what(entry)}: {history.UNKNOWN}"))
+        click.echo(printable(f"{entry.get('time')} {history.who(entry)}: {history.asked(entry)}: {history.UNKNOWN}"))
     click.echo(
         f"{checked.lines} lines{'' if checked.wrong else ', whole'}, {len(checked.unanswered)} without an answer; "
         f"head {checked.lines} {checked.head}"

@@ -254,9 +254,9 @@ def list_command(context: Context, owner: str | None, form: str | None) -> None:
             require_owner(desk.base, owner)
         for status in desk.statuses:
             noted, note, fault = status.noted, status.note, status.fault
-            whose, what = (note.owner, note.sentence) if note else ("", f"a note that {fault}")
+            whose, sentence = (note.owner, note.sentence) if note else ("", f"a note that {fault}")
             if owner in (None, whose):
-                rows.append((noted.name, noted.time, noted.who, whose, what, f"no: {fault}" if fault else "yes"))
+                rows.append((noted.name, noted.time, noted.who, whose, sentence, f"no: {fault}" if fault else "yes"))
     if form:
         click.echo({"csv": as_csv, "json": as_json}[form](COLUMNS, rows), nl=False)
     elif rows:

@@ -24,7 +24,7 @@ def print_gauges(health: Health, is_whole: bool) -> None:
     rows: list[Row] = [
         (
             gauge.owner or "(plant)",
-            gauge.what,
+            gauge.kind,
             gauge.count,
             gauge.most,
             f"{gauge.percent} %",

@@ -156,9 +156,9 @@ def restore(context: Context, backup: str | None, is_foreign: bool, moment: floa
     if is_foreign:
         rights.require_operator("--foreign")
     rights.become_owner(context.file)
-    what, aside = restored(context, backup, is_foreign) if moment is None else restored_at(context, moment)
+    subject, aside = restored(context, backup, is_foreign) if moment is None else restored_at(context, moment)
     register.notes_of(context.journal())  # made anew: what was there is aside
-    click.echo(printable(f"{what} is in place" + (f"; what was there is in {aside}" if aside else "")))
+    click.echo(printable(f"{subject} is in place" + (f"; what was there is in {aside}" if aside else "")))
 
 
 def restored(context: Context, backup: str | None, is_foreign: bool) -> tuple[str, str]:

@@ -213,9 +213,9 @@ def print_overdrafts(read: statements.Statement, is_csv: bool) -> None:
     """Prints the movements by whose days lots are below zero; beside a CSV they are told."""
     for draft in read.overdrafts():
         move, later = draft.move, draft.next
-        what = f"{move.kind.word} {move.key} of {format_day(move.day)} leaves {draft.left:,} {draft.lot.measure}"
+        effect = f"{move.kind.word} {move.key} of {format_day(move.day)} leaves {draft.left:,} {draft.lot.measure}"
         comes = f"; {later.key} of {format_day(later.day)} brings something next" if later else ""
-        click.echo(printable(f"By the days, {what} of {move.lot}{comes}."), err=is_csv)
+        click.echo(printable(f"By the days, {effect} of {move.lot}{comes}."), err=is_csv)
 
 
 def print_statement(read: statements.Statement, is_csv: bool) -> None:

@@ -25,10 +25,10 @@ ORDER BY recipe, segment, role, source, material
 def gauges(subject: Subject) -> list[Value]:
     """How many there are of all that has a limit, and the most that there may be."""
     counts = {
-        what: subject.base.execute(f"SELECT count(*) FROM {table} WHERE owner = ?", (subject.owner,)).fetchone()[0]
-        for what, (_, table) in OF_OWNER.items()
+        kind: subject.base.execute(f"SELECT count(*) FROM {table} WHERE owner = ?", (subject.owner,)).fetchone()[0]
+        for kind, (_, table) in OF_OWNER.items()
     }
-    return [{"what": what, "count": counts[what], "most": most} for what, (most, _) in OF_OWNER.items()]
+    return [{"what": kind, "count": counts[kind], "most": most} for kind, (most, _) in OF_OWNER.items()]
 
 
 def parties(subject: Subject) -> list[Value]:

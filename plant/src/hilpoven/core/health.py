@@ -134,7 +134,7 @@ def described(gauge: Gauge, when: date | None) -> str:
 
 def named(gauge: Gauge) -> str:
     """Whose and what a gauge is."""
-    return f"{gauge.owner} {gauge.what}".strip()
+    return f"{gauge.owner} {gauge.kind}".strip()
 
 
 def check_server(context: Context, health: Health) -> None:
@@ -238,8 +238,8 @@ def metrics(health: Health) -> str:
 
 def labels(gauge: Gauge) -> str:
     """The labels of a gauge."""
-    owner, what = (printable(label).replace("\\", r"\\").replace('"', r"\"") for label in (gauge.owner, gauge.what))
-    return f'{{owner="{owner}",of="{what}"}}'
+    owner, kind = (printable(label).replace("\\", r"\\").replace('"', r"\"") for label in (gauge.owner, gauge.kind))
+    return f'{{owner="{owner}",of="{kind}"}}'
 
 
 def health_of(context: Context) -> Health:

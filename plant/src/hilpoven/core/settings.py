@@ -225,8 +225,8 @@ def table_of(path: str, name: str, table: Any) -> Any:
     for line in table:
         if line not in defaults._fields:
             advice = f"there are: {', '.join(defaults._fields)}"
-            what = "nothing to require" if name == "require" else f"no line of [{name}]"
-            raise Failure(f"{path}: {line} is {what}", WRONG_USE, advice)
+            fault = "nothing to require" if name == "require" else f"no line of [{name}]"
+            raise Failure(f"{path}: {line} is {fault}", WRONG_USE, advice)
     of_table = defaults._asdict()
     return defaults._replace(**{line: checked(path, line, value, of_table[line]) for line, value in table.items()})
 

@@ -17,7 +17,7 @@ class JournalEntry:
     time: str
     who: str
     where: str
-    what: str
+    asked: str
     answer: str
     names: tuple[str, ...] = ()  # by which `--who` finds it
     words: tuple[str, ...] = ()  # by which `--word` finds it
@@ -45,7 +45,7 @@ def shown(entries: list[dict[str, Any]]) -> list[JournalEntry]:
             str(entry.get("time")),
             who(entry),
             str(entry.get("machine")),
-            what(entry),
+            asked(entry),
             answer_of(entry, answers),
             (str(entry.get("login")), str(entry.get("user"))),
             words_of(entry),
@@ -61,7 +61,7 @@ def who(entry: dict[str, Any]) -> str:
     return login if login == user else f"{login} as {user}"
 
 
-def what(entry: dict[str, Any]) -> str:
+def asked(entry: dict[str, Any]) -> str:
     """What was asked, in words."""
     words = ["moved", "from", entry.get("from")] if entry.get("event") == "moved" else listed(entry, "words")
     return "; noted: ".join([" ".join(map(str, words)), *sentences(entry)])
@@ -85,7 +85,7 @@ def listed(entry: dict[str, Any], member: str) -> list[Any]:
 
 def words_of(entry: dict[str, Any]) -> tuple[str, ...]:
     """The words of an entry, and those of the keys of a sheet that was imported."""
-    return tuple(f"{what(entry)} {' '.join(map(str, listed(entry, 'keys')))}".split())
+    return tuple(f"{asked(entry)} {' '.join(map(str, listed(entry, 'keys')))}".split())
 
 
 def answer_of(entry: dict[str, Any], answers: dict[str, dict[str, Any]]) -> str:

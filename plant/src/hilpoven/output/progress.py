@@ -8,7 +8,7 @@ WIDEST = 40  # letters of a bar
 
 
 @contextmanager
-def bar(what: str, total: int) -> Iterator[Callable[[int], None]]:
+def bar(title: str, total: int) -> Iterator[Callable[[int], None]]:
     """A bar in one line of standard error, if that is a terminal; what is given is called with each count that is
     done."""
     if not sys.stderr.isatty():
@@ -19,7 +19,7 @@ def bar(what: str, total: int) -> Iterator[Callable[[int], None]]:
     def advance(count: int) -> None:
         nonlocal done, drawn
         done += count
-        front, behind = f"{what}  [", f"]  {done:,}/{total:,}"
+        front, behind = f"{title}  [", f"]  {done:,}/{total:,}"
         room = max(0, min(WIDEST, width - len(front) - len(behind)))
         line = f"{front}{'#' * (done * room // max(total, 1)):<{room}}{behind}"[:width]
         if line != drawn:

@@ -9,11 +9,11 @@ from ..records.rows import Lot, LotId, results_of, sublots_of
 from .copies import Source
 
 
-def agree(what: str, answered: Any, expected: Any) -> None:
+def agree(subject: str, answered: Any, expected: Any) -> None:
     """Fails if `toll` tells something else than the tables."""
     if answered != expected:
         difference = f"toll tells {as_text(answered)}, and the tables {as_text(expected)}"
-        raise Failure(f"{what}: {difference}; no paper is made", REFUSED)
+        raise Failure(f"{subject}: {difference}; no paper is made", REFUSED)
 
 
 def agree_on_all(answered: Mapping[Any, Any], expected: Mapping[Any, Any]) -> None:

@@ -190,5 +190,5 @@ def orders(source: Source, owners: list[str]) -> Panel:
 def limits(source: Source) -> Panel:
     """Who is near a limit, the nearest first."""
     near = [each for each in gauge.gauges(source.newest.base) if each.percent >= gauge.FULL]
-    rows = [Row(f"{each.owner or 'the plant'}: {each.what}", f"{each.percent} %", "") for each in near[:MOST_ROWS]]
+    rows = [Row(f"{each.owner or 'the plant'}: {each.kind}", f"{each.percent} %", "") for each in near[:MOST_ROWS]]
     return Panel("Near a limit", str(len(near)), rows, len(near), LAST_ROOM, f"Nobody is at {gauge.FULL} %.")

@@ -150,7 +150,7 @@ def done(entries: Sequence[JournalEntry]) -> Sheet:
     """Who did what from the drill's begin to its end."""
     rows: list[Row] = []
     for entry in entries:
-        texts = entry.time[:19].replace("T", " "), entry.who, entry.where, entry.what, entry.answer
+        texts = entry.time[:19].replace("T", " "), entry.who, entry.where, entry.asked, entry.answer
         rows.append(tuple(map(printable, texts)))
     return Sheet(
         "done", columns("time=UTC:text noted_who=who:text machine:text@beneath noted_what=what:text answer:text"), rows

@@ -33,8 +33,8 @@ def without_recipient(register: Register, shipments: Sequence[Shipment], to_do: 
     for move, lot in shipments:
         about = move.owner, move.key, move.lot.name, lot.material, move.amount, lot.measure
         came_again = " " in move.key  # in a later file, so that no command means this one by it
-        what = "find out who has it" if came_again else to_do.format(owner=move.owner, key=move.key)
-        rows.append((move.day, *about, facts_of(register, move).document, what))
+        task = "find out who has it" if came_again else to_do.format(owner=move.owner, key=move.key)
+        rows.append((move.day, *about, facts_of(register, move).document, task))
     heads = "day:day owner key lot material amount=shipped:number measure=unit:text@beside noted_document:text"
     return Sheet("without_recipient", columns(f"{heads} to_do=what_to_do:text"), rows)
 

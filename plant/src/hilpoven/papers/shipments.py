@@ -71,8 +71,8 @@ def documents(source: Source, owner: str, keys: Sequence[str]) -> list[Document]
 def require_same(register: Register, first: Move, other: Move) -> None:
     """Fails if two shipments don't go to the same recipient with the same document."""
     one, another = facts_of(register, first), facts_of(register, other)
-    for what, is_same in (("recipient", one.party == another.party), ("document", one.document == another.document)):
+    for detail, is_same in (("recipient", one.party == another.party), ("document", one.document == another.document)):
         if not is_same:
             raise Failure(
-                f"{other.key} hasn't the {what} of {first.key}, so they have no delivery note together", REFUSED
+                f"{other.key} hasn't the {detail} of {first.key}, so they have no delivery note together", REFUSED
             )

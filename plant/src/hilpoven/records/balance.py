@@ -59,10 +59,10 @@ def require_closed(by_lot: Mapping[LotId, Balance], sublots: Mapping[tuple[LotId
             (f"the movements of sublot {name} leave", balance.sublots[name], held[lot].get(name, 0))
             for name in sorted(balance.sublots.keys() | held[lot].keys())
         ]
-        for what, left, on_hand in checks:
+        for text, left, on_hand in checks:
             if left != on_hand:
                 raise Failure(
-                    f"the balance of {lot} doesn't close: {what} {left:,}, and {on_hand:,} is on hand; "
+                    f"the balance of {lot} doesn't close: {text} {left:,}, and {on_hand:,} is on hand; "
                     "no paper is made",
                     REFUSED,
                     "`hilpoven verify` looks at the whole file",

@@ -48,13 +48,13 @@ class DescribedLot:
     @property
     def days(self) -> dict[str, str]:
         """Its days, by what each is; what isn't noted is left out."""
-        return {RETEST if what == "retest" else what: day for what, day in self.lot.days.items()}
+        return {RETEST if name == "retest" else name: day for name, day in self.lot.days.items()}
 
     @property
     def texts(self) -> dict[str, str]:
         """Full names and days, by what each is; what isn't noted is left out."""
         names = {"owner": self.owner.name, "address": self.owner.address, "material": self.material.name}
-        return {**{what: text for what, text in names.items() if text}, **self.days}
+        return {**{name: text for name, text in names.items() if text}, **self.days}
 
 
 def facts_of_test(register: Register, owner: str, material: str, test: str) -> TestFacts:

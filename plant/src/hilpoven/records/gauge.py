@@ -30,7 +30,7 @@ class Gauge:
     """How many there are of something that has a limit; of the whole plant where there is no owner."""
 
     owner: str
-    what: str
+    kind: str
     count: int
     most: int
 
@@ -46,9 +46,9 @@ def gauges(base: sqlite3.Connection) -> list[Gauge]:
         Gauge("", table, base.execute(f"SELECT count(*) FROM {table}").fetchone()[0], most)
         for table, most in (("owners", OWNERS), ("units", UNITS))
     ]
-    for what, (most, table) in OF_OWNER.items():
+    for kind, (most, table) in OF_OWNER.items():
         counts = base.execute(f"SELECT owner, count(*) FROM {table} GROUP BY owner")
-        rows += [Gauge(owner, what, count, most) for owner, count in counts]
+        rows += [Gauge(owner, kind, count, most) for owner, count in counts]
     actuals = base.execute(ACTUALS_OF_OPEN)
     rows += [Gauge(owner, f"actuals of {batch}", count, ACTUALS) for owner, batch, count in actuals]
-    return sorted(rows, key=lambda gauge: (-gauge.percent, gauge.owner, gauge.what))
+    return sorted(rows, key=lambda gauge: (-gauge.percent, gauge.owner, gauge.kind))

@@ -29,8 +29,8 @@ def owner(base: Base, name: str, register: Register = NOTHING_NOTED) -> Overview
     require_owner(base, name)
     words = {"owner": name}
     overview = Overview(f"owner {name}")
-    for what, (_, table) in OF_OWNER.items():
-        ((overview.facts[what],),) = base.execute(f"SELECT count(*) FROM {table} WHERE owner = :owner", words)
+    for kind, (_, table) in OF_OWNER.items():
+        ((overview.facts[kind],),) = base.execute(f"SELECT count(*) FROM {table} WHERE owner = :owner", words)
     overview.add("lots by disposition", base.execute(LOTS, words))
     overview.add("materials by name", base.execute(MATERIALS, words))
     for title, (listing, columns, only_open) in OF_AN_OWNER.items():

@@ -89,13 +89,13 @@ def link_row(link: Link) -> Row:
     return link.owner, lot, batch, link.amount, link.of_owner, link.of_lot, link.why.value, link.reason
 
 
-def row_of(base: Base, sql: str, words: tuple[str, ...], what: str, names: str) -> Row:
+def row_of(base: Base, sql: str, words: tuple[str, ...], kind: str, names: str) -> Row:
     """The row of a thing; fails with the nearest names if there is none."""
     row = base.execute(sql, words).fetchone()
     if row is None:
         known = [str(name) for name, in base.execute(names, words[:-1])]
-        advice = nearest(words[-1], known, PLURALS.get(what, f"{what}s"))
-        raise Failure(f"there is no {what} {' '.join(words)}", REFUSED, advice)
+        advice = nearest(words[-1], known, PLURALS.get(kind, f"{kind}s"))
+        raise Failure(f"there is no {kind} {' '.join(words)}", REFUSED, advice)
     return tuple(row)
 
 
@@ -148,7 +148,7 @@ def lot(base: Base, owner: str, name: str, register: Register = NOTHING_NOTED) -
 
 def days_of(facts: LotFacts | None) -> dict[str, Value]:
     """The days that are noted of a lot."""
-    return {f"noted {what}": day for what, day in facts.days.items()} if facts else {}
+    return {f"noted {name}": day for name, day in facts.days.items()} if facts else {}
 
 
 def add_tests(overview: Overview, base: Base, register: Register, lot: LotId, material: str) -> list[Row]:

@@ -89,9 +89,9 @@ def require_decimals(base: Base, register: Register, note: TestFacts) -> None:
 def require_days(register: Register, note: LotFacts) -> None:
     """Fails if a lot would expire, or be tested again, before it was made."""
     facts = joined(register.lots.get((note.owner, note.lot)), note)
-    for day, what in ((facts.expires, "expires"), (facts.retest, "is to be tested again")):
+    for day, event in ((facts.expires, "expires"), (facts.retest, "is to be tested again")):
         if facts.made and day and day < facts.made:
-            raise Failure(f"lot {LotId(note.owner, note.lot)} {what} on {day}, and was made on {facts.made}", REFUSED)
+            raise Failure(f"lot {LotId(note.owner, note.lot)} {event} on {day}, and was made on {facts.made}", REFUSED)
 
 
 def test_of_lot(base: Base, register: Register, owner: str, lot: str, test: str) -> TestFacts | None:

@@ -112,7 +112,7 @@ class LotFacts(Note):
     def days(self) -> dict[str, str]:
         """The days that are noted, as people read them, by what each is."""
         days = {"made": self.made, "expires": self.expires, "retest": self.retest}
-        return {what: format_day(day) for what, day in days.items() if day}
+        return {name: format_day(day) for name, day in days.items() if day}
 
     @property
     def sentence(self) -> str:

@@ -265,11 +265,11 @@ def difference(journal: Journal) -> str:
             fold_on(journal.path, fresh, stored.place.end)
     except (OSError, sqlite3.Error, Unusable) as error:
         return f"it isn't used: {reason_of(error)}"
-    for what, is_equal in (
+    for part, is_equal in (
         ("notes", list(stored.notes.items()) == list(fresh.notes.items())),
         ("answers", stored.answers == fresh.answers),
         ("names of the file", (stored.files.moves, stored.files.last) == (fresh.files.moves, fresh.files.last)),
     ):
         if not is_equal:
-            return f"its {what} aren't those of the journal; {REBUILD}"
+            return f"its {part} aren't those of the journal; {REBUILD}"
     return ""

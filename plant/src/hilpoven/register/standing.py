@@ -98,7 +98,7 @@ def fault_of(noted: Noted, note: Note, folded: Folded, office_file: OfficeFile |
     is_there = is_recorded(office_file.base, noted.words)
     if is_there is None:
         return "" if is_done else "its command has no answer"
-    return "" if is_there else f"its {thing_of(noted.words)} isn't there"
+    return "" if is_there else f"its {kind_of(noted.words)} isn't there"
 
 
 @dataclass(frozen=True)
@@ -106,7 +106,7 @@ class Recorded:
     """What a command other than a movement records: what that is called, the query that finds it, and of which of the
     command's values."""
 
-    what: str
+    kind: str
     sql: str
     values: tuple[str, ...]
 
@@ -124,9 +124,9 @@ RECORDED = {
 }
 
 
-def thing_of(words: Sequence[str]) -> str:
+def kind_of(words: Sequence[str]) -> str:
     """What a command records that is looked for."""
-    return RECORDED[words[0]].what if words[0] in RECORDED else "movement"
+    return RECORDED[words[0]].kind if words[0] in RECORDED else "movement"
 
 
 def is_recorded(base: Base, words: Sequence[str]) -> bool | None:

@@ -52,9 +52,9 @@ class Plan:
             raise Failure(f"{self.certificate} is no certificate with the key {self.key}: {why}", WRONG_USE) from error
 
 
-def wrong(what: str, value: str, fault: str) -> Failure:
+def wrong(subject: str, value: str, fault: str) -> Failure:
     """Why a value isn't taken."""
-    return Failure(f"{what}: `{value}` {fault}", WRONG_USE)
+    return Failure(f"{subject}: `{value}` {fault}", WRONG_USE)
 
 
 def no_password() -> str:

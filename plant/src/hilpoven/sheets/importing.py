@@ -124,20 +124,20 @@ class Import:
                         standing.add(tuple(words))
                 self.advance(1)
 
-    def report(self, what: str) -> int:
+    def report(self, kind: str) -> int:
         """Prints the rows that didn't go in, with the reason, then the sums, then what ended the import, if a fault
         did; the exit status."""
         for row, name, outcome in sorted(self.rows):
             refusal = meanings.refusal_in(outcome)
             means = f": {meanings.meaning('refusals', refusal)}" if refusal else ""
             print(printable(f"row {row} ({name}): {outcome}{means}"))
-        print(self.summary(what), flush=True)
+        print(self.summary(kind), flush=True)
         if self.fault:
             self.report_fault()
         is_refused = self.rows or self.sheet.refused
         return self.signal or (FAULT if self.fault else REFUSED if is_refused else 0)
 
-    def summary(self, what: str) -> str:
+    def summary(self, kind: str) -> str:
         """What came of the sheet, in a line."""
         unread = len({refusal.row for refusal in self.sheet.refused})
         outcomes = [
@@ -147,7 +147,7 @@ class Import:
             f"{unread + self.counts['bad-record']:,} can't be read",
         ]
         new = "" if self.counts[NEW] or self.fault else "; nothing was new"
-        return f"{counted(len(self.sheet.records) + unread, what)}: {', '.join(outcomes)}{new}"
+        return f"{counted(len(self.sheet.records) + unread, kind)}: {', '.join(outcomes)}{new}"
 
     def report_fault(self) -> None:
         """Reports what ended the import, and how many of the rows that got no answer the file has."""

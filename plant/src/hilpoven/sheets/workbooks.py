@@ -171,11 +171,11 @@ def ods_table(sheet: Element, is_hidden: bool) -> Table:
     )
 
 
-def repeated(element: Element, what: str, place: str) -> int:
+def repeated(element: Element, kind: str, place: str) -> int:
     """How often the row, column or cell of this place stands there: equal ones in a row stand there once."""
     from odf.namespaces import TABLENS
 
-    count, most = str(element.attributes.get((TABLENS, f"number-{what}-repeated"), 1)), MOST_REPEATED[what]
+    count, most = str(element.attributes.get((TABLENS, f"number-{kind}-repeated"), 1)), MOST_REPEATED[kind]
     if re.fullmatch(r"[0-9]{1,10}", count) and 1 <= int(count) <= most:
         return int(count)
     raise Failure(f"{place}: it is repeated {shortened(count)} times, which is no number from 1 to {most:,}", 1)

@@ -77,13 +77,13 @@ def look_of(source: IO[bytes], title: str, is_hidden: bool) -> Look:
     return Look(title, is_hidden, frozenset(hidden_rows), frozenset(hidden_columns), last_row, last_column)
 
 
-def number_behind(before: int, number: str | None, what: str) -> int:
+def number_behind(before: int, number: str | None, subject: str) -> int:
     """The number of a row, which is to be above that of the row before it."""
     if number is None:
         return before + 1
     if re.fullmatch(r"[0-9]{1,7}", number) and before < int(number) <= LAST_ROW:
         return int(number)
-    raise Failure(f"{what} behind row {before} has the number {shortened(number)}", 3)
+    raise Failure(f"{subject} behind row {before} has the number {shortened(number)}", 3)
 
 
 def range_of(columns: ElementTree.Element, title: str) -> range:

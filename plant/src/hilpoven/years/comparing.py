@@ -55,14 +55,14 @@ def difference(base: sqlite3.Connection, without: Iterable[str] = ()) -> str:
     don't."""
     base.execute("CREATE TEMP TABLE IF NOT EXISTS leaving (owner TEXT)")
     base.executemany("INSERT INTO leaving VALUES (?)", [(owner,) for owner in without])
-    for what, sql in SAME.items():
-        stays = "" if what == "units" else " WHERE owner NOT IN temp.leaving"
+    for table, sql in SAME.items():
+        stays = "" if table == "units" else " WHERE owner NOT IN temp.leaving"
         both_sides = (f"SELECT * FROM ({sql.format('old')}){stays}", sql.format("new"))
         for old, new in zip_longest(*(sorted_rows(base, side) for side in both_sides)):
             if old != new:
                 file, row = ("old", old) if new is None or (old is not None and old < new) else ("new", new)
-                cells = row[:1] if what == "owners" else row
-                return f"{what} differ: only the {file} file has {' '.join(map(str, cells))}"
+                cells = row[:1] if table == "owners" else row
+                return f"{table} differ: only the {file} file has {' '.join(map(str, cells))}"
     return ""
 
 

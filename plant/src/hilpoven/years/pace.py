@@ -22,11 +22,11 @@ BY_DAY = {
 }
 
 
-def by_day(base: sqlite3.Connection, what: str) -> dict[str, dict[date, int]]:
+def by_day(base: sqlite3.Connection, kind: str) -> dict[str, dict[date, int]]:
     """How many rows came of each owner on each day that is a date."""
     counts: dict[str, dict[date, int]] = defaultdict(dict)
     new = NOT_CARRIED if came_from(base) else "true"
-    for owner, day, count in base.execute(BY_DAY[what].format(new=new)):
+    for owner, day, count in base.execute(BY_DAY[kind].format(new=new)):
         if when := date_of(day):
             counts[owner][when] = count
     return counts
@@ -43,11 +43,11 @@ def full_on(counts: dict[date, int], room: int, today: date) -> date | None:
 
 def full_by(base: sqlite3.Connection, gauges: list[Gauge], today: date) -> dict[Gauge, date]:
     """By what day each gauge is full, of those whose rows have days."""
-    counts = {what: by_day(base, what) for what in BY_DAY}
+    counts = {kind: by_day(base, kind) for kind in BY_DAY}
     days = {
-        gauge: full_on(counts[gauge.what].get(gauge.owner, {}), gauge.most - gauge.count, today)
+        gauge: full_on(counts[gauge.kind].get(gauge.owner, {}), gauge.most - gauge.count, today)
         for gauge in gauges
-        if gauge.what in counts
+        if gauge.kind in counts
     }
     return {gauge: day for gauge, day in days.items() if day}
 

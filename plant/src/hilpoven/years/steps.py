@@ -170,10 +170,10 @@ def count(base: Base) -> int:
 def fullness(base: Base) -> list[tuple[str, str, int, int, int]]:
     """Of each owner and table: the rows that there are, those that the new file begins with, and the most."""
     rows = []
-    for what, (most, table) in OF_OWNER.items():
-        after = dict(base.execute(BEGINNING[what]).fetchall())
+    for kind, (most, table) in OF_OWNER.items():
+        after = dict(base.execute(BEGINNING[kind]).fetchall())
         rows += [
-            (owner, what, before, after.get(owner, 0), most)
+            (owner, kind, before, after.get(owner, 0), most)
             for owner, before in base.execute(f"SELECT owner, count(*) FROM {table} GROUP BY owner")
         ]
     return sorted(rows, key=lambda row: (-row[3] * 100 // row[4], -row[2] * 100 // row[4], row[0], row[1]))
