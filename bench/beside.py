@@ -11,7 +11,7 @@ from typing import Any
 # The edges between lots, and the lots that a chain of them joins to one. It ends if no lot is in a chain to itself.
 EDGES = """
 WITH RECURSIVE standing AS (
-  SELECT * FROM moves AS m WHERE kind > 3 AND (:whose IS NULL OR owner = :whose)
+  SELECT * FROM moves AS m WHERE kind > 3 AND (:batch_owner IS NULL OR owner = :batch_owner)
     AND NOT EXISTS (SELECT 1 FROM voids AS v WHERE v.owner = m.owner AND v.mkey = m.mkey)
 ), used AS (
   SELECT owner, ord, number, lot_owner, lot, min(segment) AS segment FROM standing WHERE kind = 4 GROUP BY 1, 2, 3, 4, 5
@@ -66,9 +66,9 @@ class Base:
     def one(self, query: str, *values: object) -> Any:
         return self.base.execute(query, values).fetchone()
 
-    def chain(self, query: str, owner: str, lot: str, whose: str | None = None) -> list[Any]:
+    def chain(self, query: str, owner: str, lot: str, batch_owner: str | None = None) -> list[Any]:
         """The lots that a chain joins to this one, over all batches or one owner's."""
-        return self.base.execute(query, {"owner": owner, "lot": lot, "whose": whose}).fetchall()
+        return self.base.execute(query, {"owner": owner, "lot": lot, "batch_owner": batch_owner}).fetchall()
 
     def open(self) -> None:
         self.one("SELECT count(*) FROM owners")

@@ -59,9 +59,9 @@ def companion(office, owner):
         "made": datetime.datetime.now(datetime.timezone.utc).strftime("%Y-%m-%dT%H:%M:%SZ"),
         "plant": {"name": "Hilltop Blending", "address": "4 Mill Lane, Anytown", "contact": "+00 555 0100"},
         "materials": [
-            {"owner": whose, "material": name, "measure": measure, **({"tests": tests[name]} if whose == owner else {})}
-            for whose, name, measure in of("material-add")
-            if whose in (owner, "HOUSE")
+            {"owner": material_owner, "material": name, "measure": measure, **({"tests": tests[name]} if material_owner == owner else {})}
+            for material_owner, name, measure in of("material-add")
+            if material_owner in (owner, "HOUSE")
         ],
         "batches": batches_of(office, owner, of("open"), makers),
         "lots": lots_of(office, owner, of("result"), tests, makers),
@@ -124,8 +124,8 @@ def movement(line):
 
 def tests_of(rows, owner):
     tests = defaultdict(list)
-    for whose, material, test, low, high in rows:
-        if whose == owner:
+    for test_owner, material, test, low, high in rows:
+        if test_owner == owner:
             tests[material].append({"test": test, "low": int(low), "high": int(high)})
     return tests
 
@@ -142,8 +142,8 @@ def first_makers(movements, owner):
 def batches_of(office, owner, opened, makers):
     """The batches as the office tells them, each with its lots."""
     counts, rows = defaultdict(int), []
-    for whose, order, _ in opened:
-        if whose != owner:
+    for order_owner, order, _ in opened:
+        if order_owner != owner:
             continue
         counts[order] += 1
         reply = json.loads(office.ask(owner, f"{owner}KEY1", "GET", f"/batches/{order}/{counts[order]}")[1])
@@ -160,7 +160,7 @@ def batches_of(office, owner, opened, makers):
 
 def lots_of(office, owner, results, tests, makers):
     """The lots in stock, with why each can't be released."""
-    latest = {(lot, test): int(value.replace("M", "-")) for whose, lot, test, value, _ in results if whose == owner}
+    latest = {(lot, test): int(value.replace("M", "-")) for lot_owner, lot, test, value, _ in results if lot_owner == owner}
     stock = json.loads(office.ask(owner, f"{owner}KEY1", "GET", "/stock")[1])["lots"]
     return [
         {"lot": row["lot"], **makers.get(row["lot"], {}), "release": release_of(row, tests[row["material"]], latest)}

@@ -83,7 +83,7 @@ class Known(Filled):
         notes: list[Note] = [OwnerFacts(owner, self.word(owner), self.word(owner))]
         notes += [Party(owner, party, *(self.word(owner) for _ in range(4)), roles=(Role.CUSTOMER, Role.SUPPLIER)) for party in self.parties]
         notes += [MaterialFacts(owner, material, self.word(owner)) for material in self.materials[owner]]
-        tests = [(material, test) for (whose, material), test in self.tests.items() if whose == owner]
+        tests = [(material, test) for (test_owner, material), test in self.tests.items() if test_owner == owner]
         return [*notes, *(TestFacts(owner, material, test, self.word(owner), self.word(owner), self.chance.randint(0, 2), self.word(owner)) for material, test in tests)]
 
     def of_lots(self, owner: str) -> list[Note]:
@@ -106,13 +106,13 @@ class Known(Filled):
         """What lots and batches of an owner contain of its own lots and of HOUSE's."""
         notes: list[Note] = []
         for number in range(6):
-            whose = self.chance.choice((owner, HOUSE))
-            of, why, amount = self.chance.choice(list(self.lots[whose])), self.chance.choice(list(Why)), self.chance.choice((None, self.chance.randint(7_000_000, 7_999_999)))
+            source_owner = self.chance.choice((owner, HOUSE))
+            of, why, amount = self.chance.choice(list(self.lots[source_owner])), self.chance.choice(list(Why)), self.chance.choice((None, self.chance.randint(7_000_000, 7_999_999)))
             lot, order = self.chance.choice(list(self.lots[owner])), self.chance.choice(self.batches[owner])
-            if number % 2 == 0 and (owner, lot) != (whose, of):
-                notes.append(Link(owner, lot, "", 0, whose, of, why, amount, self.word(owner)))
+            if number % 2 == 0 and (owner, lot) != (source_owner, of):
+                notes.append(Link(owner, lot, "", 0, source_owner, of, why, amount, self.word(owner)))
             else:
-                notes.append(Link(owner, "", order, 1, whose, of, why, amount, self.word(owner)))
+                notes.append(Link(owner, "", order, 1, source_owner, of, why, amount, self.word(owner)))
         return notes
 
     def companions(self) -> dict[str, dict]:

@@ -65,10 +65,10 @@ class Papers:
         """The names that an owner's papers may not have: those of others, and of HOUSE what the owner's batches had nothing to do with."""
         others = [other for other in self.office.owners if other != owner]
         touched = {lot for lot, in self.rows("SELECT lot FROM moves WHERE owner = :owner AND lot_owner = 'HOUSE'", owner=owner)}
-        names = {*others, *(name for whose in others for name in [*self.office.materials[whose], *self.office.lots[whose], *self.office.batches[whose]])}
+        names = {*others, *(name for other in others for name in [*self.office.materials[other], *self.office.lots[other], *self.office.batches[other]])}
         names |= {lot for lot in self.office.lots[HOUSE] if lot not in touched} | set(self.office.batches[HOUSE])
-        names |= {word for whose, words in self.office.noted.items() if whose != owner for word in words}
-        names |= {test for (whose, _), test in self.office.tests.items() if whose != owner}
+        names |= {word for other, words in self.office.noted.items() if other != owner for word in words}
+        names |= {test for (other, _), test in self.office.tests.items() if other != owner}
         names |= {unit for unit, in self.rows("SELECT unit FROM batches WHERE owner <> :owner EXCEPT SELECT unit FROM batches WHERE owner = :owner", owner=owner)}
         return names | {f"{other}KEY1" for other in self.office.owners}
 
@@ -97,10 +97,10 @@ class Papers:
         owners = sorted(path.name for path in (folder / "owners").iterdir()) if (folder / "owners").exists() else []
         assert owners == sorted(concerned - {HOUSE})
         self.part_of_recall(folder / "plant", wanted)
-        for whose in owners:
-            self.part_of_recall(folder / "owners" / whose, wanted, whose)
-            self.look_for_others(folder / "owners" / whose, whose)
-            self.look_for_figures(folder / "owners" / whose, "recall", set())
+        for reader in owners:
+            self.part_of_recall(folder / "owners" / reader, wanted, reader)
+            self.look_for_others(folder / "owners" / reader, reader)
+            self.look_for_figures(folder / "owners" / reader, "recall", set())
 
     def part_of_recall(self, folder: pathlib.Path, wanted: dict[str, list[tuple]], owner: str = "") -> None:
         """The paper of one reader has the rows of that reader."""
@@ -122,12 +122,12 @@ class Papers:
             assert not (folder / "recipients.csv").exists() and "Who has it" not in (folder / "recall.html").read_text()
             return
         unknown, received = [], {}
-        for day, whose, key, lot, _, material, amount, measure in shipments:
-            facts = self.office.facts.get((whose, key), {})
-            if owner in ("", whose) and not facts:
-                unknown.append((day, whose, key, lot, material, amount, measure))
-            elif owner in ("", whose):
-                sums = received.setdefault((whose, facts["party"], material, measure), [0, 0, set()])
+        for day, shipper, key, lot, _, material, amount, measure in shipments:
+            facts = self.office.facts.get((shipper, key), {})
+            if owner in ("", shipper) and not facts:
+                unknown.append((day, shipper, key, lot, material, amount, measure))
+            elif owner in ("", shipper):
+                sums = received.setdefault((shipper, facts["party"], material, measure), [0, 0, set()])
                 sums[0], sums[1] = sums[0] + 1, sums[1] + amount
                 sums[2] |= {facts["document"]} if "document" in facts else set()
         first = 1 if owner else 0  # an owner's tables don't name it
@@ -169,8 +169,8 @@ class Papers:
         assert [row[11] for row in figures.read_csv(folder / "ledger.csv")][-1:] == [str(first[12])]
         page = figures.words_of_page(folder / "lot.html")
         assert {str(figure) for figure in first[7:14]} <= page
-        near = [(whose, name) for whose, name in {*beside["back"], *beside["forward"]} if owner in (whose, HOUSE)]
-        held = {str(sum(amount for _, amount in self.rows(figures.LOT["sublots"], owner=whose, lot=name))) for whose, name in near}
+        near = [(lot_owner, name) for lot_owner, name in {*beside["back"], *beside["forward"]} if owner in (lot_owner, HOUSE)]
+        held = {str(sum(amount for _, amount in self.rows(figures.LOT["sublots"], owner=lot_owner, lot=name))) for lot_owner, name in near}
         self.look_at_paper(folder, "lot", owner, {str(figure) for figure in first[7:14]} | held)
 
     def statement(self, owner: str, first: int, last: int) -> None:

@@ -129,11 +129,11 @@ class Filled:
 
     def actuals_of(self, owner: str, order: str, turn: int) -> list[str]:
         """Records of a batch: what it takes of lots, and the lots that it makes."""
-        given = [(whose, lot, material) for whose in sorted({owner, HOUSE}) for lot, material in self.lots[whose].items()]
+        given = [(lot_owner, lot, material) for lot_owner in sorted({owner, HOUSE}) for lot, material in self.lots[lot_owner].items()]
         records = []
         for number in range(self.chance.randint(2, 5)):
-            whose, lot, material = self.chance.choice(given)
-            records.append(f"C{turn}X{number},{owner},{order},1,{self.chance.randint(1, 2)},consumed,{material},{whose},{lot},S0,{self.chance.randint(10_000, 30_000)},{self.day()}")
+            lot_owner, lot, material = self.chance.choice(given)
+            records.append(f"C{turn}X{number},{owner},{order},1,{self.chance.randint(1, 2)},consumed,{material},{lot_owner},{lot},S0,{self.chance.randint(10_000, 30_000)},{self.day()}")
         for number in range(self.lots_of_batch):
             lot, material = self.name(), self.chance.choice(self.materials[owner])
             self.lots[owner][lot] = material

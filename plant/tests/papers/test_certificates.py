@@ -146,7 +146,7 @@ class Certified:
         assert (page.title, page.facts) == (title, wanted)
         assert page.rows == [[f"{row[0]} {row[1]}".strip(), *([row[2]] if has_methods else []), *row[3:5], f"{row[5]} {row[6]}".strip(), *row[7:]] for row in rows]
         assert ("This lot is released" in (folder / "certificate.html").read_text()) == is_released
-        others = {word for whose, words in self.words.items() if whose != owner for word in words}
+        others = {word for other, words in self.words.items() if other != owner for word in words}
         assert not any(word in file.read_text() for file in folder.iterdir() for word in others)
 
 

@@ -47,10 +47,10 @@ class Linked:
     def recall(self, owner: str, lot: str) -> int:
         """Looks at the papers of a recall; how many owners got one."""
         folder = self.papers.make("recall", owner, lot)
-        expected = {whose: {(str(steps), name) for (of_owner, name), steps in closure(self.edges, (owner, lot), "forward").items() if of_owner == whose}
-                    for whose in [HOUSE, *self.office.owners]}
+        expected = {lot_owner: {(str(steps), name) for (of_owner, name), steps in closure(self.edges, (owner, lot), "forward").items() if of_owner == lot_owner}
+                    for lot_owner in [HOUSE, *self.office.owners]}
         rows = figures.read_csv(folder / "plant" / "lots.csv")
-        assert {(row[0], row[1], row[2]) for row in rows} == {(steps, whose, name) for whose, lots in expected.items() for steps, name in lots}
+        assert {(row[0], row[1], row[2]) for row in rows} == {(steps, lot_owner, name) for lot_owner, lots in expected.items() for steps, name in lots}
         text = self.office.plant.toll("recall", owner, lot).out
         assert (folder / "plant" / "recall.txt").read_text().startswith(text)
         owners = sorted((folder / "owners").iterdir()) if (folder / "owners").exists() else []

@@ -42,8 +42,8 @@ def test_an_owner_takes_all_of_its_own_and_nothing_of_others(program, tmp_path, 
         folder = papers.make("takeout", owner)
         papers.look_for_others(folder, owner)
         words = set("".join(file.read_text() for file in folder.glob("*.csv")).replace('"', " ").replace("=", " ").replace(",", " ").split())
-        for (whose, _), facts in office.facts.items():
-            assert whose != owner or set(facts.values()) <= words
+        for (facts_owner, _), facts in office.facts.items():
+            assert facts_owner != owner or set(facts.values()) <= words
         assert {name for names in office.parties[owner].values() for name in names} <= words
 
 

@@ -117,7 +117,7 @@ class Growing:
     def receive(self) -> None:
         """A lot comes, or more of one."""
         owner, material = self.some([("HOUSE", "WATER"), ("ACME", "RAW"), ("BOLT", "RAW"), ("ACME", "END")])
-        lots = [lot for (whose, lot), of in self.lots.items() if (whose, of) == (owner, material)]
+        lots = [lot for (lot_owner, lot), of in self.lots.items() if (lot_owner, of) == (owner, material)]
         lot = self.some(lots) if lots and self.random.random() < 0.4 else self.name("L")
         sublot, amount = self.some(SUBLOTS), self.some(["3", "100", "5000", "1000000000"])
         if self.say("receive", owner, self.name("K"), material, lot, sublot, amount, self.day):
@@ -188,22 +188,22 @@ class Growing:
             owner, order, number = self.some(self.batches[-4:])
             for _ in range(self.random.randint(1, 6)):
                 if self.random.random() < 0.55:
-                    segment, whose, material = self.some(TAKES[owner] + TAKES[owner][2:] * 2)
-                    lots = [lot for (of, lot), made_of in self.lots.items() if (of, made_of) == (whose, material)]
+                    segment, lot_owner, material = self.some(TAKES[owner] + TAKES[owner][2:] * 2)
+                    lots = [lot for (of, lot), made_of in self.lots.items() if (of, made_of) == (lot_owner, material)]
                     if lots:
-                        self.actual(owner, order, number, segment, "consumed", material, whose, self.some(lots))
+                        self.actual(owner, order, number, segment, "consumed", material, lot_owner, self.some(lots))
                 else:
                     segment, material = self.some(MAKES[owner])
                     lots = [lot for (of, lot), made_of in self.lots.items() if (of, made_of) == (owner, material)]
                     lot = self.some(lots) if lots and self.random.random() < 0.3 else self.name("L")
                     self.actual(owner, order, number, segment, "produced", material, owner, lot)
 
-    def actual(self, owner: str, order: str, number: str, segment: str, use: str, material: str, whose: str, lot: str) -> None:
+    def actual(self, owner: str, order: str, number: str, segment: str, use: str, material: str, lot_owner: str, lot: str) -> None:
         """What a batch consumed or produced."""
         key, is_made = self.name("K"), use == "produced"
-        sublot = self.some(SUBLOTS) if is_made else self.sublot(whose, lot)
+        sublot = self.some(SUBLOTS) if is_made else self.sublot(lot_owner, lot)
         amount = self.some(["20", "300", "4000"]) if is_made else self.amount()
-        if self.say("actual", key, owner, order, number, segment, use, material, whose, lot, sublot, amount, self.day):
+        if self.say("actual", key, owner, order, number, segment, use, material, lot_owner, lot, sublot, amount, self.day):
             self.actuals.append((owner, key))
             if is_made:
                 self.came(owner, lot, material, sublot)

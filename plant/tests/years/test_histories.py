@@ -225,8 +225,8 @@ def stated(one: str, owner: str, first: int, last: int) -> list[tuple]:
         lots = {lot: (material, measure) for lot, material, measure in base.execute(
             "SELECT lot, material, measure FROM lots JOIN materials USING (owner, material) WHERE owner = ?", (owner,))}
         amounts = {lot: [0] * 7 for lot in lots}
-        for whose, key, kind, lot, amount, day in base.execute("SELECT owner, mkey, kind, lot, amount, day FROM moves WHERE lot_owner = ?", (owner,)):
-            if (whose, key) in void or kind == 1:
+        for move_owner, key, kind, lot, amount, day in base.execute("SELECT owner, mkey, kind, lot, amount, day FROM moves WHERE lot_owner = ?", (owner,)):
+            if (move_owner, key) in void or kind == 1:
                 continue
             sign = 1 if kind in (0, 5) else -1
             if day < first:

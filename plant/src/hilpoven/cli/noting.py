@@ -74,8 +74,8 @@ def link(
         wanted = "OF-LOT alone stands behind OWNER with --batch" if batch else "LOT and OF-LOT stand behind OWNER"
         raise Failure(f"link: {wanted}", WRONG_USE, "such as: hilpoven link ACME B-2 B-1 --why rework")
     order, number = (batch[0], batch_number(batch[1])) if batch else ("", 0)
-    whose, of_lot = scanned.named_lot("link", of_owner, lots[-1], ("OF-OWNER", "OF-LOT"))
-    note = Link(owner, "" if batch else lots[0], order, number, whose or owner, of_lot, Why(why), amount, reason)
+    lot_owner, of_lot = scanned.named_lot("link", of_owner, lots[-1], ("OF-OWNER", "OF-LOT"))
+    note = Link(owner, "" if batch else lots[0], order, number, lot_owner or owner, of_lot, Why(why), amount, reason)
     with making.desk(context) as desk:
         desk.require_link(note)
         record(desk, ["link", *words_of(note)], note)
@@ -254,9 +254,11 @@ def list_command(context: Context, owner: str | None, form: str | None) -> None:
             require_owner(desk.base, owner)
         for status in desk.statuses:
             noted, note, fault = status.noted, status.note, status.fault
-            whose, sentence = (note.owner, note.sentence) if note else ("", f"a note that {fault}")
-            if owner in (None, whose):
-                rows.append((noted.name, noted.time, noted.who, whose, sentence, f"no: {fault}" if fault else "yes"))
+            note_owner, sentence = (note.owner, note.sentence) if note else ("", f"a note that {fault}")
+            if owner in (None, note_owner):
+                rows.append(
+                    (noted.name, noted.time, noted.who, note_owner, sentence, f"no: {fault}" if fault else "yes")
+                )
     if form:
         click.echo({"csv": as_csv, "json": as_json}[form](COLUMNS, rows), nl=False)
     elif rows:

@@ -11,28 +11,40 @@ from .office import Office
 NAMES: dict[str, tuple[str, str, str]] = {
     "UnknownOwner": ("OWNER", "owners", "SELECT owner FROM owners UNION SELECT 'HOUSE'"),
     "UnknownUnit": ("UNIT", "units", "SELECT unit FROM units"),
-    "UnknownMaterial": ("MATERIAL", "materials of {whose}", "SELECT material FROM materials WHERE owner = :whose"),
-    "UnknownRecipe": ("RECIPE", "recipes of {whose}", "SELECT recipe FROM recipes WHERE owner = :whose"),
-    "UnknownOrder": ("ORDER", "orders of {whose}", "SELECT ord FROM orders WHERE owner = :whose"),
+    "UnknownMaterial": (
+        "MATERIAL",
+        "materials of {names_owner}",
+        "SELECT material FROM materials WHERE owner = :names_owner",
+    ),
+    "UnknownRecipe": ("RECIPE", "recipes of {names_owner}", "SELECT recipe FROM recipes WHERE owner = :names_owner"),
+    "UnknownOrder": ("ORDER", "orders of {names_owner}", "SELECT ord FROM orders WHERE owner = :names_owner"),
     "UnknownBatch": (
         "BATCH",
         "batches of {order}",
-        "SELECT CAST(number AS TEXT) FROM batches WHERE owner = :whose AND ord = :order",
+        "SELECT CAST(number AS TEXT) FROM batches WHERE owner = :names_owner AND ord = :order",
     ),
-    "UnknownLot": ("LOT", "lots of {whose}", "SELECT lot FROM lots WHERE owner = :whose"),
-    "UnknownSublot": ("SUBLOT", "sublots of {lot}", "SELECT sublot FROM sublots WHERE owner = :whose AND lot = :lot"),
+    "UnknownLot": ("LOT", "lots of {names_owner}", "SELECT lot FROM lots WHERE owner = :names_owner"),
+    "UnknownSublot": (
+        "SUBLOT",
+        "sublots of {lot}",
+        "SELECT sublot FROM sublots WHERE owner = :names_owner AND lot = :lot",
+    ),
     "UnknownTest": (
         "TEST",
         "tests of {lot}",
-        "SELECT test FROM tests JOIN lots USING (owner, material) WHERE owner = :whose AND lot = :lot",
+        "SELECT test FROM tests JOIN lots USING (owner, material) WHERE owner = :names_owner AND lot = :lot",
     ),
-    "UnknownKey": ("KEY", "actuals of {whose}", f"SELECT mkey FROM moves AS m WHERE owner = :whose AND {IS_ACTUAL}"),
+    "UnknownKey": (
+        "KEY",
+        "actuals of {names_owner}",
+        f"SELECT mkey FROM moves AS m WHERE owner = :names_owner AND {IS_ACTUAL}",
+    ),
 }
 ELSEWHERE = "SELECT owner FROM lots WHERE lot = ? AND owner <> ? ORDER BY owner"
 MOST = 8  # names that are told of a short list
 
 
-def whose_of(word: str, values: dict[str, str]) -> str:
+def owner_of_names(word: str, values: dict[str, str]) -> str:
     """Whose names are meant: of a requirement the source's materials, of an actual the lot's owner's lots."""
     if word == "UnknownMaterial" and "SOURCE" in values:
         return values["SOURCE"]
@@ -46,12 +58,16 @@ def names_near(office: Office, word: str, values: dict[str, str]) -> str:
     if word not in NAMES or NAMES[word][0] not in values:
         return ""
     value, called, sql = NAMES[word]
-    given = {"whose": whose_of(word, values), "order": values.get("ORDER", ""), "lot": values.get("LOT", "")}
+    given = {
+        "names_owner": owner_of_names(word, values),
+        "order": values.get("ORDER", ""),
+        "lot": values.get("LOT", ""),
+    }
     try:
         with snapshot.opened(office) as base:
             names = sorted(name for name, in base.execute(sql, given))
             beside = (
-                [owner for owner, in base.execute(ELSEWHERE, (values[value], given["whose"]))]
+                [owner for owner, in base.execute(ELSEWHERE, (values[value], given["names_owner"]))]
                 if word == "UnknownLot"
                 else []
             )

@@ -23,9 +23,9 @@ def require_shipment(source: Source, owner: str, key: str, lot: LotId | None = N
     for move in moves:
         if move.key == key:
             return move
-    whose = str(lot) if lot else owner
+    subject = str(lot) if lot else owner
     names = [move.key for move in moves]
-    raise Failure(f"there is no shipment {key} of {whose}", REFUSED, nearest(key, names, f"shipments of {whose}"))
+    raise Failure(f"there is no shipment {key} of {subject}", REFUSED, nearest(key, names, f"shipments of {subject}"))
 
 
 def noted_of(register: Register, move: Move) -> dict[str, str]:

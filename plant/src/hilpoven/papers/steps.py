@@ -102,6 +102,6 @@ def keys_of(entry: Entry, answer: Entry | None, owner: str) -> Iterator[str]:
     lines = str(answer.get("answer", "")).splitlines() if answer else []
     outcomes = [match[1] for match in map(OUTCOME.fullmatch, lines) if match] if answer else [TAKEN[0]] * len(given)
     for name, outcome in zip(given, outcomes):
-        whose, _, key = str(name).partition(" ")
-        if whose == owner and outcome in TAKEN:
+        key_owner, _, key = str(name).partition(" ")
+        if key_owner == owner and outcome in TAKEN:
             yield key

@@ -34,9 +34,9 @@ def unknown_name(base: Base, option: str, asked: dict[str, Any]) -> list[str]:
     names = sorted(name for name, in base.execute(sql, {"owner": owner}))
     if asked[option] in names:
         return []
-    whose = f" of {owner}" if owner else ""
-    near = [nearest(asked[option], names, f"{called}{whose}")] if len(names) <= MOST_COMPARED else []
-    return [f"There is no {option} {asked[option]}{whose}.", *near]
+    of_owner = f" of {owner}" if owner else ""
+    near = [nearest(asked[option], names, f"{called}{of_owner}")] if len(names) <= MOST_COMPARED else []
+    return [f"There is no {option} {asked[option]}{of_owner}.", *near]
 
 
 def left_out(base: Base, name: str, asked: dict[str, Any], only_open: bool) -> list[str]:

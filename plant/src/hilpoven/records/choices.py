@@ -45,7 +45,7 @@ OF_SEGMENT = f"{REQUIRED} AND q.segment = CAST(:segment AS INTEGER)"
 OF_USE = f"{OF_SEGMENT} AND {Role.sql('q.role')} = :use"
 LOTS = f"""
 SELECT l.lot, l.material || ', ' || {Disposition.sql('l.disposition')} || ', ' || {ON_HAND} || ' ' || m.measure
-FROM lots AS l JOIN materials AS m USING (owner, material) WHERE l.owner = :whose
+FROM lots AS l JOIN materials AS m USING (owner, material) WHERE l.owner = :names_owner
 """
 ON_HAND_NOW = f"AND {ON_HAND} > 0"
 RELEASED, QUARANTINED = (
@@ -55,13 +55,13 @@ NOT_REJECTED = f"AND l.disposition <> {Disposition.REJECTED:d}"
 SUBLOTS = """
 SELECT s.sublot, s.amount || ' ' || m.measure
 FROM sublots AS s JOIN lots AS l USING (owner, lot) JOIN materials AS m USING (owner, material)
-WHERE s.owner = :whose AND s.lot = :lot
+WHERE s.owner = :names_owner AND s.lot = :lot
 """
-MATERIALS = "SELECT material, measure FROM materials WHERE owner = :whose"
+MATERIALS = "SELECT material, measure FROM materials WHERE owner = :names_owner"
 FREE_UNITS = """
 SELECT unit, '' FROM units AS u WHERE NOT EXISTS (SELECT 1 FROM batches AS b WHERE b.unit = u.unit AND b.closed = 0)
 """
-RECIPES = "SELECT recipe, '' FROM recipes AS r WHERE owner = :whose"
+RECIPES = "SELECT recipe, '' FROM recipes AS r WHERE owner = :names_owner"
 UNORDERED = "AND NOT EXISTS (SELECT 1 FROM orders AS o WHERE o.owner = r.owner AND o.recipe = r.recipe)"
 SOURCES = f"SELECT :owner, '' UNION SELECT '{HOUSE}', '' WHERE :use = '{Role.CONSUMED.word}'"
 LOTS_OF_ACTUAL = f"""{LOTS} AND l.material = :material AND CASE :use
@@ -70,12 +70,13 @@ LOTS_OF_ACTUAL = f"""{LOTS} AND l.material = :material AND CASE :use
 """
 LIMITS = """
 SELECT t.test, t.low, t.high
-FROM tests AS t JOIN lots AS l USING (owner, material) WHERE l.owner = :whose AND l.lot = :lot
+FROM tests AS t JOIN lots AS l USING (owner, material) WHERE l.owner = :names_owner AND l.lot = :lot
 """
 TESTS = f"SELECT test, '' FROM ({LIMITS})"
 OPEN_ACTUALS = f"""
 SELECT m.mkey, m.ord || '/' || m.number || ', ' || m.lot || ', ' || m.amount
-FROM moves AS m JOIN batches AS b USING (owner, ord, number) WHERE m.owner = :whose AND b.closed = 0 AND {STANDING}
+FROM moves AS m JOIN batches AS b USING (owner, ord, number)
+WHERE m.owner = :names_owner AND b.closed = 0 AND {STANDING}
 """
 # What fits a value of a line, with what there is to know of each; of other values it is all names.
 FITTING: dict[tuple[str, str], str] = {
@@ -110,7 +111,7 @@ FITTING: dict[tuple[str, str], str] = {
 PLACES = "SELECT DISTINCT sublot FROM sublots ORDER BY sublot"
 LIMITS_OF_TEST = f"SELECT low, high FROM ({LIMITS}) WHERE test = :test"
 KEYS = "SELECT mkey FROM moves WHERE owner = :owner"
-HOLDS = "SELECT s.amount FROM sublots AS s WHERE s.owner = :whose AND s.lot = :lot AND s.sublot = :sublot"
+HOLDS = "SELECT s.amount FROM sublots AS s WHERE s.owner = :names_owner AND s.lot = :lot AND s.sublot = :sublot"
 TAKING = MOVEMENTS - {"receive"}
 LOT_OR_SUBLOT = {"LOT", "SUBLOT"}
 
@@ -158,8 +159,8 @@ class Place:
         """The values before it as parameters of the queries; what isn't given is empty."""
         given = {name.lower().replace("-", "_"): word for name, word in self.before.items()}
         owner = given.get("owner", "" if "OWNER" in self.line.values else HOUSE)
-        whose = nearest.whose_of(f"Unknown{self.kind.capitalize()}", {**self.before, "OWNER": owner})
-        return defaultdict(str, {**given, "owner": owner, "whose": whose})
+        names_owner = nearest.owner_of_names(f"Unknown{self.kind.capitalize()}", {**self.before, "OWNER": owner})
+        return defaultdict(str, {**given, "owner": owner, "names_owner": names_owner})
 
     def fitting(self, base: Base) -> list[Choice]:
         """The names that fit, in their order; none if the line gives a new one."""

@@ -35,7 +35,7 @@ def owner(base: Base, name: str, register: Register = NOTHING_NOTED) -> Overview
     overview.add("materials by name", base.execute(MATERIALS, words))
     for title, (listing, columns, only_open) in OF_AN_OWNER.items():
         overview.add(title, base.execute(f"SELECT {columns} FROM ({LISTINGS[listing].sql(words, only_open)})", words))
-    parties = [party for (whose, _), party in sorted(register.parties.items()) if whose == name]
+    parties = [party for (party_owner, _), party in sorted(register.parties.items()) if party_owner == name]
     rows = [(party.party, party.name, ", ".join(party.roles), party.contact, party.phone) for party in parties]
     overview.add_filled("customers, suppliers and carriers, noted by the plant", PARTY_COLUMNS, [*rows])
     overview.remarks = ["HOUSE is the plant, and has no key."] if name == HOUSE else []

@@ -170,7 +170,7 @@ def lines_of(base: Base, register: Register, owner: str, settled: list[Run]) -> 
     standards: dict[str, Sums] = defaultdict(Sums)
     for recipe, role, source, material, amount in base.execute(STANDARD, (owner,)):
         standards[recipe][Item(Role(role), source, material)] = amount
-    measures = {(whose, material): measure for whose, material, measure in base.execute(MEASURES)}
+    measures = {(material_owner, material): measure for material_owner, material, measure in base.execute(MEASURES)}
     counts, actuals = Counter(run.batch.recipe for run in settled), defaultdict[str, Sums](Sums)
     for run in settled:
         actuals[run.batch.recipe].update(run.sums())

@@ -76,7 +76,7 @@ class Count:
 def rows_to_count(base: Base, owner: str | None, material: str | None, day: int) -> list[dict[str, Any]]:
     """A row for each sublot that holds something, by owner, lot and sublot."""
     names = base.execute(HELD, {"owner": owner, "material": material}).fetchall()
-    wanted = {(LotId(whose, lot), sublot) for whose, lot, sublot in names}
+    wanted = {(LotId(lot_owner, lot), sublot) for lot_owner, lot, sublot in names}
     lots = lots_of(base, {lot for lot, _ in wanted})
     held = sublots_of(base, lots)
     rows = []
