@@ -8,8 +8,8 @@ const NAMED = new Map([["orders", "order"], ["lots", "lot"], ["plant", "plant"]]
 export function read(hash) {
   const [path, query = ""] = hash.replace(/^#/, "").split("?", 2);
   const route = { view: "nowhere", name: null, query: new URLSearchParams(query) };
-  const [first = "", name, ...more] = path.replace(/^\//, "").split("/");
-  if (more.length > 0) return route;
+  const [first = "", name, ...rest] = path.replace(/^\//, "").split("/");
+  if (rest.length > 0) return route;
   if (name === undefined) {
     if (first === "") route.view = "home";
     else if (["home", "orders", "stock"].includes(first)) route.view = first;

@@ -110,8 +110,8 @@ def request(line: str) -> bytes:
 
 def read_all(peer: socket.socket) -> str:
     received = b""
-    while more := peer.recv(65536):
-        received += more
+    while chunk := peer.recv(65536):
+        received += chunk
     return received.decode(errors="replace")
 
 

@@ -23,8 +23,8 @@ def answer(status: int, out: bytes, err: bytes = b"") -> bytes:
 def take(peer: socket.socket, size: int) -> bytes:
     """So many bytes, less where the peer ends."""
     taken = b""
-    while len(taken) < size and (more := peer.recv(size - len(taken))):
-        taken += more
+    while len(taken) < size and (chunk := peer.recv(size - len(taken))):
+        taken += chunk
     return taken
 
 

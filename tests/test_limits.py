@@ -47,16 +47,16 @@ class Server:
         return subprocess.run([TOLL, "--db", self.db, *words], capture_output=True, text=True, timeout=SOON).stdout
 
 
-def request(target: str, owner: str = OTHER, more: str = "") -> bytes:
-    return f"GET {target} HTTP/1.1\r\nhost: x\r\ntoll-owner: {owner}\r\ntoll-key: {KEY}\r\n{more}\r\n".encode()
+def request(target: str, owner: str = OTHER, fields: str = "") -> bytes:
+    return f"GET {target} HTTP/1.1\r\nhost: x\r\ntoll-owner: {owner}\r\ntoll-key: {KEY}\r\n{fields}\r\n".encode()
 
 
 def read(peer: socket.socket) -> bytes:
     """All that a peer gets until its end, also one by a reset."""
     reply = b""
     with contextlib.suppress(ConnectionResetError):
-        while more := peer.recv(65536):
-            reply += more
+        while chunk := peer.recv(65536):
+            reply += chunk
     return reply
 
 
@@ -157,12 +157,12 @@ def test_who_reads_or_sends_slowly_is_dropped_after_ten_seconds(serve: Callable[
         assert len(read(reader)) < len(whole)
 
 
-@pytest.mark.parametrize("more, status", [("x: " + "y" * 8_192 + "\r\n", 400), ("x: y\r\n" * 32, 400),
-                                          ("content-length: 4097\r\n", 413)], ids=["bytes", "fields", "body"])
-def test_a_head_that_is_too_long_is_refused(serve: Callable[..., Server], more: str, status: int) -> None:
+@pytest.mark.parametrize("fields, status", [("x: " + "y" * 8_192 + "\r\n", 400), ("x: y\r\n" * 32, 400),
+                                            ("content-length: 4097\r\n", 413)], ids=["bytes", "fields", "body"])
+def test_a_head_that_is_too_long_is_refused(serve: Callable[..., Server], fields: str, status: int) -> None:
     server = serve()
     for _ in range(3):
-        assert server.ask(request("/orders", more=more)).startswith(f"HTTP/1.1 {status} ".encode())
+        assert server.ask(request("/orders", fields=fields)).startswith(f"HTTP/1.1 {status} ".encode())
     assert server.ask(request("/orders")).startswith(b"HTTP/1.1 200")
 
 

@@ -88,10 +88,10 @@ def with_gaps(rows: Rows) -> Rows:
     return [empty, *(spread_row for row in spread for spread_row in (row, empty))]
 
 
-def to_csv(*words: object, **more: Any) -> Result:
+def to_csv(*words: object, **options: Any) -> Result:
     """What to-csv answers to these words."""
     done = subprocess.run(["/usr/bin/python3", "-B", ROOT / "plant" / "bin" / "hilpoven", "to-csv", *map(str, words)],
-                          capture_output=True, text=True, timeout=PATIENCE, **more)
+                          capture_output=True, text=True, timeout=PATIENCE, **options)
     return Result(done.returncode, done.stdout, done.stderr)
 
 

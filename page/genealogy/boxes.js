@@ -82,7 +82,7 @@ export class Boxes {
   }
 
   /** How much is shown after a further step on a way. */
-  more(way) {
+  shownAfter(way) {
     const { back, forward } = this.traces;
     return { ...this.#shown, [way]: Math.min(further(this.traces[way], this.#shown[way]), mostOf(back, forward)[way]) };
   }
@@ -92,8 +92,8 @@ export class Boxes {
   get isOpened() { return this.#opened.size > 0; }
 
   /** Shows so many more lots of a group; what was shown stays in sight of the limits. */
-  open(group, more) {
-    this.#opened.set(group.id, group.shown + more);
+  open(group, count) {
+    this.#opened.set(group.id, group.shown + count);
     const before = { back: this.traces.back.length, forward: this.traces.forward.length };
     this.#regroup();
     const { back, forward } = this.traces;

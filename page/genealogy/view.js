@@ -66,8 +66,8 @@ export class Genealogy {
 
   /** What a click on a fold does: it unfolds, or leads to the table where the picture has no more room. */
   #openFold(way) {
-    const more = this.#boxes.more(way);
-    if (more[way] > this.#boxes.shown[way]) this.#unfold(more);
+    const shown = this.#boxes.shownAfter(way);
+    if (shown[way] > this.#boxes.shown[way]) this.#unfold(shown);
     else this.#words.showTable();
   }
 
@@ -82,17 +82,17 @@ export class Genealogy {
     const { hidden } = boxes.placed;
     const does = (key, title, click) => html("button", { type: "button", class: "small", "data-key": key, click }, title);
     const button = (key, title, then) => does(key, title, () => this.#unfold(then));
-    const more = WAYS.map(([way, words]) => [way, words, boxes.more(way)]).filter(([way, , then]) => then[way] > shown[way])
+    const further = WAYS.map(([way, words]) => [way, words, boxes.shownAfter(way)]).filter(([way, , then]) => then[way] > shown[way])
       .map(([way, words, then]) => button(`more-${way}`, `${number(then[way] - shown[way])} more ${words}`, then));
     const whole = hidden.size === most.back + most.forward - shown.back - shown.forward;
-    const all = more.length > 0 && button("all", whole ? `All ${number(hidden.size)} more` : `As many as ${MOST}`, most);
+    const all = further.length > 0 && button("all", whole ? `All ${number(hidden.size)} more` : `As many as ${MOST}`, most);
     const fewer = (shown.back > first.back || shown.forward > first.forward) && !boxes.isOpened && button("fewer", "Fewer", first);
     const folded = boxes.isOpened && does("refold", "Fold the lots again", () => {
       boxes.fold();
       this.drawn = this.#redraw();
     });
     const asked = this.#frame.isLarge && does("asked", `Show ${this.#words.name}`, () => this.#frame.show());
-    this.#tools.replaceChildren(...[more, all, fewer, folded, asked].flat().filter(Boolean));
+    this.#tools.replaceChildren(...[further, all, fewer, folded, asked].flat().filter(Boolean));
   }
 
   async #redraw() {

@@ -24,7 +24,7 @@ const reply = (value, mark = '"1"') => new Response(typeof value === "string" ? 
 const status = code => new Response(code === 304 ? null : '{"error":"NoRoute"}', { status: code });
 
 /** A companion that is told these replies; `asked` has the mark of each request. */
-function companion(replies, more) {
+function companion(replies, options) {
   giveUp();
   const asked = [];
   const office = new Office({
@@ -34,7 +34,7 @@ function companion(replies, more) {
       return typeof next === "function" ? next() : next.clone();
     },
   });
-  return Object.assign(new Companion(office, more), { asked });
+  return Object.assign(new Companion(office, options), { asked });
 }
 
 test("a companion of version 1 is one, whatever members it has besides", () => {
@@ -44,7 +44,7 @@ test("a companion of version 1 is one, whatever members it has besides", () => {
 });
 
 test("anything else is none", () => {
-  const change = (list, more) => ({ ...VALUE, [list]: [{ ...VALUE[list][0], ...more }] });
+  const change = (list, members) => ({ ...VALUE, [list]: [{ ...VALUE[list][0], ...members }] });
   const wrong = [
     null, [], "text", {}, { ...VALUE, version: 2 }, { ...VALUE, version: "1" }, { ...VALUE, made: "now" }, { ...VALUE, made: undefined }, { ...VALUE, plant: { name: 5 } }, { ...VALUE, lots: {} }, { ...VALUE, lots: [null] },
     { ...VALUE, owner: "BOLT" }, change("materials", { material: "<b>" }), change("materials", { tests: [{ test: "DENSITY", low: 1 }] }), change("batches", { state: "fine" }), change("batches", { lots: ["b"] }),

@@ -14,7 +14,7 @@ const ORDER = { batches: 2, order: "O-1", recipe: "R", status: "open" };
 
 // The office, asked
 
-const json = (status, value, more = {}) => new Response(JSON.stringify(value), { status, headers: { "content-type": "application/json", ...more } });
+const json = (status, value, headers = {}) => new Response(JSON.stringify(value), { status, headers: { "content-type": "application/json", ...headers } });
 
 /** An office that is told these replies, one after another; a function is called. What was asked is in `asked`. */
 function office(...replies) {

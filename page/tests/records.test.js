@@ -3,8 +3,8 @@ import test from "node:test";
 import { Records } from "../records.js";
 import { newsOf } from "../views/home.js";
 
-const actual = (use, lot, segment, more = {}) => ({ key: "K", kind: "actual", day: 261128, lotOwner: "ACME", lot, sublot: "A", amount: 1, material: "M", order: "O-1", batch: 1, segment, use, ...more });
-const records = (movements, more = {}) => new Records({ version: 1, owner: "ACME", made: "2026-11-28T18:04:00Z", movements, ...more });
+const actual = (use, lot, segment, members = {}) => ({ key: "K", kind: "actual", day: 261128, lotOwner: "ACME", lot, sublot: "A", amount: 1, material: "M", order: "O-1", batch: 1, segment, use, ...members });
+const records = (movements, members = {}) => new Records({ version: 1, owner: "ACME", made: "2026-11-28T18:04:00Z", movements, ...members });
 
 test("a batch leads from what a segment consumed to what the same or a later one produced", () => {
   const recorded = records([
@@ -46,13 +46,13 @@ test("parties have their full names, and the last reason counts", () => {
 });
 
 test("shipments are those of the owner's lot, not of the plant's of the same name", () => {
-  const ship = more => ({ key: "K", kind: "shipment", day: 261128, lot: "A", lotOwner: "ACME", sublot: "S", amount: 5, material: "M", ...more });
+  const ship = members => ({ key: "K", kind: "shipment", day: 261128, lot: "A", lotOwner: "ACME", sublot: "S", amount: 5, material: "M", ...members });
   const recorded = records([ship({ to: "North" }), ship({ lotOwner: "HOUSE" }), ship({ lot: "B" })]);
   assert.deepEqual(recorded.shipmentsOf("A").map(row => row.to), ["North"]);
 });
 
 test("news are what was received, made, shipped and scrapped on the last days, the latest first", () => {
-  const move = (kind, day, more = {}) => ({ key: kind, kind, day, lot: `${kind}-${day}`, lotOwner: "ACME", sublot: "S", amount: 1, material: "M", ...more });
+  const move = (kind, day, members = {}) => ({ key: kind, kind, day, lot: `${kind}-${day}`, lotOwner: "ACME", sublot: "S", amount: 1, material: "M", ...members });
   const recorded = records([
     move("receipt", 261121), move("receipt", 261123), move("receipt", 261122), move("split", 261127), move("actual", 261127, { use: "consumed", order: "O", batch: 1 }), move("actual", 261128, { use: "produced", order: "O", batch: 1 }),
     move("shipment", 261128), move("scrap", 261128, { voided: true }), move("receipt", 999999), move("receipt", 103),

@@ -35,17 +35,17 @@ export async function home(page) {
 // What needs the owner
 
 /** A part of the view: how many rows there are, and the first of them. */
-function part(title, rows, draw, more) {
+function part(title, rows, draw, target) {
   const rest = rows.length - MOST;
   return html("section", { class: "card need" },
     html("h2", {}, title, " ", html("span", { class: rows.length > 0 ? "tally" : "tally none" }, number(rows.length))),
     rows.length === 0 ? html("p", { class: "soft" }, "None.") : html("ul", { class: "rows" }, rows.slice(0, MOST).map(row => html("li", {}, draw(row)))),
-    rest > 0 && html("p", {}, link(more, `and ${number(rest)} more`)));
+    rest > 0 && html("p", {}, link(target, `and ${number(rest)} more`)));
 }
 
 const QUARANTINED = toStock({ disposition: "quarantined" });
 
-const lotLine = (row, ...more) => [link(toLot(row.lot), row.lot), html("span", { class: "soft" }, ` ${row.material}, ${amount(row.amount, row.measure)}`), more];
+const lotLine = (row, ...details) => [link(toLot(row.lot), row.lot), html("span", { class: "soft" }, ` ${row.material}, ${amount(row.amount, row.measure)}`), details];
 
 /** Why each quarantined lot waits, by what the companion says of it. */
 function waitOf(row, records) {

@@ -88,8 +88,8 @@ function origin(from) {
 }
 
 /** A part of the view with its table, or what is said where it has no rows. */
-function part(page, { title, file, rows, columns, none, more }) {
-  const shown = () => [table({ caption: title, rows, columns }), more];
+function part(page, { title, file, rows, columns, none, note }) {
+  const shown = () => [table({ caption: title, rows, columns }), note];
   return html("section", { class: "card" },
     html("div", { class: "line" }, html("h2", {}, title), rows.length > 0 && downloadButton(page, file, columns, () => rows)),
     rows.length === 0 ? html("p", { class: "soft" }, none) : shown());
@@ -145,7 +145,7 @@ function results(page, askedLot, tests, bounds = []) {
       ...(tests ? [passing] : []),
       { title: unseen("Whether it counts"), cell: result => (counts.has(result) ? word(result) : html("span", { class: "soft" }, word(result))), values: { Counts: word } },
     ],
-    more: html("p", { class: "soft" }, "All that were recorded, in the order in which they came. The last of each test counts."),
+    note: html("p", { class: "soft" }, "All that were recorded, in the order in which they came. The last of each test counts."),
   });
 }
 

@@ -126,10 +126,10 @@ class Plant:
         """What the plant's command tells of these words, called within this process."""
         return called("--db", db or self.db, *options, *words, stdin=stdin, TOLL=self.program)
 
-    def settle(self, **more: object) -> None:
-        """Has the settings name this office, with a folder of backups, and say what more is given."""
+    def settle(self, **settings: object) -> None:
+        """Has the settings name this office, with a folder of backups, and say what is given besides."""
         (self.folder / "backups").mkdir(mode=0o700, exist_ok=True)
-        lines = {"file": str(self.db), "backups": str(self.folder / "backups"), "toll": self.program, **more}
+        lines = {"file": str(self.db), "backups": str(self.folder / "backups"), "toll": self.program, **settings}
         site.load.__defaults__[0].write_text("".join(f"{name} = {json.dumps(value)}\n" for name, value in lines.items()))
 
     def as_member(self, *words: object, stdin: str | None = None) -> Told:
@@ -139,10 +139,10 @@ class Plant:
             patch.setattr(rights, "STARTED_AS", 1)
             return called(*words, stdin=stdin, SUDO_UID="4711", SUDO_USER="anna")
 
-    def begun(self, *words: object, **more: object) -> subprocess.Popen:
+    def begun(self, *words: object, **options: object) -> subprocess.Popen:
         """The plant's command, begun as a process of its own."""
         return subprocess.Popen([HILPOVEN, "--db", self.db, *map(str, words)], stdout=subprocess.PIPE, stderr=subprocess.PIPE, text=True,
-                                env={**os.environ, "TOLL": self.program}, **more)
+                                env={**os.environ, "TOLL": self.program}, **options)
 
     def serve(self) -> contextlib.AbstractContextManager[Server]:
         """A server of the office, which is ended at the end."""
@@ -213,14 +213,14 @@ def called(*words: object, stdin: str | None = None, **variables: str) -> Told:
     return Told(done.exit_code, done.stdout, done.stderr)
 
 
-def environment(**more: object) -> dict[str, str]:
+def environment(**variables: object) -> dict[str, str]:
     """The environment with these variables."""
-    return {**os.environ, **{name: str(given) for name, given in more.items()}}
+    return {**os.environ, **{name: str(given) for name, given in variables.items()}}
 
 
-def command(*words: object, **more: object) -> subprocess.CompletedProcess:
+def command(*words: object, **options: object) -> subprocess.CompletedProcess:
     """What the plant's command tells of these words."""
-    return subprocess.run([HILPOVEN, *map(str, words)], **{"capture_output": True, "text": True, "timeout": PATIENCE, **more})
+    return subprocess.run([HILPOVEN, *map(str, words)], **{"capture_output": True, "text": True, "timeout": PATIENCE, **options})
 
 
 def forked(*words: object, **variables: str) -> Callable[[], None]:

@@ -143,11 +143,11 @@ def test_a_program_that_takes_the_port_meanwhile_gets_nothing(at_work, monkeypat
     with socket.create_server(("127.0.0.1", 0)) as first:
         port, created = first.getsockname()[1], socket.create_connection
 
-        def swapped(address, *more):
+        def swapped(address, *arguments):
             first.close()
             with socket.create_server(address) as second:
                 second.settimeout(20)
-                peer = created(address, *more)
+                peer = created(address, *arguments)
                 accepted.append(second.accept()[0])
             return peer
         accepted = []

@@ -55,8 +55,8 @@ def at_terminal(words, lines, env):
         os.execve(words[0], list(map(str, words)), env)
     shown = b""
     with contextlib.suppress(OSError):  # the terminal is gone when the program ends
-        while more := os.read(terminal, 4096):
-            shown += more
+        while chunk := os.read(terminal, 4096):
+            shown += chunk
             if lines and shown.endswith(b": "):
                 shown += b"\n"
                 os.write(terminal, lines.pop(0).encode() + b"\n")

@@ -137,10 +137,10 @@ def sheet(at_work) -> pathlib.Path:
     return at_work.folder / "sheet.csv"
 
 
-@pytest.mark.parametrize("more", [[], ["--force"]])
+@pytest.mark.parametrize("options", [[], ["--force"]])
 @pytest.mark.parametrize("name", ["office.db", "office.db-wal", "office.db-shm", "office.db.lock", "office.db.sock", "office.db.journal", "office.db.register",
                                   "office.db.register-journal", "other.db", "link", "pipe", "folder", "old"])
-def test_no_output_goes_over_an_offices_files(at_work, sheet, name, more):
+def test_no_output_goes_over_an_offices_files(at_work, sheet, name, options):
     at_work.run("unit-add", "PRESS")
     (at_work.folder / "link").symlink_to(at_work.journal)
     os.mkfifo(at_work.folder / "pipe")
@@ -149,7 +149,7 @@ def test_no_output_goes_over_an_offices_files(at_work, sheet, name, more):
         base.execute("CREATE TABLE t (a)")
     before, kept = at_work.content(), at_work.journal.read_bytes()
     files = {path: (os.lstat(path).st_ino, os.lstat(path).st_mode) for path in at_work.folder.iterdir()}
-    for words in (["to-csv", sheet, at_work.folder / name, *more], ["board", "--out", at_work.folder / name, *more]):
+    for words in (["to-csv", sheet, at_work.folder / name, *options], ["board", "--out", at_work.folder / name, *options]):
         done = at_work.run(*words)
         assert done.status == 2 and done.err.startswith("hilpoven: "), done
     assert at_work.content() == before and at_work.journal.read_bytes() == kept

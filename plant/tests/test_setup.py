@@ -72,10 +72,10 @@ class Trial(Machine):
         return port != 801
 
 
-def certificate_in(folder, name="site", *more):
+def certificate_in(folder, name="site", *options):
     """A certificate and its key."""
     certificate, key = folder / f"{name}.pem", folder / f"{name}.key"
-    how = more or ("-nodes",)
+    how = options or ("-nodes",)
     subprocess.run(["openssl", "req", "-x509", "-newkey", "ec", "-pkeyopt", "ec_paramgen_curve:prime256v1", *how, "-days", "2", "-subj", f"/CN={HOST}", "-keyout", key, "-out", certificate],
                    check=True, capture_output=True)
     return str(certificate), str(key)
@@ -96,9 +96,9 @@ def plan_of(machine, name="north", host=HOST, owner=""):
     return Plan(name, host, *machine.certificate, owner)
 
 
-def given(machine, **more):
+def given(machine, **values):
     """What the steps did."""
-    return list(steps.take(steps.Setup(plan_of(machine, **more), machine)))
+    return list(steps.take(steps.Setup(plan_of(machine, **values), machine)))
 
 
 def files_of(machine):

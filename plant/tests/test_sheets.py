@@ -83,7 +83,7 @@ FORMS = {"xlsx": xlsx, "ods": ods}
 
 @pytest.fixture(params=FORMS)
 def sheet(request, tmp_path):
-    return lambda rows, **more: FORMS[request.param](tmp_path / f"sheet.{request.param}", rows, **more)
+    return lambda rows, **options: FORMS[request.param](tmp_path / f"sheet.{request.param}", rows, **options)
 
 
 def test_a_sheet_that_hides_nothing_is_taken(sheet):

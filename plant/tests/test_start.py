@@ -25,16 +25,16 @@ def loaded(plant, *words):
     return set(done.stderr.splitlines()[-1].split())
 
 
-@pytest.mark.parametrize("words, own, more", [
+@pytest.mark.parametrize("words, own, heavy", [
     (["--version"], OWN, set()), (["stock", "ACME"], QUESTION, set()),
     (["unit-add", "NEW"], QUESTION | {"hilpoven.journal", "hilpoven.journal.log"}, set()),
     (["receive", "ACME", "K99", "SALT", "S-99", "BAY1", "5", "--today"], DATED, set()),
     (["receive", "ACME", "K99", "SALT", "S-99", "BAY1", "5", "102"], None, TABLES),
     (["list", "units"], LISTING, {"sqlite3"}), (["list", "lots"], None, {"sqlite3"}),
     (["show", "lot", "ACME", "S-1"], None, {"sqlite3"})])
-def test_a_command_imports_what_it_needs_alone(at_work, words, own, more):
+def test_a_command_imports_what_it_needs_alone(at_work, words, own, heavy):
     modules = loaded(at_work, *words)
-    assert modules & HEAVY <= more, words
+    assert modules & HEAVY <= heavy, words
     assert own is None or {module for module in modules if module.split(".")[0] == "hilpoven"} == own, words
 
 

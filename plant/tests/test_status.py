@@ -16,9 +16,9 @@ from hilpoven.records import gauge
 sys.path.append(str(ROOT))
 
 
-def settings(plant: Plant, **more) -> None:
+def settings(plant: Plant, **values) -> None:
     """Has the settings say so."""
-    lines = {"file": str(plant.db), **more}
+    lines = {"file": str(plant.db), **values}
     (plant.folder / "hilpoven.toml").write_text("".join(f"{name} = {value!r}\n".replace("'", '"') for name, value in lines.items()))
 
 

@@ -84,9 +84,9 @@ class Terminal:
 Step = str | tuple[str, str]  # what is shown, or a prompt with what is typed behind it
 
 
-def typed(plant: Plant, line: str, steps: list[Step] = [], **more: object) -> tuple[int, str]:
+def typed(plant: Plant, line: str, steps: list[Step] = [], **options: object) -> tuple[int, str]:
     """The status and the text of a line to whose prompts this is typed."""
-    terminal = Terminal(plant, *line.split(), **more)
+    terminal = Terminal(plant, *line.split(), **options)
     for step in steps:
         terminal.shows(step) if isinstance(step, str) else terminal.answer(*step)
     return terminal.end()
@@ -384,9 +384,9 @@ def received(plant: Plant) -> list[tuple]:
     return plant.rows("SELECT owner, mkey, amount FROM moves WHERE lot = 'S-9' ORDER BY rowid")
 
 
-def next_receipt(amount: int, *more: str) -> list[object]:
+def next_receipt(amount: int, *options: str) -> list[object]:
     """A receipt with the next key."""
-    return ["receive", "ACME", "--key", "next", "SALT", "S-9", "BAY9", amount, 103, *more]
+    return ["receive", "ACME", "--key", "next", "SALT", "S-9", "BAY9", amount, 103, *options]
 
 
 def test_the_next_key_is_behind_the_greatest_and_told(at_work):

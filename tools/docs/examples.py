@@ -58,11 +58,11 @@ class Shell:
         printed, end = b"", time.monotonic() + PATIENCE
         while MARK.encode() not in printed or command.endswith("&") and printed.count(b"\n") <= lines:
             is_ready, *_ = select.select([self.stdout], [], [], max(0, end - time.monotonic()))
-            more = os.read(self.stdout.fileno(), 65536) if is_ready else b""
-            if not more:
+            chunk = os.read(self.stdout.fileno(), 65536) if is_ready else b""
+            if not chunk:
                 text = printed.decode(errors="replace")
                 raise TimeoutError(f"{text}\n(nothing more within {PATIENCE} s: the page ends here)")
-            printed += more
+            printed += chunk
         text = printed.decode(errors="replace").replace(f"{MARK}\n", "")
         return [line.rstrip() for line in text.removesuffix("\n").split("\n")] if text else []
 

@@ -28,10 +28,10 @@ class Options(argparse.ArgumentParser):
         sys.exit(2)
 
 
-def output(*words: object, **more: Any) -> str:
+def output(*words: object, **options: Any) -> str:
     """What a program prints that ends with status 0. A signal ends it with all that it started."""
     merged: dict[str, Any] = {"stdout": subprocess.PIPE, "stderr": subprocess.STDOUT, "errors": "replace"}
-    with subprocess.Popen(list(map(str, words)), start_new_session=True, **merged, **more) as process:
+    with subprocess.Popen(list(map(str, words)), start_new_session=True, **merged, **options) as process:
         try:
             printed = str(process.communicate(timeout=900)[0])
         except BaseException:

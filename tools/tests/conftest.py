@@ -17,10 +17,10 @@ sys.dont_write_bytecode = True
 sys.path.insert(0, str(TOOLS))
 
 
-def tool(name: str, *words: object, **more: Any) -> "subprocess.CompletedProcess[str]":
+def tool(name: str, *words: object, **options: Any) -> "subprocess.CompletedProcess[str]":
     """What a tool of tools/ tells of these words."""
-    more = {"capture_output": True, "text": True, "timeout": PATIENCE, **more}
-    return subprocess.run(["/usr/bin/python3", TOOLS / name, *map(str, words)], **more)
+    options = {"capture_output": True, "text": True, "timeout": PATIENCE, **options}
+    return subprocess.run(["/usr/bin/python3", TOOLS / name, *map(str, words)], **options)
 
 
 def script(path: pathlib.Path, text: str) -> pathlib.Path:

@@ -52,8 +52,8 @@ def test_half_of_a_dense_genealogy_is_the_front_of_all() -> None:
 
 
 def test_a_second_file_of_actuals_goes_on_behind_the_first() -> None:
-    first, more, both = (list(offices.records(*given)) for given in ((300,), (100, 300), (400,)))
-    assert first[0] == more[0] and first + more[1:] == both
+    first, second, both = (list(offices.records(*given)) for given in ((300,), (100, 300), (400,)))
+    assert first[0] == second[0] and first + second[1:] == both
 
 
 # What stands beside

@@ -20,9 +20,9 @@ def check(*words, path=None):
 @pytest.fixture
 def run_part(capsys, tmp_path):
     """What a runner tells of a part."""
-    def run(part, **more):
+    def run(part, **options):
         one = runner.Runner(tmp_path / "toll")
-        one.run(part, **more)
+        one.run(part, **options)
         return one.ended[0], capsys.readouterr().out
     return run
 
@@ -96,10 +96,10 @@ def side_by_side(capsys, tmp_path):
 @pytest.fixture
 def noting(tmp_path):
     """A part that notes when it begins and ends, which stays until so many have begun."""
-    def make(name, until=1, then="", **more):
+    def make(name, until=1, then="", **options):
         notes = tmp_path / "notes"
         wait = f"for i in $(seq 200); do test $(grep -c begins {notes}) -ge {until} && break; sleep 0.05; done"
-        return Part(name, ["sh", "-c", f"echo {name} begins >> {notes}; {wait}; {then or 'true'}; s=$?; echo {name} ends >> {notes}; exit $s"], **more)
+        return Part(name, ["sh", "-c", f"echo {name} begins >> {notes}; {wait}; {then or 'true'}; s=$?; echo {name} ends >> {notes}; exit $s"], **options)
     return make
 
 

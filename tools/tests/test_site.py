@@ -166,8 +166,8 @@ def sent(site, data, patience=20):
         begun = time.monotonic()
         line.sendall(data)
         got = b""
-        while more := line.recv(65536):
-            got += more
+        while chunk := line.recv(65536):
+            got += chunk
         return got, time.monotonic() - begun
 
 
@@ -301,7 +301,7 @@ def test_an_address_asks_four_things_at_once_and_others_go_on(site, stub):
     assert {(reply.fields["retry-after"], reply.body) for reply in turned_away} == {("1", b'{"error":"TooManyRequests"}')}
 
 
-def slow_statuses(site, stub, most, addresses, **more):
+def slow_statuses(site, stub, most, addresses, **options):
     """The statuses of requests from these addresses at once. The office answers when so many have come, and a moment has gone by."""
     def answer():
         eventually(lambda: stub.now >= most)
@@ -311,7 +311,7 @@ def slow_statuses(site, stub, most, addresses, **more):
     stub.go.clear()
     answering = threading.Thread(target=answer)
     answering.start()
-    statuses = at_once(lambda i: ask(site, "/lots/SLOW", **addresses[i], **more).status, len(addresses))
+    statuses = at_once(lambda i: ask(site, "/lots/SLOW", **addresses[i], **options).status, len(addresses))
     answering.join()
     return sorted(statuses)
 

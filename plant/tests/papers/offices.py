@@ -152,9 +152,9 @@ class Filled:
             self.tell("void", owner, key)
         self.release()
         for owner in [HOUSE, *self.owners]:
-            for number, (word, *more) in enumerate((("ship",), ("scrap",), ("split", "S1"), ("ship",))):
+            for number, (word, *target) in enumerate((("ship",), ("scrap",), ("split", "S1"), ("ship",))):
                 lot = self.chance.choice(list(self.lots[owner]))
-                self.tell(word, owner, f"M{turn}{number}", lot, "S0", *more, self.chance.randint(10_000, 50_000), self.day())
+                self.tell(word, owner, f"M{turn}{number}", lot, "S0", *target, self.chance.randint(10_000, 50_000), self.day())
 
     def finish(self) -> None:
         """Some batches are closed, and some lots rejected."""
@@ -207,14 +207,14 @@ class WithParties(Filled):
             return super().tell(*words)
         owner, key = str(words[1]), str(words[2])
         facts = {"party": self.chance.choice(self.parties[owner][way[1]])}
-        more = [way[0], facts["party"]]
+        options = [way[0], facts["party"]]
         if self.chance.random() < 0.7:
             facts["document"] = self.word(owner)
-            more += ["--document", f"{facts['document']}"]
+            options += ["--document", f"{facts['document']}"]
         if words[0] == "receive":
             facts["supplier_lot"] = self.word(owner)
-            more += ["--supplier-lot", facts["supplier_lot"]]
-        done = self.run(*words, *more, "--yes")  # some of its days are no dates
+            options += ["--supplier-lot", facts["supplier_lot"]]
+        done = self.run(*words, *options, "--yes")  # some of its days are no dates
         if done == "accepted\n":
             self.facts[owner, key] = facts
         return done

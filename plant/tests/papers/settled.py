@@ -98,11 +98,11 @@ def with_losses(rows: list[tuple], allowances: dict[str, int]) -> list[list[str]
         for _, required in products:
             parts *= required
         number, parts = sum(amount * parts // required for amount, required in products), parts * len(products)
-        more: list[object] = ["", "", "", "", ""]
+        figures: list[object] = ["", "", "", "", ""]
         if use == "consumed" and products:
             expected = rounded(standard * number, parts)
             loss, tenth = actual - expected, allowances.get(recipe, 0)
             allowed = rounded(standard * number * tenth, parts * 1000) if tenth else ""
-            more = [expected, loss, tenths(loss, expected) if expected else "", allowed, max(0, loss - allowed) if tenth else ""]
-        completed.append([recipe, batches, use, source, material, standard, actual, measure, tenths(actual, standard), *(more if any(allowances.values()) else more[:3])])
+            figures = [expected, loss, tenths(loss, expected) if expected else "", allowed, max(0, loss - allowed) if tenth else ""]
+        completed.append([recipe, batches, use, source, material, standard, actual, measure, tenths(actual, standard), *(figures if any(allowances.values()) else figures[:3])])
     return sorted([str(cell) for cell in row] for row in completed)

@@ -192,6 +192,6 @@ def test_without_the_package_of_papers_it_is_told(at_work, monkeypatch, module, 
     import importlib.util
 
     find_spec = importlib.util.find_spec
-    monkeypatch.setattr(importlib.util, "find_spec", lambda name, *more: None if name == module else find_spec(name, *more))
+    monkeypatch.setattr(importlib.util, "find_spec", lambda name, *arguments: None if name == module else find_spec(name, *arguments))
     done = at_work.run("labels", "ACME", "S-1", "--out", at_work.folder / "labels.pdf")
     assert done.status == 3 and why in done.err and "hilpoven-papers" in done.err and at_work.lines() == []

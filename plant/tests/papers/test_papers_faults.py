@@ -71,7 +71,7 @@ def test_where_papers_go_is_told_once(at_work):
 
 def test_without_weasyprint_nothing_is_made(at_work, monkeypatch):
     find_spec = importlib.util.find_spec
-    monkeypatch.setattr(importlib.util, "find_spec", lambda name, *more: None if name == "weasyprint" else find_spec(name, *more))
+    monkeypatch.setattr(importlib.util, "find_spec", lambda name, *arguments: None if name == "weasyprint" else find_spec(name, *arguments))
     done = at_work.run(*RECALL, at_work.folder / "made")
     assert done.status == 3 and lines_of(done.err) == ["hilpoven: WeasyPrint isn't here, which makes the PDF"] and left(at_work) == []
     assert at_work.run(*RECALL, at_work.folder / "made", "--no-pdf").status == 0 and not list(at_work.folder.rglob("*.pdf"))
@@ -79,7 +79,7 @@ def test_without_weasyprint_nothing_is_made(at_work, monkeypatch):
 
 def test_without_graphviz_the_tables_stand_alone(at_work, monkeypatch):
     which = shutil.which
-    monkeypatch.setattr(shutil, "which", lambda name, *more, **others: None if name == "dot" else which(name, *more, **others))
+    monkeypatch.setattr(shutil, "which", lambda name, *arguments, **options: None if name == "dot" else which(name, *arguments, **options))
     assert at_work.run(*RECALL, at_work.folder / "made", "--no-pdf").status == 0
     page = (at_work.folder / "made" / "plant" / "recall.html").read_text()
     assert "<svg" not in page and "A step is a batch" in page
@@ -144,14 +144,14 @@ def kill_at(plant: Plant, step: int, words: list[str]) -> int:
     return int(count.read_text()) if count.exists() else 0
 
 
-def try_kills(plant: Plant, kills: int, *more: str) -> int:
+def try_kills(plant: Plant, kills: int, *options: str) -> int:
     """Kills a recall at so many steps: nothing of it is left, or all of it is made; how often it was killed."""
     before = sorted(path.name for path in plant.folder.iterdir())
-    whole, done = kill_at(plant, 0, [*RECALL, "whole", *more]), 0
+    whole, done = kill_at(plant, 0, [*RECALL, "whole", *options]), 0
     files = sorted(path.name for path in (plant.folder / "whole").rglob("*"))
     shutil.rmtree(plant.folder / "whole")
     for step in sorted({1 + at * (whole - 1) // (kills - 1) for at in range(kills)}):
-        done += not kill_at(plant, step, [*RECALL, "made", *more])
+        done += not kill_at(plant, step, [*RECALL, "made", *options])
         assert left(plant) in ([], ["made"]), step
         if (plant.folder / "made").exists():
             assert sorted(path.name for path in (plant.folder / "made").rglob("*")) == files, step

@@ -25,9 +25,9 @@ actual 1-3 PLANT 1E5 1 1 produced SALT PLANT 1-2 1E6 10 103
 """
 
 
-def run_recall(plant, *words, **more):
+def run_recall(plant, *words, **options):
     """What the command tells as a process of its own."""
-    return command("--db", plant.db, *RECALL, *words, env=environment(TOLL=plant.program), **more)
+    return command("--db", plant.db, *RECALL, *words, env=environment(TOLL=plant.program), **options)
 
 
 def test_an_owner_who_is_named_plant_has_papers_of_its_own(at_work):

@@ -131,11 +131,11 @@ def test_a_material_is_added_with_limits_as_they_are_measured(settled):
     assert settled.lines() == before
 
 
-@pytest.mark.parametrize("more, why", [
+@pytest.mark.parametrize("options, why", [
     ((), "LOW: `6.50` has decimals"), (("--decimals", "PH", 1), "`6.50` has 2 decimals, and the test has 1"), (("--decimals", "PHH", 2), "--decimals PHH: there is no --test PHH beside it"),
     *((("--decimals", "PH", decimals), "--decimals") for decimals in (0, 10, "x", "2.0"))])
-def test_limits_that_cannot_be_read_add_no_material(settled, more, why):
-    done = settled.run(*NEW, *more)
+def test_limits_that_cannot_be_read_add_no_material(settled, options, why):
+    done = settled.run(*NEW, *options)
     assert done.status == 2 and why in done.err and done.out == "" and settled.lines() == [] and settled.rows("SELECT * FROM materials WHERE material = 'SUGAR'") == []
 
 

@@ -87,8 +87,8 @@ def add(journal, step, count, note, asked):
             lines.write(json.dumps({"before": "0" * 64, "event": "exported", "file": f"{journal.file}{count}"}).encode() + b"\n")
     elif step == "twice" and os.path.exists(journal.path):
         lines = open(journal.path, "rb").read().splitlines(keepends=True)
-        with open(journal.path, "ab") as more:
-            more.write(lines[count % len(lines)])
+        with open(journal.path, "ab") as appending:
+            appending.write(lines[count % len(lines)])
     else:
         journal.answered(journal.asked(journal.file, ["unit-add", "PRESS"]), Answer(0, "accepted\n", ""))
 

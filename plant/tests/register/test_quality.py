@@ -28,10 +28,10 @@ def by(monkeypatch):
     """The command of an office, given by a login; it is root's otherwise."""
     monkeypatch.setattr(log, "login_number", lambda: log.NOBODY)
 
-    def run(plant, login, *words, **more):
+    def run(plant, login, *words, **options):
         with pytest.MonkeyPatch.context() as patch:
             patch.setenv("SUDO_USER", login)
-            return plant.run(*words, **more)
+            return plant.run(*words, **options)
 
     return run
 

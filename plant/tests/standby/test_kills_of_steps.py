@@ -26,10 +26,10 @@ follower.Follower.step = step
 """
 
 
-def kill_at(step: int, count: pathlib.Path, program: str, *words: object, more: str = "") -> int:
+def kill_at(step: int, count: pathlib.Path, program: str, *words: object, imports: str = "") -> int:
     """Kills the command at a step; how many there were, where it ended by itself, and else 0."""
     count.unlink(missing_ok=True)
-    text = KILLED.read_text().replace("from hilpoven.cli import main  # noqa: E402", more or "from hilpoven.cli import main")
+    text = KILLED.read_text().replace("from hilpoven.cli import main  # noqa: E402", imports or "from hilpoven.cli import main")
     script = count.with_name("killed.py")
     script.write_text(text.replace("pathlib.Path(__file__).resolve().parent.parent", f"pathlib.Path({str(ROOT / 'plant')!r})"))
     subprocess.run(["/usr/bin/python3", "-IB", script, str(step), count, *map(str, words)], capture_output=True, env={**os.environ, "TOLL": program}, timeout=60)
@@ -76,7 +76,7 @@ def try_followers(at_work: Plant, room: pathlib.Path, kills: int) -> int:
         pieces.mkdir(mode=0o700)
         at = steps(whole, kills)[step] if whole and step < len(steps(whole, kills)) else 0
         for number in range(2):
-            ended = kill_at(at, room / "count", at_work.program, "--db", at_work.db, "follow", "--to", pieces, more=FOLLOW)
+            ended = kill_at(at, room / "count", at_work.program, "--db", at_work.db, "follow", "--to", pieces, imports=FOLLOW)
             whole, done = whole or ended, done + (not ended)
             assert at_work.run("unit-add", f"U-{at}-{number}").status in (0, 1)
         assert all(path.name.endswith((".piece", ".snapshot", ".json", ".made")) or path.name.startswith(".hilpoven.") for path in pieces.iterdir()), at

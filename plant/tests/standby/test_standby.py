@@ -228,10 +228,10 @@ def test_a_disk_without_any_room_still_tells_it(pieces, monkeypatch):
     saved, real = state.Saved(str(pieces)), os.open
     assert saved.save(state.State(looked=time.time(), fault="a fault of many words, " * 9))
 
-    def full(path: str, flags: int, *more: int, **others: object) -> int:
+    def full(path: str, flags: int, *arguments: int, **options: object) -> int:
         if flags & os.O_CREAT:
             raise OSError(28, "No space left on device", path)
-        return real(path, flags, *more, **others)
+        return real(path, flags, *arguments, **options)
 
     saved.at = 0.0
     with monkeypatch.context() as patch:

@@ -28,9 +28,9 @@ UsePAM no
 """
 
 
-def run(*words: object, **more: object) -> subprocess.CompletedProcess:
+def run(*words: object, **options: object) -> subprocess.CompletedProcess:
     """A program that has to end well."""
-    return subprocess.run([str(word) for word in words], check=True, capture_output=True, text=True, **more)
+    return subprocess.run([str(word) for word in words], check=True, capture_output=True, text=True, **options)
 
 
 class Machine:
@@ -46,8 +46,8 @@ class Machine:
     def inside(self, *words: object) -> subprocess.CompletedProcess:
         return run("ip", "netns", "exec", self.name, *words)
 
-    def begin(self, *words: object, **more: object) -> subprocess.Popen:
-        return subprocess.Popen(["ip", "netns", "exec", self.name, *map(str, words)], **more)
+    def begin(self, *words: object, **options: object) -> subprocess.Popen:
+        return subprocess.Popen(["ip", "netns", "exec", self.name, *map(str, words)], **options)
 
     def settle(self, to: str, rsh: str) -> dict[str, str]:
         """The settings of its office, in a variable of the environment."""

@@ -25,9 +25,9 @@ def ready(at_work) -> Plant:
     return at_work
 
 
-def carry(plant: Plant, *more: object):
+def carry(plant: Plant, *options: object):
     """Carries the office over."""
-    return plant.run("carry-over", plant.folder / "next.db", "--day", 261127, *more)
+    return plant.run("carry-over", plant.folder / "next.db", "--day", 261127, *options)
 
 
 def names(plant: Plant) -> list[str]:
@@ -210,7 +210,7 @@ def test_what_was_just_carried_over_isn_t_again(ready):
 def test_no_key_stands_on_a_command_line(ready, monkeypatch):
     begun = []
     begin = subprocess.Popen.__init__
-    monkeypatch.setattr(subprocess.Popen, "__init__", lambda self, words, *rest, **more: begun.append(words) or begin(self, words, *rest, **more))
+    monkeypatch.setattr(subprocess.Popen, "__init__", lambda self, words, *rest, **options: begun.append(words) or begin(self, words, *rest, **options))
     assert carry(ready).status == 0
     assert begun and not any("KEY1" in str(call) for call in begun)
     assert "KEY1" not in ready.journal.read_text()

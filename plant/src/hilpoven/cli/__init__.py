@@ -101,7 +101,7 @@ class Commands(Group):
             raise Failure(f"a word has more than {MOST_LETTERS:,} letters", WRONG_USE)
         return super().parse_args(ctx, args)
 
-    def main(self, *words: Any, **more: Any) -> Any:
+    def main(self, *words: Any, **options: Any) -> Any:
         """Runs a command. Words that are told back are shown escaped, those of a wrong use too."""
         if COMPLETION in os.environ and rights.is_member():
             del os.environ[COMPLETION]  # behind sudo the words come as words, and the environment decides nothing
@@ -110,7 +110,7 @@ class Commands(Group):
 
             completion.register()
         try:
-            status = super().main(*words, **{**more, "standalone_mode": False})  # type: ignore[call-overload]
+            status = super().main(*words, **{**options, "standalone_mode": False})  # type: ignore[call-overload]
         except click.Abort:
             click.echo("Aborted!", err=True)
             sys.exit(REFUSED)

@@ -106,8 +106,8 @@ def record(context: Context, office: Office, count: Count, members: dict[int, di
     journal = context.journal()
     with client.asker(office, len(count.differences)) as ask, journal.series():
         for each in count.differences:
-            more = {"row": each.record.row, **members[each.record.row]}
-            answer = asking.asked(context, office, each.line, each.words, journal, ask, **more)
+            row_members = {"row": each.record.row, **members[each.record.row]}
+            answer = asking.asked(context, office, each.line, each.words, journal, ask, **row_members)
             if answer.status == FAULT:
                 return answer.error.strip() or "toll ended without an answer"
             count.outcomes[Outcome.REFUSED if answer.status else Outcome.DONE] += 1
@@ -133,8 +133,8 @@ def report(count: Count, fault: str, check: bool) -> int:
     click.echo(f"{counted(total, 'sublots')}: {differences}{', '.join(sums)}")
     if left := count.left_out:
         names = ", ".join(f"{lot} {sublot}" for lot, sublot in left[:MOST_LEFT])
-        more = ", .." if left[MOST_LEFT:] else ""
-        tell_line(printable(f"not in the sheet, and not empty: {counted(len(left), 'sublots')}: {names}{more}"))
+        ellipsis = ", .." if left[MOST_LEFT:] else ""
+        tell_line(printable(f"not in the sheet, and not empty: {counted(len(left), 'sublots')}: {names}{ellipsis}"))
     if fault:
         tell_line(printable(f"{fault}: import the sheet again; what is recorded isn't recorded twice"))
     return FAULT if fault else REFUSED if count.outcomes[Outcome.REFUSED] else 0

@@ -107,7 +107,7 @@ def listening(week: Week, port: int) -> Listener:
         return Listener(served, port, lambda: None)
     week_companions = companions.Companions(os.path.join(week.folder, "companions"), week.give)
     week_companions.make()
-    served.more[companions.PATH] = week_companions.reply
+    served.owner_replies[companions.PATH] = week_companions.reply
     return Listener(served, port, week_companions.refresh)
 
 

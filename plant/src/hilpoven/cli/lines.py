@@ -191,8 +191,8 @@ def miscounted(line: Line, words: list[str], missing: list[str]) -> str:
     if len(words) < len(missing):
         left = missing[len(words) :]
         return f"{line.name}: {', '.join(left)} {'is' if len(left) == 1 else 'are'} missing"
-    more = words[len(missing) :]
-    return f"{line.name}: {len(more)} more than its {len(line.values)} values: {' '.join(map(quoted, more))}"
+    surplus = words[len(missing) :]
+    return f"{line.name}: {len(surplus)} more than its {len(line.values)} values: {' '.join(map(quoted, surplus))}"
 
 
 def quoted(word: str) -> str:

@@ -87,19 +87,19 @@ def asked(
     words: list[str],
     journal: "Journal | None" = None,
     ask: Callable[[list[str]], Answer] | None = None,
-    **more: Any,
+    **members: Any,
 ) -> Answer:
     """What `toll` answers; of a command it stands in the journal before it is asked, with what more there is to note,
     and behind. What an earlier file of the office has already isn't asked, nor what the plant's quality stops."""
     if known := known_earlier(office, line, words):
-        if "notes" in more and not known.status:
-            (journal or context.journal()).note(office.file, [line.name, *words], **more)
+        if "notes" in members and not known.status:
+            (journal or context.journal()).note(office.file, [line.name, *words], **members)
         return known
     if line.is_question:
         return office.ask_patiently([line.name, *words])
     if stopped := stopped_by_quality(context, line, words):
         return stopped
-    return given(context, office, line, words, journal, ask, **more)
+    return given(context, office, line, words, journal, ask, **members)
 
 
 def stopped_by_quality(context: Context, line: Line, words: list[str]) -> Answer | None:
@@ -116,12 +116,12 @@ def given(
     words: list[str],
     journal: "Journal | None" = None,
     ask: Callable[[list[str]], Answer] | None = None,
-    **more: Any,
+    **members: Any,
 ) -> Answer:
     """What `toll` answers to a command, which stands in the journal before and behind."""
     journal = journal or context.journal()
     blotted = [BLOTTED if line.name == OWNER_ADD and name == "KEY" else word for name, word in zip(line.values, words)]
-    entry = journal.asked(office.file, [line.name, *blotted], **more)
+    entry = journal.asked(office.file, [line.name, *blotted], **members)
     answer = office.ask_patiently([line.name, *words], ask)
     journal.answered(entry, answer)
     return answer

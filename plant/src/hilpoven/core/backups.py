@@ -258,10 +258,10 @@ def stop_on_server(file: str, place: Place) -> None:
         raise Failure(f"{file} is open in process {processes}", FAULT, advice)
 
 
-def move_aside(file: str, *more: str) -> str:
+def move_aside(file: str, *others: str) -> str:
     """Moves a file, then its log, then its register, which is made anew, and other files into a new folder beside it;
     its path, empty where nothing was there."""
-    moved = [path for path in [*(file + end for end in (*BELONGING, *REGISTER)), *more] if os.path.lexists(path)]
+    moved = [path for path in [*(file + end for end in (*BELONGING, *REGISTER)), *others] if os.path.lexists(path)]
     if not moved:
         return ""
     stamp = time.strftime("%Y%m%d-%H%M%S", time.gmtime())

@@ -94,7 +94,7 @@ class Site:
     office: int  # the port of its server
     files: dict[str, str] = field(default_factory=page_files)
     # what else an owner gets whose key is right: by its name, and the tag of what it has
-    more: dict[str, Callable[[str, str], Reply]] = field(default_factory=dict)
+    owner_replies: dict[str, Callable[[str, str], Reply]] = field(default_factory=dict)
 
     def reply(self, method: str, target: str, fields: dict[str, list[str]], body: bytes) -> Reply:
         """The reply to a request."""
@@ -105,7 +105,7 @@ class Site:
             return Reply(200, JSON, b'{"idle_minutes":0}')
         if path.startswith("/owner/"):
             return self.file_at(path) if method in ("GET", "HEAD") else failure(405, "MethodNotAllowed")
-        if path in self.more:
+        if path in self.owner_replies:
             return self.of_owner(method, path, fields)
         return self.of_office(method, target, fields, body)
 
@@ -115,7 +115,7 @@ class Site:
             return failure(405, "MethodNotAllowed", ("Allow", "GET"))
         known = self.of_office("GET", "/orders", fields, b"")
         owner, tags = fields[OWNERS[0]], fields[KNOWN]
-        return known if known.status != 200 else self.more[path](owner[0].strip(), tags[0] if tags else "")
+        return known if known.status != 200 else self.owner_replies[path](owner[0].strip(), tags[0] if tags else "")
 
     def file_at(self, path: str) -> Reply:
         """A file of the page."""
@@ -136,8 +136,8 @@ class Site:
             peer.endheaders(body)
             reply = peer.getresponse()
             allowed = reply.getheader("allow")
-            kind, more = reply.getheader("content-type", PLAIN), (("Allow", allowed),) if allowed else ()
-            return Reply(reply.status, kind, reply.read(), more)
+            kind, headers = reply.getheader("content-type", PLAIN), (("Allow", allowed),) if allowed else ()
+            return Reply(reply.status, kind, reply.read(), headers)
         except (http.client.InvalidURL, ValueError):
             return failure(400, "BadRequest")
         except (http.client.HTTPException, OSError):

@@ -58,7 +58,7 @@ class Note:
     """What is noted at the end of something that is under way: the answer, and what more there is to say."""
 
     answer: Answer = DONE
-    more: dict[str, Any] = field(default_factory=dict)
+    members: dict[str, Any] = field(default_factory=dict)
 
 
 class Journal:
@@ -69,13 +69,13 @@ class Journal:
         self.unnoted = [] if unnoted is None else unnoted  # why answers couldn't be noted
         self.is_series, self.held = False, list[dict[str, Any]]()  # answers that go to the disk with the next line
 
-    def asked(self, file: str, words: list[str], **more: Any) -> str:
+    def asked(self, file: str, words: list[str], **members: Any) -> str:
         """Adds what is about to be asked of `toll`, and gives the name by which the answer refers to it."""
         name = os.urandom(8).hex()
-        self.add({"event": "asked", "id": name, **doer(file), "words": words, **more})
+        self.add({"event": "asked", "id": name, **doer(file), "words": words, **members})
         return name
 
-    def answered(self, name: str, answer: Answer, **more: Any) -> None:
+    def answered(self, name: str, answer: Answer, **members: Any) -> None:
         """Adds what was answered. It is done already: where it can't be noted, that is told at the end, behind the
         answer."""
         self.held.append(
@@ -85,7 +85,7 @@ class Journal:
                 "status": answer.status,
                 "answer": answer.output,
                 "error": answer.error,
-                **more,
+                **members,
             }
         )
         if not self.is_series:
@@ -106,10 +106,10 @@ class Journal:
             self.is_series = False
             self.add_held()
 
-    def note(self, file: str, words: list[str], **more: Any) -> str:
+    def note(self, file: str, words: list[str], **members: Any) -> str:
         """Adds notes of the plant, of which nothing is asked of `toll`, and gives the name of the first one."""
         name = os.urandom(8).hex()
-        self.add({"event": "note", "id": name, **doer(file), "words": words, **more})
+        self.add({"event": "note", "id": name, **doer(file), "words": words, **members})
         return name
 
     def exported(self, file: str, words: list[str]) -> None:
@@ -117,9 +117,9 @@ class Journal:
         self.add({"event": "exported", **doer(file), "words": words})
 
     @contextlib.contextmanager
-    def noted(self, file: str, words: list[str], **more: Any) -> Iterator[Note]:
+    def noted(self, file: str, words: list[str], **members: Any) -> Iterator[Note]:
         """Adds what is about to be done, and at the end what came of it, also where it fails or is stopped."""
-        name, note = self.asked(file, words, **more), Note()
+        name, note = self.asked(file, words, **members), Note()
         try:
             yield note
         except BaseException as error:
@@ -127,7 +127,7 @@ class Journal:
             status = error.exit_code if isinstance(error, Failure) else FAULT
             self.answered(name, Answer(status, "" if note.answer is DONE else note.answer.output, f"{why}\n"))
             raise
-        self.answered(name, note.answer, **note.more)
+        self.answered(name, note.answer, **note.members)
 
     def add(self, *entries: dict[str, Any]) -> None:
         """Adds lines, behind the answers that are held. They are on the disk when this returns; where they can't be

@@ -36,8 +36,8 @@ def csv_of(cells: Iterable[Row], end: str = "\n") -> str:
 def with_texts(columns: Sequence[str], rows: Sequence[Row]) -> tuple[list[str], list[Row]]:
     """A table with the texts of its numbers that people read otherwise, in columns behind it."""
     places = [at for at in range(len(columns)) if any(isinstance(row[at], Shown) for row in rows)]
-    more = [f"noted_{columns[at]}" for at in places]
-    return [*columns, *more], [[*row, *(plain_text(row[at]) for at in places)] for row in rows]
+    text_columns = [f"noted_{columns[at]}" for at in places]
+    return [*columns, *text_columns], [[*row, *(plain_text(row[at]) for at in places)] for row in rows]
 
 
 def plain_text(value: Value) -> str:

@@ -130,8 +130,8 @@ def until(why: Wait, day: int) -> str:
 
 def what_of(lot: Lot, waits: str) -> str:
     """How much of a lot is on hand, and what it waits for."""
-    more = f", {waits}" if lot.disposition == Disposition.QUARANTINED else ""
-    return f"{lot.on_hand:,} {lot.measure} {lot.disposition.word}{more}"
+    reason = f", {waits}" if lot.disposition == Disposition.QUARANTINED else ""
+    return f"{lot.on_hand:,} {lot.measure} {lot.disposition.word}{reason}"
 
 
 def why_linked(links: list[Link]) -> str:
@@ -152,5 +152,5 @@ def waits_for(source: Source, known: Known, lot: Lot) -> tuple[Wait, str]:
     missing = [f"no {test.name} yet" for test in own if not test.is_out]
     texts = [*failed, *missing, *([] if is_signed else ["no signature yet"])]
     why = Wait.FAILED if failed else Wait.RESULT if missing else Wait.RELEASE if is_signed else Wait.SIGNATURE
-    more = f", and {len(texts) - 1} more" if texts[1:] else ""
-    return why, f"{texts[0]}{more}" if texts else "for its release"
+    rest = f", and {len(texts) - 1} more" if texts[1:] else ""
+    return why, f"{texts[0]}{rest}" if texts else "for its release"

@@ -92,7 +92,7 @@ class Printed(NamedTuple):
 
     kind: str
     text: str
-    more: list[tuple[str, str]]
+    additions: list[tuple[str, str]]
 
 
 @dataclass
@@ -153,11 +153,11 @@ class Sheet:
         cells = [
             [
                 Printed(
-                    self.kind_on_paper(kind, [line[first], *(line[at] for at in more)]),
+                    self.kind_on_paper(kind, [line[first], *(line[at] for at in others)]),
                     line[first],
-                    [(self.columns[at].place, line[at]) for at in more if line[at]],
+                    [(self.columns[at].place, line[at]) for at in others if line[at]],
                 )
-                for kind, first, more in spans
+                for kind, first, others in spans
             ]
             for line in lines
         ]

@@ -69,9 +69,9 @@ def with_facts(columns: Sequence[str], rows: list[Row], facts: Facts) -> tuple[l
 
 
 def with_columns(
-    columns: Sequence[str], rows: Sequence[Row], more: Sequence[str], cells: Sequence[Row]
+    columns: Sequence[str], rows: Sequence[Row], new_columns: Sequence[str], cells: Sequence[Row]
 ) -> tuple[list[str], list[Row]]:
     """A table with more columns behind it; unchanged if nothing stands in them."""
     if not any(map(any, cells)):
         return list(columns), list(rows)
-    return [*columns, *more], [(*row, *added) for row, added in zip(rows, cells)]
+    return [*columns, *new_columns], [(*row, *added) for row, added in zip(rows, cells)]

@@ -40,5 +40,5 @@ class Received:
     def named(self) -> str:
         """The documents, as far as they are named."""
         names = list(self.documents)
-        more = len(names) - MOST_DOCUMENTS
-        return "; ".join([*names[:MOST_DOCUMENTS], *([f"{more:,} more"] if more > 0 else [])])
+        unnamed = len(names) - MOST_DOCUMENTS
+        return "; ".join([*names[:MOST_DOCUMENTS], *([f"{unnamed:,} more"] if unnamed > 0 else [])])

@@ -95,8 +95,8 @@ def position_of(log: dict[str, Any] | None) -> Position | None:
     if log is None:
         return None
     (salt, other), (first, second) = log["salts"], log["sums"]
-    more = {name: log[name] for name in ("checkpoint", "page_size", "is_big", "frames")}
-    return Position(salts=(salt, other), sums=(first, second), **more)
+    fields = {name: log[name] for name in ("checkpoint", "page_size", "is_big", "frames")}
+    return Position(salts=(salt, other), sums=(first, second), **fields)
 
 
 def as_values(place: Position | None) -> dict[str, Any] | None:

@@ -116,10 +116,10 @@ def why_it_stays(base: sqlite3.Connection, owner: str) -> list[str]:
     reasons = [
         f"{owner} has {amount:,} {measure} of {lot} {sublot}: ship or scrap it" for lot, sublot, amount, measure in held
     ]
-    more = [f"{owner} has {len(held) - MOST_HELD:,} more sublots that hold something"] if held[MOST_HELD:] else []
+    rest = [f"{owner} has {len(held) - MOST_HELD:,} more sublots that hold something"] if held[MOST_HELD:] else []
     waiting = base.execute(steps.WAITING, (owner,)).fetchall()
     orders = [f"order {order} of {owner} waits: cancel it" for order, in waiting]
-    return [*reasons[:MOST_HELD], *more, *orders]
+    return [*reasons[:MOST_HELD], *rest, *orders]
 
 
 def carry_over(work: Work, note: Callable[[str], None]) -> exchanging.Exchange | None:
