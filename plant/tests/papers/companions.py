@@ -3,11 +3,13 @@ import json
 import pathlib
 import re
 import shutil
+from dataclasses import replace
 from typing import Any
 
 from conftest import Plant
 from hilpoven.core import settings as site
 from hilpoven.journal.log import Journal
+from hilpoven.register import standing
 from hilpoven.register.facts import LotFacts, MaterialFacts, MovementFacts, OwnerFacts, ResultFacts, TestFacts
 from hilpoven.register.kinds import Bound, Role, Why
 from hilpoven.register.note import Note
@@ -136,6 +138,13 @@ class Known(Filled):
         figures = {number for number in map(int, re.findall(r"\d+", text)) if number >= FIGURE}
         assert figures <= self.own_figures(owner), (owner, figures - self.own_figures(owner))
 
+    def look_at_notes(self) -> None:
+        """The notes of all owners in one go are those of each."""
+        with self.plant.reading() as base:
+            register = replace(standing.standing(Journal(str(self.plant.journal), str(self.plant.db)), base), plants_test=QA)
+        by_owner = register.by_owner()
+        assert by_owner == {owner: register.of(owner) for owner in by_owner} and set(self.owners) <= by_owner.keys()
+
     def links_of(self, owner: str) -> list[Link]:
         """The links that the journal has of an owner, with those that were withdrawn."""
         from hilpoven.register.notes import from_json
@@ -218,6 +227,7 @@ class Known(Filled):
 def try_office(program: str, folder: pathlib.Path, seed: int) -> Known:
     """Looks at the companions of an office."""
     office = Known(program, folder, seed)
+    office.look_at_notes()
     for owner, companion in office.companions().items():
         office.look_for_others(owner, companion)
         office.look_at_rows(owner, companion)

@@ -55,5 +55,6 @@ def subjects(base: Base, register: Register) -> Iterator[Subject]:
     own: dict[str, dict[LotId, quality.Status]] = {}
     for lot, status in quality.statuses(base, register).items():
         own.setdefault(lot.owner, {})[lot] = status
+    registers, nothing = register.by_owner(), Register(plants_test=register.plants_test)
     for owner in owners_of(base):
-        yield Subject(owner, base, register.of(owner), own.get(owner, {}))
+        yield Subject(owner, base, registers.get(owner, nothing), own.get(owner, {}))

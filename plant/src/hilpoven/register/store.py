@@ -1,6 +1,7 @@
 """The notes that stand, by what they are about."""
+from collections import defaultdict
 from dataclasses import dataclass, field
-from typing import TypeVar
+from typing import Any, TypeVar
 
 from ..records.rows import LotId
 from .facts import LotFacts, MaterialFacts, MovementFacts, OwnerFacts, RecipeFacts, ResultId, TestFacts
@@ -59,3 +60,19 @@ class Register:
             own(self.recipes),
             self.plants_test,
         )
+
+    def by_owner(self) -> dict[str, "Register"]:
+        """The notes of each owner that has some. They are those that `of` gives, and all notes are looked at once."""
+        members: defaultdict[str, dict[str, Any]] = defaultdict(dict)
+        for name, notes in vars(self).items():
+            if isinstance(notes, list):
+                for note in notes:
+                    members[note.owner].setdefault(name, []).append(note)
+            elif isinstance(notes, set):
+                for key in notes:
+                    members[key[0]].setdefault(name, set()).add(key)
+            elif isinstance(notes, dict):
+                for key, note in notes.items():
+                    owner = key if isinstance(key, str) else key[0]
+                    members[owner].setdefault(name, {})[key] = note
+        return {owner: Register(**of_owner, plants_test=self.plants_test) for owner, of_owner in members.items()}
