@@ -34,6 +34,8 @@ def quoted(letter: str) -> str:
 
 def others(word: str, allowed: str) -> list[str]:
     """The letters of a word that aren't allowed, each once; lower-case ones together."""
+    if not word.strip(allowed):
+        return []
     strange = list(dict.fromkeys(letter for letter in word if letter not in allowed))
     lower = [letter for letter in strange if letter in SMALL]
     named = ["a lower-case letter" if len(lower) == 1 else "lower-case letters"] if lower else []
@@ -116,8 +118,10 @@ def text_fault(word: str) -> str:
     """What is wrong with a text of the plant's own, such as a reason."""
     if len(word) > MOST_LETTERS:
         return f"has {len(word):,} letters; a text has at most {MOST_LETTERS}"
+    if word.isprintable():
+        return ""
     strange = [quoted(letter) for letter in dict.fromkeys(word) if not letter.isprintable()]
-    return f"has {listed(strange)}; a text is one line that can be printed" if strange else ""
+    return f"has {listed(strange)}; a text is one line that can be printed"
 
 
 def choice_fault(*words: str) -> Callable[[str], str]:

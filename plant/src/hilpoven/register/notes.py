@@ -199,6 +199,8 @@ ALL: tuple[type[Note], ...] = (
     *DESCRIPTIONS,
 )
 KINDS = {kind.KIND: kind for kind in ALL}
+# The members that a note of each kind may have, and whether it has to have them.
+KNOWN = {kind: {member.name: member.default is MISSING for member in fields(kind)} for kind in ALL}
 MOST_ALLOWANCE = 1_000  # tenths of a percent
 MAY_BE_ZERO = {"value", "day"}  # members of which 0 says something
 
@@ -259,7 +261,7 @@ def from_json(value: Any) -> Note | None:
     if kind is None:
         return None
     members = {name: member for name, member in value.items() if name != "kind"}
-    known = {field.name: field for field in fields(kind)}
+    known = KNOWN[kind]
     if members.keys() - known.keys():
         return None
     try:
@@ -268,7 +270,7 @@ def from_json(value: Any) -> Note | None:
     except ValueError:
         return None
     members = {**(OF_LINKS if kind is Link else {}), **members}
-    if any(field.default is MISSING and name not in members for name, field in known.items()):
+    if any(is_needed and name not in members for name, is_needed in known.items()):
         return None
     note = kind(**members)
     return note if is_whole(note) else None
