@@ -145,11 +145,11 @@ CHANGES = {
 def test_a_change_shows_in_the_files_that_it_changes_and_in_no_other(at_work, folder, change):
     """Otherwise an owner would see when others work."""
     refresh(at_work, folder)
-    before = states(folder)
+    count = len(states(folder)) + (change == "a new owner")
     time.sleep(0.03)
     do, owners = CHANGES[change]
     do(at_work)
-    count = len(before) + (change == "a new owner")
+    before = states(folder)
     assert refresh(at_work, folder) == f"{len(owners)} written, {count - len(owners)} as before, 0 removed"
     after = states(folder)
     assert {name.removesuffix(".json") for name in after if after[name] != before.get(name)} == owners
