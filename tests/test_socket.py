@@ -759,8 +759,12 @@ def test_what_is_accepted_while_servers_come_and_go_is_there_once(at_work: Offic
                 return
             answers[key] = receipt(key)
 
+    def accepted() -> list[str]:
+        return [key for key, answer in list(answers.items()) if answer == ACCEPTED]
+
     with meanwhile(*(functools.partial(receive, name) for name in "XYZ")):
-        for turn in range(20):
+        # twenty servers, and more of them where the machine is too busy for many commands
+        for turn in itertools.takewhile(lambda turn: turn < 20 or len(accepted()) <= 20, range(200)):
             with at_work.serve(count=2 if turn % 3 else 1_000_000) as server:
                 time.sleep(chance.uniform(0, 0.3))
                 if turn % 3:
@@ -768,6 +772,6 @@ def test_what_is_accepted_while_servers_come_and_go_is_there_once(at_work: Offic
                         server.ask(ORDERS)
                     server.has_ended(PATIENCE)
             time.sleep(chance.uniform(0, 0.1))
-    done = [key for key, answer in answers.items() if answer == ACCEPTED]
+    done = accepted()
     assert set(answers.values()) <= {ACCEPTED, LOCKED, LOST} and len(done) > 20
     assert {key: again for key in done if (again := receipt(key)) != REPEATED} == {}
