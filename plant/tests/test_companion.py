@@ -1,7 +1,9 @@
 """The command `companion`: when it writes which files, for whom they can be read, and what it leaves alone."""
+import contextlib
 import json
 import os
 import pathlib
+import sqlite3
 import subprocess
 import time
 
@@ -85,6 +87,35 @@ def test_it_says_what_was_recorded_and_noted(at_work, folder):
     assert "plant" not in companion and companion["version"] == 1 and companion["owner"] == "ACME"
     assert {row["what"]: (row["count"], row["most"]) for row in companion["full"]}["movements"] == (6, 20_000)
     assert companion_of(folder, "BOLT")["parties"] == companion_of(folder, "BOLT")["links"] == companion_of(folder, "BOLT")["reasons"] == []
+
+
+PRINTED = ('a "wet" bag', "C:\\new\\t", "Größe – 漢字 \U0001f6a2", "</script>&amp;", "{}[]:,")  # what a note may say
+WRITTEN = (*PRINTED, "two\tcolumns\nand a line", "\x01\x1f\x7f\u2028")  # what a file may have, though `toll` doesn't write it
+
+
+def test_whatever_letters_a_text_has_each_file_is_plain_json(at_work, folder):
+    for words in NOTES:
+        assert at_work.run(*words).status == 0, words
+    for number, text in enumerate(PRINTED):
+        for words in (("receive", "ACME", f"K2{number}", "SALT", f"S-2{number}", "BAY1", 70, 261101, "--document", text, "--supplier-lot", text),
+                      ("hold", "ACME", f"S-2{number}", "--reason", text)):
+            done = at_work.run(*words)
+            assert done.status == 0, done
+    with contextlib.closing(sqlite3.connect(at_work.db)) as base, base:
+        base.executemany("INSERT INTO moves VALUES ('ACME', ?, 4, 'ACME', 'B-1', ?, ?, ?, ?, 1, 1, 5, 101)", [(f"K3-{text}", *[text] * 4) for text in WRITTEN])
+        base.executemany("INSERT INTO lots VALUES ('ACME', ?, ?, ?, 1, 0)", [(text, text, text) for text in WRITTEN])
+        base.executemany("INSERT INTO tests VALUES ('ACME', ?, ?, 0, 9)", [(text, text) for text in WRITTEN])
+        base.executemany("INSERT INTO results VALUES ('ACME', ?, ?, 1, 10, 101)", [(text, text) for text in WRITTEN[::2]])
+    refresh(at_work, folder)
+    text = (folder / "ACME.json").read_text()
+    assert text == json.dumps(companion := json.loads(text), ensure_ascii=False, separators=(",", ":"))
+    moves, lots = ({row[name]: row for row in companion[many]} for many, name in (("movements", "key"), ("lots", "lot")))
+    for number, text in enumerate(PRINTED):
+        assert (moves[f"K2{number}"]["document"], moves[f"K2{number}"]["supplierLot"], lots[f"S-2{number}"]["held"]["text"]) == (text, text, text)
+    for number, text in enumerate(WRITTEN):
+        assert [moves[f"K3-{text}"][name] for name in ("sublot", "toSublot", "material", "order")] == [lots[text][name] for name in ("lot", "lot", "material", "order")] == [text] * 4
+        why = {"test": text, "reason": "above", "value": 10, "limit": 9} if number % 2 == 0 else {"test": text, "reason": "missing"}
+        assert lots[text]["release"] == {"possible": False, "why": [why]}
 
 
 def test_recipients_of_shipments_are_named(at_work, folder):

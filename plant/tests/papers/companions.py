@@ -124,7 +124,10 @@ class Known(Filled):
         done = self.plant.run("companion", "--out", folder)
         assert (done.status, done.err) == (0, ""), done
         assert sorted(path.name for path in folder.iterdir() if path.suffix == ".json") == sorted(f"{owner}.json" for owner in self.owners)
-        return {owner: json.loads((folder / f"{owner}.json").read_text()) for owner in self.owners}
+        texts = {owner: (folder / f"{owner}.json").read_text() for owner in self.owners}
+        values = {owner: json.loads(text) for owner, text in texts.items()}
+        assert texts == {owner: json.dumps(value, ensure_ascii=False, separators=(",", ":")) for owner, value in values.items()}
+        return values
 
     def look_for_others(self, owner: str, companion: dict) -> None:
         """No word of others is in an owner's companion, and no figure that isn't its own."""

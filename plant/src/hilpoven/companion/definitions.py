@@ -2,7 +2,6 @@
 from collections import defaultdict
 
 from .. import HOUSE
-from ..records.descriptions import facts_of_test
 from ..records.gauge import OF_OWNER
 from ..records.schema import Role
 from .subject import Limits, Subject, Value, filled
@@ -16,10 +15,6 @@ SELECT material, measure FROM materials WHERE owner = '{HOUSE}' AND material IN 
 ORDER BY material
 """
 RECIPES = "SELECT recipe, segments FROM recipes WHERE owner = ? ORDER BY recipe"
-LINES = """
-SELECT recipe, segment, role, source, material, amount FROM requirements WHERE owner = ?
-ORDER BY recipe, segment, role, source, material
-"""
 
 
 def gauges(subject: Subject) -> list[Value]:
@@ -65,22 +60,18 @@ def materials(subject: Subject) -> list[Value]:
 
 def test_of(subject: Subject, material: str, test: Limits) -> Value:
     """A test with its limits, and what is noted of it."""
-    facts = facts_of_test(subject.register, subject.owner, material, test.test)
-    return filled(
-        test=test.test,
-        low=test.low,
-        high=test.high,
-        description=facts.name,
-        unit=facts.unit,
-        method=facts.method,
-        decimals=facts.decimals or None,
-    )
+    limits = {"test": test.test, "low": test.low, "high": test.high}
+    facts = subject.register.tests.get((subject.owner, material, test.test))
+    if not facts:
+        return limits
+    noted = filled(description=facts.name, unit=facts.unit, method=facts.method, decimals=facts.decimals or None)
+    return limits | noted
 
 
 def recipes(subject: Subject) -> list[Value]:
     """Its recipes, with what one batch consumes and produces."""
     lines: defaultdict[str, list[Value]] = defaultdict(list)
-    for recipe, segment, role, source, material, amount in subject.rows(LINES):
+    for recipe, segment, role, source, material, amount in subject.lines:
         place = {"segment": segment, "use": Role(role).word, "owner": source, "material": material}
         lines[recipe].append({**place, "amount": amount})
     return [

@@ -1,6 +1,6 @@
 """An owner's lots: what is on hand, whether `toll` would release them now and else why not, and what the plant says."""
 from collections import defaultdict
-from collections.abc import Callable, Mapping
+from collections.abc import Callable
 from functools import cache
 
 from ..records.rows import LotId
@@ -8,23 +8,22 @@ from ..records.schema import Disposition
 from ..register.quality import State, Status
 from .subject import Limits, Subject, Value, filled
 
-LOTS = "SELECT lot, material, ord, number, disposition FROM lots WHERE owner = ? ORDER BY lot"
 ON_HAND = "SELECT lot, sum(amount) FROM sublots WHERE owner = ? GROUP BY lot"
-# All results of the lots that may be released, so that the last one of each test is its latest.
+# All results of the lots that may be released, so that the last one of each test is its latest. The lots come first:
+# what was released has most results.
 RESULTS = f"""
-SELECT r.lot, r.test, r.value FROM results AS r JOIN lots AS l USING (owner, lot)
-WHERE r.owner = ? AND l.disposition = {Disposition.QUARANTINED:d} ORDER BY r.lot, r.test, r.number
+SELECT r.lot, r.test, r.value FROM lots AS l CROSS JOIN results AS r USING (owner, lot)
+WHERE l.owner = ? AND l.disposition = {Disposition.QUARANTINED:d} ORDER BY l.lot, r.test, r.number
 """
 DISPOSITIONS = {int(code): code.word for code in Disposition}
 UNSIGNED, MISSING = "unsigned", "missing"
-Results = Mapping[str, int]  # the latest value of each test of a lot
 
 
 def lots(subject: Subject) -> list[Value]:
     """Its lots, by name."""
     on_hand, release, bounds = dict(subject.rows(ON_HAND)), releases(subject), bounds_of(subject)
     values = []
-    for name, material, order, number, code in subject.rows(LOTS):
+    for name, material, order, number, code in subject.lots:
         disposition = DISPOSITIONS.get(code) or Disposition(code).word
         lot = {"lot": name, "material": material, "disposition": disposition, "amount": on_hand.get(name, 0)}
         if order:
@@ -58,14 +57,24 @@ def releases(subject: Subject) -> Callable[[str, str], Value]:
         latest[lot][test] = value
 
     @cache
+    def missing(test: Limits) -> Value:
+        """That a test has no result. The plant's own one isn't named, and its result would be a signature."""
+        return {"reason": UNSIGNED} if test.is_plants else {"test": test.test, "reason": MISSING}
+
+    @cache
     def untested(material: str) -> Value:
         return said_of([missing(test) for test in subject.tests.get(material, [])])
 
     def release(lot: str, material: str) -> Value:
         if lot not in latest:
             return untested(material)
-        tests, status = subject.tests.get(material, []), subject.statuses.get(LotId(subject.owner, lot))
-        return said_of([why for test in tests if (why := fault_of(test, latest[lot].get(test.test), status))])
+        values, status, why = latest[lot], subject.statuses.get(LotId(subject.owner, lot)), []
+        for test in subject.tests.get(material, []):
+            if (value := values.get(test.test)) is None:
+                why.append(missing(test))
+            elif not test.low <= value <= test.high:
+                why.append(fault_of(test, value, status))
+        return said_of(why)
 
     return release
 
@@ -75,17 +84,8 @@ def said_of(why: list[Value]) -> Value:
     return {"possible": False, "why": why} if why else {"possible": True}
 
 
-def missing(test: Limits) -> Value:
-    """That a test has no result. The plant's own one isn't named, and its result would be a signature."""
-    return {"reason": UNSIGNED} if test.is_plants else {"test": test.test, "reason": MISSING}
-
-
-def fault_of(test: Limits, value: int | None, status: Status | None) -> Value:
-    """Why a test, of which this is the latest value, lets a lot not be released; nothing if it may be."""
-    if value is None:
-        return missing(test)
-    if test.low <= value <= test.high:
-        return {}
+def fault_of(test: Limits, value: int, status: Status | None) -> Value:
+    """Why a test, of which this is the latest value, beyond its limits, lets a lot not be released."""
     if test.is_plants:
         return filled(reason="plant-hold", text=status.reason if status else "")
     reason, limit = ("below", test.low) if value < test.low else ("above", test.high)

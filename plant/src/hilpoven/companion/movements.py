@@ -4,13 +4,6 @@ from ..records.rows import lots_of
 from ..records.schema import Kind
 from .subject import Subject, Value, filled
 
-# The owner's movements in the order in which they were recorded.
-MOVES = """
-SELECT mkey, kind, lot_owner, lot, sublot, target, material, ord, number, segment, amount, day
-FROM moves WHERE owner = ? ORDER BY rowid
-"""
-VOIDED = "SELECT mkey FROM voids WHERE owner = ?"
-MATERIALS = "SELECT lot, material FROM lots WHERE owner = ?"
 ACTUAL = "actual"
 NAMES = {Kind.RECEIVE: "receipt", Kind.SPLIT: "split", Kind.SHIP: "shipment", Kind.SCRAP: "scrap"}
 # What a movement of each kind is called, and the use of an actual.
@@ -20,10 +13,9 @@ WORDS = {int(kind): (NAMES.get(kind, ACTUAL), kind.word) for kind in Kind}
 def movements(subject: Subject) -> list[Value]:
     """Its movements, in the order in which they were recorded, with the parties and documents that were noted. Members
     that a kind doesn't have are left out."""
-    values, facts = [], subject.register.facts
-    voided = {key for key, in subject.rows(VOIDED)}
-    materials = dict(subject.rows(MATERIALS))  # only receipts and actuals name theirs
-    for key, kind, lot_owner, lot, sublot, target, material, order, number, segment, amount, day in subject.rows(MOVES):
+    values, voided, facts = [], subject.voided, subject.register.facts
+    materials = {lot: material for lot, material, *_ in subject.lots}  # only receipts and actuals name theirs
+    for key, kind, lot_owner, lot, sublot, target, material, order, number, segment, amount, day in subject.moves:
         name, use = WORDS.get(kind) or (NAMES[Kind(kind)], "")
         move = {"key": key, "kind": name, "day": day, "lot": lot, "lotOwner": lot_owner, "sublot": sublot}
         move["amount"], move["material"] = amount, material or materials[lot]

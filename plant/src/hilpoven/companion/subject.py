@@ -9,7 +9,19 @@ from ..register import quality
 from ..register.store import Register
 
 Value = dict[str, Any]
+Row = tuple[Any, ...]
 TESTS = "SELECT material, test, low, high FROM tests WHERE owner = ? ORDER BY material, test"
+LINES = """
+SELECT recipe, segment, role, source, material, amount FROM requirements WHERE owner = ?
+ORDER BY recipe, segment, role, source, material
+"""
+LOTS = "SELECT lot, material, ord, number, disposition FROM lots WHERE owner = ? ORDER BY lot"
+# In the order in which they were recorded, which is that of the table: what is sorted are its numbers alone.
+MOVES = """
+SELECT mkey, kind, lot_owner, lot, sublot, target, material, ord, number, segment, amount, day
+FROM moves WHERE rowid IN (SELECT rowid FROM moves WHERE owner = ?) ORDER BY rowid
+"""
+VOIDED = "SELECT mkey FROM voids WHERE owner = ?"
 
 
 class Limits(NamedTuple):
@@ -24,7 +36,8 @@ class Limits(NamedTuple):
 
 @dataclass
 class Subject:
-    """An owner, the tables of a copy, its own notes, and what the plant's quality says of its own lots."""
+    """An owner, the tables of a copy, its own notes, and what the plant's quality says of its own lots. What several
+    members are made of is read once."""
 
     owner: str
     base: Base
@@ -43,6 +56,26 @@ class Subject:
             limits = Limits(test, low, high, quality.is_plants(self.register, test, low, high))
             by_material.setdefault(material, []).append(limits)
         return by_material
+
+    @cached_property
+    def lines(self) -> list[Row]:
+        """What its recipes consume and produce."""
+        return list(self.rows(LINES))
+
+    @cached_property
+    def lots(self) -> list[Row]:
+        """Its lots, by name."""
+        return list(self.rows(LOTS))
+
+    @cached_property
+    def moves(self) -> list[Row]:
+        """Its movements, in the order in which they were recorded."""
+        return list(self.rows(MOVES))
+
+    @cached_property
+    def voided(self) -> set[str]:
+        """The keys of its movements that are void."""
+        return {key for key, in self.rows(VOIDED)}
 
 
 def filled(**members: Any) -> Value:
