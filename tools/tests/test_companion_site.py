@@ -142,7 +142,8 @@ def test_what_is_unchanged_is_told_in_a_line(site):
         assert reply.status == status and (reply.body == b"") == (status == 304), (owner, tag)
         assert reply.fields["cache-control"] == "no-store" and "etag" in reply.fields
     assert ask(site, "/companion", toll_owner="ACME", toll_key="BOLTKEY1", if_none_match=first.fields["etag"], x_address="198.51.100.101").status == 403
-    assert site.get("ACME", if_match='"another"').value() == {"error": "BadRequest"}
+    reply = site.get("ACME", if_match='"another"')
+    assert (reply.status, reply.value()) == (412, {"error": "BadRequest"})
 
 
 def test_a_change_of_one_owner_shows_in_its_own_alone(site):
