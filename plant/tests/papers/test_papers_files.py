@@ -1,0 +1,56 @@
+"""The files of papers have the names that docs/papers.md gives them."""
+import pathlib
+import re
+
+from conftest import ROOT, Plant
+
+PAGE = (ROOT / "docs" / "papers.md").read_text()
+(TABLE,) = re.findall(r"\| document \| page \| tables \|.*\n\|[-|]+\n((?:\|.*\n)+)", PAGE)
+FILES = {name: (page, set(tables.split()), set(more.split())) for name, page, tables, more in (map(str.strip, row.split("|")[1:-1]) for row in TABLE.splitlines())}
+WORDS = {
+    "recall": "recall HOUSE W-101", "batch record": "batch ACME O-1 1", "certificate": "certificate ACME B-1", "delivery note": "delivery-note ACME K9", "lot card": "lot ACME S-1",
+    "statement": "statement ACME --from 100 --to 9999999", "settlement": "settlement ACME --from 0 --to 9999999", "takeout": "takeout ACME"}
+SHIPPED = "ship ACME K9 S-1 BAY1 5 105"
+NOTES = ("party add ACME NORD --name Nord --role customer", "receive ACME K7 BRINE B-2 BAY1 70 105 --of B-1 --why return --document D-1", "ship ACME K8 S-1 BAY1 5 99 --to NORD --yes",
+         "describe lot ACME B-1 --made 261101", "describe recipe ACME BRINE-10 --allowance 1", "hold ACME B-1 --reason wet", "link ACME B-1 S-1 --why rework --amount 5", "void ACME K2 --reason wrong",
+         "result ACME B-1 PH 5 105", "use ACME O-1 1 HOUSE W-101 TANK 5 105", "do ACME O-1 1 hold --reason pump")
+
+
+def look_at(document: str, folder: pathlib.Path) -> set[str]:
+    """The tables of a document that may be missing, and aren't. The others are always there."""
+    page, tables, more = FILES[document]
+    names = {path.name for path in folder.iterdir()} - {"recall.txt"}
+    there = {name.removesuffix(".csv") for name in names if name.endswith(".csv")}
+    assert names == {f"{page}.html", *(f"{name}.csv" for name in there)} and tables <= there <= tables | more, (document, names)
+    if document != "recall":  # in which all owners have the same tables, once the plant noted parties
+        assert all(len((folder / f"{name}.csv").read_text().splitlines()) > 1 for name in there & more)
+    return there & more
+
+
+def tables_of(plant: Plant, folder: str) -> dict[str, set[str]]:
+    """The tables of each document but the drill's that may be missing, and aren't."""
+    made: dict[str, set[str]] = {}
+    for document, words in WORDS.items():
+        target = plant.folder / folder / document
+        done = plant.run("papers", *words.split(), target, "--no-pdf")
+        assert done.status == 0, done
+        made[document] = set().union(*(look_at(document, below) for below in ([target / "plant", *(target / "owners").iterdir()] if document == "recall" else [target])))
+    return made
+
+
+def test_papers_have_the_files_that_the_page_names(at_work):
+    (at_work.folder / "plain").mkdir()
+    (at_work.folder / "noted").mkdir()
+    plain = tables_of(at_work.lay(SHIPPED), "plain")
+    for words in NOTES:
+        done = at_work.run(*words.split())
+        assert done.status == 0, (words, done)
+    noted = tables_of(at_work, "noted")
+    assert [document for document, tables in plain.items() if tables] == ["takeout"]
+    assert noted == {document: FILES[document][2] for document in noted}
+
+
+def test_a_drill_has_the_files_that_the_page_names(settled):
+    assert settled.run("drill", "start", "ACME", "B-1").status == 0
+    assert settled.run("drill", "end", settled.folder / "made", "--no-pdf").status == 0
+    assert look_at("drill", settled.folder / "made") == set()
