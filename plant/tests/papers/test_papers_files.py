@@ -6,7 +6,7 @@ from conftest import ROOT, Plant
 
 PAGE = (ROOT / "docs" / "papers.md").read_text()
 (TABLE,) = re.findall(r"\| document \| page \| tables \|.*\n\|[-|]+\n((?:\|.*\n)+)", PAGE)
-FILES = {name: (page, set(tables.split()), set(more.split())) for name, page, tables, more in (map(str.strip, row.split("|")[1:-1]) for row in TABLE.splitlines())}
+FILES = {name: (page, set(tables.split()), set(optional.split())) for name, page, tables, optional in (map(str.strip, row.split("|")[1:-1]) for row in TABLE.splitlines())}
 WORDS = {
     "recall": "recall HOUSE W-101", "batch record": "batch ACME O-1 1", "certificate": "certificate ACME B-1", "delivery note": "delivery-note ACME K9", "lot card": "lot ACME S-1",
     "statement": "statement ACME --from 100 --to 9999999", "settlement": "settlement ACME --from 0 --to 9999999", "takeout": "takeout ACME"}
@@ -16,26 +16,26 @@ NOTES = ("party add ACME NORD --name Nord --role customer", "receive ACME K7 BRI
          "result ACME B-1 PH 5 105", "use ACME O-1 1 HOUSE W-101 TANK 5 105", "do ACME O-1 1 hold --reason pump")
 
 
-def look_at(document: str, folder: pathlib.Path) -> set[str]:
+def optional_tables(document: str, folder: pathlib.Path) -> set[str]:
     """The tables of a document that may be missing, and aren't. The others are always there."""
-    page, tables, more = FILES[document]
+    page, tables, optional = FILES[document]
     names = {path.name for path in folder.iterdir()} - {"recall.txt"}
-    there = {name.removesuffix(".csv") for name in names if name.endswith(".csv")}
-    assert names == {f"{page}.html", *(f"{name}.csv" for name in there)} and tables <= there <= tables | more, (document, names)
+    present = {name.removesuffix(".csv") for name in names if name.endswith(".csv")}
+    assert names == {f"{page}.html", *(f"{name}.csv" for name in present)} and tables <= present <= tables | optional, (document, names)
     if document != "recall":  # in which all owners have the same tables, once the plant noted parties
-        assert all(len((folder / f"{name}.csv").read_text().splitlines()) > 1 for name in there & more)
-    return there & more
+        assert all(len((folder / f"{name}.csv").read_text().splitlines()) > 1 for name in present & optional)
+    return present & optional
 
 
 def tables_of(plant: Plant, folder: str) -> dict[str, set[str]]:
     """The tables of each document but the drill's that may be missing, and aren't."""
-    made: dict[str, set[str]] = {}
+    tables: dict[str, set[str]] = {}
     for document, words in WORDS.items():
         target = plant.folder / folder / document
         done = plant.run("papers", *words.split(), target, "--no-pdf")
         assert done.status == 0, done
-        made[document] = set().union(*(look_at(document, below) for below in ([target / "plant", *(target / "owners").iterdir()] if document == "recall" else [target])))
-    return made
+        tables[document] = set().union(*(optional_tables(document, below) for below in ([target / "plant", *(target / "owners").iterdir()] if document == "recall" else [target])))
+    return tables
 
 
 def test_papers_have_the_files_that_the_page_names(at_work):
@@ -53,4 +53,4 @@ def test_papers_have_the_files_that_the_page_names(at_work):
 def test_a_drill_has_the_files_that_the_page_names(settled):
     assert settled.run("drill", "start", "ACME", "B-1").status == 0
     assert settled.run("drill", "end", settled.folder / "made", "--no-pdf").status == 0
-    assert look_at("drill", settled.folder / "made") == set()
+    assert optional_tables("drill", settled.folder / "made") == set()

@@ -48,7 +48,7 @@ def batches(subject: Subject) -> list[Value]:
 
 
 def actuals(subject: Subject) -> tuple[dict[Row, int], dict[Row, set[str]]]:
-    """The sums of its standing actuals, by batch, segment, kind, owner and material, and the lots that each batch made."""
+    """The sums of its standing actuals, by batch, segment, kind, owner and material, and the lots that batches made."""
     recorded: defaultdict[Row, int] = defaultdict(int)
     produced: defaultdict[Row, set[str]] = defaultdict(set)
     voided = subject.voided
