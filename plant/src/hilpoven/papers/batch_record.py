@@ -30,7 +30,7 @@ LOTS = columns("owner=of lot material disposition:word amount:number measure=uni
 
 def documents(source: Source, asked: BatchId, journal: Journal) -> list[Document]:
     """The record of a batch, for its owner. That of one that isn't closed is provisional."""
-    base, owner, register = source.base, asked.owner, source.register
+    base, owner, register = source.base, asked.owner, source.register.of(asked.owner)
     require_owner(base, owner)
     batch = batches_of(base, [asked]).get(asked)
     if not batch:
