@@ -242,7 +242,8 @@ def test_a_client_that_comes_before_the_socket_has_its_mode_is_turned_away(disks
         with client.connect(path) as peer:
             office.disturb(0)
             server.process.send_signal(signal.SIGCONT)
-            assert client.take_parcel(peer) == b"" and has_socket(office)
+            assert client.take_parcel(peer) == b""
+        assert is_answered(server) and has_socket(office)
 
 
 # Locks, damage, and what others do to the files
@@ -323,7 +324,7 @@ def test_a_file_that_is_opened_beside_100_clients_stays_open(at_work: Office) ->
         assert [is_answered(server) for _ in range(5)] == [True] * 5 and openings(server) == 0
 
 
-def test_rows_of_all_owners_are_read_before_the_first_request(disks: list[Disk], work: str) -> None:
+def test_the_first_requests_read_nothing_of_a_file_that_was_opened_ahead(disks: list[Disk], work: str) -> None:
     put(work, disks[0].db)
     disks[0].disturb(0)
     with disks[0].serve(disks[0].env) as server:
