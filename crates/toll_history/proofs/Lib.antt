@@ -36,3 +36,4 @@ pub mod Within
 pub mod PutsOwn
 pub mod Owed
 pub mod OwnAmounts
+pub mod RunLemmas

@@ -14,4 +14,5 @@ pub mod Puts
 pub mod OwnChanges
 pub mod Amounts
 pub mod Laws
+pub mod Runs
 pub mod Worked
