@@ -23,3 +23,4 @@ pub mod PlantTraces
 pub mod RecallLines
 pub mod Going
 mod OccupiedLemmas
+pub mod StepLemmas

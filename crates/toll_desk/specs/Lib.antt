@@ -6,6 +6,7 @@ pub mod Translations
 pub mod Admission
 pub mod Plans
 pub mod Outcome
+pub mod Steps
 pub mod Clauses
 pub mod PlantStaged
 pub mod PlantServed
