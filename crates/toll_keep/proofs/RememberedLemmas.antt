@@ -1,9 +1,9 @@
 -- The cache: looked up, added to, and after changes.
-use Rattle.std.proofs.Common.{◌≡◌, ℕ, Bool, true, false, cond, map, Some, None, List, [], ◌∷◌, ◌++◌, get_or, refl, sym, ap, subst, ◌∙◌}
+use Rattle.std.proofs.Common.{◌≡◌, ℕ, Bool, true, false, ◌||◌, cond, map, Some, None, List, [], ◌∷◌, ◌++◌, get_or, refl, sym, ap, subst, ◌∙◌}
 use Rattle.std.specs.Prelude.{position}
 use Rattle.toll_keep.proofs.Common.{list_any, All-get_or, All-push, All-weaker, All-map, position-Some, false≢true, Bytes, same_bytes, Slice, empty_slice, with_row, after_change, after_changes, Change, Owner, Unit as UnitAdded, Put, OwnerRow, UnitRow, same_bytes-exact}
 use Rattle.toll_keep.specs.Content.{Content, knows, slice_of, content_after, after_owners, after_units, ChangeFits, AllChangesFit}
-use Rattle.toll_keep.specs.Remembered.{AreOf, OnlyKnownHaveRows, is_addition}
+use Rattle.toll_keep.specs.Remembered.{AreOf, OnlyKnownHaveRows, is_addition, is_put_for}
 use Rattle.toll_keep.specs.Slices.{is_slice_of}
 use Rattle.toll_keep.proofs.Changed.{own_after, known_after}
 
@@ -41,6 +41,17 @@ after_each [] c s e = e
 after_each (Owner row ∷ changes) c s e = after_each changes (content_after (Owner row ∷ []) c) s (slice_after_one (Owner row) c s e)
 after_each (UnitAdded row ∷ changes) c s e = after_each changes (content_after (UnitAdded row ∷ []) c) s (slice_after_one (UnitAdded row) c s e)
 after_each (Put o row ∷ changes) c s e = after_each changes (content_after (Put o row ∷ []) c) (after_change (Put o row) s) (slice_after_one (Put o row) c s e)
+
+-- Changes that put no row of its owner leave a slice as it was.
+pub none_put : (changes : List Change) (s : Slice) → list_any (is_put_for s.owner) changes ≡ false → after_changes changes s ≡ s
+none_put [] s none = refl
+none_put (Owner row ∷ changes) s none = none_put changes s none
+none_put (UnitAdded row ∷ changes) s none = none_put changes s none
+none_put (Put o row ∷ changes) s none = go (same_bytes o s.owner) (none_put changes s) none
+  where
+    go : (b : Bool) → (list_any (is_put_for s.owner) changes ≡ false → after_changes changes s ≡ s) → (b || list_any (is_put_for s.owner) changes) ≡ false → after_changes changes (cond b (with_row s row) s) ≡ s
+    go true same none = absurd (cc none)
+    go false same none = same none
 
 -- Slices that follow the changes are slices of the content after them.
 pub all_after : (changes : List Change) (c : Content) (slices : List Slice) → AreOf c slices → AreOf (content_after changes c) (map (after_changes changes) slices)

@@ -2,7 +2,6 @@
 use Rattle.std.specs.Prelude.{◌≡◌, Bool, false, not, ◌&&◌, ◌||◌, is_some, List, Contains, filter, map}
 use Rattle.toll_keep.specs.Common.{list_any, Bytes, same_bytes, Slice, Change, Put, IsEdge}
 use Rattle.toll_base.specs.Slice.{move_at}
-use Rattle.toll_base.specs.declared.movement.Move.{Move}
 use Rattle.toll_base.specs.declared.rows.Row.TheVariants as row
 use Rattle.toll_trace.specs.Graph.{IsGraph}
 use Rattle.toll_trace.specs.declared.graph.Graph.{Graph}

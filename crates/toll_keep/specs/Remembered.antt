@@ -1,6 +1,6 @@
 -- What a cache remembers of a content.
 use Rattle.std.specs.Prelude.{◌≡◌, Bool, true, false, Option, Some, None, IfSome, List, [], All, Vec}
-use Rattle.toll_keep.specs.Common.{Global, Bytes, Slice, empty_slice, list_any, Change, Put}
+use Rattle.toll_keep.specs.Common.{Global, Bytes, same_bytes, Slice, empty_slice, list_any, Change, Put}
 use Rattle.toll_keep.specs.Content.{Content, content_after, knows, slice_of}
 use Rattle.toll_keep.specs.Graphs.{AreGraphsOf}
 use Rattle.toll_keep.specs.Meaning.{Meaning, OverContent}
@@ -40,6 +40,11 @@ pub record IsNothing (r : Cache) : Type 0 where
 abbrev pub is_addition : Change → Bool
 is_addition (Put o row) = false
 is_addition _ = true
+
+-- whether the change puts a row of this owner
+abbrev pub is_put_for : Bytes → Change → Bool
+is_put_for o (Put of row) = same_bytes of o
+is_put_for o _ = false
 
 -- If the changes add no owner and no unit, the slices are of the content with them, and the keep is honest after the call, then P holds of
 -- that content.

@@ -1,13 +1,13 @@
 //! Remembered slices, each with rows that its copies share.
 ghost use Rattle.std.specs.Prelude.{◌≡◌, ◌≢◌, [], Some, OnOk, IfOk, IfSome, is_some, map, position};
-ghost use Rattle.toll_keep.specs.Common.{after_change, after_changes, with_row};
+ghost use Rattle.toll_keep.specs.Common.{after_change, after_changes, list_any};
 ghost use Rattle.toll_keep.specs.Content.{Content, slice_of};
-ghost use Rattle.toll_keep.specs.Remembered.{AreOf};
+ghost use Rattle.toll_keep.specs.Remembered.{AreOf, is_put_for};
 ghost use Rattle.toll_keep.specs.Slices.{is_slice_of};
 
 use crate::slices::{index_of_slice, shared};
 use std::alloc::{AllocError, Global};
-use toll_base::{Change, Name, Row, Slice};
+use toll_base::{Change, Name, Row, Slice, UniqueSlice};
 
 /// The owner's slice, if it is remembered.
 pub fn remembered<'a>(slices: &'a [Slice], owner: &Name) -> Option<&'a Slice>
@@ -61,31 +61,39 @@ pub fn follow_all(
 pub fn follow(alloc: Global, slice: &mut Slice, changes: &[Change]) -> Result<(), AllocError>
     ensures { OnOk result (slice.new ≡ after_changes changes.now slice.old) }
 {
-    for change in changes {
-        follow_one(alloc, slice, change)?;
+    if !has_put_for(slice.owner(), changes) {
+        return Ok(());
     }
-    Ok(())
+    let mut rows = slice.take(alloc)?;
+    for change in changes {
+        make_change(&mut rows, change)?;
+    }
+    *slice = Slice::of(alloc, rows);
+    slice.share(alloc)
 }
 
-fn follow_one(alloc: Global, slice: &mut Slice, change: &Change) -> Result<(), AllocError>
-    ensures { OnOk result (slice.new ≡ after_change change.now slice.old) }
+// Whether a change puts a row of this owner.
+fn has_put_for(owner: &Name, changes: &[Change]) -> bool
+    ensures { result ≡ list_any (is_put_for owner.now) changes.now }
+{
+    // This names the type for the proof: a change may have a row.
+    let _row: Option<Row> = None;
+    changes.iter().any(|change| matches!(change, Change::Put(of, _) if *of == *owner))
+}
+
+// Puts the change's row, if it is one of this owner.
+fn make_change(rows: &mut UniqueSlice, change: &Change) -> Result<(), AllocError>
+    ensures { OnOk result (rows.new ≡ after_change change.now rows.old) }
 {
     // This names the type for the proof: a change may have a row.
     let _row: Option<Row> = None;
     match change {
-        Change::Put(owner, row) if *owner == *slice.owner() => put_in_place(alloc, slice, row),
+        Change::Put(owner, row) if *owner == *rows.owner() => {
+            if !rows.fits(row) {
+                return Err(AllocError);
+            }
+            rows.put(*row)
+        }
         _ => Ok(()),
     }
-}
-
-fn put_in_place(alloc: Global, slice: &mut Slice, row: &Row) -> Result<(), AllocError>
-    ensures { OnOk result (slice.new ≡ with_row slice.old row.now) }
-{
-    let mut rows = slice.take(alloc)?;
-    if !rows.fits(row) {
-        return Err(AllocError);
-    }
-    rows.put(*row)?;
-    *slice = Slice::of(alloc, rows);
-    slice.share(alloc)
 }

@@ -2,6 +2,6 @@ use Rattle.std.proofs.Common.{◌≡◌, drop}
 use Rattle.toll_base.specs.Changes.{after_changes}
 use Rattle.toll_keep.proofs.remembered.follow.Given as goal
 
--- With the changes to come, the slice is the one after all changes.
+-- With the changes to come, the rows are those after all changes.
 abbrev pub invariant-loop-change : goal.invariant-loop-change
-invariant-loop-change l = after_changes (drop l.change-index l.changes) l.slice ≡ after_changes l.changes l.fn.slice
+invariant-loop-change l = after_changes (drop l.change-index l.changes) l.rows ≡ after_changes l.changes l.fn.slice
