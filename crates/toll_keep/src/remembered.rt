@@ -19,7 +19,7 @@ pub fn remembered<'a>(slices: &'a [Slice], owner: &Name) -> Option<&'a Slice>
 }
 
 /// The slice that was read for the owner, with the changes put. It is remembered if it is the owner's and
-/// there is memory. Then the two share their rows.
+/// there is memory. Then the two share their rows, without the spare room in which they were read.
 pub fn remember(
     alloc: Global,
     slices: &mut Vec<Slice>,
@@ -34,11 +34,22 @@ pub fn remember(
     if *read.owner() != *owner {
         return Ok(read);
     }
+    let mut read = without_spare_room(alloc, read);
     let Ok(copied) = shared(alloc, &mut read) else {
         return Ok(read);
     };
     let _ = slices.push(copied);
     Ok(read)
+}
+
+// Moves the rows into lists without spare room, if there is memory for them. Shared rows stay where they are.
+fn without_spare_room(alloc: Global, slice: Slice) -> Slice
+    ensures { result ≡ slice }
+{
+    match slice.copy(alloc) {
+        Ok(copied) => copied,
+        Err(_) => slice,
+    }
 }
 
 /// Makes the changes in all of these slices, each in place if no other copy shares its rows. If memory

@@ -8,6 +8,6 @@ pub returns-then-not-has_put_for : goal.returns-then-not-has_put_for
 returns-then-not-has_put_for c =
     let changes = c.args.changes.now in
     let slice = c.args.slice.now in
-    let none : list_any (is_put_for slice.owner) changes ≡ false =
-    ap (λ o. list_any (is_put_for o) changes) (sym c.owner.ensures.owner) ∙ sym c.has_put_for.ensures ∙ c.if-not-has_put_for.true in
+    let own = ap (λ o. list_any (is_put_for o) changes) (sym c.owner.ensures.owner) in
+    let none : list_any (is_put_for slice.owner) changes ≡ false = own ∙ sym c.has_put_for.ensures ∙ c.if-not-has_put_for.true in
     sym (none_put changes slice none)

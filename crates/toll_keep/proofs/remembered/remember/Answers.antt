@@ -10,4 +10,4 @@ returns-clause-own c = λ content there all.
     let is : laid ≡ after_changes c.args.changes.now c.args.read = c.in_ok-follow.ensures in
     let own : laid.owner ≡ c.args.owner.now = sym c.owner.ensures.owner ∙ same_bytes-exact c.owner.result.now c.args.owner.now (not-false (same_bytes c.owner.result.now c.args.owner.now) (sym c.ne.ensures ∙ c.if-ne.false)) in
     perhaps_more content before c.push.new.self.items laid c.args.owner.now (is_ok c.push.result) own (there ∙ ap (λ s. Some s) (sym is))
-    (c.push.ensures.items ∙ ap (λ s. cond (is_ok c.push.result) (before ++ s ∷ []) before) c.in-Ok.ensures.copied) all
+    (c.push.ensures.items ∙ ap (λ s. cond (is_ok c.push.result) (before ++ s ∷ []) before) (c.in-Ok.ensures.copied ∙ c.without_spare_room-read.ensures)) all
