@@ -1,7 +1,9 @@
 -- The plant's decisions over the content of a keep.
 use Rattle.std.specs.Prelude.{nat_le}
 use Rattle.std.proofs.Common.{◌≡◌, Bool, true, false, not, ◌&&◌, Option, Some, None, is_some, [], ◌∷◌, refl, sym, ap, subst, ◌∙◌}
-use Rattle.toll_desk.proofs.Common.{list_any, Bytes, same_bytes, house_name, Action, AddOwner, AddUnit, OpenBatch, Command, by, History, acts, adds_owner, owner_known, unit_known, count_units, Slice, IsRowsOf, Verdict, Accepted, Repeated, Refused, verdict_of_checks, Checks, checks, needs_owner, verdict, grown, IsLawful, IsValidAction, changes_of, after_changes, changes_if, ChangesKeepRules, IsDecided, Decides, DecidesWith, DecisionKeepsRules, PutsOnly, OwnerRow, UnitRow, Change, Owner, Unit as UnitAdded, Decision, Refuse, UnknownOwner, OwnerExists, UnitExists, LimitReached, same_bytes-refl, accepted_passes, Judged, Content, Represents, false≢true, option_map, option_map_or}
+use Rattle.toll_desk.proofs.Common.{list_any, Bytes, same_bytes, house_name, Action, AddOwner, AddUnit, OpenBatch, Command, by, History, acts, adds_owner, owner_known, unit_known, count_units, Slice, IsRowsOf, Verdict, Accepted, Repeated, Refused, verdict_of_checks, Checks, checks, needs_owner, verdict, grown, IsLawful, IsValidAction, changes_of, after_changes, changes_if, ChangesKeepRules, IsDecided, Decides, DecidesWith, DecisionKeepsRules, PutsOnly, OwnerRow, UnitRow, Change, Owner, Unit as UnitAdded, Decision, Refuse, UnknownOwner, OwnerExists, UnitExists, LimitReached, same_bytes-refl, accepted_passes, Judged, Content, Represents, false≢true, IfSome, option_map, option_map_or}
+use Rattle.toll_answers.specs.PlantAnswers.{IsValidCommand, recorded_command}
+use Rattle.toll_answers.specs.declared.plant_cmd.PlantCmd.{PlantCmd}
 use Rattle.toll_desk.proofs.Knowing.{represented_knows}
 use Rattle.toll_desk.proofs.UnitHolders.{same_holder}
 use Rattle.toll_keep.specs.Holding.{IsHolder}
@@ -29,6 +31,13 @@ house_known H = first_of_either (same_bytes house_name house_name) (list_any add
 pub deed_so : (P Q : Action → Type 0) → ((a : Action) → P a → Q a) → (done : Option Command) → IsCommandSuchThat P done → IsCommandSuchThat Q done
 deed_so P Q so (Some command) deed = so command.action deed
 deed_so P Q so None deed = absurd deed
+
+pub recorded_valid : (q : PlantCmd) → IsCommandSuchThat IsValidAction (recorded_command q) → IsValidCommand q
+recorded_valid q = by_done (recorded_command q)
+  where
+    by_done : (done : Option Command) → IsCommandSuchThat IsValidAction done → IfSome done (λ (c : Command). IsValidAction c.action)
+    by_done (Some c) valid = valid
+    by_done None valid = absurd valid
 
 -- these decisions add neither owners nor units, and need their owner to be known
 abbrev pub AddsNeither : Action → Type 0

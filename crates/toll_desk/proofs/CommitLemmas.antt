@@ -1,10 +1,16 @@
 -- A plan that is carried out.
 use Rattle.std.proofs.Common.{◌≡◌, ◌==◌, ◌&&◌, Bool, true, false, List, [], ◌∷◌, length, Result, Ok, Err, OnOk, OnErr, IfOk, refl, sym, ap, subst, arith, ◌∙◌}
-use Rattle.toll_desk.proofs.Common.{on_ok_weaker, History, Change, nat_eq-exact, Meaning, Content, content_after, AllChangesFit, CallEffect, IsReading, KeepFault, goes_then, goes_as, goes_fault, Request, OwnerReply}
-use Rattle.toll_keep.specs.Meaning.{OverContent, OverLive}
-use Rattle.toll_desk.specs.Outcome.{finished, IsDone}
+use Rattle.std.specs.Prelude.{◌≢◌}
+use Rattle.toll_desk.proofs.Common.{on_ok_weaker, History, Change, nat_eq-exact, IsLawful, Meaning, Content, content_after, AllChangesFit, CallEffect, IsReading, KeepFault, OverContent, goes_then, goes_as, goes_fault, settles}
+use Rattle.toll_keep.proofs.Calls.{Rests}
+use Rattle.toll_keep.specs.CallEffects.{FindsNoDamage}
+use Rattle.toll_keep.specs.declared.fault.KeepFault.TheVariants.{Damaged}
+use Rattle.toll_desk.proofs.KeptRules.{represented_keeps_rules}
+use Rattle.toll_desk.proofs.StepLemmas.{done_step, store_of}
+use Rattle.toll_desk.specs.Outcome.{CommitEffect, finished, IsDone}
 use Rattle.toll_desk.specs.Plans.{ChangesLeadTo}
-use Rattle.toll_desk.specs.Translations.{may_change, writes}
+use Rattle.toll_desk.specs.Reads.{Over}
+use Rattle.toll_desk.specs.Steps.{Calls, IsKeepStep, answered_steps, calls_of}
 
 pub no_changes : (changes : List Change) → (length changes == 0) ≡ true → changes ≡ []
 no_changes [] e = refl
@@ -13,11 +19,6 @@ no_changes (change ∷ changes) e = let none : length (change ∷ changes) ≡ 0
 pub and_false : (b : Bool) → (b && false) ≡ false
 and_false true = refl
 and_false false = refl
-
--- If the reply is a fault, there are no changes.
-pub none_if_fault : (q : Request) (reported : Result OwnerReply KeepFault) (P : Type 0) → (may_change q reported ≡ false → P) → OnErr reported P
-none_if_fault q (Ok t) P quiet = tt
-none_if_fault q (Err fault) P quiet = quiet (and_false (writes q))
 
 module _ {K : Type 0} (meaning : Meaning K) where
   -- what is so of a content after changes were made of it, or not
@@ -72,13 +73,6 @@ module _ {K : Type 0} (meaning : Meaning K) where
       subst (λ r. IsDone (meaning.holds new) (meaning.is_store_open old) (meaning.leaves new) c G r IsTold) (sym is)
       (carried_done old middle new result c G IsTold changes (subst (λ changes. IsCarried middle new changes c result) same carried) held planned none plan live stop)
 
-  -- where nothing was granted, what was held is held
-  quiet_of : {X : Type 0} (middle new : K) (result : Result (Unit {0}) KeepFault) (c : Content) (changes made : List Change) → made ≡ changes → IsCarried middle new made c result → meaning.holds middle c →
-      (grants : Result X KeepFault → Bool) (planned : Result X KeepFault) → (grants planned ≡ false → changes ≡ []) → (outcome : Result X KeepFault) → outcome ≡ finished planned result → grants outcome ≡ false → meaning.holds new c
-  quiet_of middle new (Ok done) c changes made same carried held grants planned quiet outcome is none =
-      subst (λ k. meaning.holds k c) (sym (carried.idle (same ∙ quiet (ap grants (sym is) ∙ none))).0) held
-  quiet_of middle new (Err fault) c changes made same carried held grants planned quiet outcome is none = carried.none
-
 module _ {K : Type 0} {X : Type 0} (meaning : Meaning K) (old middle new : K) where
   -- a plan, and its changes after it
   pub goes_on : (planned : Result X KeepFault) (changes : List Change) (r : Result (Unit {0}) KeepFault) → CallEffect meaning old middle planned → OnErr planned (changes ≡ []) →
@@ -92,26 +86,68 @@ module _ {K : Type 0} {X : Type 0} (meaning : Meaning K) (old middle new : K) wh
       goes_fault meaning old new fault (goes_then meaning old middle new x (Err fault) first (on (λ e. (cc))))
   goes_on (Err fault) (change ∷ changes) r first none idle on = (cc)
 
--- the same of a whole plan, where its changes are read through a reference, and the outcome is what another call makes of the two
-module _ {K : Type 0} {X : Type 0} (meaning : Meaning K) (old middle new : K) (planned outcome : Result X KeepFault) (changes made : List Change) (result : Result (Unit {0}) KeepFault)
-    (same : made ≡ changes) (is : outcome ≡ finished planned result) (none : OnErr planned (changes ≡ [])) (reads : IsReading meaning old middle planned) (idle : made ≡ [] → (new ≡ middle) × (result ≡ Ok tt)) where
-  pub goes_out : ((made ≡ [] → ⊥) → CallEffect meaning middle new result) → CallEffect meaning old new outcome
-  goes_out on =
-      subst (λ reported. CallEffect meaning old new reported) (sym is)
-      (goes_on meaning old middle new planned made result reads.goes (subst (λ changes. OnErr planned (changes ≡ [])) (sym same) none) idle on)
+-- A plan, and then its changes, are one step. If nothing is granted, there are no changes; they are read through a reference.
+module _ {K X : Type 0} (meaning : Meaning K) (rests : Rests meaning) (old middle new : K) (planned outcome : Result X KeepFault) (changes made : List Change) (result : Result (Unit {0}) KeepFault)
+    (same : made ≡ changes) (is : outcome ≡ finished planned result) (reads : IsReading meaning old middle planned) (commit : CommitEffect meaning middle new made result)
+    (grants : Result X KeepFault → Bool) (refuses : (fault : KeepFault) → grants (Err fault) ≡ false) (quiet : grants planned ≡ false → changes ≡ []) where
+  between : OverContent meaning old new (meaning.holds middle)
+  between now = (reads.keeps (commit.honest now)).content
 
-  module _ (honest : meaning.is_honest new → meaning.is_honest middle) (all : OverContent meaning middle new (λ c. AllChangesFit c made → OnOk result (meaning.holds new (content_after made c)))) (unmade : OverContent meaning middle new (λ c. OnErr result (meaning.holds new c)))
-      (crash : OverLive meaning middle new (λ c. AllChangesFit c made → meaning.leaves new (c ∷ content_after made c ∷ []))) (now : meaning.is_honest new) (c : Content) (held : meaning.holds old c) where
-    between : meaning.holds middle c
-    between = (reads.keeps (honest now)).content c held
+  none_planned : OnErr planned (changes ≡ [])
+  none_planned = by_fault planned quiet
+    where
+      by_fault : (p : Result X KeepFault) → (grants p ≡ false → changes ≡ []) → OnErr p (changes ≡ [])
+      by_fault (Ok x) quiet = tt
+      by_fault (Err fault) quiet = quiet (refuses fault)
 
-    carried : IsCarried meaning middle new made c result
-    carried = record { idle = idle; all = all now c between; none = unmade now c between; crash = λ live. crash now live c between }
+  -- Without changes the content stays, and so it does if nothing is granted.
+  stays_without : OverContent meaning old new (λ c. changes ≡ [] → meaning.holds new c)
+  stays_without now c held none = subst (λ k. meaning.holds k c) (sym (commit.idle (same ∙ none)).0) (between now c held)
 
-    pub quiet_out : (grants : Result X KeepFault → Bool) → (grants planned ≡ false → changes ≡ []) → grants outcome ≡ false → meaning.holds new c
-    quiet_out grants quiet not = quiet_of meaning middle new result c changes made same carried between grants planned quiet outcome is not
+  stays_ungranted : OverContent meaning old new (λ c. grants outcome ≡ false → meaning.holds new c)
+  stays_ungranted now c held not = by_result result (commit.none now c (between now c held)) (ap grants (sym is) ∙ not)
+    where
+      by_result : (r : Result (Unit {0}) KeepFault) → OnErr r (meaning.holds new c) → grants (finished planned r) ≡ false → meaning.holds new c
+      by_result (Ok done) unmade not = stays_without now c held (quiet not)
+      by_result (Err fault) unmade not = unmade
 
-    pub done_out : (G : History) (IsTold : X → Type 0) → IfOk planned (λ x. IsTold x × ChangesLeadTo c changes G) → IsDone (meaning.holds new) (meaning.is_store_open old) (meaning.leaves new) c G outcome IsTold
-    done_out G IsTold plan =
-        done_of meaning old middle new result c G IsTold changes made same carried between planned none plan
-        (on_ok_weaker planned (λ live was. live) (reads.goes.shown (honest now))) (λ live. (reads.keeps (honest now)).crash live c held) outcome is
+  stays_failed : OverContent meaning old new (λ c. OnErr outcome (meaning.holds new c))
+  stays_failed now c held = by_fault outcome (stays_ungranted now c held)
+    where
+      by_fault : (r : Result X KeepFault) → (grants r ≡ false → meaning.holds new c) → OnErr r (meaning.holds new c)
+      by_fault (Ok x) stays = tt
+      by_fault (Err fault) stays = stays (refuses fault)
+
+  undamaged : FindsNoDamage meaning old new outcome
+  undamaged now c held keeps = subst (λ r. r ≢ Err Damaged) (sym is) (by_result result (reads.whole (commit.honest now) c held keeps) (commit.whole now c (between now c held) keeps))
+    where
+      by_result : (r : Result (Unit {0}) KeepFault) → planned ≢ Err Damaged → r ≢ Err Damaged → finished planned r ≢ Err Damaged
+      by_result (Ok done) first second = first
+      by_result (Err fault) first second = λ is. let damaged : fault ≡ Damaged = (cc is) in second (ap (λ f. Err f) damaged)
+
+  goes_out : CallEffect meaning old new outcome
+  goes_out =
+      subst (λ r. CallEffect meaning old new r) (sym is)
+      (goes_on meaning old middle new planned made result reads.goes (subst (λ changes. OnErr planned (changes ≡ [])) (sym same) none_planned) commit.idle commit.goes)
+
+  module _ {E : Type 0} (Answers : History → E → X → Type 0) (after : History → E → History) (e : E) where
+    pub commit_step : ((H : History) → IsLawful H → IsLawful (after H e))
+        → Over meaning old middle (λ c H. IfOk planned (λ x. Answers H e x × ChangesLeadTo c changes (after H e)))
+        → (calls : E → Result X KeepFault → Calls → Type 0) → calls e outcome (calls_of outcome)
+        → (if_still : Content → E → Result X KeepFault → Type 0 → Type 0)
+        → (meaning.is_honest middle → (c : Content) → meaning.holds old c → (P : Type 0) → (grants outcome ≡ false → P) → (changes ≡ [] → P) → if_still c e outcome P)
+        → IsKeepStep meaning (answered_steps Answers after calls if_still) old e outcome new
+    commit_step grows plan calls called if_still still = record {
+      outcome = calls_of outcome;
+      calls = called;
+      store = store_of meaning old new rests outcome goes_out stays_failed undamaged;
+      still = λ now c held. still (commit.honest now) c held (meaning.holds new c) (stays_ungranted now c held) (stays_without now c held);
+      over = λ now c H held stands lawful.
+          let before = commit.honest now in
+          let there = between now c held in
+          done_step meaning Answers after old new e c H stands lawful now (settles meaning old new outcome rests goes_out) (grows H lawful) outcome
+          (undamaged now c held (represented_keeps_rules H c lawful stands))
+          (done_of meaning old middle new result c (after H e) (Answers H e) changes made same
+          (record { idle = commit.idle; all = commit.all now c there; none = commit.none now c there; crash = λ live. commit.crash now live c there }) there
+          planned none_planned (plan before c H held stands lawful) (on_ok_weaker planned (λ live was. live) (reads.goes.shown before)) (λ live. (reads.keeps before).crash live c held) outcome is);
+    }

@@ -12,6 +12,7 @@ pub mod Found
 pub mod OwnerAdded
 pub mod UnitAdded
 pub mod CommandPlans
+pub mod StepLemmas
 pub mod CommitLemmas
 pub mod OwnerPlans
 pub mod ReadOver
@@ -23,4 +24,3 @@ pub mod PlantTraces
 pub mod RecallLines
 pub mod Going
 mod OccupiedLemmas
-pub mod StepLemmas

@@ -2,9 +2,11 @@
 use Rattle.std.proofs.Common.{◌≡◌, Bool, true, false, not, ◌&&◌, ◌||◌, Option, Some, None, is_some, is_ok, List, [], Result, Ok, Err, IfOk, refl, sym, ap, subst, ◌∙◌}
 use Rattle.std.specs.Prelude.{if◌then◌else◌}
 use Rattle.std.specs.declared.alloc.AllocError.{AllocError}
+use Rattle.toll_answers.proofs.OwnReplies.{lawful-grow}
+use Rattle.toll_answers.specs.Replies.{IsValidOwnerRequest}
 use Rattle.toll_keep.specs.Reads.{ReadsOneMore}
 use Rattle.toll_desk.specs.Translations.{meaning_of_reply, writes}
-use Rattle.toll_desk.proofs.Common.{IfOk-weaker, false≢true, Meaning, KeepFault, read_ok, option_map, Bytes, bytes_cmp, same_bytes, house_name, is_some_where, where_so, row_at, PlaceOrder, CancelOrder, Release, Reject, History, acts, owner_key, owner_known, Slice, IsRowsOf, IsLawful, after_changes, ChangesKeepRules, Change, OwnerRow, Content, knows, slice_of, Represents, PutsOnly, Request, OwnerReply, ReplyForbidden, has_owner_key, IsOwnerAnswer, after_answer, IsReply, after_reply}
+use Rattle.toll_desk.proofs.Common.{IfOk-weaker, false≢true, Meaning, KeepFault, read_ok, option_map, Bytes, bytes_cmp, same_bytes, house_name, is_some_where, where_so, row_at, PlaceOrder, CancelOrder, Release, Reject, by, History, acts, owner_key, owner_known, Slice, IsRowsOf, IsLawful, after_changes, ChangesKeepRules, Change, OwnerRow, Content, knows, slice_of, Represents, PutsOnly, Request, OwnerReply, ReplyForbidden, has_owner_key, IsOwnerAnswer, after_answer, IsReply, after_reply}
 use Rattle.toll_desk.proofs.Knowing.{represented_knows}
 use Rattle.toll_desk.specs.Admission.{is_admitted}
 use Rattle.toll_desk.specs.Plans.{IsPlanOver, IsPlanFor, IsPlan}
@@ -122,3 +124,20 @@ plan_admitted c H o key q reported changes right plan = record { reply = rw righ
 pub plan_forbidden : (c : Content) (H : History) (o key : Bytes) (q : Request) → Represents c H → has_owner_key o key H ≡ false → IsPlan c H o key q ReplyForbidden []
 unfolding IsReply after_reply
 plan_forbidden c H o key q stands wrong = record { reply = rw wrong refl; leads = rw wrong (leads_nowhere c H stands); own = tt }
+
+-- ---- lawful histories
+
+lawful_after_answer : (o : Bytes) (H : History) (q : Request) → IsLawful H → IsValidOwnerRequest q → IsLawful (after_answer o H q)
+lawful_after_answer o H (request.Place order recipe batches) lawful valid = lawful-grow H (by o (PlaceOrder order recipe batches)) lawful valid
+lawful_after_answer o H (request.Cancel order) lawful valid = lawful-grow H (by o (CancelOrder order)) lawful tt
+lawful_after_answer o H (request.Release lot) lawful valid = lawful-grow H (by o (Release lot)) lawful tt
+lawful_after_answer o H (request.Reject lot) lawful valid = lawful-grow H (by o (Reject lot)) lawful tt
+lawful_after_answer o H _ lawful valid = lawful
+
+pub lawful_after_reply : (o key : Bytes) (H : History) (q : Request) → IsLawful H → IsValidOwnerRequest q → IsLawful (after_reply o key H q)
+unfolding after_reply
+lawful_after_reply o key H q lawful valid =
+    elim (has_owner_key o key H) as (λ b. IsLawful (if b then after_answer o H q else H)) [
+      | true ↦ lawful_after_answer o H q lawful valid
+      | false ↦ lawful
+    ]

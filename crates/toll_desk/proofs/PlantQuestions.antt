@@ -1,22 +1,67 @@
--- What comes of a question of the plant.
-use Rattle.std.proofs.Common.{◌≡◌, [], Result, Ok, Err, IfOk, OnOk, OnErr, sym, subst}
-use Rattle.toll_desk.proofs.Common.{History, Meaning, Content, Keeps, Represents}
-use Rattle.toll_desk.specs.Outcome.{IsDone, HoldsFor}
+-- Questions of the plant are steps that leave the history.
+use Rattle.std.proofs.Common.{◌≡◌, None, Result, Ok, Err, IfOk, OnErr, inl, inr, refl, subst}
+use Rattle.std.specs.Prelude.{◌≢◌}
+use Rattle.toll_desk.proofs.Common.{History, IsPlantAnswer, IsReading, Judged, KeepFault, LotId, Meaning, PlantAnswer, PlantCmd, Refusal, Refused, after_plant, settles_still}
+use Rattle.toll_answers.specs.declared.plant_cmd.PlantCmd.TheVariants as cmd
+use Rattle.toll_keep.proofs.Calls.{Rests}
+use Rattle.toll_keep.specs.declared.fault.KeepFault.TheVariants.{Damaged}
+use Rattle.toll_desk.proofs.KeptRules.{represented_keeps_rules}
+use Rattle.toll_desk.proofs.StepLemmas.{read_step, store_of}
+use Rattle.toll_desk.specs.OfficeSteps.{PlantCalls, plant_steps}
+use Rattle.toll_desk.specs.Questions.{IsRecallEffect}
+use Rattle.toll_desk.specs.Reads.{Over}
+use Rattle.toll_desk.specs.Steps.{IsKeepStep, calls_of}
+use Rattle.toll_desk.specs.Subjects.{IsQuestion}
 
--- A command that leaves the history and the content is done if its reply is right.
-pub question_done : {K X E : Type 0} (meaning : Meaning K) (old new : K) (outcome : Result X E) (IsTold : X → Type 0) (c : Content) (H G : History) → G ≡ H
-    → Represents c H → meaning.holds old c → Keeps meaning old new → IfOk outcome IsTold → IsDone (meaning.holds new) (meaning.is_store_open old) (meaning.leaves new) c G outcome IsTold
-question_done {X} {E} meaning old new outcome IsTold c H G stays stands held keeps reported = record {
-  reported = reported;
-  done = held_for outcome;
-  undone = held_still outcome;
-  crash = λ live. record { others = []; stand = tt; left = keeps.crash live c held };
+question_stays : (H : History) (q : PlantCmd) → IsQuestion q → after_plant H q ≡ H
+question_stays H (cmd.Orders owner) asks = refl
+question_stays H (cmd.Stock owner) asks = refl
+question_stays H (cmd.Batch owner order number) asks = refl
+question_stays H (cmd.Trace lot way) asks = refl
+question_stays H (cmd.Recall lot) asks = refl
+question_stays H _ asks = absurd asks
+
+-- What was read has the outcome of the calls.
+pub calls_read : (q : PlantCmd) (outcome : Result PlantAnswer KeepFault) → ((why : Refusal) → q ≢ cmd.Unread why) → PlantCalls q outcome (calls_of outcome)
+calls_read (cmd.Unread why) outcome read = absurd (read why refl)
+calls_read (cmd.Recall lot) outcome read = inl refl
+calls_read _ outcome read = refl
+
+module _ {K : Type 0} (meaning : Meaning K) (rests : Rests meaning) (old new : K) (outcome : Result PlantAnswer KeepFault) where
+  question_by : {X : Type 0} (q : PlantCmd) → IsQuestion q → (read : Result X KeepFault) → IsReading meaning old new read → PlantCalls q outcome (calls_of read)
+      → Over meaning old new (λ c H. outcome ≢ Err Damaged) → Over meaning old new (λ c H. IfOk outcome (IsPlantAnswer H q)) → IsKeepStep meaning plant_steps old q outcome new
+  question_by {X} q asks read reads calls undamaged over = record {
+    outcome = calls_of read;
+    calls = calls;
+    store = store_of meaning old new rests read reads.goes (λ now c held. left read ((reads.keeps now).content c held)) reads.whole;
+    still = λ now c held not. (reads.keeps now).content c held;
+    over = λ now c H held stands lawful.
+        read_step meaning IsPlantAnswer after_plant old new q c H stands lawful (question_stays H q asks) (reads.keeps now) held outcome
+        (undamaged now c H held stands lawful) (over now c H held stands lawful);
+  }
+    where
+      left : {P : Type 0} (r : Result X KeepFault) → P → OnErr r P
+      left (Ok x) p = tt
+      left (Err fault) p = p
+
+  pub question_step : (q : PlantCmd) → IsQuestion q → IsReading meaning old new outcome → Over meaning old new (λ c H. IfOk outcome (IsPlantAnswer H q)) → IsKeepStep meaning plant_steps old q outcome new
+  question_step q asks reads =
+      question_by q asks outcome reads (calls_read q outcome (λ why is. subst IsQuestion is asks))
+      (λ now c H held stands lawful. reads.whole now c held (represented_keeps_rules H c lawful stands))
+
+  pub recall_step : (lot : LotId) → IsRecallEffect meaning old new outcome → Over meaning old new (λ c H. outcome ≢ Err Damaged)
+      → Over meaning old new (λ c H. IfOk outcome (IsPlantAnswer H (cmd.Recall lot))) → IsKeepStep meaning plant_steps old (cmd.Recall lot) outcome new
+  recall_step lot (inl reads) = question_by (cmd.Recall lot) tt outcome reads (inl refl)
+  recall_step lot (inr damaged) = question_by (cmd.Recall lot) tt (Ok tt) damaged.1 (inr (damaged.0, refl))
+
+-- A command that couldn't be read is refused without a call.
+pub unread_step : {K : Type 0} (meaning : Meaning K) → Rests meaning → (keep : K) (why : Refusal) → IsKeepStep meaning plant_steps keep (cmd.Unread why) (Ok (Judged (Refused why))) keep
+unread_step meaning rests keep why = record {
+  outcome = None;
+  calls = (refl, refl);
+  store = record { honest = λ now. now; goes = refl; settles = settles_still meaning keep rests; spared = λ is. absurd (cc is); whole = λ now c held keeps is. (cc is) };
+  still = λ now c held not. held;
+  over = λ now c H held stands lawful.
+      read_step meaning IsPlantAnswer after_plant keep keep (cmd.Unread why) c H stands lawful refl
+      (record { content = λ c held. held; crash = λ live c held. rests keep c now live held }) held (Ok (Judged (Refused why))) (λ is. (cc is)) refl;
 }
-  where
-    held_for : (r : Result X E) → OnOk r (HoldsFor (meaning.holds new) G)
-    held_for (Ok x) = record { content = c; held = keeps.content c held; stands = subst (Represents c) (sym stays) stands }
-    held_for (Err fault) = tt
-
-    held_still : (r : Result X E) → OnErr r (meaning.holds new c)
-    held_still (Ok x) = tt
-    held_still (Err fault) = keeps.content c held

@@ -1,9 +1,14 @@
 -- Calls of a keep that are steps of the office, one after another.
-use Rattle.std.proofs.Common.{◌≡◌, List, [], ◌∷◌, ap, sym, subst}
-use Rattle.toll_desk.proofs.Common.{Content, History, IsLawful, Meaning}
+use Rattle.std.proofs.Common.{◌≡◌, List, [], ◌∷◌, Result, Ok, Err, IfOk, OnErr, ap, sym, subst, refl, inl, inr}
+use Rattle.std.specs.Prelude.{◌≢◌, ◌⊎◌}
+use Rattle.toll_desk.proofs.Common.{CallEffect, Content, History, IsLawful, KeepFault, Keeps, Meaning, OverContent, goes_as, goes_fault, settles, spared}
+use Rattle.toll_keep.proofs.Calls.{Rests, answered, failed_call}
+use Rattle.toll_keep.specs.CallEffects.{FindsNoDamage, Settles}
+use Rattle.toll_keep.specs.declared.fault.KeepFault.TheVariants.{Damaged, Memory}
+use Rattle.toll_desk.specs.Outcome.{IsDone}
 use Rattle.toll_desk.specs.Reads.{Over}
 use Rattle.toll_desk.specs.Representing.{Represents}
-use Rattle.toll_desk.specs.Steps.{IsOfficeStep, IsStepFrom, AreStepsFrom, OfficeState, state_at}
+use Rattle.toll_desk.specs.Steps.{AreStepsFrom, IsAnsweredStep, IsOfficeStep, IsStepFrom, Makes, OfficeState, StoreEffect, calls_of, state_at}
 use Rattle.toll_history.specs.Runs.{IsRun}
 use Rattle.toll_history.proofs.RunLemmas.{run_back}
 
@@ -45,3 +50,97 @@ module _ {K E A : Type 0} (meaning : Meaning K) (Step : History → E → A → 
         (d, G, (state_at middle b F, step, rest))
     steps_from old new [] (a ∷ answers) run now c H held stands lawful = absurd run
     steps_from old new (e ∷ events) [] run now c H held stands lawful = absurd run
+
+-- ---- one step
+
+-- The effect of a call is that of a step, if the content stays after a fault.
+pub store_of : {K X : Type 0} (meaning : Meaning K) (old new : K) → Rests meaning → (result : Result X KeepFault) → CallEffect meaning old new result
+    → OverContent meaning old new (λ c. OnErr result (meaning.holds new c)) → FindsNoDamage meaning old new result → StoreEffect meaning old new (calls_of result)
+store_of {X} meaning old new rests (Ok x) goes none whole = record {
+  honest = goes.honest;
+  goes = goes_as meaning old new x tt goes;
+  settles = settles meaning old new (answered x) rests goes;
+  spared = λ is. absurd (cc is);
+  whole = λ now c held keeps is. (cc is);
+}
+store_of {X} meaning old new rests (Err fault) goes none whole = record {
+  honest = goes.honest;
+  goes = goes_fault meaning old new fault goes;
+  settles = settles meaning old new (failed_call {X = X} fault) rests goes;
+  spared = λ is. let lacks : fault ≡ Memory = (cc is) in spared meaning old new (failed_call {X = X} fault) rests (ap (failed_call {X = X}) lacks) goes none;
+  whole = λ now c held keeps is. let damaged : fault ≡ Damaged = (cc is) in whole now c held keeps (ap (failed_call {X = X}) damaged);
+}
+
+module _ {K E X : Type 0} (meaning : Meaning K) (Answers : History → E → X → Type 0) (after : History → E → History) (old new : K) (e : E) where
+  abbrev AnsweredFrom : Content → History → Result X KeepFault → Type 0
+  AnsweredFrom c H outcome = IsStepFrom meaning (IsAnsweredStep Answers after) (Makes after) old c H e outcome new
+
+  module _ (c : Content) (H : History) (stands : Represents c H) (lawful : IsLawful H) where
+    -- a reading that leaves the history
+    pub read_step : after H e ≡ H → Keeps meaning old new → meaning.holds old c → (outcome : Result X KeepFault) → outcome ≢ Err Damaged → IfOk outcome (Answers H e) → AnsweredFrom c H outcome
+    read_step stays keeps held outcome undamaged right = (
+      c,
+      H,
+      record {
+        step = step_of outcome undamaged right;
+        lawful = lawful;
+        held = keeps.content c held;
+        stands = stands;
+        crash = λ live. (H, sym stays, record { others = []; stand = tt; left = keeps.crash live c held });
+        settled = λ live. inl (keeps.crash live c held);
+      },
+    )
+      where
+        step_of : (outcome : Result X KeepFault) → outcome ≢ Err Damaged → IfOk outcome (Answers H e) → IsAnsweredStep Answers after H e outcome H
+        step_of (Ok x) undamaged right = (right, sym stays)
+        step_of (Err fault) undamaged right = (λ is. undamaged (ap (failed_call {X = X}) is), refl)
+
+    -- what is done, or undone after a fault
+    module _ (now : meaning.is_honest new) (rests : Settles meaning old new) (grows : IsLawful (after H e)) where
+      settled_by : (d : Content) → meaning.holds new d → meaning.is_store_open old → meaning.leaves new (d ∷ []) ⊎ meaning.has_cause old new
+      settled_by d held live = elim (rests now live d held) [ inl lives ↦ inl lives.1 | inr cause ↦ inr cause ]
+
+      pub done_step : (outcome : Result X KeepFault) → outcome ≢ Err Damaged
+          → IsDone (meaning.holds new) (meaning.is_store_open old) (meaning.leaves new) c (after H e) outcome (Answers H e) → AnsweredFrom c H outcome
+      done_step (Ok x) undamaged done = (
+        done.done.content,
+        after H e,
+        record {
+          step = (done.reported, refl);
+          lawful = grows;
+          held = done.done.held;
+          stands = done.done.stands;
+          crash = λ live. (after H e, refl, done.crash live);
+          settled = settled_by done.done.content done.done.held;
+        },
+      )
+      done_step (Err fault) undamaged done = (
+        c,
+        H,
+        record {
+          step = (λ is. undamaged (ap (failed_call {X = X}) is), refl);
+          lawful = lawful;
+          held = done.undone;
+          stands = stands;
+          crash = λ live. (after H e, refl, done.crash live);
+          settled = settled_by c done.undone;
+        },
+      )
+
+-- A step is one of other events, if its histories are.
+module _ {K E A F B : Type 0} (meaning : Meaning K) (Step : History → E → A → History → Type 0) (MayMake : History → E → History → Type 0)
+    (Other : History → F → B → History → Type 0) (OtherMakes : History → F → History → Type 0) where
+  pub step_as : (old new : K) (c : Content) (H : History) (e : E) (a : A) (f : F) (b : B) → ((G : History) → Step H e a G → Other H f b G)
+      → ((G : History) → MayMake H e G → OtherMakes H f G) → IsStepFrom meaning Step MayMake old c H e a new → IsStepFrom meaning Other OtherMakes old c H f b new
+  step_as old new c H e a f b steps makes (d, G, step) = (
+    d,
+    G,
+    record {
+      step = steps G step.step;
+      lawful = step.lawful;
+      held = step.held;
+      stands = step.stands;
+      crash = λ live. let left = step.crash live in (left.0, makes left.0 left.1, left.2);
+      settled = step.settled;
+    },
+  )

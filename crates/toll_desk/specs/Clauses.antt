@@ -1,6 +1,6 @@
 -- What the desk's functions say of what they answer, where several say the same.
 use Rattle.std.specs.Prelude.{◌≡◌, ◌≢◌, ◌++◌, [], ◌∷◌, List, OnOk, Bool, true, false, not, is_some, ℕ, Option, Result, IfOk, IfErr, Vec, Err}
-use Rattle.toll_desk.specs.Common.{Global, Bytes, same_bytes, Slice, order_at, house_name, where_so, Decision, LotId, IsRowsOf, lot_row, acts, Step, IsRecall, RecallLine, HaveRead, Damaged, Disposition, Refusal, Action, Command, History, owner_known, Refused, IsPlantAnswer, Judged, PlantCmd, PlantAnswer, Shows, after_plant, IsOwnerAnswer, IsLotOr, IsOrderOr, IsReply, after_reply, has_owner_key, IsTraceOr, Request, Way, OwnerReply, Content, Meaning, OverContent, KeepFault}
+use Rattle.toll_desk.specs.Common.{Global, Bytes, same_bytes, Slice, order_at, house_name, where_so, Decision, LotId, IsRowsOf, lot_row, acts, Step, IsRecall, RecallLine, HaveRead, Damaged, Disposition, Refusal, Action, Command, History, owner_known, Refused, IsPlantAnswer, Judged, PlantCmd, Shows, after_plant, IsOwnerAnswer, IsLotOr, IsOrderOr, has_owner_key, IsTraceOr, Request, Way, OwnerReply, Content, Meaning, OverContent, KeepFault}
 use Rattle.toll_desk.specs.Representing.{Represents}
 use Rattle.std.specs.declared.alloc.AllocError.{AllocError}
 use Rattle.toll_trace.specs.declared.way.Way.TheVariants.{Forward}
@@ -12,7 +12,6 @@ use Rattle.toll_history.specs.Decision.{Decides}
 use Rattle.toll_history.specs.Holders.{holder}
 use Rattle.toll_history.specs.Work.{order_of}
 use Rattle.toll_desk.specs.Translations.{is_answer_accepted, may_change, meaning_of_plant_reply, meaning_of_reply, writes}
-use Rattle.toll_desk.specs.Outcome.{IsDone}
 use Rattle.toll_desk.specs.Plans.{Disposes, IsOwnDecision, IsPlan, IsPlanFor, IsPlanOver, IsPlantDecision, ChangesLeadTo}
 use Rattle.toll_desk.specs.Questions.{AreSlicesFor, is_known_lot, may_trace}
 use Rattle.toll_desk.specs.Reads.{Over}
@@ -136,23 +135,6 @@ pub record IfUnchanging (OverRows : (Slice → Type 0) → Type 0) (q : Request)
 -- the plan makes no change where what was asked is to change nothing
 abbrev pub ChangesIfMayWrite : ((Slice → Type 0) → Type 0) → Request → Plan Reply → Type 0
 ChangesIfMayWrite OverRows q planned = IfUnchanging OverRows q (meaning_of_reply planned.reply) (planned.changes.items ≡ [])
-
--- ---- what is done
-
--- what was held is held where what was asked is to change nothing
-abbrev pub StaysIfUnasked : {K : Type 0} → Meaning K → (old new : K) → (o : Bytes) → Request → Result OwnerReply KeepFault → Type 0
-StaysIfUnasked meaning old new o q reported = OverContent meaning old new (λ c. IfUnchanging (OverSlice (c.rows o)) q reported (meaning.holds new c))
-
-module _ {K : Type 0} (meaning : Meaning K) (old new : K) where
-  -- The reply to a client that claims the owner with this key is right over the content, and the keep then holds the content after the request.
-  abbrev pub IsOwnerDone : (o key : Bytes) → Request → Result OwnerReply KeepFault → Type 0
-  IsOwnerDone o key q reported =
-      Over meaning old new (λ c H. IsDone (meaning.holds new) (meaning.is_store_open old) (meaning.leaves new) c (after_reply o key H q) reported (IsReply o key H q))
-
-  -- what the plant asks is answered over what was held, and what that makes of it is held
-  abbrev pub IsPlantDone : PlantCmd → Result PlantAnswer KeepFault → Type 0
-  IsPlantDone q reported =
-      Over meaning old new (λ c H. IsDone (meaning.holds new) (meaning.is_store_open old) (meaning.leaves new) c (after_plant H q) reported (IsPlantAnswer H q))
 
 -- whatever history the content stands for, the name is found where the owner has this key
 abbrev pub IsFoundBy : Content → (o key : Bytes) → Result (Option Bytes) KeepFault → Type 0

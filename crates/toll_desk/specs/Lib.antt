@@ -9,6 +9,6 @@ pub mod Outcome
 pub mod Steps
 pub mod Clauses
 pub mod PlantStaged
-pub mod PlantServed
+pub mod OfficeSteps
 pub mod Subjects
 pub mod Questions

@@ -1,19 +1,26 @@
 -- What came of what was asked, over a keep.
-use Rattle.std.specs.Prelude.{◌≡◌, ◌⊎◌, List, [], ◌∷◌, Result, Ok, Err, IfOk, OnOk, OnErr}
-use Rattle.toll_desk.specs.Common.{History, PlantCmd, PlantAnswer, Content, CallEffect, Meaning, KeepFault, Damaged}
+use Rattle.std.specs.Prelude.{◌≡◌, List, [], ◌∷◌, Result, Ok, Err, IfOk, OnOk, OnErr}
+use Rattle.toll_desk.specs.Common.{AllChangesFit, CallEffect, Change, Content, History, KeepFault, Meaning, OverContent, Settles, content_after}
+use Rattle.toll_keep.specs.CallEffects.{FindsNoDamage}
+use Rattle.toll_keep.specs.Meaning.{OverLive}
 use Rattle.toll_desk.specs.Representing.{Represents}
-use Rattle.toll_answers.specs.declared.plant_cmd.PlantCmd.TheVariants as cmd
 
 -- the outcome of a plan once its changes were made, or not
 abbrev pub finished : {X : Type 0} → Result X KeepFault → Result (Unit {0}) KeepFault → Result X KeepFault
 finished outcome (Ok made) = outcome
 finished outcome (Err fault) = Err fault
 
--- how the calls of the keep go: a command that couldn't be read makes none; a recall that finds a lot without a row gives Damaged after calls that all succeeded
-abbrev pub CommandEffect : {K : Type 0} → (meaning : Meaning K) → (old new : K) → PlantCmd → Result PlantAnswer KeepFault → Type 0
-CommandEffect meaning old new (cmd.Unread why) outcome = Unit {0}
-CommandEffect meaning old new (cmd.Recall lot) outcome = CallEffect meaning old new outcome ⊎ ((outcome ≡ Err Damaged) × CallEffect {X = Unit {0}} meaning old new (Ok tt))
-CommandEffect meaning old new _ outcome = CallEffect meaning old new outcome
+-- The effect of making these changes: all of them, or none after a fault. A stop leaves the content from before or after. If there are no
+-- changes, the keep is not called.
+pub record CommitEffect {K : Type 0} (meaning : Meaning K) (old new : K) (changes : List Change) (result : Result (Unit {0}) KeepFault) : Type 0 where
+  pub honest : meaning.is_honest new → meaning.is_honest old
+  pub idle : changes ≡ [] → (new ≡ old) × (result ≡ Ok tt)
+  pub goes : (changes ≡ [] → ⊥) → CallEffect meaning old new result
+  pub settles : Settles meaning old new
+  pub all : OverContent meaning old new (λ c. AllChangesFit c changes → OnOk result (meaning.holds new (content_after changes c)))
+  pub none : OverContent meaning old new (λ c. OnErr result (meaning.holds new c))
+  pub whole : FindsNoDamage meaning old new result
+  pub crash : OverLive meaning old new (λ c. AllChangesFit c changes → meaning.leaves new (c ∷ content_after changes c ∷ []))
 
 -- each of these contents stands for the history
 abbrev pub AllRepresent : History → List Content → Type 0

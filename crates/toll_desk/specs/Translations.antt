@@ -1,8 +1,7 @@
 -- What replies mean, and which requests and commands may change rows.
 use Rattle.std.specs.Prelude.{Bool, true, false, ◌&&◌, Result, Ok, Err}
-use Rattle.toll_desk.specs.Common.{Accepted, Repeated, Refused, PlantCmd, PlantAnswer, Judged, Shows, Request, OwnerReply, ReplyForbidden, ReplyOrders, ReplyOrder, ReplyBatch, ReplyStock, ReplyLot, ReplyTrace, ReplyRefused, KeepFault}
+use Rattle.toll_desk.specs.Common.{Accepted, Repeated, Refused, PlantAnswer, Judged, Shows, Request, OwnerReply, ReplyForbidden, ReplyOrders, ReplyOrder, ReplyBatch, ReplyStock, ReplyLot, ReplyTrace, ReplyRefused, KeepFault}
 use Rattle.toll_base.specs.declared.request.Request.TheVariants as request
-use Rattle.toll_answers.specs.declared.plant_cmd.PlantCmd.TheVariants as cmd
 use Rattle.toll_desk.specs.declared.plant_cmd.PlantReply.{PlantReply}
 use Rattle.toll_desk.specs.declared.plant_cmd.PlantReply.TheVariants as plant
 use Rattle.toll_desk.specs.declared.request.Reply.{Reply}
@@ -36,11 +35,6 @@ is_granted (Err fault) = false
 
 abbrev pub may_change : Request → Result OwnerReply KeepFault → Bool
 may_change q outcome = writes q && is_granted outcome
-
--- whether the question may report damage while the keep stays open
-abbrev pub asks_recall : PlantCmd → Bool
-asks_recall (cmd.Recall lot) = true
-asks_recall _ = false
 
 -- the answer to the plant, or the fault
 abbrev pub meaning_of_plant_reply : PlantReply → Result PlantAnswer KeepFault

@@ -1,11 +1,11 @@
 //! Commands of the plant.
-ghost use Rattle.std.specs.Prelude.{◌≡◌, [], false, OnErr};
 ghost use Rattle.toll_history.specs.Verdict.{IsValidAction};
 ghost use Rattle.toll_answers.specs.PlantAnswers.{recorded_command};
-ghost use Rattle.toll_keep.specs.CallEffects.{FindsNoDamage, CallEffect, IsReading};
-ghost use Rattle.toll_keep.specs.Meaning.{OverContent};
-ghost use Rattle.toll_desk.specs.Clauses.{ChangesIfAccepted, IsPlantDone, IsPlantPlanned};
-ghost use Rattle.toll_desk.specs.Translations.{is_answer_accepted, meaning_of_plant_reply};
+ghost use Rattle.toll_keep.specs.CallEffects.{IsReading};
+ghost use Rattle.toll_desk.specs.Clauses.{ChangesIfAccepted, IsPlantPlanned};
+ghost use Rattle.toll_desk.specs.OfficeSteps.{plant_steps};
+ghost use Rattle.toll_desk.specs.Steps.{IsKeepStep};
+ghost use Rattle.toll_desk.specs.Translations.{meaning_of_plant_reply};
 ghost use Rattle.toll_desk.specs.Reads.{Over};
 ghost use Rattle.toll_desk.specs.Subjects.{IsCommandSuchThat};
 
@@ -20,10 +20,7 @@ use toll_keep::{Keep, KeepFault};
 /// Decides a command of the plant, and does it if it is accepted.
 pub fn run_command<K: Keep>(alloc: Global, keep: &mut K, command: &PlantCmd) -> PlantReply
     requires { IsCommandSuchThat IsValidAction (recorded_command command.now) }
-    ensures goes { CallEffect K.meaning keep.old keep.new (meaning_of_plant_reply result) }
-    ensures whole { FindsNoDamage K.meaning keep.old keep.new (meaning_of_plant_reply result) }
-    ensures quiet { OverContent K.meaning keep.old keep.new (λ c. is_answer_accepted (meaning_of_plant_reply result) ≡ false → K.meaning.holds keep.new c) }
-    ensures done { IsPlantDone K.meaning keep.old keep.new command.now (meaning_of_plant_reply result) }
+    ensures { IsKeepStep K.meaning plant_steps keep.old command.now (meaning_of_plant_reply result) keep.new }
 {
     let planned = plan(alloc, keep, command);
     let made = commit(alloc, keep, &planned.changes);
@@ -34,7 +31,6 @@ pub fn run_command<K: Keep>(alloc: Global, keep: &mut K, command: &PlantCmd) -> 
 fn plan<K: Keep>(alloc: Global, keep: &mut K, command: &PlantCmd) -> Plan<PlantReply>
     requires { IsCommandSuchThat IsValidAction (recorded_command command.now) }
     ensures reads { IsReading K.meaning keep.old keep.new (meaning_of_plant_reply result.reply) }
-    ensures none { OnErr (meaning_of_plant_reply result.reply) (result.changes.items ≡ []) }
     ensures quiet { ChangesIfAccepted result }
     ensures plan { Over K.meaning keep.old keep.new (λ c H. IsPlantPlanned c H command.now result) }
 {

@@ -1,9 +1,11 @@
 //! Owners' requests over a keep.
-ghost use Rattle.std.specs.Prelude.{◌≡◌, Err};
-ghost use Rattle.toll_keep.specs.CallEffects.{FindsNoDamage, CallEffect, IsReading, IsSpared, Settles};
-ghost use Rattle.toll_desk.specs.Clauses.{ChangesIfMayWrite, IsOwnerDone, IsPlannedBy, OverContentRows, StaysIfUnasked};
-ghost use Rattle.toll_desk.specs.Translations.{meaning_of_reply};
+ghost use Rattle.toll_answers.specs.Replies.{IsValidOwnerRequest};
+ghost use Rattle.toll_keep.specs.CallEffects.{IsReading};
+ghost use Rattle.toll_desk.specs.Clauses.{ChangesIfMayWrite, IsPlannedBy, OverContentRows};
+ghost use Rattle.toll_desk.specs.OfficeSteps.{owner_steps};
 ghost use Rattle.toll_desk.specs.Reads.{Over};
+ghost use Rattle.toll_desk.specs.Steps.{IsKeepStep};
+ghost use Rattle.toll_desk.specs.Translations.{meaning_of_reply};
 
 use crate::admission::admit;
 use crate::committing::commit;
@@ -44,14 +46,20 @@ pub fn owner_do<K: Keep>(
     key: &[u8],
     request: &Request,
 ) -> Reply
-    ensures goes { CallEffect K.meaning keep.old keep.new (meaning_of_reply result) }
-    ensures settles { Settles K.meaning keep.old keep.new }
-    ensures spared { meaning_of_reply result ≡ Err KeepFault.Memory → IsSpared K.meaning keep.old keep.new }
-    ensures whole { FindsNoDamage K.meaning keep.old keep.new (meaning_of_reply result) }
-    ensures idle { StaysIfUnasked K.meaning keep.old keep.new owner.now request.now (meaning_of_reply result) }
-    ensures done { IsOwnerDone K.meaning keep.old keep.new owner.now key.now request.now (meaning_of_reply result) }
+    ensures { IsKeepStep K.meaning (owner_steps owner.now key.now) keep.old request.now (meaning_of_reply result) keep.new }
 {
+    // For the proof: the bounds that the types give the values.
+    keeps_bounds(request);
     let planned = owner_plan(alloc, keep, owner, key, request);
     let made = commit(alloc, keep, &planned.changes);
     planned.finished(made)
+}
+
+// A law: the values of a request are within the bounds of their types.
+fn keeps_bounds(request: &Request)
+    ensures { IsValidOwnerRequest request.now }
+{
+    if let Request::Place { batches, .. } = *request {
+        let _within = batches.get();
+    }
 }

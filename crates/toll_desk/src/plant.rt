@@ -1,5 +1,8 @@
 //! The plant's commands and questions over a keep.
-ghost use Rattle.toll_desk.specs.PlantServed.{IsPlantServed};
+ghost use Rattle.toll_answers.specs.PlantAnswers.{IsValidCommand};
+ghost use Rattle.toll_desk.specs.OfficeSteps.{plant_steps};
+ghost use Rattle.toll_desk.specs.Steps.{IsKeepStep};
+ghost use Rattle.toll_desk.specs.Translations.{meaning_of_plant_reply};
 
 use crate::commands::run_command;
 use crate::plant_cmd::PlantReply;
@@ -14,7 +17,8 @@ use toll_keep::{Keep, KeepFault};
 /// answers [`KeepFault::Damaged`] if one of its lots has no row. No history has such a lot, and the keep goes
 /// on after this fault.
 pub fn plant_do<K: Keep>(alloc: Global, keep: &mut K, command: &PlantCmd) -> PlantReply
-    ensures { IsPlantServed K.meaning keep.old keep.new command.now result }
+    ensures step { IsKeepStep K.meaning plant_steps keep.old command.now (meaning_of_plant_reply result) keep.new }
+    ensures valid { IsValidCommand command.now }
 {
     // For the proof: the bounds that the types give the values.
     command.keeps_bounds();

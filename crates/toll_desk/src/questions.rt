@@ -4,12 +4,14 @@ ghost use Rattle.toll_history.specs.History.{History};
 ghost use Rattle.toll_history.specs.OverRows.{OverOwnRows};
 ghost use Rattle.toll_history.specs.OwnerFacts.{IsRowsOf};
 ghost use Rattle.toll_history.specs.Verdict.{IsLawful, Refused};
-ghost use Rattle.toll_answers.specs.PlantAnswers.{IsPlantAnswer, AreOrdersShown, Shows, after_plant};
-ghost use Rattle.toll_keep.specs.CallEffects.{IsReading, Keeps};
+ghost use Rattle.toll_answers.specs.PlantAnswers.{IsPlantAnswer, AreOrdersShown, Shows};
+ghost use Rattle.toll_keep.specs.CallEffects.{IsReading};
 ghost use Rattle.toll_desk.specs.Clauses.{IsRefusedAs, IsTextAs};
-ghost use Rattle.toll_desk.specs.Translations.{asks_recall, is_answer_accepted, meaning_of_plant_reply};
+ghost use Rattle.toll_desk.specs.Translations.{meaning_of_plant_reply};
 ghost use Rattle.toll_desk.specs.Questions.{IsRecallEffect, is_known_lot};
+ghost use Rattle.toll_desk.specs.OfficeSteps.{plant_steps};
 ghost use Rattle.toll_desk.specs.Reads.{Over};
+ghost use Rattle.toll_desk.specs.Steps.{IsKeepStep};
 ghost use Rattle.toll_desk.specs.Subjects.{ConcernsRows, IsQuestion, question_for_owner};
 
 use crate::plant_cmd::PlantReply;
@@ -28,13 +30,7 @@ use toll_work::batch_view;
 /// keep goes on after this fault.
 pub fn answer_question<K: Keep>(alloc: Global, keep: &mut K, command: &PlantCmd) -> PlantReply
     requires { IsQuestion command.now }
-    ensures stays { (H : History) → after_plant H command.now ≡ H }
-    ensures going { IsRecallEffect K.meaning keep.old keep.new (meaning_of_plant_reply result) }
-    ensures reads { asks_recall command.now ≡ false → IsReading K.meaning keep.old keep.new (meaning_of_plant_reply result) }
-    ensures whole { Over K.meaning keep.old keep.new (λ c H. meaning_of_plant_reply result ≢ Err KeepFault.Damaged) }
-    ensures keeps { K.meaning.is_honest keep.new → Keeps K.meaning keep.old keep.new }
-    ensures shown { is_answer_accepted (meaning_of_plant_reply result) ≡ false }
-    ensures over { Over K.meaning keep.old keep.new (λ c H. IfOk (meaning_of_plant_reply result) (IsPlantAnswer H command.now)) }
+    ensures { IsKeepStep K.meaning plant_steps keep.old command.now (meaning_of_plant_reply result) keep.new }
 {
     match *command {
         PlantCmd::Trace { lot, way } => answer_trace(alloc, keep, &lot, way),
@@ -50,7 +46,6 @@ pub fn answer_question<K: Keep>(alloc: Global, keep: &mut K, command: &PlantCmd)
 fn answer_from_rows<K: Keep>(alloc: Global, keep: &mut K, command: &PlantCmd) -> PlantReply
     requires { ConcernsRows command.now }
     ensures reads { IsReading K.meaning keep.old keep.new (meaning_of_plant_reply result) }
-    ensures shown { is_answer_accepted (meaning_of_plant_reply result) ≡ false }
     ensures over { Over K.meaning keep.old keep.new (λ c H. IfOk (meaning_of_plant_reply result) (IsPlantAnswer H command.now)) }
 {
     match keep.slice(alloc, &command.owner()) {
@@ -115,7 +110,6 @@ fn show_batch(
 // The text of a trace: [`Refusal::UnknownOwner`], then [`Refusal::UnknownLot`].
 fn answer_trace<K: Keep>(alloc: Global, keep: &mut K, lot: &LotId, way: Way) -> PlantReply
     ensures reads { IsReading K.meaning keep.old keep.new (meaning_of_plant_reply result) }
-    ensures shown { is_answer_accepted (meaning_of_plant_reply result) ≡ false }
     ensures over { Over K.meaning keep.old keep.new (λ c H. IfOk (meaning_of_plant_reply result) (IsPlantAnswer H (PlantCmd.Trace lot.now way))) }
 {
     match keep.slice(alloc, &lot.owner) {
@@ -133,7 +127,6 @@ fn answer_trace<K: Keep>(alloc: Global, keep: &mut K, lot: &LotId, way: Way) -> 
 // The same for a known lot.
 fn show_trace<K: Keep>(alloc: Global, keep: &mut K, lot: &LotId, way: Way) -> PlantReply
     ensures reads { IsReading K.meaning keep.old keep.new (meaning_of_plant_reply result) }
-    ensures shown { is_answer_accepted (meaning_of_plant_reply result) ≡ false }
     ensures over { Over K.meaning keep.old keep.new (λ c H. is_known_lot H lot.now ≡ true → IfOk (meaning_of_plant_reply result) (IsPlantAnswer H (PlantCmd.Trace lot.now way))) }
 {
     match trace_plant(alloc, keep, lot, way) {
@@ -151,7 +144,6 @@ fn show_trace<K: Keep>(alloc: Global, keep: &mut K, lot: &LotId, way: Way) -> Pl
 fn answer_recall<K: Keep>(alloc: Global, keep: &mut K, lot: &LotId) -> PlantReply
     ensures going { IsRecallEffect K.meaning keep.old keep.new (meaning_of_plant_reply result) }
     ensures whole { Over K.meaning keep.old keep.new (λ c H. meaning_of_plant_reply result ≢ Err KeepFault.Damaged) }
-    ensures shown { is_answer_accepted (meaning_of_plant_reply result) ≡ false }
     ensures over { Over K.meaning keep.old keep.new (λ c H. IfOk (meaning_of_plant_reply result) (IsPlantAnswer H (PlantCmd.Recall lot.now))) }
 {
     match recall(alloc, keep, lot) {
@@ -167,7 +159,6 @@ fn answer_recall<K: Keep>(alloc: Global, keep: &mut K, lot: &LotId) -> PlantRepl
 // The refusal of an unknown lot.
 fn refuse_lot<K: Keep>(alloc: Global, keep: &mut K, lot: &LotId) -> PlantReply
     ensures reads { IsReading K.meaning keep.old keep.new (meaning_of_plant_reply result) }
-    ensures shown { is_answer_accepted (meaning_of_plant_reply result) ≡ false }
     ensures over { Over K.meaning keep.old keep.new (λ c H. is_known_lot H lot.now ≡ false → IfOk (meaning_of_plant_reply result) (IsPlantAnswer H (PlantCmd.Recall lot.now))) }
 {
     match keep.slice(alloc, &lot.owner) {
