@@ -1,10 +1,14 @@
 -- The steps of the plant's commands and questions, and of owners' requests.
 use Rattle.std.specs.Prelude.{◌≡◌, ◌⊎◌, false, None, Some, Result, Ok, Err}
-use Rattle.toll_desk.specs.Common.{Bytes, Damaged, IsPlantAnswer, IsReply, Judged, KeepFault, OwnerReply, PlantAnswer, PlantCmd, Refused, Request, after_plant, after_reply}
+use Rattle.toll_desk.specs.Common.{Bytes, Damaged, History, IsPlantAnswer, IsReply, Judged, KeepFault, OwnerReply, PlantAnswer, PlantCmd, Refused, Request, after_plant, after_reply}
 use Rattle.toll_answers.specs.declared.plant_cmd.PlantCmd.TheVariants as cmd
 use Rattle.toll_desk.specs.Clauses.{IfUnchanging, OverSlice}
-use Rattle.toll_desk.specs.Steps.{Calls, StepKind, answered_steps, calls_of}
+use Rattle.toll_desk.specs.Steps.{Calls, IsAnsweredStep, StepKind, answered_steps, calls_of}
 use Rattle.toll_desk.specs.Translations.{is_answer_accepted}
+
+-- the plant's command or question is answered, or meets a fault
+abbrev pub IsPlantStep : History → PlantCmd → Result PlantAnswer KeepFault → History → Type 0
+IsPlantStep = IsAnsweredStep IsPlantAnswer after_plant
 
 -- A command that couldn't be read is refused, and the keep is not called. A recall that finds a lot without a row is Damaged after calls that
 -- all succeeded.
