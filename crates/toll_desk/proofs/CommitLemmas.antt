@@ -145,7 +145,7 @@ module _ {K X : Type 0} (meaning : Meaning K) (rests : Rests meaning) (old middl
       over = λ now c H held stands lawful.
           let before = commit.honest now in
           let there = between now c held in
-          done_step meaning Answers after old new e c H stands lawful now (settles meaning old new outcome rests goes_out) (grows H lawful) outcome
+          done_step meaning Answers after old new c H stands lawful e now (settles meaning old new outcome rests goes_out) (grows H lawful) outcome
           (undamaged now c held (represented_keeps_rules H c lawful stands))
           (done_of meaning old middle new result c (after H e) (Answers H e) changes made same
           (record { idle = commit.idle; all = commit.all now c there; none = commit.none now c there; crash = λ live. commit.crash now live c there }) there

@@ -36,7 +36,7 @@ module _ {K : Type 0} (meaning : Meaning K) (rests : Rests meaning) (old new : K
     store = store_of meaning old new rests read reads.goes (λ now c held. left read ((reads.keeps now).content c held)) reads.whole;
     still = λ now c held not. (reads.keeps now).content c held;
     over = λ now c H held stands lawful.
-        read_step meaning IsPlantAnswer after_plant old new q c H stands lawful (question_stays H q asks) (reads.keeps now) held outcome
+        read_step meaning IsPlantAnswer after_plant old new c H stands lawful q (question_stays H q asks) (reads.keeps now) held outcome
         (undamaged now c H held stands lawful) (over now c H held stands lawful);
   }
     where
@@ -62,6 +62,6 @@ unread_step meaning rests keep why = record {
   store = record { honest = λ now. now; goes = refl; settles = settles_still meaning keep rests; spared = λ is. absurd (cc is); whole = λ now c held keeps is. (cc is) };
   still = λ now c held not. held;
   over = λ now c H held stands lawful.
-      read_step meaning IsPlantAnswer after_plant keep keep (cmd.Unread why) c H stands lawful refl
+      read_step meaning IsPlantAnswer after_plant keep keep c H stands lawful (cmd.Unread why) refl
       (record { content = λ c held. held; crash = λ live c held. rests keep c now live held }) held (Ok (Judged (Refused why))) (λ is. (cc is)) refl;
 }

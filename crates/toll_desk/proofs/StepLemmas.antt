@@ -1,6 +1,6 @@
 -- Calls of a keep that are steps of the office, one after another.
 use Rattle.std.proofs.Common.{◌≡◌, List, [], ◌∷◌, Result, Ok, Err, IfOk, OnErr, ap, sym, subst, refl, inl, inr}
-use Rattle.std.specs.Prelude.{◌≢◌, ◌⊎◌}
+use Rattle.std.specs.Prelude.{◌≢◌}
 use Rattle.toll_desk.proofs.Common.{CallEffect, Content, History, IsLawful, KeepFault, Keeps, Meaning, OverContent, goes_as, goes_fault, settles, spared}
 use Rattle.toll_keep.proofs.Calls.{Rests, answered, failed_call}
 use Rattle.toll_keep.specs.CallEffects.{FindsNoDamage, Settles}
@@ -8,7 +8,7 @@ use Rattle.toll_keep.specs.declared.fault.KeepFault.TheVariants.{Damaged, Memory
 use Rattle.toll_desk.specs.Outcome.{IsDone}
 use Rattle.toll_desk.specs.Reads.{Over}
 use Rattle.toll_desk.specs.Representing.{Represents}
-use Rattle.toll_desk.specs.Steps.{AreStepsFrom, IsAnsweredStep, IsOfficeStep, IsStepFrom, Makes, OfficeState, StoreEffect, calls_of, state_at}
+use Rattle.toll_desk.specs.Steps.{AreStepsFrom, IsAnsweredStep, IsOfficeStep, IsStepFrom, OfficeState, StoreEffect, calls_of, state_at}
 use Rattle.toll_history.specs.Runs.{IsRun}
 use Rattle.toll_history.proofs.RunLemmas.{run_back}
 
@@ -71,61 +71,57 @@ store_of {X} meaning old new rests (Err fault) goes none whole = record {
   whole = λ now c held keeps is. let damaged : fault ≡ Damaged = (cc is) in whole now c held keeps (ap (failed_call {X = X}) damaged);
 }
 
-module _ {K E X : Type 0} (meaning : Meaning K) (Answers : History → E → X → Type 0) (after : History → E → History) (old new : K) (e : E) where
-  abbrev AnsweredFrom : Content → History → Result X KeepFault → Type 0
-  AnsweredFrom c H outcome = IsStepFrom meaning (IsAnsweredStep Answers after) (Makes after) old c H e outcome new
+module _ {K E X : Type 0} (meaning : Meaning K) (Answers : History → E → X → Type 0) (after : History → E → History) (old new : K)
+    (c : Content) (H : History) (stands : Represents c H) (lawful : IsLawful H) (e : E) where
+  abbrev AnsweredFrom : Result X KeepFault → Type 0
+  AnsweredFrom outcome = IsStepFrom meaning (λ F f a G. (a ≢ Err Damaged) × IsAnsweredStep Answers after F f a G) (λ F f G. G ≡ after F f) old c H e outcome new
 
-  module _ (c : Content) (H : History) (stands : Represents c H) (lawful : IsLawful H) where
-    -- a reading that leaves the history
-    pub read_step : after H e ≡ H → Keeps meaning old new → meaning.holds old c → (outcome : Result X KeepFault) → outcome ≢ Err Damaged → IfOk outcome (Answers H e) → AnsweredFrom c H outcome
-    read_step stays keeps held outcome undamaged right = (
-      c,
-      H,
-      record {
-        step = step_of outcome undamaged right;
-        lawful = lawful;
-        held = keeps.content c held;
-        stands = stands;
-        crash = λ live. (H, sym stays, record { others = []; stand = tt; left = keeps.crash live c held });
-        settled = λ live. inl (keeps.crash live c held);
-      },
-    )
-      where
-        step_of : (outcome : Result X KeepFault) → outcome ≢ Err Damaged → IfOk outcome (Answers H e) → IsAnsweredStep Answers after H e outcome H
-        step_of (Ok x) undamaged right = (right, sym stays)
-        step_of (Err fault) undamaged right = (λ is. undamaged (ap (failed_call {X = X}) is), refl)
+  -- a reading that leaves the history
+  pub read_step : after H e ≡ H → Keeps meaning old new → meaning.holds old c → (outcome : Result X KeepFault) → outcome ≢ Err Damaged → IfOk outcome (Answers H e) → AnsweredFrom outcome
+  read_step stays keeps held outcome undamaged right = (
+    c,
+    H,
+    record {
+      step = (undamaged, step_of outcome right);
+      lawful = lawful;
+      held = keeps.content c held;
+      stands = stands;
+      crash = λ live. (H, sym stays, record { others = []; stand = tt; left = keeps.crash live c held });
+      settled = λ live. inl (keeps.crash live c held);
+    },
+  )
+    where
+      step_of : (outcome : Result X KeepFault) → IfOk outcome (Answers H e) → IsAnsweredStep Answers after H e outcome H
+      step_of (Ok x) right = (right, sym stays)
+      step_of (Err fault) right = refl
 
-    -- what is done, or undone after a fault
-    module _ (now : meaning.is_honest new) (rests : Settles meaning old new) (grows : IsLawful (after H e)) where
-      settled_by : (d : Content) → meaning.holds new d → meaning.is_store_open old → meaning.leaves new (d ∷ []) ⊎ meaning.has_cause old new
-      settled_by d held live = elim (rests now live d held) [ inl lives ↦ inl lives.1 | inr cause ↦ inr cause ]
-
-      pub done_step : (outcome : Result X KeepFault) → outcome ≢ Err Damaged
-          → IsDone (meaning.holds new) (meaning.is_store_open old) (meaning.leaves new) c (after H e) outcome (Answers H e) → AnsweredFrom c H outcome
-      done_step (Ok x) undamaged done = (
-        done.done.content,
-        after H e,
-        record {
-          step = (done.reported, refl);
-          lawful = grows;
-          held = done.done.held;
-          stands = done.done.stands;
-          crash = λ live. (after H e, refl, done.crash live);
-          settled = settled_by done.done.content done.done.held;
-        },
-      )
-      done_step (Err fault) undamaged done = (
-        c,
-        H,
-        record {
-          step = (λ is. undamaged (ap (failed_call {X = X}) is), refl);
-          lawful = lawful;
-          held = done.undone;
-          stands = stands;
-          crash = λ live. (after H e, refl, done.crash live);
-          settled = settled_by c done.undone;
-        },
-      )
+  -- what is done, or undone after a fault
+  pub done_step : meaning.is_honest new → Settles meaning old new → IsLawful (after H e) → (outcome : Result X KeepFault) → outcome ≢ Err Damaged
+      → IsDone (meaning.holds new) (meaning.is_store_open old) (meaning.leaves new) c (after H e) outcome (Answers H e) → AnsweredFrom outcome
+  done_step now rests grows (Ok x) undamaged done = (
+    done.done.content,
+    after H e,
+    record {
+      step = (undamaged, (done.reported, refl));
+      lawful = grows;
+      held = done.done.held;
+      stands = done.done.stands;
+      crash = λ live. (after H e, refl, done.crash live);
+      settled = λ live. elim (rests now live done.done.content done.done.held) [ inl lives ↦ inl lives.1 | inr cause ↦ inr cause ];
+    },
+  )
+  done_step now rests grows (Err fault) undamaged done = (
+    c,
+    H,
+    record {
+      step = (undamaged, refl);
+      lawful = lawful;
+      held = done.undone;
+      stands = stands;
+      crash = λ live. (after H e, refl, done.crash live);
+      settled = λ live. elim (rests now live c done.undone) [ inl lives ↦ inl lives.1 | inr cause ↦ inr cause ];
+    },
+  )
 
 -- A step is one of other events, if its histories are.
 module _ {K E A F B : Type 0} (meaning : Meaning K) (Step : History → E → A → History → Type 0) (MayMake : History → E → History → Type 0)

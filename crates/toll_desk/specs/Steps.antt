@@ -86,14 +86,18 @@ pub record IsKeepStep {K E A : Type 0} (meaning : Meaning K) (kind : StepKind E 
 
 -- ---- events that are answered, or meet a fault
 
--- The answer is right and the history grows by the event. After a fault the history stays, and no fault reports damage.
-abbrev pub IsAnsweredStep : {E X : Type 0} → (Answers : History → E → X → Type 0) → (after : History → E → History) → History → E → Result X KeepFault → History → Type 0
-IsAnsweredStep Answers after old event (Ok answer) new = Answers old event answer × (new ≡ after old event)
-IsAnsweredStep Answers after old event (Err fault) new = (fault ≢ Damaged) × (new ≡ old)
-
-abbrev pub Makes : {E : Type 0} → (after : History → E → History) → History → E → History → Type 0
-Makes after old event new = new ≡ after old event
-
 module _ {E X : Type 0} (Answers : History → E → X → Type 0) (after : History → E → History) where
-  abbrev pub answered_steps : (calls : E → Result X KeepFault → Calls → Type 0) → (if_still : Content → E → Result X KeepFault → Type 0 → Type 0) → StepKind E (Result X KeepFault)
-  answered_steps calls if_still = record { step = IsAnsweredStep Answers after; may_make = Makes after; calls = calls; if_still = if_still }
+  -- The answer is right and the history grows by the event; or there was a fault, and the history stays.
+  abbrev pub IsAnsweredStep : History → E → Result X KeepFault → History → Type 0
+  IsAnsweredStep old event (Ok answer) new = Answers old event answer × (new ≡ after old event)
+  IsAnsweredStep old event (Err fault) new = new ≡ old
+
+  -- such steps, none of which reports damage
+  abbrev pub answered_steps : (calls : E → Result X KeepFault → Calls → Type 0) → (if_still : Content → E → Result X KeepFault → Type 0 → Type 0)
+      → StepKind E (Result X KeepFault)
+  answered_steps calls if_still = record {
+    step = λ old event outcome new. (outcome ≢ Err Damaged) × IsAnsweredStep old event outcome new;
+    may_make = λ old event new. new ≡ after old event;
+    calls = calls;
+    if_still = if_still;
+  }
