@@ -33,7 +33,7 @@ pub use Rattle.toll_desk.specs.Outcome.{CommandEffect, IsDone, finished}
 pub use Rattle.toll_desk.specs.Representing.{Represents}
 pub use Rattle.toll_history.specs.Command.{CancelOrder, Command, PlaceOrder, Reject, Release, by}
 pub use Rattle.toll_history.specs.History.{History, acts, part}
-pub use Rattle.toll_history.specs.Verdict.{Accepted, IsLawful, Refused, Repeated, Verdict, verdict_of_checks, grow, grown, verdict}
+pub use Rattle.toll_history.specs.Verdict.{Accepted, IsLawful, IsValidAction, Refused, Repeated, Verdict, verdict_of_checks, grow, grown, verdict}
 pub use Rattle.toll_keep.specs.Content.{Content, ContentKeepsRules, AllChangesFit, content_after}
 pub use Rattle.toll_keep.specs.CallEffects.{CallEffect, IsReading, Settles}
 pub use Rattle.toll_keep.specs.Meaning.{Meaning}

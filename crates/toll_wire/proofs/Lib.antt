@@ -15,11 +15,10 @@ pub mod Once
 pub mod AddressLemmas
 pub mod Readings
 mod WorkedReplies
+pub mod Valid
+pub mod Growth
 pub mod Private
 pub mod Determined
-pub mod Alike
-pub mod Valid
-pub mod PartLemmas
 pub mod Served
 pub mod Serving
 pub mod PrintedLemmas

@@ -14,8 +14,7 @@ use Rattle.toll_trace.specs.declared.way.Way.{Way}
 use Rattle.toll_trace.specs.declared.way.Way.TheVariants.{Back, Forward}
 use Rattle.toll_wire.specs.Printed.{PrintsLine, asks_trace}
 use Rattle.toll_wire.specs.ReplyTexts.{text_of_reply_meaning}
-use Rattle.toll_wire.specs.Runs.{Asks, By, IsTold}
-use Rattle.toll_wire.specs.Steps.{http}
+use Rattle.toll_wire.specs.Sayings.{Asks, By, IsTold}
 
 -- if a text is shown, the checks were passed
 shown_past : (v : Verdict) (S : Type 0) (text : Bytes) → IsCheckedOr v S (Shows text) → S
@@ -57,7 +56,7 @@ module _ (H : History) (o key lot : Bytes) (has : has_owner_key o key H ≡ true
   printed_traced Forward r answer = subst (λ b. MatchBool b (TracedTo Forward r) (r ≡ ReplyRefused UnknownLot)) known answer
 
   -- the reply to an owner that has the lot is its trace
-  pub own_trace_told : (way : Way) (reply : Bytes) → IsTold http H (By o (Some key) (Asks (asks_trace way lot))) reply →
+  pub own_trace_told : (way : Way) (reply : Bytes) → IsTold H (By o (Some key) (Asks (asks_trace way lot))) reply →
       (trace : List Step) × IsTrace (IsOwnJoined (acts o H) way) (lot_id o lot) trace × (reply ≡ text_of_reply_meaning (ReplyTrace trace))
   own_trace_told way reply reported =
       let is = printed_traced way reported.0 (printed_answered (asks_trace way lot) reported.0 reported.1) in

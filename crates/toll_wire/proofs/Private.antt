@@ -1,141 +1,169 @@
--- Each owner's replies in a run are those that its own events give by themselves.
-use Rattle.std.proofs.Common.{◌≡◌, Bool, true, false, ◌&&◌, cond, Option, Some, None, List, [], ◌∷◌, ◌++◌, refl, sym, ap, subst, ◌∙◌}
-use Rattle.toll_wire.proofs.Common.{false≢true, Bytes, same_bytes, PlaceOrder, CancelOrder, Release, Reject, Command, by, History, part, Verdict, Accepted, Repeated, Refused, verdict, grow, grown, IsLawful, Request, IsValidOwnerRequest, has_owner_key, IsReply, after_answer, after_reply, PlantCmd, IsQuestionAnswer, IsVerdictOr, recorded_command, option_map_or, PlantAnswer, Judged}
-use Rattle.std.specs.Prelude.{IsSomeAnd}
-use mathlib.Core.Bool.{and-false}
+-- In a run each owner has its part, and its replies are those that its part gives alone.
+use Rattle.std.proofs.Common.{◌≡◌, Bool, true, false, cond, Option, Some, None, List, [], ◌∷◌, Result, Ok, Err, refl, sym, ap, subst, subst₂, ◌∙◌, inl, inr}
+use Rattle.std.specs.Prelude.{◌⊎◌}
+use Rattle.toll_wire.proofs.Common.{false≢true, Bytes, same_bytes, Command, Content, History, part, Verdict, Accepted, Repeated, Refused, verdict, grow, grown, IsLawful, KeepFault, has_owner_key, IsReply, after_reply, PlantCmd, PlantAnswer, Judged, IsQuestionAnswer, IsVerdictOr, meaning_of_plant_reply, recorded_command, option_map_or}
 use Rattle.toll_base.specs.Values.{house_name}
-use Rattle.toll_base.specs.Words.{is_some_where}
-use Rattle.toll_base.specs.declared.request.Request.TheVariants as request
+use Rattle.toll_desk.specs.Outcome.{HoldsFor}
+use Rattle.toll_history.specs.Runs.{IsRun}
 use Rattle.toll_history.proofs.Own.{part-own, part-other}
 use Rattle.toll_base.proofs.Texts.{same_bytes-exact}
-use Rattle.toll_answers.proofs.OwnReplies.{lawful-grow, lawful-after_plant, has_owner_key-part, reply-both_ways, after_reply-part}
-use Rattle.toll_wire.specs.Runs.{ClaimedRequest, Asks, Fails, Saying, By, Nobody, RunEvent, RequestEvent, PlantEvent, Answered, Text, Unavailable, PlantAnswers, PlantFault, Wire, IsTold, after_saying, IsStep, IsRun, accepts, is_own_event, own_events, replies_by, replies_to, IsAlone, IsPrivate, IsValidSaying, IsValidEvent, AreValid, claims}
+use Rattle.toll_answers.proofs.OwnReplies.{has_owner_key-part, reply-both_ways, after_reply-part}
+use Rattle.toll_wire.specs.declared.event.Event.{Event}
+use Rattle.toll_wire.specs.declared.event.Event.TheVariants.{Owner, Plant as CommandOf}
+use Rattle.toll_wire.specs.declared.event.Answer.{Answer}
+use Rattle.toll_wire.specs.declared.event.Answer.TheVariants.{Bytes as Reply, Plant as CommandReply}
+use Rattle.toll_wire.specs.declared.outgoing.Out.TheVariants.{Text, Unavailable}
+use Rattle.toll_wire.specs.OfficeRuns.{IsPlantStep, IsStep, IsRunOf}
+use Rattle.toll_wire.specs.Parts.{OwnEvent, Sent, Did, IsClaimed, done_for, WithDone, IsPart, AreAlone, HasPart, RepliesAsAlone, IsPrivate}
+use Rattle.toll_wire.specs.Sayings.{Saying, By, Asks, Fails, Nobody, Says, IsTold, after_saying, claims}
+use Rattle.toll_wire.proofs.Growth.{lawful_before_run, part-after_saying}
+use Rattle.toll_wire.proofs.Readings.{says_once}
 
--- ---- what a request makes of a history
+module _ (o : Bytes) where
+  -- ---- claims
 
-grow-other : (o : Bytes) (c : Command) (H : History) → same_bytes c.owner o ≡ false → part o (grow H c) ≡ part o H
-grow-other o c H other = grown-other (verdict H c)
-  where
-    grown-other : (v : Verdict) → part o (grown v H c) ≡ part o H
-    grown-other Accepted = part-other o c H other
-    grown-other Repeated = refl
-    grown-other (Refused why) = refl
+  -- a claim is one of what the bytes say
+  claim_is : (bytes : Bytes) (s : Saying) → Says bytes s → IsClaimed o bytes → claims o s ≡ true
+  claim_is bytes s says claimed = subst (λ s. claims o s ≡ true) (says_once bytes claimed.0 s claimed.1 says) claimed.2
 
-module _ (wire : Wire) where
-  lawful-after_answer : (o : Bytes) (H : History) (q : Request) → IsLawful H → IsValidOwnerRequest q → IsLawful (after_answer o H q)
-  lawful-after_answer o H (request.Place order recipe batches) lawful valid = lawful-grow H (by o (PlaceOrder order recipe batches)) lawful valid
-  lawful-after_answer o H (request.Cancel order) lawful valid = lawful-grow H (by o (CancelOrder order)) lawful tt
-  lawful-after_answer o H (request.Release lot) lawful valid = lawful-grow H (by o (Release lot)) lawful tt
-  lawful-after_answer o H (request.Reject lot) lawful valid = lawful-grow H (by o (Reject lot)) lawful tt
-  lawful-after_answer o H _ lawful valid = lawful
+  is_claimed_or : (bytes : Bytes) (s : Saying) → Says bytes s → (b : Bool) → claims o s ≡ b
+      → IsClaimed o bytes ⊎ ((¬ (IsClaimed o bytes)) × (claims o s ≡ false))
+  is_claimed_or bytes s says true own = inl (s, says, own)
+  is_claimed_or bytes s says false other = inr ((λ claimed. false≢true (sym other ∙ claim_is bytes s says claimed)), other)
 
-  lawful-after_reply : (o key : Bytes) (H : History) (q : Request) → IsLawful H → IsValidOwnerRequest q → IsLawful (after_reply o key H q)
-  unfolding after_reply
-  lawful-after_reply o key H q lawful valid =
-      elim (has_owner_key o key H) as (λ b. IsLawful (cond b (after_answer o H q) H)) [
-        | true ↦ lawful-after_answer o H q lawful valid
-        | false ↦ lawful
+  -- ---- every run has a part
+
+  part_with : (done : Option Command) (Rest : List OwnEvent → Type 0) (own : List OwnEvent) → Rest own → (more : List OwnEvent) × WithDone done Rest more
+  part_with None Rest own rest = (own, rest)
+  part_with (Some c) Rest own rest = (Did c ∷ own, (own, refl, rest))
+
+  has_more : (old new : History) (events : List Event) (answers : List Answer) (e : Event) (a : Answer) → IsStep old e a new
+      → HasPart o events answers → HasPart o (e ∷ events) (a ∷ answers)
+  has_more old new events answers (Owner bytes) (Reply (Text text)) (s, says, reported, made) (own, replies, is) =
+      elim (is_claimed_or bytes.items s says (claims o s) refl) [
+        | inl claimed ↦ (Sent bytes.items ∷ own, text.items ∷ replies, inl (claimed, own, replies, refl, refl, is))
+        | inr not ↦ (own, replies, inr (not.0, is))
       ]
+  has_more old new events answers (Owner bytes) (Reply Unavailable) step has = has
+  has_more old new events answers (CommandOf command) (CommandReply reply) step (own, replies, is) =
+      let more = part_with (done_for o (recorded_command command) (meaning_of_plant_reply reply)) (λ own. IsPart o events answers own replies) own is in
+      (more.0, replies, more.1)
+  has_more old new events answers (Owner bytes) (CommandReply reply) step has = absurd step
+  has_more old new events answers (CommandOf command) (Reply out) step has = absurd step
 
-  lawful-after_saying : (H : History) (s : Saying) → IsLawful H → IsValidSaying wire s → IsLawful (after_saying wire H s)
-  lawful-after_saying H (By o (Some key) (Asks q)) lawful valid = lawful-after_reply o key H q lawful valid
-  lawful-after_saying H (By o (Some key) (Fails text)) lawful valid = lawful
-  lawful-after_saying H (By o None asking) lawful valid = lawful
-  lawful-after_saying H (Nobody text) lawful valid = lawful
+  has_part : (old new : History) (events : List Event) (answers : List Answer) → IsRun IsStep old events answers new → HasPart o events answers
+  has_part old new [] [] run = ([], [], (refl, refl))
+  has_part old new (e ∷ events) (a ∷ answers) run = has_more old run.0 events answers e a run.1 (has_part run.0 new events answers run.2)
+  has_part old new [] (a ∷ answers) run = absurd run
+  has_part old new (e ∷ events) [] run = absurd run
 
-  pub lawful-step : (old : History) (e : RunEvent) (a : Answered) (new : History) → IsLawful old → IsValidEvent wire e → IsStep wire old e a new → IsLawful new
-  lawful-step old (RequestEvent s) (Text out) new lawful valid step = subst IsLawful (sym step.1) (lawful-after_saying old s lawful valid)
-  lawful-step old (RequestEvent s) Unavailable new lawful valid step = subst IsLawful (sym step) lawful
-  lawful-step old (PlantEvent requested) (PlantAnswers answer) new lawful valid step = subst IsLawful (sym step.1) (lawful-after_plant old requested lawful valid)
-  lawful-step old (PlantEvent requested) PlantFault new lawful valid step = subst IsLawful (sym step) lawful
-  lawful-step old (RequestEvent s) (PlantAnswers answer) new lawful valid step = absurd step
-  lawful-step old (RequestEvent s) PlantFault new lawful valid step = absurd step
-  lawful-step old (PlantEvent requested) (Text out) new lawful valid step = absurd step
-  lawful-step old (PlantEvent requested) Unavailable new lawful valid step = absurd step
+  -- ---- a request of the owner over its part
 
-  -- ---- one step, seen by an owner
+  module _ (not_house : same_bytes o house_name ≡ false) where
+    told_over_part : (H : History) → IsLawful H → (s : Saying) (out : Bytes) → claims o s ≡ true → IsTold H s out → IsTold (part o H) s out
+    told_over_part H lawful (By p None asking) out own reported = reported
+    told_over_part H lawful (By p (Some key) (Asks q)) out own (r, reply, is) =
+        let same = same_bytes-exact p o own in
+        (r, subst (λ w. IsReply w key (part o H) q r) (sym same) ((reply-both_ways o not_house H lawful key q r).1 (subst (λ w. IsReply w key H q r) same reply)), is)
+    told_over_part H lawful (By p (Some key) (Fails text)) out own (b, admits, is) =
+        let same = same_bytes-exact p o own in
+        (b, admits ∙ ap (λ w. has_owner_key w key H) same ∙ sym (has_owner_key-part o not_house key H) ∙ ap (λ w. has_owner_key w key (part o H)) (sym same), is)
+    told_over_part H lawful (Nobody text) out own reported = absurd (false≢true own)
 
-  after_answer-other : (o p : Bytes) (H : History) (q : Request) → same_bytes p o ≡ false → part o (after_answer p H q) ≡ part o H
-  after_answer-other o p H (request.Place order recipe batches) other = grow-other o (by p (PlaceOrder order recipe batches)) H other
-  after_answer-other o p H (request.Cancel order) other = grow-other o (by p (CancelOrder order)) H other
-  after_answer-other o p H (request.Release lot) other = grow-other o (by p (Release lot)) H other
-  after_answer-other o p H (request.Reject lot) other = grow-other o (by p (Reject lot)) H other
-  after_answer-other o p H _ other = refl
+    after_over_part : (H : History) → IsLawful H → (s : Saying) → claims o s ≡ true → after_saying (part o H) s ≡ part o (after_saying H s)
+    after_over_part H lawful (By p None asking) own = refl
+    after_over_part H lawful (By p (Some key) (Asks q)) own =
+        let same = same_bytes-exact p o own in
+        ap (λ w. after_reply w key (part o H) q) same ∙ after_reply-part o not_house H lawful key q ∙ ap (λ w. part o (after_reply w key H q)) (sym same)
+    after_over_part H lawful (By p (Some key) (Fails text)) own = refl
+    after_over_part H lawful (Nobody text) own = absurd (false≢true own)
 
-  after_reply-other : (o p key : Bytes) (H : History) (q : Request) → same_bytes p o ≡ false → part o (after_reply p key H q) ≡ part o H
-  unfolding after_reply
-  after_reply-other o p key H q other =
-      elim (has_owner_key p key H) as (λ b. part o (cond b (after_answer p H q) H) ≡ part o H) [
-        | true ↦ after_answer-other o p H q other
-        | false ↦ refl
-      ]
+    -- ---- one step
 
-  after_saying-other : (o : Bytes) (H : History) (s : Saying) → claims o s ≡ false → part o (after_saying wire H s) ≡ part o H
-  after_saying-other o H (By p (Some key) (Asks q)) other = after_reply-other o p key H q other
-  after_saying-other o H (By p (Some key) (Fails text)) other = refl
-  after_saying-other o H (By p None asking) other = refl
-  after_saying-other o H (Nobody text) other = refl
+    module _ (old new : History) (lawful : IsLawful old) (replies : List Bytes) (Rest : List OwnEvent → List Bytes → Type 0)
+        (alone : (own : List OwnEvent) (replies : List Bytes) → Rest own replies → AreAlone (part o new) own replies) where
+      stays_alone : new ≡ old → (own : List OwnEvent) → Rest own replies → AreAlone (part o old) own replies
+      stays_alone same own rest = subst (λ F. AreAlone (part o F) own replies) same (alone own replies rest)
 
-  module _ (o : Bytes) (not_house : same_bytes o house_name ≡ false) where
-    -- a reply to an owner over the whole history is the reply over its part
-    told_over_part : (H : History) → IsLawful H → (p : Bytes) (key : Option Bytes) (asking : ClaimedRequest) (out : Bytes) → p ≡ o → IsTold wire H (By p key asking) out → IsTold wire (part o H) (By p key asking) out
-    told_over_part H lawful p None asking out is reported = reported
-    told_over_part H lawful p (Some key) (Asks q) out is reported = (reported.0, subst (λ w. IsReply w key (part o H) q reported.0) (sym is) ((reply-both_ways o not_house H lawful key q reported.0).1 (subst (λ w. IsReply w key H q reported.0) is reported.1)), reported.2)
-    told_over_part H lawful p (Some key) (Fails text) out is reported =
-        (reported.0, reported.1 ∙ ap (λ w. has_owner_key w key H) is ∙ sym (has_owner_key-part o not_house key H) ∙ ap (λ w. has_owner_key w key (part o H)) (sym is), reported.2)
+      -- a request: one of the owner's own, or another's
+      request_alone : (bytes text : Bytes) (own : List OwnEvent) → (s : Saying) × Says bytes s × IsTold old s text × (new ≡ after_saying old s)
+          → (IsClaimed o bytes × (others : List OwnEvent) × (rest : List Bytes) × (own ≡ Sent bytes ∷ others) × (replies ≡ text ∷ rest) × Rest others rest) ⊎ ((¬ (IsClaimed o bytes)) × Rest own replies)
+          → AreAlone (part o old) own replies
+      request_alone bytes text own (s, says, reported, made) (inl (claimed, others, rest, own_are, replies_are, later)) =
+          let claim = claim_is bytes s says claimed in
+          let after = ap (part o) made ∙ sym (after_over_part old lawful s claim) in
+          subst₂ (AreAlone (part o old)) (sym own_are) (sym replies_are)
+          (s, says, told_over_part old lawful s text claim reported, subst (λ F. AreAlone F others rest) after (alone others rest later))
+      request_alone bytes text own (s, says, reported, made) (inr (not, rest)) =
+          elim (is_claimed_or bytes s says (claims o s) refl) [
+            | inl claimed ↦ absurd (not claimed)
+            | inr other ↦ subst (λ F. AreAlone F own replies) (ap (part o) made ∙ part-after_saying o bytes old s says other.1) (alone own replies rest)
+          ]
 
-    after_over_part : (H : History) → IsLawful H → (p : Bytes) (key : Option Bytes) (asking : ClaimedRequest) → p ≡ o → after_saying wire (part o H) (By p key asking) ≡ part o (after_saying wire H (By p key asking))
-    after_over_part H lawful p None asking is = refl
-    after_over_part H lawful p (Some key) (Asks q) is =
-        ap (λ w. after_reply w key (part o H) q) is ∙ after_reply-part o not_house H lawful key q ∙ ap (λ w. part o (after_reply w key H q)) (sym is)
-    after_over_part H lawful p (Some key) (Fails text) is = refl
+      -- a command of the plant: accepted on the owner's rows, or on another's, or not accepted
+      abbrev Adds : Option Command → List OwnEvent → Type 0
+      Adds done own = WithDone done (λ own. Rest own replies) own
 
-    request_alone : (old new : History) (out : Bytes) (s : Saying) (events : List RunEvent) (replies : List Bytes) → IsLawful old → IsTold wire old s out → new ≡ after_saying wire old s →
-        IsAlone wire (part o new) events replies → (b : Bool) → claims o s ≡ b → IsAlone wire (part o old) (cond b (RequestEvent s ∷ events) events) (cond b (out ∷ []) [] ++ replies)
-    request_alone old new out s events replies lawful reported new_is alone false other =
-        subst (λ F. IsAlone wire F events replies) (ap (part o) new_is ∙ after_saying-other o old s other) alone
-    request_alone old new out (Nobody text) events replies lawful reported new_is alone true own = absurd (false≢true own)
-    request_alone old new out (By p key asking) events replies lawful reported new_is alone true own =
-        let is : p ≡ o = same_bytes-exact p o own in (
-          told_over_part old lawful p key asking out is reported,
-          subst (λ F. IsAlone wire F events replies) (ap (part o) new_is ∙ sym (after_over_part old lawful p key asking is)) alone,
-        )
+      accepted_alone : (c : Command) (own : List OwnEvent) → new ≡ c ∷ old → (b : Bool) → same_bytes c.owner o ≡ b → Adds (cond b (Some c) None) own
+          → AreAlone (part o old) own replies
+      accepted_alone c own made true is (others, own_are, rest) =
+          subst (λ own. AreAlone (part o old) own replies) (sym own_are) (subst (λ F. AreAlone F others replies) (ap (part o) made ∙ part-own o c old is) (alone others replies rest))
+      accepted_alone c own made false other rest = subst (λ F. AreAlone F own replies) (ap (part o) made ∙ part-other o c old other) (alone own replies rest)
 
-    command_alone : (old new : History) (command : PlantCmd) (c : Command) → recorded_command command ≡ Some c → (v : Verdict) (events : List RunEvent) (replies : List Bytes) → new ≡ grown v old c →
-        IsAlone wire (part o new) events replies → (b : Bool) → same_bytes c.owner o ≡ b → IsAlone wire (part o old) (cond (accepts wire (Judged v) && b) (PlantEvent command ∷ events) events) replies
-    command_alone old new command c does Accepted events replies new_is alone true own =
-        subst (λ (done : Option Command). IsSomeAnd done (λ c. IsAlone wire (c ∷ part o old) events replies)) (sym does)
-        (subst (λ F. IsAlone wire F events replies) (ap (part o) new_is ∙ part-own o c old own) alone)
-    command_alone old new command c does Accepted events replies new_is alone false other = subst (λ F. IsAlone wire F events replies) (ap (part o) new_is ∙ part-other o c old other) alone
-    command_alone old new command c does Repeated events replies new_is alone b is = subst (λ F. IsAlone wire (part o F) events replies) new_is alone
-    command_alone old new command c does (Refused why) events replies new_is alone b is = subst (λ F. IsAlone wire (part o F) events replies) new_is alone
+      judged_alone : (c : Command) (own : List OwnEvent) (v : Verdict) → new ≡ grown v old c → Adds (done_for o (Some c) (Ok (Judged v))) own
+          → AreAlone (part o old) own replies
+      judged_alone c own Accepted made rest = accepted_alone c own made (same_bytes c.owner o) refl rest
+      judged_alone c own Repeated made rest = stays_alone made own rest
+      judged_alone c own (Refused why) made rest = stays_alone made own rest
 
-    plant_alone : (old new : History) (command : PlantCmd) (done : Option Command) → recorded_command command ≡ done → (otherwise : Type 0) (answer : PlantAnswer) (events : List RunEvent) (replies : List Bytes) →
-        IsVerdictOr old done otherwise answer → new ≡ option_map_or (grow old) done old → IsAlone wire (part o new) events replies →
-        IsAlone wire (part o old) (cond (accepts wire answer && is_some_where (λ (c : Command). same_bytes c.owner o) done) (PlantEvent command ∷ events) events) replies
-    plant_alone old new command (Some c) does otherwise answer events replies answered new_is alone =
-        subst (λ a. IsAlone wire (part o old) (cond (accepts wire a && same_bytes c.owner o) (PlantEvent command ∷ events) events) replies) (sym answered)
-        (command_alone old new command c does (verdict old c) events replies new_is alone (same_bytes c.owner o) refl)
-    plant_alone old new command None does otherwise answer events replies answered new_is alone =
-        subst (λ b. IsAlone wire (part o old) (cond b (PlantEvent command ∷ events) events) replies) (sym (and-false (accepts wire answer))) (subst (λ F. IsAlone wire (part o F) events replies) new_is alone)
+      answer_alone : (done : Option Command) (otherwise : Type 0) (answer : PlantAnswer) (own : List OwnEvent)
+          → IsVerdictOr old done otherwise answer → new ≡ option_map_or (grow old) done old
+          → Adds (done_for o done (Ok answer)) own → AreAlone (part o old) own replies
+      answer_alone (Some c) otherwise answer own is made rest =
+          judged_alone c own (verdict old c) made (subst (λ a. Adds (done_for o (Some c) (Ok a)) own) is rest)
+      answer_alone None otherwise answer own is made rest = stays_alone made own rest
 
-    step_alone : (old : History) (e : RunEvent) (a : Answered) (new : History) (events : List RunEvent) (replies : List Bytes) → IsLawful old → IsStep wire old e a new →
-        IsAlone wire (part o new) events replies → IsAlone wire (part o old) (cond (is_own_event wire o e a) (e ∷ events) events) (replies_by wire o e a ++ replies)
-    step_alone old (RequestEvent s) (Text out) new events replies lawful step alone = request_alone old new out s events replies lawful step.0 step.1 alone (claims o s) refl
-    step_alone old (RequestEvent s) Unavailable new events replies lawful step alone = subst (λ F. IsAlone wire (part o F) events replies) step alone
-    step_alone old (PlantEvent command) (PlantAnswers answer) new events replies lawful step alone =
-        plant_alone old new command (recorded_command command) refl (IsQuestionAnswer old command answer) answer events replies step.0 step.1 alone
-    step_alone old (PlantEvent command) PlantFault new events replies lawful step alone = subst (λ F. IsAlone wire (part o F) events replies) step alone
-    step_alone old (RequestEvent s) (PlantAnswers answer) new events replies lawful step alone = absurd step
-    step_alone old (RequestEvent s) PlantFault new events replies lawful step alone = absurd step
-    step_alone old (PlantEvent requested) (Text out) new events replies lawful step alone = absurd step
-    step_alone old (PlantEvent requested) Unavailable new events replies lawful step alone = absurd step
+      fault_alone : (done : Option Command) (fault : KeepFault) (own : List OwnEvent) → new ≡ old → Adds (done_for o done (Err fault)) own
+          → AreAlone (part o old) own replies
+      fault_alone (Some c) fault own same rest = stays_alone same own rest
+      fault_alone None fault own same rest = stays_alone same own rest
 
-  -- every run is private
-  pub runs-private : (start : History) (events : List RunEvent) (answers : List Answered) (end : History) → IsLawful start → AreValid wire events → IsRun wire start events answers end → IsPrivate wire start events answers
-  runs-private start [] [] end lawful valid run o not_house = tt
-  runs-private start (e ∷ events) (a ∷ answers) end lawful valid run o not_house =
-      step_alone o not_house start e a run.0 (own_events wire o events answers) (replies_to wire o events answers) lawful run.1
-      (runs-private run.0 events answers end (lawful-step start e a run.0 lawful valid.0 run.1) valid.1 run.2 o not_house)
-  runs-private start [] (a ∷ answers) end lawful valid run o not_house = absurd run
-  runs-private start (e ∷ events) [] end lawful valid run o not_house = absurd run
+      command_alone : (command : PlantCmd) (outcome : Result PlantAnswer KeepFault) (own : List OwnEvent) → IsPlantStep old command outcome new
+          → Adds (done_for o (recorded_command command) outcome) own
+          → AreAlone (part o old) own replies
+      command_alone command (Ok answer) own step rest =
+          answer_alone (recorded_command command) (IsQuestionAnswer old command answer) answer own step.0 step.1 rest
+      command_alone command (Err fault) own step rest = fault_alone (recorded_command command) fault own step rest
+
+    step_alone : (old new : History) (events : List Event) (answers : List Answer) (e : Event) (a : Answer) → IsLawful old → IsStep old e a new
+        → RepliesAsAlone o new events answers
+        → RepliesAsAlone o old (e ∷ events) (a ∷ answers)
+    step_alone old new events answers (Owner bytes) (Reply (Text text)) lawful step alone own replies is =
+        request_alone old new lawful replies (IsPart o events answers) alone bytes.items text.items own step is
+    step_alone old new events answers (Owner bytes) (Reply Unavailable) lawful step alone own replies is = stays_alone old new lawful replies (IsPart o events answers) alone step own is
+    step_alone old new events answers (CommandOf command) (CommandReply reply) lawful step alone own replies is =
+        command_alone old new lawful replies (IsPart o events answers) alone command (meaning_of_plant_reply reply) own step is
+    step_alone old new events answers (Owner bytes) (CommandReply reply) lawful step alone own replies is = absurd step
+    step_alone old new events answers (CommandOf command) (Reply out) lawful step alone own replies is = absurd step
+
+    -- ---- a run
+
+    replies_alone : (old new : History) (events : List Event) (answers : List Answer) → IsRun IsStep old events answers new → IsLawful new
+        → RepliesAsAlone o old events answers
+    replies_alone old new [] [] run lawful own replies is = subst₂ (AreAlone (part o old)) (sym is.0) (sym is.1) tt
+    replies_alone old new (e ∷ events) (a ∷ answers) run lawful own replies is =
+        step_alone old run.0 events answers e a (lawful_before_run old new (e ∷ events) (a ∷ answers) run lawful) run.1 (replies_alone run.0 new events answers run.2 lawful) own replies is
+    replies_alone old new [] (a ∷ answers) run lawful own replies is = absurd run
+    replies_alone old new (e ∷ events) [] run lawful own replies is = absurd run
+
+-- a run to a lawful history is private
+pub run_private : (old new : History) (events : List Event) (answers : List Answer) → IsRun IsStep old events answers new → IsLawful new
+    → IsPrivate old events answers
+run_private old new events answers run lawful o =
+    (has_part o old new events answers run, λ not_house. replies_alone o not_house old new events answers run lawful)
+
+-- and one of the office, if what it leaves is held
+pub run_of : (holds : Content → Type 0) (old new : History) (events : List Event) (answers : List Answer) → IsRun IsStep old events answers new
+    → IsLawful new → HoldsFor holds new → IsRunOf holds old events answers
+run_of holds old new events answers run lawful left =
+    record { last = new; run = run; private = run_private old new events answers run lawful; lawful = lawful; left = left }

@@ -13,8 +13,8 @@ use Rattle.toll_wire.specs.declared.outgoing.Out.{Out}
 use Rattle.toll_wire.specs.declared.outgoing.Out.TheVariants.{Text, Unavailable}
 use Rattle.toll_wire.specs.OutTexts.{IsText, text_if}
 use Rattle.toll_wire.specs.ReplyTexts.{fault_or_memory, text_of_failure, text_of_reply_meaning, text_if_reply}
-use Rattle.toll_wire.specs.Runs.{ClaimedRequest, Asks, Fails, Saying, By, Nobody, IsTold, MayBeReply, after_saying}
-use Rattle.toll_wire.specs.Steps.{http, reply_outcome, IfPlacedBefore, IsReplyWhere, IsGranted, IsSayingServed, IsFaultMet, IsServing, ReplyEffect}
+use Rattle.toll_wire.specs.Sayings.{ClaimedRequest, Asks, Fails, Saying, By, Nobody, IsTold, MayBeReply, after_saying}
+use Rattle.toll_wire.specs.Steps.{reply_outcome, IfPlacedBefore, IsReplyWhere, IsGranted, IsSayingServed, IsFaultMet, IsServing, ReplyEffect}
 
 -- ---- texts
 
@@ -90,26 +90,26 @@ module _ {K : Type 0} (meaning : Meaning K) where
   -- replies to the bytes alone, and without a key
   pub untouched : (k : K) (settled : (c : Content) → meaning.is_honest k → meaning.is_store_open k → meaning.holds k c → meaning.leaves k (c ∷ [])) (text : Bytes) (out : Out) → IsText out (Some text) → Serves k k (Nobody text) out
   untouched k settled text out is = record {
-    tells = so_of_reply out text (MayBeReply http (Nobody text)) is refl;
+    tells = so_of_reply out text (MayBeReply (Nobody text)) is refl;
     goes = refl;
     honest = λ now. now;
     settles = λ now lived c held. inl (lived, settled c now lived held);
     asks = λ now c held none. held;
     quiet = λ now c held not. held;
     once = λ now c held. tt;
-    served = λ now c H held stands lawful. none_to_do (meaning.holds k) (meaning.is_store_open k) (meaning.leaves k) c held H (reply_outcome out) (IsTold http H (Nobody text)) stands (λ live. settled c now live held) (so_of_text out text (IsTold http H (Nobody text)) is refl);
+    served = λ now c H held stands lawful. none_to_do (meaning.holds k) (meaning.is_store_open k) (meaning.leaves k) c held H (reply_outcome out) (IsTold H (Nobody text)) stands (λ live. settled c now live held) (so_of_text out text (IsTold H (Nobody text)) is refl);
   }
 
   pub keyless : (k : K) (settled : (c : Content) → meaning.is_honest k → meaning.is_store_open k → meaning.holds k c → meaning.leaves k (c ∷ [])) (o : Bytes) (asking : ClaimedRequest) (out : Out) → IsText out (Some (text_of_failure Forbidden)) → Serves k k (By o None asking) out
   keyless k settled o asking out is = record {
-    tells = so_of_reply out (text_of_failure Forbidden) (MayBeReply http (By o None asking)) is refl;
+    tells = so_of_reply out (text_of_failure Forbidden) (MayBeReply (By o None asking)) is refl;
     goes = refl;
     honest = λ now. now;
     settles = λ now lived c held. inl (lived, settled c now lived held);
     asks = λ now c held none. held;
     quiet = λ now c held not. held;
     once = λ now c held. tt;
-    served = λ now c H held stands lawful. none_to_do (meaning.holds k) (meaning.is_store_open k) (meaning.leaves k) c held H (reply_outcome out) (IsTold http H (By o None asking)) stands (λ live. settled c now live held) (so_of_text out (text_of_failure Forbidden) (IsTold http H (By o None asking)) is refl);
+    served = λ now c H held stands lawful. none_to_do (meaning.holds k) (meaning.is_store_open k) (meaning.leaves k) c held H (reply_outcome out) (IsTold H (By o None asking)) stands (λ live. settled c now live held) (so_of_text out (text_of_failure Forbidden) (IsTold H (By o None asking)) is refl);
   }
 
   -- ---- after a reading
@@ -164,7 +164,7 @@ module _ {K : Type 0} (meaning : Meaning K) where
       quiet = λ now c held not. (reads.keeps now).content c held;
       once = λ now c held. so_again c (By o (Some key) asking) (meaning.holds new c) ((reads.keeps now).content c held);
       served = λ now c H held stands lawful.
-          none_done (meaning.holds new) (meaning.is_store_open old) (meaning.leaves new) c ((reads.keeps now).content c held) (after_saying http H (By o (Some key) asking)) tt (IsTold http H (By o (Some key) asking)) (λ live. (reads.keeps now).crash live c held);
+          none_done (meaning.holds new) (meaning.is_store_open old) (meaning.leaves new) c ((reads.keeps now).content c held) (after_saying H (By o (Some key) asking)) tt (IsTold H (By o (Some key) asking)) (λ live. (reads.keeps now).crash live c held);
     }
 
     module _ (failure : Failure) {X : Type 0} (x : X) (reads : ServedReads {X = X} old new (Ok x)) (b : Bool) (admits : meaning.is_honest new → (c : Content) (H : History) → meaning.holds old c → Represents c H → b ≡ has_owner_key o key H) where
@@ -183,7 +183,7 @@ module _ {K : Type 0} (meaning : Meaning K) where
         quiet = λ now c held not. (reads.keeps now).content c held;
         once = λ now c held. tt;
         served = λ now c H held stands lawful.
-            none_to_do (meaning.holds new) (meaning.is_store_open old) (meaning.leaves new) c ((reads.keeps now).content c held) H (reply_outcome (Text text)) (IsTold http H served_failing) stands (λ live. (reads.keeps now).crash live c held)
+            none_to_do (meaning.holds new) (meaning.is_store_open old) (meaning.leaves new) c ((reads.keeps now).content c held) H (reply_outcome (Text text)) (IsTold H served_failing) stands (λ live. (reads.keeps now).crash live c held)
             (b, admits now c H held stands, is);
       }
 
@@ -229,7 +229,7 @@ module _ {K : Type 0} (meaning : Meaning K) where
       whole = λ now c held rules damaged. let same : fault ≡ Damaged = (cc damaged) in carries.whole now c ((reads.keeps (carries.honest now)).content c held) rules (ap (λ f. Err f) same);
     }
 
-    tells_out : (made : Result (Unit {0}) KeepFault) → IsReplyWhere (MayBeReply http asking) (text_if text made)
+    tells_out : (made : Result (Unit {0}) KeepFault) → IsReplyWhere (MayBeReply asking) (text_if text made)
     tells_out (Ok done) = (reported, tt, is)
     tells_out (Err fault) = tt
 

@@ -5,21 +5,24 @@ use Rattle.toll_wire.proofs.AddressLemmas.{each_has_address}
 use Rattle.toll_wire.proofs.Common.{Bytes, Failure, IsValidOwnerRequest, ParseResult, Request, Verb, refused, request}
 use Rattle.toll_wire.specs.Routes.{IsAskable}
 use Rattle.toll_wire.specs.Routing.{IsAsking}
-use Rattle.toll_wire.specs.Runs.{Saying, IsValidSaying}
-use Rattle.toll_wire.specs.Steps.{http, saying_of, IsSaidBy, Says}
+use Rattle.toll_wire.specs.Sayings.{Saying, By, Asks, saying_of, IsSaidBy, Says}
+
+abbrev pub IsValidSaying : Saying → Type 0
+IsValidSaying (By o key (Asks q)) = IsValidOwnerRequest q
+IsValidSaying _ = Unit {0}
 
 valid_if_askable : (requested : Request) → IsAskable requested → IsValidOwnerRequest requested
 valid_if_askable (Place order recipe batches) askable = askable.2
 valid_if_askable _ askable = tt
 
-asking_valid : (verb : Verb) (target : Bytes) (owner key : Option Bytes) (body : Bytes) (asks : Result Request Failure) → IsAsking verb target body asks → IsValidSaying http (saying_of owner key asks)
+asking_valid : (verb : Verb) (target : Bytes) (owner key : Option Bytes) (body : Bytes) (asks : Result Request Failure) → IsAsking verb target body asks → IsValidSaying (saying_of owner key asks)
 asking_valid verb target None key body asks is = tt
 asking_valid verb target (Some owner) key body (Err failure) is = tt
 asking_valid verb target (Some owner) key body (Ok requested) is = valid_if_askable requested (each_has_address verb target body requested is).askable
 
-said_valid : (outcome : ParseResult) (saying : Saying) → IsSaidBy outcome saying → IsValidSaying http saying
-said_valid (refused failure) saying is = subst (IsValidSaying http) (sym is) tt
-said_valid (request verb target owner key body) saying is = subst (IsValidSaying http) (sym is.2) (asking_valid verb target owner key body is.0 is.1)
+said_valid : (outcome : ParseResult) (saying : Saying) → IsSaidBy outcome saying → IsValidSaying saying
+said_valid (refused failure) saying is = subst IsValidSaying (sym is) tt
+said_valid (request verb target owner key body) saying is = subst IsValidSaying (sym is.2) (asking_valid verb target owner key body is.0 is.1)
 
-pub says_valid : (bytes : Bytes) (saying : Saying) → Says bytes saying → IsValidSaying http saying
+pub says_valid : (bytes : Bytes) (saying : Saying) → Says bytes saying → IsValidSaying saying
 says_valid bytes saying says = said_valid says.0 saying says.2

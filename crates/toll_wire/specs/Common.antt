@@ -1,5 +1,5 @@
 -- Words of other crates that several definitions here are said in.
-pub use Rattle.toll_answers.specs.PlantAnswers.{IsPlantAnswer, IsValidCommand, Judged, PlantAnswer, Shows, after_plant, recorded_command}
+pub use Rattle.toll_answers.specs.PlantAnswers.{IsPlantAnswer, Judged, PlantAnswer, Shows, after_plant, recorded_command}
 pub use Rattle.toll_answers.specs.Texts.{recall_line_text, recall_text, trace_text}
 pub use Rattle.toll_answers.specs.OwnerReply.{OwnerReply, ReplyTrace}
 pub use Rattle.toll_answers.specs.declared.plant_cmd.PlantCmd.{PlantCmd}
@@ -8,7 +8,7 @@ pub use Rattle.toll_base.specs.Values.{house_name}
 pub use Rattle.toll_base.specs.declared.lot.LotId.{LotId}
 pub use Rattle.toll_base.specs.declared.request.Request.{Request}
 pub use Rattle.toll_desk.specs.Translations.{meaning_of_plant_reply, meaning_of_reply, writes}
-pub use Rattle.toll_desk.specs.Outcome.{HoldsFor, IsDone, LeavesOr}
+pub use Rattle.toll_desk.specs.Outcome.{HoldsFor, IsDone}
 pub use Rattle.toll_history.specs.History.{History, part}
 pub use Rattle.toll_history.specs.Verdict.{Accepted, IsLawful}
 pub use Rattle.toll_keep.specs.Content.{Content, ContentKeepsRules}

@@ -1,16 +1,16 @@
 -- What the laws of runs say of a run, and of two.
 use Rattle.std.specs.Prelude.{◌≡◌, false, Some, List, map}
-use Rattle.toll_wire.specs.Common.{Bytes, same_bytes, house_name, LotId, History, part, Way, trace_text, IsPlantAnswer, Shows, ReplyTrace, Content}
+use Rattle.toll_wire.specs.Common.{Bytes, same_bytes, house_name, LotId, History, IsLawful, part, Way, trace_text, IsPlantAnswer, Shows, ReplyTrace, Content}
 use Rattle.toll_answers.specs.declared.plant_cmd.PlantCmd.TheVariants.{Recall}
 use Rattle.toll_base.specs.Lots.{lot_id}
 use Rattle.toll_trace.specs.declared.step.Step.{Step}
 use Rattle.toll_answers.specs.Agreement.{IsOwnTrace, IsPlantTrace}
-use Rattle.toll_wire.specs.OfficeRuns.{IsRunOf, meaning_of_answer}
-use Rattle.toll_wire.specs.Parts.{AreAlone, IsPart, OwnEvent}
+use Rattle.toll_history.specs.Runs.{IsRun}
+use Rattle.toll_wire.specs.OfficeRuns.{IsRunOf, IsStep, NoFaults, meaning_of_answer}
+use Rattle.toll_wire.specs.Parts.{IsPart, IsPrivate, OwnEvent}
 use Rattle.toll_wire.specs.Printed.{PrintsLine, asks_trace}
 use Rattle.toll_wire.specs.ReplyTexts.{text_of_reply_meaning}
-use Rattle.toll_wire.specs.Runs.{Answered, Asks, By, RunEvent, IsPrivate, IsRun, IsTold, NoFaults, Wire}
-use Rattle.toll_wire.specs.Steps.{http}
+use Rattle.toll_wire.specs.Sayings.{Asks, By, IsTold}
 use Rattle.toll_wire.specs.declared.event.Answer.{Answer}
 use Rattle.toll_wire.specs.declared.event.Event.{Event}
 
@@ -24,22 +24,11 @@ pub record Course : Type 0 where
 abbrev pub IsRunTo : (Content → Type 0) → Course → Type 0
 IsRunTo holds run = IsRunOf holds run.start run.events run.answers
 
--- the owner's part of it
-abbrev pub IsPartOf : (o : Bytes) → Course → List OwnEvent → List Bytes → Type 0
-IsPartOf o run own replies = IsPart o run.events run.answers own replies
-
-abbrev pub HasOwnersPart : (o : Bytes) → Course → Type 0
-HasOwnersPart o run = (own : List OwnEvent) × (replies : List Bytes) × IsPartOf o run own replies
-
--- the owner's replies are those that its part gives alone
-abbrev pub RepliesAsAlone : (o : Bytes) → Course → Type 0
-RepliesAsAlone o run = (own : List OwnEvent) (replies : List Bytes) → IsPartOf o run own replies → AreAlone (part o run.start) own replies
-
 -- if both begin with the same part of the owner's and its part of both is the same, so are its replies
 abbrev pub AreRepliesAlike : (o : Bytes) → (one other : Course) → Type 0
 AreRepliesAlike o one other =
-    part o one.start ≡ part o other.start →
-    (own : List OwnEvent) (replies others : List Bytes) → IsPartOf o one own replies → IsPartOf o other own others → replies ≡ others
+    part o one.start ≡ part o other.start → (own : List OwnEvent) (replies others : List Bytes) →
+    IsPart o one.events one.answers own replies → IsPart o other.events other.answers own others → replies ≡ others
 
 -- the same of each owner besides HOUSE
 abbrev pub AreRunsAlike : (one other : Course) → Type 0
@@ -49,17 +38,18 @@ AreRunsAlike one other = (o : Bytes) → same_bytes o house_name ≡ false → A
 abbrev pub AnswerAlike : (Content → Type 0) → (Content → Type 0) → History → List Event → Type 0
 AnswerAlike holds keeps H events =
     (answers others : List Answer) → IsRunOf holds H events answers → IsRunOf keeps H events others →
-    NoFaults http (map meaning_of_answer answers) → NoFaults http (map meaning_of_answer others) → map meaning_of_answer answers ≡ map meaning_of_answer others
+    NoFaults answers → NoFaults others → map meaning_of_answer answers ≡ map meaning_of_answer others
 
--- every run of these events is private
-abbrev pub RunPrivately : Wire → History → List RunEvent → Type 0
-RunPrivately wire start events = (end : History) (answers : List Answered) → IsRun wire start events answers end → IsPrivate wire start events answers
+-- every run of these events to a lawful history is private
+abbrev pub RunPrivately : History → List Event → Type 0
+RunPrivately start events = (answers : List Answer) (end : History) → IsRun IsStep start events answers end → IsLawful end → IsPrivate start events answers
 
 -- if no answer is a fault, these events have one list of answers, and leave one history
-abbrev pub AreDetermined : Wire → History → List RunEvent → Type 0
-AreDetermined wire start events =
-    (end other : History) (answers others : List Answered) → NoFaults wire answers → NoFaults wire others →
-    IsRun wire start events answers end → IsRun wire start events others other → (answers ≡ others) × (end ≡ other)
+abbrev pub AreDetermined : History → List Event → Type 0
+AreDetermined start events =
+    (answers others : List Answer) (end other : History) → NoFaults answers → NoFaults others →
+    IsRun IsStep start events answers end → IsRun IsStep start events others other →
+    (map meaning_of_answer answers ≡ map meaning_of_answer others) × (end ≡ other)
 
 -- if the lot is HOUSE's, its recalls are printed with the same lines of the owner's lots
 abbrev pub PrintTheSame : (G H : History) → (o : Bytes) → LotId → Type 0
@@ -74,5 +64,5 @@ PrintsTrace H way lot text = (trace : List Step) × IsPlantTrace H way lot trace
 -- the reply to the owner with this key that asks for the trace of its lot is the owner's trace
 abbrev pub RepliesWithTrace : History → (o key : Bytes) → Way → (lot : Bytes) → Type 0
 RepliesWithTrace H o key way lot =
-    (reply : Bytes) → IsTold http H (By o (Some key) (Asks (asks_trace way lot))) reply →
+    (reply : Bytes) → IsTold H (By o (Some key) (Asks (asks_trace way lot))) reply →
     (trace : List Step) × IsOwnTrace H o way (lot_id o lot) trace × (reply ≡ text_of_reply_meaning (ReplyTrace trace))

@@ -10,9 +10,9 @@ pub mod Routing
 pub mod Addresses
 pub mod ReplyTexts
 pub mod OutTexts
-pub mod Runs
+pub mod Sayings
 pub mod Steps
-pub mod OfficeRuns
 pub mod Parts
+pub mod OfficeRuns
 pub mod Printed
 pub mod Laws

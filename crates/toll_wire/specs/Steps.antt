@@ -1,41 +1,13 @@
--- A request is one step of a run.
-use Rattle.std.specs.Prelude.{◌≡◌, ◌≢◌, ◌⊎◌, Bool, false, Option, Some, None, List, Result, Ok, Err, IsTrue, nat_eq, codes}
+-- What is so once a request was served.
+use Rattle.std.specs.Prelude.{◌≡◌, ◌≢◌, ◌⊎◌, Bool, false, Some, List, Result, Ok, Err, IsTrue, nat_eq, codes}
 use Rattle.std.specs.List.{starts_with}
-use Rattle.toll_wire.specs.Common.{Bytes, History, Meaning, Content, ContentKeepsRules, KeepFault, Memory, Damaged, Request, writes, IsDone, Failure, Forbidden}
+use Rattle.toll_wire.specs.Common.{Bytes, History, Meaning, Content, ContentKeepsRules, KeepFault, Memory, Damaged, writes, IsDone}
 use Rattle.toll_keep.specs.CallEffects.{CallEffect, IsSpared, Settles}
 use Rattle.toll_desk.specs.Clauses.{IfPlacedAgain}
 use Rattle.toll_desk.specs.Reads.{Over}
-use Rattle.toll_protocol.specs.Parsing.{ParseResult, refused, request, IsParsedAs}
 use Rattle.toll_wire.specs.declared.outgoing.Out.{Out}
 use Rattle.toll_wire.specs.declared.outgoing.Out.TheVariants.{Text, Unavailable}
-use Rattle.toll_wire.specs.Routing.{IsAsking}
-use Rattle.toll_wire.specs.ReplyTexts.{text_of_failure, text_of_reply_meaning}
-use Rattle.toll_wire.specs.Runs.{ClaimedRequest, Asks, Fails, Saying, By, Nobody, Wire, IsTold, MayBeReply, after_saying}
-
--- how the office writes its replies
-abbrev pub http : Wire
-http = record { text = text_of_reply_meaning; forbidden = text_of_failure Forbidden }
-
--- ---- what is said
-
--- what is asked for with a key
-abbrev pub claimed_request_of : Result Request Failure → ClaimedRequest
-claimed_request_of (Ok requested) = Asks requested
-claimed_request_of (Err failure) = Fails (text_of_failure failure)
-
--- a request with one `toll-owner` field claims that owner, with a key or without; without one it is forbidden by its bytes alone
-abbrev pub saying_of : (owner key : Option Bytes) → Result Request Failure → Saying
-saying_of None key asks = Nobody (text_of_failure Forbidden)
-saying_of (Some owner) key asks = By owner key (claimed_request_of asks)
-
--- bytes that are parsed so say this
-abbrev pub IsSaidBy : ParseResult → Saying → Type 0
-IsSaidBy (refused failure) saying = saying ≡ Nobody (text_of_failure failure)
-IsSaidBy (request verb target owner key body) saying = (asks : Result Request Failure) × IsAsking verb target body asks × (saying ≡ saying_of owner key asks)
-
--- the bytes of a request say this
-abbrev pub Says : Bytes → Saying → Type 0
-Says bytes saying = (outcome : ParseResult) × IsParsedAs bytes outcome × IsSaidBy outcome saying
+use Rattle.toll_wire.specs.Sayings.{Asks, Saying, By, Says, IsTold, MayBeReply, after_saying}
 
 -- what is said asks for a change
 abbrev pub may_write : Saying → Bool
@@ -66,7 +38,7 @@ IsGranted Unavailable = ⊥
 
 -- the reply is as defined and the content is that of the history after, or, after Unavailable, the one from before; a stop leaves one of the two
 abbrev pub IsSayingServed : (Content → Type 0) → Type 0 → (List Content → Type 0) → Content → History → Saying → Out → Type 0
-IsSayingServed holds was_live leaves c H saying out = IsDone holds was_live leaves c (after_saying http H saying) (reply_outcome out) (IsTold http H saying)
+IsSayingServed holds was_live leaves c H saying out = IsDone holds was_live leaves c (after_saying H saying) (reply_outcome out) (IsTold H saying)
 
 -- there is a reply if the calls of the keep answered, and none if one met a fault or there was no memory
 abbrev pub IsOutcome : Out → Result (Unit {0}) KeepFault → Type 0
@@ -90,7 +62,7 @@ module _ {K : Type 0} (meaning : Meaning K) (old new : K) where
   -- what is so once this saying was served
   pub record IsServing (saying : Saying) (out : Out) : Type 0 where
     -- the reply is one that this saying can have, whatever the keep has
-    pub tells : IsReplyWhere (MayBeReply http saying) out
+    pub tells : IsReplyWhere (MayBeReply saying) out
     -- how the calls of the keep went
     pub goes : ReplyEffectFor saying out
     pub honest : meaning.is_honest new → meaning.is_honest old

@@ -3,7 +3,7 @@ ghost use Rattle.std.specs.Prelude.{◌≡◌, IfErr, Some};
 ghost use Rattle.toll_desk.specs.Translations.{meaning_of_reply};
 ghost use Rattle.toll_wire.specs.OutTexts.{out_of};
 ghost use Rattle.toll_wire.specs.ReplyTexts.{fault_or_memory, text_of_failure};
-ghost use Rattle.toll_wire.specs.Runs.{Asks, By, Fails};
+ghost use Rattle.toll_wire.specs.Sayings.{Asks, By, Fails};
 ghost use Rattle.toll_wire.specs.Steps.{IsAnswered, IsFaultMet, IsServing};
 
 use crate::outgoing::Out;

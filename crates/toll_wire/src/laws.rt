@@ -11,10 +11,9 @@ ghost use Rattle.toll_answers.specs.Agreement.{IfPartsAgree};
 ghost use Rattle.toll_answers.specs.PlantAnswers.{IsPlantAnswer, Shows};
 ghost use Rattle.toll_answers.specs.declared.plant_cmd.PlantCmd.TheVariants as PlantCmd;
 ghost use Rattle.toll_answers.specs.Replies.{has_owner_key};
-ghost use Rattle.toll_wire.specs.Laws.{AnswerAlike, AreDetermined, AreRunsAlike, Course, HasOwnersPart, IsRunTo, RepliesAsAlone, PrintTheSame, PrintsTrace, RunPrivately, RepliesWithTrace};
-ghost use Rattle.toll_wire.specs.Parts.{AreAlone, OwnEvent};
-ghost use Rattle.toll_wire.specs.Runs.{RunEvent, Saying, Wire, AreValid};
-ghost use Rattle.toll_wire.specs.Steps.{Says};
+ghost use Rattle.toll_wire.specs.Laws.{AnswerAlike, AreDetermined, AreRunsAlike, Course, IsRunTo, PrintTheSame, PrintsTrace, RunPrivately, RepliesWithTrace};
+ghost use Rattle.toll_wire.specs.Parts.{AreAlone, HasPart, OwnEvent, RepliesAsAlone};
+ghost use Rattle.toll_wire.specs.Sayings.{Saying, Says};
 ghost use Rattle.toll_wire.specs.declared.event.Event.{Event};
 
 use toll_keep::Keep;
@@ -28,13 +27,13 @@ pub fn bytes_say_one_thing()
 /// In each run of the office, an owner has its own part, as bytes: its requests and their replies, and the
 /// accepted commands on its rows.
 pub fn every_run_has_its_parts<K: Keep>()
-    ensures { (k : K) (run : Course) → IsRunTo (K.meaning.holds k) run → (o : Bytes) → HasOwnersPart o run }
+    ensures { (k : K) (run : Course) → IsRunTo (K.meaning.holds k) run → (o : Bytes) → HasPart o run.events run.answers }
 {}
 
 /// The replies to each owner besides HOUSE are, byte for byte, those that its own requests, and the
 /// accepted commands of the plant on its rows, give by themselves.
 pub fn replies_are_those_that_the_owners_part_gives_alone<K: Keep>()
-    ensures { (k : K) (run : Course) → IsRunTo (K.meaning.holds k) run → (o : Bytes) → same_bytes o house_name ≡ false → RepliesAsAlone o run }
+    ensures { (k : K) (run : Course) → IsRunTo (K.meaning.holds k) run → (o : Bytes) → same_bytes o house_name ≡ false → RepliesAsAlone o run.start run.events run.answers }
 {}
 
 /// An owner's part alone gives one list of replies.
@@ -49,17 +48,16 @@ pub fn runs_with_the_same_part_give_the_same_replies<J: Keep, K: Keep>()
     ensures { (j : J) (k : K) (one other : Course) → IsRunTo (J.meaning.holds j) one → IsRunTo (K.meaning.holds k) other → AreRunsAlike one other }
 {}
 
-/// Every run over a lawful history is private: the replies to each owner besides HOUSE are those that its own
-/// requests, and the accepted commands of the plant on its rows, give by themselves. This holds for any texts
-/// of replies.
+/// Every run of steps to a lawful history is private: each owner has its part, and the replies to each besides
+/// HOUSE are those that its part gives alone.
 pub fn runs_are_private()
-    ensures { (wire : Wire) (start : History) (events : List RunEvent) → IsLawful start → AreValid wire events → RunPrivately wire start events }
+    ensures { (start : History) (events : List Event) → RunPrivately start events }
 {}
 
 /// If no answer says that there was no memory, or a fault, events have one list of answers, and leave one
 /// history.
 pub fn answers_are_determined()
-    ensures { (wire : Wire) (start : History) (events : List RunEvent) → AreDetermined wire start events }
+    ensures { (start : History) (events : List Event) → AreDetermined start events }
 {}
 
 /// Over any two keeps whose rows are those of one history, the same events get the same answers, byte for

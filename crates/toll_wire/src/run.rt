@@ -13,7 +13,7 @@ use toll_desk::plant_do;
 use toll_keep::Keep;
 
 /// Answers the events one by one, each over the rows that those before it left: a run, in which each owner's
-/// replies are those that its own events give by themselves. After a stop during an event, the rows are those
+/// replies are those that its own part gives alone. After a stop during an event, the rows are those
 /// that all events before it left, or those that it leaves with them. Over a keep that never closes, the only
 /// fault in an answer is that there was no memory. An `Err` means that no event acted.
 pub fn run_events<K: Keep>(
@@ -43,7 +43,7 @@ fn answer_event<K: Keep>(
     keep: &mut K,
     event: &Event,
 ) -> Answer
-    ensures { IsEventServed K.meaning keep.old keep.new event.now result }
+    ensures { IsEventServed K.meaning keep.old event.now result keep.new }
 {
     match event {
         Event::Owner(bytes) => Answer::Bytes(reply_by_router(alloc, router, keep, bytes)),

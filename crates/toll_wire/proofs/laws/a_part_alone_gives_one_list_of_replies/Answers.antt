@@ -1,4 +1,4 @@
-use Rattle.toll_wire.proofs.PartLemmas.{one_alone}
+use Rattle.toll_wire.proofs.Determined.{one_alone}
 use Rattle.toll_wire.proofs.laws.a_part_alone_gives_one_list_of_replies.Goals as goal
 
 pub returns : goal.returns

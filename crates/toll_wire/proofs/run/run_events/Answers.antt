@@ -2,8 +2,9 @@ use Rattle.std.proofs.Common.{◌≡◌, ◌+◌, List, [], ◌∷◌, ◌++◌,
 use Rattle.std.proofs.lemmas.List.{take_more, take_all}
 use Rattle.toll_wire.specs.declared.event.Event.{Event}
 use Rattle.toll_wire.specs.declared.event.Answer.{Answer}
-use Rattle.toll_wire.specs.OfficeRuns.{AreServed}
-use Rattle.toll_wire.proofs.Serving.{served_more, run_all_honest, run_steps_of, events_run_of, run_all_open}
+use Rattle.toll_history.proofs.RunLemmas.{run_more}
+use Rattle.toll_wire.specs.OfficeRuns.{AreServed, IsEventServed}
+use Rattle.toll_wire.proofs.Serving.{events_honest, events_open, events_run, events_steps}
 use Rattle.toll_wire.proofs.run.run_events.Goals as goal
 
 pub loop-event-init : goal.loop-event-init
@@ -30,30 +31,28 @@ loop-event-preserved g c =
       count = omega arith;
       room = omega arith;
       served = subst₂ (λ (events : List Event) (answers : List Answer). AreServed K.meaning c.args.keep.now events answers reported.new.keep) events_are answers_are
-          (served_more K.meaning c.args.keep.now c.loop-event.keep reported.new.keep before c.loop-event.answers.items event reported.result c.loop-event.invariant.served reported.ensures);
+          (run_more (IsEventServed K.meaning) c.args.keep.now c.loop-event.keep reported.new.keep before c.loop-event.answers.items event reported.result c.loop-event.invariant.served reported.ensures);
     }
 
 pub returns-clause-honest : goal.returns-clause-honest
 returns-clause-honest g c now =
-    let K = g.K.Keep in
-    run_all_honest K.meaning c.args.keep.now c.loop-event.keep (take c.loop-event.event-index c.args.events.now) c.loop-event.answers.items c.loop-event.invariant.served now
+    events_honest g.K.Keep.meaning c.args.keep.now c.loop-event.keep (take c.loop-event.event-index c.args.events.now) c.loop-event.answers.items c.loop-event.invariant.served now
 
 pub returns-clause-steps : goal.returns-clause-steps
 returns-clause-steps g c now content H held stands lawful =
     let K = g.K.Keep in
     let all = take_all c.loop-event.event-index c.args.events.now c.loop-event-test.false in
     let served = subst (λ events. AreServed K.meaning c.args.keep.now events c.loop-event.answers.items c.loop-event.keep) all c.loop-event.invariant.served in
-    run_steps_of K.meaning g.met.K.Keep.settled c.args.keep.now c.loop-event.keep c.args.events.now c.loop-event.answers.items served now content H held stands lawful
+    events_steps K.meaning g.met.K.Keep.settled c.args.keep.now c.loop-event.keep c.args.events.now c.loop-event.answers.items served now content H held stands lawful
 
 pub returns-clause-run : goal.returns-clause-run
 returns-clause-run g c now content H held stands lawful =
     let K = g.K.Keep in
     let all = take_all c.loop-event.event-index c.args.events.now c.loop-event-test.false in
     let served = subst (λ events. AreServed K.meaning c.args.keep.now events c.loop-event.answers.items c.loop-event.keep) all c.loop-event.invariant.served in
-    events_run_of K.meaning g.met.K.Keep.settled c.args.keep.now c.loop-event.keep c.args.events.now c.loop-event.answers.items content H held stands lawful
-    (run_steps_of K.meaning g.met.K.Keep.settled c.args.keep.now c.loop-event.keep c.args.events.now c.loop-event.answers.items served now content H held stands lawful)
+    events_run K.meaning g.met.K.Keep.settled c.args.keep.now c.loop-event.keep c.args.events.now c.loop-event.answers.items served now content H held stands lawful
 
 pub returns-clause-open : goal.returns-clause-open
 returns-clause-open g c never_closes now content H held stands lawful =
-    let K = g.K.Keep in
-    run_all_open K.meaning g.met.K.Keep.settled never_closes c.args.keep.now c.loop-event.keep (take c.loop-event.event-index c.args.events.now) c.loop-event.answers.items c.loop-event.invariant.served now content H held stands lawful
+    events_open g.K.Keep.meaning g.met.K.Keep.settled never_closes c.args.keep.now c.loop-event.keep (take c.loop-event.event-index c.args.events.now) c.loop-event.answers.items c.loop-event.invariant.served
+    now content H held stands lawful
