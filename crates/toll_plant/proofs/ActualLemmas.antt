@@ -1,7 +1,7 @@
 -- The commands of records.
 use Rattle.std.proofs.Common.{◌≡◌, Bool, true, false, cond, Option, Some, None, List, [], ◌∷◌, length, refl, ap, sym, subst, inl, inr}
-use Rattle.std.specs.Prelude.{◌==◌, IsSome, Result, Ok, Err}
-use Rattle.toll_plant.proofs.Common.{AllByRecursion, Refusal, IsValidCommand, recorded_command, PlantCmd, looks_at_two}
+use Rattle.std.specs.Prelude.{◌⊎◌, ◌==◌, IsSome, Result, Ok, Err}
+use Rattle.toll_plant.proofs.Common.{AllByRecursion, Bytes, MoveRow, Record, by, Refusal, IsValidCommand, recorded_command, PlantCmd, looks_at_two}
 use Rattle.toll_base.proofs.Texts.{nat_eq-exact}
 use Rattle.toll_base.specs.Lots.{lot_id}
 use Rattle.toll_answers.specs.declared.plant_cmd.PlantCmd.TheVariants.{Actual, Unread}
@@ -12,8 +12,15 @@ use Rattle.toll_plant.specs.Table.{actual_line}
 use Rattle.toll_plant.specs.Words.{command_read, command_with, values_read}
 use Rattle.toll_plant.specs.declared.argument.ArgumentValue.{ArgumentValue}
 use Rattle.toll_plant.specs.Imports.{CanBeStaged, HasValidValues}
-use Rattle.toll_plant.proofs.ImportRuns.{IsDeed, IsDeedOrNone}
 use Rattle.toll_plant.proofs.TableLemmas.{actual_makes, command_made, values_have}
+
+-- The command records a movement, or couldn't be read.
+abbrev pub IsDeed : PlantCmd → Type 0
+IsDeed command = ((o : Bytes) × (row : MoveRow) × (recorded_command command ≡ Some (by o (Record row)))) ⊎ ((why : Refusal) × (command ≡ Unread why))
+
+abbrev pub IsDeedOrNone : Option PlantCmd → Type 0
+IsDeedOrNone None = Unit {0}
+IsDeedOrNone (Some command) = IsDeed command
 
 -- As many fields as an actual has values give a command.
 pub asks_actual : (fields : Fields) → length fields ≡ length actual_line.values → IsSome (command_with actual_line fields)

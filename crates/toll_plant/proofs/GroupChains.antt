@@ -1,67 +1,50 @@
--- Groups of records, one after another, are a run.
-use Rattle.std.proofs.Common.{◌≡◌, ◌++◌, ℕ, drop, take-append-drop, Bool, true, false, ◌||◌, Option, List, [], ◌∷◌, Ok, Err, refl, sym, subst, ap, ◌∙◌, inl, inr}
-use Rattle.std.specs.Prelude.{take}
-use Rattle.toll_plant.proofs.Common.{AllByRecursion, list_any, append-nil, list_any-append, false≢true, History, IsLawful, Content, CallEffect, Meaning, KeepFault, Memory, Disk, Damaged, Closed, Represents, PlantCmd}
+-- Groups of records, one after another.
+use Rattle.std.proofs.Common.{◌≡◌, ◌++◌, ℕ, drop, take-append-drop, true, false, List, [], ◌∷◌, Ok, Err, refl, sym, subst, ap, ◌∙◌, append_assoc, inl, inr}
+use Rattle.std.specs.Prelude.{flat_map, take}
+use Rattle.std.proofs.lemmas.Bool.{or_from, or_parts}
+use Rattle.toll_plant.proofs.Common.{AllByRecursion, list_any, append-nil, list_any-append, false≢true, History, CallEffect, Meaning, KeepFault, Memory, Disk, Damaged, Closed}
 use Rattle.toll_desk.proofs.KeptRules.{represented_keeps_rules}
-use Rattle.toll_plant.specs.Imports.{AreGroupSteps, AreGroupsServed, AreRecordSteps, EndWith, Group, IsGroupServed, IsImport, IsImportOf, IsInGroups, IsOpenOutcome, IsWholeOutcome, NoneEnded, all_commands, all_outcomes, last_outcome}
+use Rattle.toll_desk.proofs.StepLemmas.{StandsLawful, history_run, stands_after, steps_from}
+use Rattle.toll_desk.specs.Reads.{Over}
+use Rattle.toll_desk.specs.Steps.{state_at}
+use Rattle.toll_history.proofs.RunLemmas.{run_back}
+use Rattle.toll_history.specs.Runs.{IsRun}
+use Rattle.toll_plant.proofs.FaultEnds.{all_acted, run_ends, up_to_longer}
+use Rattle.toll_plant.proofs.GroupRuns.{imports_then}
+use Rattle.toll_plant.specs.Imports.{AreRecordSteps, AreRecordsServed, Commands, End, EndWith, EndsAt, IsAfterFirst, IsGroupServed, IsGroupStep, IsImport, IsImportOf, IsOpenOutcome, IsRecordStep, IsWholeOutcome, last_outcome}
 use Rattle.toll_plant.specs.Outcomes.{is_fault_outcome}
 use Rattle.toll_plant.specs.declared.outcome.Outcome.{Outcome}
 use Rattle.toll_plant.specs.declared.outcome.Outcome.TheVariants as came
-use Rattle.toll_plant.proofs.GroupRuns.{import_longer, imports_then}
-use Rattle.toll_plant.specs.Imports.{End}
 
--- ---- outcomes of groups
+-- ---- facts of all items
 
-either_false : (a b : Bool) → a ≡ false → b ≡ false → (a || b) ≡ false
-either_false true b none more = absurd (cc none)
-either_false false b none more = more
-
-or_true_right : (a b : Bool) → b ≡ true → (a || b) ≡ true
-or_true_right true b some = refl
-or_true_right false b some = some
-
-pub calm_group : (end : End) (reported : List Outcome) → EndWith end reported → end ≡ Ok tt → list_any is_fault_outcome reported ≡ false
-calm_group (Ok done) reported ends is = ap (list_any is_fault_outcome) (ends.said ∙ append-nil ends.calm) ∙ ends.calmly
-calm_group (Err fault) reported ends is = absurd (cc is)
-
-pub faulty_group : (fault : KeepFault) (reported : List Outcome) → EndWith (Err fault) reported → list_any is_fault_outcome reported ≡ true
-faulty_group fault reported ends = ap (list_any is_fault_outcome) ends.said ∙ list_any-append is_fault_outcome ends.calm (came.Fault fault ∷ []) ∙ or_true_right (list_any is_fault_outcome ends.calm) true refl
-
-module _ (P : Outcome → Type 0) (each : (o : Outcome) → is_fault_outcome o ≡ false → P o) where
-  calm_first : (b : Bool) (o : Outcome) (reported : List Outcome) → is_fault_outcome o ≡ b → (b || list_any is_fault_outcome reported) ≡ false → (list_any is_fault_outcome reported ≡ false → AllByRecursion P reported) → AllByRecursion P (o ∷ reported)
-  calm_first true o reported is none rest = absurd (cc none)
-  calm_first false o reported is none rest = (each o is, rest none)
-
-  chain_all_calm : (reported : List Outcome) → list_any is_fault_outcome reported ≡ false → AllByRecursion P reported
-  chain_all_calm [] calm = tt
-  chain_all_calm (o ∷ reported) calm = calm_first (is_fault_outcome o) o reported refl calm (chain_all_calm reported)
-
-  all_both : (xs ys : List Outcome) → AllByRecursion P xs → AllByRecursion P ys → AllByRecursion P (xs ++ ys)
+module _ {X : Type 0} (P : X → Type 0) where
+  pub all_both : (xs ys : List X) → AllByRecursion P xs → AllByRecursion P ys → AllByRecursion P (xs ++ ys)
   all_both [] ys first more = more
   all_both (x ∷ xs) ys first more = (first.0, all_both xs ys first.1 more)
+
+  pub all_first : (xs ys : List X) → AllByRecursion P (xs ++ ys) → AllByRecursion P xs
+  all_first [] ys all = tt
+  all_first (x ∷ xs) ys all = (all.0, all_first xs ys all.1)
+
+  pub all_take : (n : ℕ) (xs : List X) → AllByRecursion P xs → AllByRecursion P (take n xs)
+  all_take n xs all = all_first (take n xs) (drop n xs) (subst (AllByRecursion P) (sym (take-append-drop n xs)) all)
+
+-- ---- the outcomes of a group
+
+module _ (P : Outcome → Type 0) (each : (o : Outcome) → is_fault_outcome o ≡ false → P o) where
+  all_calm : (reported : List Outcome) → list_any is_fault_outcome reported ≡ false → AllByRecursion P reported
+  all_calm [] calm = tt
+  all_calm (o ∷ reported) calm =
+      let parts = or_parts (is_fault_outcome o) (list_any is_fault_outcome reported) calm in (each o parts.0, all_calm reported parts.1)
 
   all_last : (end : End) → ((fault : KeepFault) → end ≡ Err fault → P (came.Fault fault)) → AllByRecursion P (last_outcome end)
   all_last (Ok done) last = tt
   all_last (Err fault) last = (last fault refl, tt)
 
-  all_ended : (end : End) (reported : List Outcome) → EndWith end reported → ((fault : KeepFault) → end ≡ Err fault → P (came.Fault fault)) → AllByRecursion P reported
-  all_ended end reported ends last = subst (AllByRecursion P) (sym ends.said) (all_both ends.calm (last_outcome end) (chain_all_calm ends.calm ends.calmly) (all_last end last))
-
--- A fact of all items holds of a first part and of the rest.
-module _ {X : Type 0} (P : X → Type 0) where
-  all_first : (xs ys : List X) → AllByRecursion P (xs ++ ys) → AllByRecursion P xs
-  all_first [] ys all = tt
-  all_first (x ∷ xs) ys all = (all.0, all_first xs ys all.1)
-
-  all_more : (xs ys : List X) → AllByRecursion P (xs ++ ys) → AllByRecursion P ys
-  all_more [] ys all = all
-  all_more (x ∷ xs) ys all = all_more xs ys all.1
-
-  pub all_take : (n : ℕ) (xs : List X) → AllByRecursion P xs → AllByRecursion P (take n xs)
-  all_take n xs all = all_first (take n xs) (drop n xs) (subst (AllByRecursion P) (sym (take-append-drop n xs)) all)
-
-  pub all_drop : (n : ℕ) (xs : List X) → AllByRecursion P xs → AllByRecursion P (drop n xs)
-  all_drop n xs all = all_more (take n xs) (drop n xs) (subst (AllByRecursion P) (sym (take-append-drop n xs)) all)
+  all_ended : (end : End) (reported : List Outcome) → EndWith end reported → ((fault : KeepFault) → end ≡ Err fault → P (came.Fault fault))
+      → AllByRecursion P reported
+  all_ended end reported ends last = subst (AllByRecursion P) (sym ends.said) (all_both P ends.calm (last_outcome end) (all_calm ends.calm ends.calmly) (all_last end last))
 
 -- An outcome without a fault reports no damage and no fault except Memory.
 calm_whole : (o : Outcome) → is_fault_outcome o ≡ false → IsWholeOutcome o
@@ -70,145 +53,124 @@ calm_whole o calm is = false≢true (sym calm ∙ ap is_fault_outcome is)
 calm_open : (o : Outcome) → is_fault_outcome o ≡ false → IsOpenOutcome o
 calm_open o calm fault is = absurd (false≢true (sym calm ∙ ap is_fault_outcome is))
 
-module _ {K : Type 0} (meaning : Meaning K) where
-  abbrev GroupsServed : K → List Group → K → Type 0
-  GroupsServed old groups new = AreGroupsServed meaning old groups new
+-- ---- groups over histories
 
-  abbrev GroupServed : K → K → Group → Type 0
-  GroupServed old new g = IsGroupServed meaning old new g.commands g.reported g.end
+abbrev all_commands : List Commands → Commands
+all_commands groups = flat_map (λ group. group) groups
+
+abbrev all_outcomes : List (List Outcome) → List Outcome
+all_outcomes reports = flat_map (λ report. report) reports
+
+-- Imports one after another are an import.
+imported_all : (H last : History) (groups : List Commands) (reports : List (List Outcome)) (rest : Commands) → IsRun IsImport H groups reports last
+    → EndsAt (list_any is_fault_outcome) reports
+    → (list_any is_fault_outcome (all_outcomes reports) ≡ false → rest ≡ []) → IsImport H (all_commands groups ++ rest) (all_outcomes reports) last
+imported_all H last [] [] rest run stops whole = subst (λ more. IsImport H more [] last) (sym (whole refl)) (all_acted (λ acted. IsRun IsRecordStep H acted [] last) [] [] run refl)
+imported_all H last (group ∷ groups) (report ∷ reports) rest run stops whole =
+    let more = all_commands groups ++ rest in
+    subst (λ commands. IsImport H commands (report ++ all_outcomes reports) last) (sym (append_assoc group (all_commands groups) rest))
+    (elim (list_any is_fault_outcome report) as (λ b. list_any is_fault_outcome report ≡ b → IsImport H (group ++ more) (report ++ all_outcomes reports) last) [
+      | true ↦ λ is.
+          let none = stops.0 is in
+          let ends = run_ends IsImport run.0 last groups (subst (λ others. IsRun IsImport run.0 groups others last) none run.2) in
+          subst (λ others. IsImport H (group ++ more) (report ++ all_outcomes others) last) (sym none)
+          (subst (λ outcomes. IsImport H (group ++ more) outcomes last) (sym (append-nil report))
+          (subst (IsImport H (group ++ more) report) (sym ends) (up_to_longer (λ acted. IsRun IsRecordStep H acted report run.0) group more report is run.1)))
+      | false ↦ λ is.
+          imports_then H run.0 last group more report (all_outcomes reports) is run.1
+          (imported_all run.0 last groups reports rest run.2 stops.1 (λ none. whole (list_any-append is_fault_outcome report (all_outcomes reports) ∙ or_from (list_any is_fault_outcome report) (list_any is_fault_outcome (all_outcomes reports)) is none)))
+    ] refl)
+imported_all H last groups reports rest run stops whole = absurd run
+
+-- ---- groups over a keep
+
+module _ {K : Type 0} (meaning : Meaning K) where
+  abbrev GroupStep : K → Commands → List Outcome → K → Type 0
+  GroupStep = IsGroupStep meaning
 
   -- A keep that is honest now was honest before.
-  pub group_honest : (old new : K) (g : Group) → GroupServed old new g → meaning.is_honest new → meaning.is_honest old
-  group_honest old new g served now = elim served.goes [ inl none ↦ subst meaning.is_honest none.0 now | inr goes ↦ goes.honest now ]
+  pub group_honest : (old new : K) (commands : Commands) (reported : List Outcome) → GroupStep old commands reported new → meaning.is_honest new
+      → meaning.is_honest old
+  group_honest old new commands reported (end, served) now = elim served.goes [ inl none ↦ subst meaning.is_honest none.0 now | inr goes ↦ goes.honest now ]
 
-  pub all_honest : (old new : K) (groups : List Group) → GroupsServed old groups new → meaning.is_honest new → meaning.is_honest old
-  all_honest old new [] served now = subst meaning.is_honest served now
-  all_honest old new (g ∷ earlier) served now = all_honest old served.0 earlier served.1 (group_honest served.0 new g served.3 now)
+  pub groups_honest : (old new : K) (groups : List Commands) (reports : List (List Outcome)) → IsRun GroupStep old groups reports new → meaning.is_honest new
+      → meaning.is_honest old
+  groups_honest = run_back GroupStep meaning.is_honest group_honest
 
-  -- Groups that ended without a fault report none.
-  calm_groups : (old new : K) (groups : List Group) → GroupsServed old groups new → NoneEnded groups → list_any is_fault_outcome (all_outcomes groups) ≡ false
-  calm_groups old new [] served none = refl
-  calm_groups old new (g ∷ earlier) served none =
-      list_any-append is_fault_outcome (all_outcomes earlier) g.reported
-      ∙ either_false (list_any is_fault_outcome (all_outcomes earlier)) (list_any is_fault_outcome g.reported) (calm_groups old served.0 earlier served.1 none.1) (calm_group g.end g.reported served.3.ends none.0)
+  -- ---- the records of a file
 
-  -- ---- over a history whose rows were held
-
-  -- The groups lead to a history whose rows are held.
-  pub record Lead (old : K) (c : Content) (H : History) (groups : List Group) (new : K) : Type 0 where
-    pub content : Content
-    pub last : History
-    pub steps : AreGroupSteps meaning old c H groups new content last
-    pub imported : IsImport H (all_commands groups) (all_outcomes groups) last
-    pub held : meaning.holds new content
-    pub stands : Represents content last
-    pub lawful : IsLawful last
-
-  pub leads : (old new : K) (groups : List Group) → GroupsServed old groups new → meaning.is_honest new → (c : Content) (H : History) → meaning.holds old c → Represents c H → IsLawful H → Lead old c H groups new
-  leads old new [] served now c H held stands lawful = record {
-    content = c;
-    last = H;
-    steps = (served, refl, refl);
-    imported = refl;
-    held = subst (λ k. meaning.holds k c) (sym served) held;
-    stands = stands;
-    lawful = lawful;
-  }
-  leads old new (g ∷ earlier) served now c H held stands lawful =
-      let middle = served.0 in
-      let group = served.3 in
-      let first = leads old middle earlier served.1 (group_honest middle new g group now) c H held stands lawful in
-      let done = group.done now first.content first.last first.held first.stands first.lawful in
-      let run = done.run in
-      record {
-        content = run.left.content;
-        last = run.last;
-        steps = (
-          middle,
-          first.content,
-          first.last,
-          first.steps,
-          record {
-            comes = run.imported;
-            lawful = run.lawful;
-            held = run.left.held;
-            stands = run.left.stands;
-            front = done.front;
-            crash = done.crash;
-            settled = λ live. elim (group.settles now live run.left.content run.left.held) [ inl left ↦ inl left.1 | inr cause ↦ inr cause ];
-          },
-        );
-        imported = imports_then H first.last run.last (all_commands earlier) g.commands (all_outcomes earlier) g.reported (calm_groups old middle earlier served.1 served.2) first.imported run.imported;
-        held = run.left.held;
-        stands = run.left.stands;
-        lawful = run.lawful;
-      }
-
-  -- ---- the records of a file, in groups
-
-  rest_done : (old new : K) (groups : List Group) (rest : List (Option PlantCmd)) → GroupsServed old groups new → (NoneEnded groups → rest ≡ []) → (H last : History) → IsImport H (all_commands groups) (all_outcomes groups) last → IsImport H (all_commands groups ++ rest) (all_outcomes groups) last
-  rest_done old new [] rest served none H last imported = subst (λ more. IsImport H ([] ++ more) [] last) (sym (none tt)) imported
-  rest_done old new (g ∷ earlier) rest served none H last imported = go g.end refl
-    where
-      go : (end : End) → g.end ≡ end → IsImport H (all_commands (g ∷ earlier) ++ rest) (all_outcomes (g ∷ earlier)) last
-      go (Ok done) is = subst (λ more. IsImport H (all_commands (g ∷ earlier) ++ more) (all_outcomes (g ∷ earlier)) last) (sym (none (is, served.2))) (subst (λ commands. IsImport H commands (all_outcomes (g ∷ earlier)) last) (sym (append-nil (all_commands (g ∷ earlier)))) imported)
-      go (Err fault) is =
-          let faulty : list_any is_fault_outcome (all_outcomes (g ∷ earlier)) ≡ true =
-          list_any-append is_fault_outcome (all_outcomes earlier) g.reported ∙ or_true_right (list_any is_fault_outcome (all_outcomes earlier)) (list_any is_fault_outcome g.reported) (faulty_group fault g.reported (subst (λ end. EndWith end g.reported) is served.3.ends)) in
-          import_longer H last (all_commands (g ∷ earlier)) rest (all_outcomes (g ∷ earlier)) faulty imported
-
-  module _ (old new : K) (commands : List (Option PlantCmd)) (reported : List Outcome) (groups : List Group) (parts : IsInGroups groups commands reported) (served : GroupsServed old groups new) (now : meaning.is_honest new)
-      (c : Content) (H : History) (held : meaning.holds old c) (stands : Represents c H) (lawful : IsLawful H) where
-    led : Lead old c H groups new
-    led = leads old new groups served now c H held stands lawful
-
-    pub steps_of : AreRecordSteps meaning old c H commands reported new
-    steps_of = record { groups = groups; parts = parts; content = led.content; last = led.last; steps = led.steps }
-
-    pub run_of : IsImportOf (meaning.holds new) H commands reported
-    run_of = record {
-      last = led.last;
-      imported = subst (λ requested. IsImport H requested reported led.last) parts.requested (subst (λ said. IsImport H (all_commands groups ++ parts.rest) said led.last) parts.said (rest_done old new groups parts.rest served parts.all H led.last led.imported));
-      lawful = led.lawful;
-      left = record { content = led.content; held = led.held; stands = led.stands };
+  module _ (old new : K) (commands : Commands) (reported : List Outcome) (served : AreRecordsServed meaning old commands reported new) where
+    pub steps_of : Over meaning old new (λ c H. AreRecordSteps meaning old c H commands reported new)
+    steps_of now c H held stands lawful = record {
+      groups = served.groups;
+      reports = served.reports;
+      are = steps_from meaning IsImport IsAfterFirst GroupStep group_honest (λ old new commands reported step. step.1.done) old new
+          served.groups served.reports served.are now c H held stands lawful;
+      bounded = served.bounded;
+      stops = served.stops;
+      outcomes_are = served.outcomes_are;
+      rest = served.rest;
+      commands_are = served.commands_are;
+      whole = served.whole;
     }
+
+    pub run_of : Over meaning old new (λ c H. IsImportOf (meaning.holds new) H commands reported)
+    run_of now c H held stands lawful =
+        let steps = steps_of now c H held stands lawful in
+        let (d, G, run) = steps.are in
+        let first : StandsLawful meaning IsImport IsAfterFirst (state_at old c H) = record { held = held; stands = stands; lawful = lawful } in
+        let after = stands_after meaning IsImport IsAfterFirst (state_at old c H) (state_at new d G) steps.groups steps.reports run first in
+        let imports = history_run meaning IsImport IsAfterFirst (state_at old c H) (state_at new d G) steps.groups steps.reports run in
+        let all = imported_all H G steps.groups steps.reports steps.rest imports steps.stops
+        (λ calm. steps.whole (ap (list_any is_fault_outcome) (sym steps.outcomes_are) ∙ calm)) in
+        record {
+          last = G;
+          imported = subst (λ requested. IsImport H requested reported G) steps.commands_are
+              (subst (λ outcomes. IsImport H (all_commands steps.groups ++ steps.rest) outcomes G) steps.outcomes_are all);
+          lawful = after.lawful;
+          left = record { content = d; held = after.held; stands = after.stands };
+        }
 
   -- ---- a fact of each outcome
 
   module _ (P : Outcome → Type 0) (each : (o : Outcome) → is_fault_outcome o ≡ false → P o)
-      (last : (old new : K) (g : Group) → GroupServed old new g → meaning.is_honest new → (c : Content) (H : History) → meaning.holds old c → Represents c H → IsLawful H → (fault : KeepFault) → g.end ≡ Err fault → P (came.Fault fault)) where
-    chain_all_in : (old new : K) (groups : List Group) → GroupsServed old groups new → meaning.is_honest new → (c : Content) (H : History) → meaning.holds old c → Represents c H → IsLawful H → AllByRecursion P (all_outcomes groups)
-    chain_all_in old new [] served now c H held stands lawful = tt
-    chain_all_in old new (g ∷ earlier) served now c H held stands lawful =
-        let middle = served.0 in
-        let before = group_honest middle new g served.3 now in
-        let first = leads old middle earlier served.1 before c H held stands lawful in
-        all_both P each (all_outcomes earlier) g.reported (chain_all_in old middle earlier served.1 before c H held stands lawful)
-        (all_ended P each g.end g.reported served.3.ends (last middle new g served.3 now first.content first.last first.held first.stands first.lawful))
+      (last : (old new : K) (commands : Commands) (reported : List Outcome) (end : End) → IsGroupServed meaning old new commands reported end
+      → Over meaning old new (λ c H. (fault : KeepFault) → end ≡ Err fault → P (came.Fault fault))) where
+    groups_all : (old new : K) (groups : List Commands) (reports : List (List Outcome)) → IsRun GroupStep old groups reports new
+        → Over meaning old new (λ c H. AllByRecursion P (all_outcomes reports))
+    groups_all old new [] [] run now c H held stands lawful = tt
+    groups_all old new (group ∷ groups) (report ∷ reports) run now c H held stands lawful =
+        let (end, served) = run.1 in
+        let then = groups_honest run.0 new groups reports run.2 now in
+        let (d, G, step) = served.done then c H held stands lawful in
+        all_both P report (all_outcomes reports) (all_ended P each end report served.ends (last old run.0 group report end served then c H held stands lawful))
+        (groups_all run.0 new groups reports run.2 now d G step.held step.stands step.lawful)
+    groups_all old new groups reports run now c H held stands lawful = absurd run
 
-  whole_last : (old new : K) (g : Group) → GroupServed old new g → meaning.is_honest new → (c : Content) (H : History) → meaning.holds old c → Represents c H → IsLawful H → (fault : KeepFault) → g.end ≡ Err fault → IsWholeOutcome (came.Fault fault)
-  whole_last old new g served now c H held stands lawful fault is damaged =
+    records_all : (old new : K) (commands : Commands) (reported : List Outcome) → AreRecordsServed meaning old commands reported new
+        → Over meaning old new (λ c H. AllByRecursion P reported)
+    records_all old new commands reported served now c H held stands lawful =
+        subst (AllByRecursion P) served.outcomes_are (groups_all old new served.groups served.reports served.are now c H held stands lawful)
+
+  pub all_whole : (old new : K) (commands : Commands) (reported : List Outcome) → AreRecordsServed meaning old commands reported new
+      → Over meaning old new (λ c H. AllByRecursion IsWholeOutcome reported)
+  all_whole = records_all IsWholeOutcome calm_whole (λ old new commands reported end served now c H held stands lawful fault is damaged.
       let same : fault ≡ Damaged = cc damaged in
-      served.whole now c held (represented_keeps_rules H c lawful stands) (is ∙ ap (λ f. Err f) same)
-
-  pub all_whole : (old new : K) (groups : List Group) → GroupsServed old groups new → meaning.is_honest new → (c : Content) (H : History) → meaning.holds old c → Represents c H → IsLawful H → AllByRecursion IsWholeOutcome (all_outcomes groups)
-  all_whole = chain_all_in IsWholeOutcome calm_whole whole_last
+      served.whole now c held (represented_keeps_rules H c lawful stands) (is ∙ ap (λ f. Err f) same))
 
   -- over a keep that never closes
   module _ (never_closes : (k : K) → meaning.is_closed k ≡ false) where
-    chain_memory_alone : (old new : K) (fault : KeepFault) → CallEffect {X = Unit {0}} meaning old new (Err fault) → fault ≡ Memory
-    chain_memory_alone old new Memory goes = refl
-    chain_memory_alone old new Disk goes = absurd (false≢true (sym (never_closes new) ∙ goes.closes))
-    chain_memory_alone old new Damaged goes = absurd (false≢true (sym (never_closes new) ∙ goes.closes))
-    chain_memory_alone old new Closed goes = absurd (false≢true (sym (never_closes new) ∙ goes.closes))
+    memory_alone : (old new : K) (fault : KeepFault) → CallEffect {X = Unit {0}} meaning old new (Err fault) → fault ≡ Memory
+    memory_alone old new Memory goes = refl
+    memory_alone old new Disk goes = absurd (false≢true (sym (never_closes new) ∙ goes.closes))
+    memory_alone old new Damaged goes = absurd (false≢true (sym (never_closes new) ∙ goes.closes))
+    memory_alone old new Closed goes = absurd (false≢true (sym (never_closes new) ∙ goes.closes))
 
-    open_last : (old new : K) (g : Group) → GroupServed old new g → meaning.is_honest new → (c : Content) (H : History) → meaning.holds old c → Represents c H → IsLawful H → (fault : KeepFault) → g.end ≡ Err fault → IsOpenOutcome (came.Fault fault)
-    open_last old new g served now c H held stands lawful fault is other same =
+    pub all_open : (old new : K) (commands : Commands) (reported : List Outcome) → AreRecordsServed meaning old commands reported new
+        → Over meaning old new (λ c H. AllByRecursion IsOpenOutcome reported)
+    all_open = records_all IsOpenOutcome calm_open (λ old new commands reported end served now c H held stands lawful fault is other same.
         let e : fault ≡ other = cc same in
         sym e ∙ elim served.goes [
           | inl none ↦ (let never : Err fault ≡ Ok tt = sym is ∙ none.1 in absurd (cc never))
-          | inr goes ↦ chain_memory_alone old new fault (subst (λ end. CallEffect meaning old new end) is goes)
-        ]
-
-    pub all_open : (old new : K) (groups : List Group) → GroupsServed old groups new → meaning.is_honest new → (c : Content) (H : History) → meaning.holds old c → Represents c H → IsLawful H → AllByRecursion IsOpenOutcome (all_outcomes groups)
-    all_open = chain_all_in IsOpenOutcome calm_open open_last
+          | inr goes ↦ memory_alone old new fault (subst (λ end. CallEffect meaning old new end) is goes)
+        ])

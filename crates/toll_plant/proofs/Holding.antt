@@ -1,19 +1,19 @@
 -- Records that are staged, one by one.
-use Rattle.std.proofs.Common.{◌≡◌, ◌+◌, ◌<◌, ℕ, zero, suc, true, false, Option, Some, None, List, [], ◌∷◌, ◌++◌, length, get_or, drop, Result, Ok, Err, refl, sym, subst, ap, ◌∙◌, inl, inr, append_assoc, arith}
-use Rattle.std.specs.Prelude.{◌⊎◌, take, IsOk, IsSome}
+use Rattle.std.proofs.Common.{◌≡◌, ◌+◌, ◌<◌, ℕ, zero, suc, true, false, Some, None, List, [], ◌∷◌, ◌++◌, length, get_or, drop, Result, Ok, Err, refl, sym, subst, ap, ◌∙◌, inl, inr, append_assoc, arith}
+use Rattle.std.specs.Prelude.{◌⊎◌, take, IsOk}
 use mathlib.Core.Bool.{or-false}
 use Rattle.toll_plant.proofs.Common.{AllByRecursion, list_any, append-nil, take_more, list_any-append, false≢true, Verdict, Accepted, Repeated, Refused, History, IsLawful, Content, content_after, IsReading, Meaning, IsOver, IsReadThrough, ReadsThrough, IsContentKept, KeepFault, Memory, read_fault, Represents, IsPlantAnswer, Judged, PlantAnswer, after_plant, IsPlantStaged, IsAnsweredOver, IsKeepUnread, IsVerdictOrMemory, IsValidCommand, is_answer_accepted as is_granted, meaning_of_plant_reply, ChangesLeadTo, Change, PlantCmd}
 use Rattle.toll_keep.specs.declared.staged_changes.StagedChanges.{StagedChanges}
 use Rattle.toll_answers.proofs.OwnReplies.{lawful-after_plant}
 use Rattle.toll_desk.specs.declared.plant_cmd.PlantReply.{PlantReply}
 use Rattle.toll_plant.specs.StagedRecords.{IsReadOrUnused, IsNothingStaged, IsRecordStaged, IsRecordOver}
-use Rattle.toll_plant.specs.Imports.{Comes, IsOpenOutcome, before_accepted}
+use Rattle.toll_plant.specs.Imports.{End, IsOpenOutcome, before_accepted}
 use Rattle.toll_plant.specs.Outcomes.{is_outcome_accepted, is_fault_outcome, outcome_of_verdict, record_outcome}
 use Rattle.toll_plant.specs.declared.grouping.Staged.{Staged}
 use Rattle.toll_plant.specs.declared.outcome.Outcome.{Outcome}
 use Rattle.toll_plant.specs.declared.outcome.Outcome.TheVariants as came
-use Rattle.toll_plant.proofs.GroupRuns.{none_in}
-use Rattle.toll_plant.proofs.ImportRuns.{comes_judged}
+use Rattle.toll_plant.proofs.FaultEnds.{none_in}
+use Rattle.toll_plant.proofs.GroupRuns.{calm_verdict}
 use Rattle.toll_plant.proofs.LineLemmas.{item_there}
 
 -- A fact of each item holds of the one at a place.
@@ -51,29 +51,20 @@ outcome_quiet (Ok reported) judges none = subst (λ t. is_outcome_accepted (reco
     go Repeated none = refl
     go (Refused why) none = refl
 
-calm_verdict : (v : Verdict) (fault : KeepFault) → outcome_of_verdict v ≡ came.Fault fault → ⊥
-calm_verdict Accepted fault is = cc is
-calm_verdict Repeated fault is = cc is
-calm_verdict (Refused why) fault is = cc is
-
 outcome_open : (outcome : Result PlantAnswer KeepFault) → IsVerdictOrMemory outcome → IsOpenOutcome (record_outcome outcome)
 outcome_open (Err fault) memory other is = let same : fault ≡ other = cc is in sym same ∙ memory
-outcome_open (Ok reported) judges other is = absurd (calm_verdict judges.0 other (ap (λ t. record_outcome (Ok t)) (sym judges.1) ∙ is))
+outcome_open (Ok reported) judges other is =
+    absurd (false≢true (sym (calm_verdict judges.0) ∙ ap is_fault_outcome (ap (λ t. record_outcome (Ok t)) (sym judges.1) ∙ is)))
 
 calm_outcome : (outcome : Result PlantAnswer KeepFault) → IsVerdictOrMemory outcome → IsOk outcome → is_fault_outcome (record_outcome outcome) ≡ false
 calm_outcome (Err fault) judges ok = absurd (cc ok)
-calm_outcome (Ok reported) judges ok = ap (λ t. is_fault_outcome (record_outcome (Ok t))) judges.1 ∙ go judges.0
-  where
-    go : (v : Verdict) → is_fault_outcome (outcome_of_verdict v) ≡ false
-    go Accepted = refl
-    go Repeated = refl
-    go (Refused why) = refl
+calm_outcome (Ok reported) judges ok = ap (λ t. is_fault_outcome (record_outcome (Ok t))) judges.1 ∙ calm_verdict judges.0
 
 record_over : (c : Content) (H : History) (command : PlantCmd) (outcome : Result PlantAnswer KeepFault) (made : List Change) → Represents c H → IsLawful H → IsValidCommand command → IsVerdictOrMemory outcome → (is_granted outcome ≡ false → made ≡ [])
     → IsAnsweredOver c H command made outcome → IsRecordOver c H (Some command) (record_outcome outcome) made
 record_over c H command (Err fault) made stands lawful valid judges quiet reported = record {
   next = H;
-  comes = refl;
+  step = inr (fault, refl, refl);
   lawful = lawful;
   leads = subst (λ changes. ChangesLeadTo c changes H) (sym (quiet refl)) (record { stands = stands; fits = tt });
 }
@@ -81,7 +72,7 @@ record_over c H command (Ok what) made stands lawful valid judges quiet reported
     let answer : IsPlantAnswer H command (Judged judges.0) = subst (IsPlantAnswer H command) judges.1 reported.0 in
     subst (λ t. IsRecordOver c H (Some command) (record_outcome (Ok t)) made) (sym judges.1) (record {
       next = after_plant H command;
-      comes = comes_judged H command judges.0 answer;
+      step = inl (judges.0, answer, refl, refl);
       lawful = lawful-after_plant H command lawful valid;
       leads = reported.1;
     })
@@ -97,7 +88,7 @@ module _ {K : Type 0} (meaning : Meaning K) (old new : K) (before now : StagedCh
     memory = λ fault is. absurd (cc is);
     some = tt;
     over = λ honest c there laid. subst (IsOver c) (sym still) laid;
-    reported = λ honest c there laid H stands lawful. record { next = H; comes = (refl, refl); lawful = lawful; leads = record { stands = stands; fits = tt } };
+    reported = λ honest c there laid H stands lawful. record { next = H; step = (refl, refl); lawful = lawful; leads = record { stands = stands; fits = tt } };
   }
 
   module _ (command : PlantCmd) (valid : IsValidCommand command) where
@@ -160,7 +151,7 @@ module _ {K : Type 0} (meaning : Meaning K) (first keep next : K) (before now : 
       let earlier = kept one.0 in (earlier.0, λ c there. one.1 c (earlier.1 c there))
 
   -- If a record met a fault, the keep was used.
-  pub asked_next : (o : Outcome) (end : Result (Unit {0}) KeepFault) → is_fault_outcome o ≡ true → Reading (Ok o) → IsReadThrough meaning first keep before → IsReadOrUnused meaning first next end
+  pub asked_next : (o : Outcome) (end : End) → is_fault_outcome o ≡ true → Reading (Ok o) → IsReadThrough meaning first keep before → IsReadOrUnused meaning first next end
   asked_next o end faulty (inl idle) through = absurd (false≢true (sym idle.calm ∙ faulty))
   asked_next o end faulty (inr reads) through = inr (reads.answered first through)
 
@@ -183,10 +174,6 @@ faulty_memory came.Accepted faulty memory = absurd (cc faulty)
 faulty_memory came.Repeated faulty memory = absurd (cc faulty)
 faulty_memory (came.Refused why) faulty memory = absurd (cc faulty)
 faulty_memory came.BadRecord faulty memory = absurd (cc faulty)
-
-pub some_comes : (H : History) (command : Option PlantCmd) (fault : KeepFault) → IsSome command → Comes H command (came.Fault fault) H
-some_comes H None fault some = absurd (cc some)
-some_comes H (Some command) fault some = refl
 
 -- If no record was accepted, nothing is staged.
 pub quiet_next : (reported : List Outcome) (o : Outcome) (before made now : List Change) → now ≡ before ++ made → (list_any is_outcome_accepted reported ≡ false → before ≡ []) → (is_outcome_accepted o ≡ false → made ≡ []) → list_any is_outcome_accepted (reported ++ o ∷ []) ≡ false → now ≡ []

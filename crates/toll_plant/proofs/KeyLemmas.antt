@@ -1,14 +1,12 @@
 -- A key acts once.
-use Rattle.std.proofs.Common.{◌≡◌, ◌+◌, ◌≤◌, ℕ, Bool, true, false, ◌&&◌, cond, Option, Some, None, is_some, List, [], ◌∷◌, ◌++◌, refl, sym, ap, subst, ◌∙◌, arith}
-use Rattle.toll_plant.proofs.Common.{MatchBool, Bytes, same_bytes, Command, History, acts, movement_of, Verdict, Accepted, Repeated, Refused, IsLawful, grown, verdict, count_acts, found_once, Judged, IsQuestionAnswer, IsVerdictOr, after_plant, recorded_command, grow, is_some_where, option_map_or, PlantCmd}
+use Rattle.std.proofs.Common.{◌≡◌, ◌+◌, ◌≤◌, ℕ, Bool, true, false, ◌&&◌, cond, Option, Some, None, is_some, List, [], ◌∷◌, ◌++◌, refl, sym, ap, subst, ◌∙◌, inl, inr, arith}
+use Rattle.toll_plant.proofs.Common.{Bytes, same_bytes, Command, History, acts, movement_of, Verdict, Accepted, Repeated, Refused, IsLawful, IsPlantAnswer, grown, verdict, count_acts, found_once, Judged, IsQuestionAnswer, IsVerdictOr, after_plant, recorded_command, grow, is_some_where, option_map_or, PlantCmd}
 use Rattle.toll_history.specs.Laws.{has_this_key}
-use Rattle.toll_plant.specs.Outcomes.{is_fault_outcome}
-use Rattle.toll_plant.specs.Imports.{Comes, IsImport, commands_in}
-use Rattle.toll_plant.specs.Outcomes.{is_outcome_accepted}
+use Rattle.toll_history.specs.Runs.{IsRun}
+use Rattle.toll_plant.specs.Imports.{Commands, IsImport, IsRecordStep, commands_in}
+use Rattle.toll_plant.specs.Outcomes.{is_outcome_accepted, outcome_of_verdict}
 use Rattle.toll_plant.specs.ImportLaws.{AreImports, Imported, accepted_in_imports, count_accepted, count_keyed, is_keyed}
 use Rattle.toll_plant.specs.declared.outcome.Outcome.{Outcome}
-use Rattle.toll_plant.specs.declared.outcome.Outcome.TheVariants as came
-use Rattle.toll_plant.proofs.StandingLemmas.{verdict_accepted}
 
 -- ---- a history keeps its movements
 
@@ -46,41 +44,42 @@ module _ (o key : Bytes) where
   abbrev key_counted : Option PlantCmd → Outcome → ℕ
   key_counted command outcome = cond (is_outcome_accepted outcome && is_keyed o key command) 1 0
 
-  no_more : (old after new : History) → new ≡ after → keyed old ≤ keyed after → 0 + keyed old ≤ keyed new
-  no_more old after new is kept = let same : keyed new ≡ keyed after = ap keyed is in omega arith
+  judged_counted : (H : History) (command : PlantCmd) (v : Verdict) → IsPlantAnswer H command (Judged v)
+      → key_counted (Some command) (outcome_of_verdict v) + keyed H ≤ keyed (after_plant H command)
+  judged_counted H command Accepted answer = accepted_adds (recorded_command command) (IsQuestionAnswer H command (Judged Accepted)) H Accepted answer refl
+  judged_counted H command Repeated answer = omega (arith, kept_after (recorded_command command) H)
+  judged_counted H command (Refused why) answer = omega (arith, kept_after (recorded_command command) H)
 
-  comes_counted : (old new : History) (command : Option PlantCmd) (outcome : Outcome) → Comes old command outcome new → key_counted command outcome + keyed old ≤ keyed new
-  comes_counted old new None outcome comes =
-      subst (λ H. key_counted None outcome + keyed old ≤ keyed H) (sym comes.1) (subst (λ x. key_counted None x + keyed old ≤ keyed old) (sym comes.0) (omega arith))
-  comes_counted old new (Some command) (came.Fault fault) comes = no_more old old new comes (omega arith)
-  comes_counted old new (Some command) came.Accepted comes =
-      subst (λ H. cond (is_keyed o key (Some command)) 1 0 + keyed old ≤ keyed H) (sym comes.3) (accepted_adds (recorded_command command) (IsQuestionAnswer old command (Judged comes.0)) old comes.0 comes.1 (verdict_accepted comes.0 comes.2))
-  comes_counted old new (Some command) came.Repeated comes = no_more old (after_plant old command) new comes.3 (kept_after (recorded_command command) old)
-  comes_counted old new (Some command) (came.Refused why) comes = no_more old (after_plant old command) new comes.3 (kept_after (recorded_command command) old)
-  comes_counted old new (Some command) came.BadRecord comes = no_more old (after_plant old command) new comes.3 (kept_after (recorded_command command) old)
+  -- A record that changed nothing was not accepted.
+  uncounted : (old new : History) (command : Option PlantCmd) (outcome : Outcome) → is_outcome_accepted outcome ≡ false → new ≡ old → key_counted command outcome + keyed old ≤ keyed new
+  uncounted old new command outcome none same =
+      subst (λ H. key_counted command outcome + keyed old ≤ keyed H) (sym same)
+      (let zero : key_counted command outcome ≡ 0 = ap (λ b. cond (b && is_keyed o key command) 1 0) none in omega (arith, zero))
+
+  step_counted : (old new : History) (command : Option PlantCmd) (outcome : Outcome) → IsRecordStep old command outcome new → key_counted command outcome + keyed old ≤ keyed new
+  step_counted old new None outcome (bad, same) = uncounted old new None outcome (ap is_outcome_accepted bad) same
+  step_counted old new (Some command) outcome (inl (v, answer, is, grows)) =
+      subst (λ H. key_counted (Some command) outcome + keyed old ≤ keyed H) (sym grows)
+      (subst (λ x. key_counted (Some command) x + keyed old ≤ keyed (after_plant old command)) (sym is) (judged_counted old command v answer))
+  step_counted old new (Some command) outcome (inr (fault, is, same)) = uncounted old new (Some command) outcome (ap is_outcome_accepted is) same
 
   -- ---- records in order
 
-  none_counted : (commands : List (Option PlantCmd)) → count_accepted o key commands [] ≡ 0
+  none_counted : (commands : Commands) → count_accepted o key commands [] ≡ 0
   none_counted [] = refl
   none_counted (c ∷ commands) = refl
 
-  behind_counted : (b : Bool) (middle new : History) (commands : List (Option PlantCmd)) (outcomes : List Outcome) → (IsImport middle commands outcomes new → count_accepted o key commands outcomes + keyed middle ≤ keyed new)
-      → MatchBool b ((outcomes ≡ []) × (new ≡ middle)) (IsImport middle commands outcomes new) → count_accepted o key commands outcomes + keyed middle ≤ keyed new
-  behind_counted true middle new commands outcomes rest ends =
-      let none : count_accepted o key commands outcomes ≡ 0 = ap (count_accepted o key commands) ends.0 ∙ none_counted commands in
-      let same : keyed new ≡ keyed middle = ap keyed ends.1 in
-      omega arith
-  behind_counted false middle new commands outcomes rest behind = rest behind
+  run_counted : (old new : History) (acted rest : Commands) (outcomes : List Outcome) → IsRun IsRecordStep old acted outcomes new
+      → count_accepted o key (acted ++ rest) outcomes + keyed old ≤ keyed new
+  run_counted old new [] rest [] run = let same : keyed new ≡ keyed old = ap keyed run in omega (arith, none_counted rest)
+  run_counted old new (c ∷ acted) rest (outcome ∷ outcomes) run =
+      omega (arith, step_counted old run.0 c outcome run.1, run_counted run.0 new acted rest outcomes run.2)
+  run_counted old new acted rest outcomes run = absurd run
 
-  import_counted : (old new : History) (commands : List (Option PlantCmd)) (outcomes : List Outcome) → IsImport old commands outcomes new → count_accepted o key commands outcomes + keyed old ≤ keyed new
-  import_counted old new [] [] run = let same : keyed new ≡ keyed old = ap keyed run in omega arith
-  import_counted old new (c ∷ commands) (outcome ∷ outcomes) run =
-      let first = comes_counted old run.0 c outcome run.1 in
-      let rest = behind_counted (is_fault_outcome outcome) run.0 new commands outcomes (import_counted run.0 new commands outcomes) run.2 in
-      omega (arith, first, rest)
-  import_counted old new [] (outcome ∷ outcomes) run = absurd run
-  import_counted old new (c ∷ commands) [] run = absurd run
+  import_counted : (old new : History) (commands : Commands) (outcomes : List Outcome) → IsImport old commands outcomes new
+      → count_accepted o key commands outcomes + keyed old ≤ keyed new
+  import_counted old new commands outcomes import =
+      subst (λ all. count_accepted o key all outcomes + keyed old ≤ keyed new) import.all (run_counted old new import.acted import.rest outcomes import.so)
 
   -- ---- imports in order
 

@@ -5,7 +5,7 @@ pub mod ReadLemmas
 pub mod TableLemmas
 pub mod LimitLemmas
 pub mod FieldLemmas
-pub mod ImportRuns
+pub mod FaultEnds
 mod GroupRuns
 mod Holding
 mod GroupMade

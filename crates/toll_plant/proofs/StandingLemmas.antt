@@ -1,7 +1,7 @@
 -- A standing record is repeated, and a record that was accepted or repeated stands.
 use Rattle.std.proofs.Common.{◌≡◌, ℕ, Bool, true, false, ◌&&◌, ◌||◌, not, cond, Option, Some, None, is_some, List, [], ◌∷◌, refl, sym, ap, subst, ◌∙◌, inl, inr, arith}
 use Rattle.std.specs.Prelude.{◌==◌, option_and_then}
-use Rattle.toll_plant.proofs.Common.{nat_tests, MatchBool, AllByRecursion, list_any, not-false, false≢true, Bytes, same_bytes, house_name, is_some_where, MoveRow, Refusal, UnknownOwner, KeyConflict, Voided, Record, Command, by, History, acts, adds_owner, owner_known, has_move_key, movement_of, movements, voided_in, voids_key, any_acts, void_of_actual, grow, IsQuestionAnswer, IsVerdictOr, Judged, IsPlantAnswer, after_plant, recorded_command, option_map_or, PlantCmd}
+use Rattle.toll_plant.proofs.Common.{nat_tests, AllByRecursion, list_any, not-false, false≢true, Bytes, same_bytes, house_name, is_some_where, MoveRow, Refusal, UnknownOwner, KeyConflict, Voided, Record, Command, by, History, acts, adds_owner, owner_known, has_move_key, movement_of, movements, voided_in, voids_key, any_acts, void_of_actual, grow, IsQuestionAnswer, IsVerdictOr, Judged, IsPlantAnswer, after_plant, recorded_command, option_map_or, PlantCmd}
 use Rattle.toll_base.specs.Moves.{same_movement, same_what}
 use Rattle.toll_base.specs.declared.movement.Move.{Move}
 use Rattle.toll_base.specs.declared.movement.Move.TheVariants.{Receive, Split, Ship, Scrap, Actual}
@@ -14,12 +14,17 @@ use Rattle.toll_history.specs.Verdict.{Verdict, Accepted, Repeated, Refused, Che
 use Rattle.toll_history.proofs.Accepted.{none_applies}
 use Rattle.toll_history.proofs.EachMove.{each_move, of_found}
 use Rattle.toll_history.proofs.Found.{key_is_new, movement_of-recorded}
+use Rattle.std.proofs.lemmas.Bool.{or_from}
+use Rattle.toll_history.proofs.RunLemmas.{run_back}
+use Rattle.toll_history.specs.Runs.{IsRun}
 use Rattle.toll_plant.specs.Outcomes.{outcome_of_verdict, is_fault_outcome}
-use Rattle.toll_plant.specs.Imports.{Comes, IsImport}
+use Rattle.toll_plant.specs.Imports.{Commands, IsImport, IsRecordStep}
 use Rattle.toll_plant.specs.ImportLaws.{IsAcceptedOrRepeated, IsRepeatedOrFault, IsRecordStanding}
 use Rattle.toll_plant.specs.declared.outcome.Outcome.{Outcome}
 use Rattle.toll_plant.specs.declared.outcome.Outcome.TheVariants as came
-use Rattle.toll_plant.proofs.ImportRuns.{IsDeed, IsDeedOrNone}
+use Rattle.toll_plant.proofs.ActualLemmas.{IsDeed, IsDeedOrNone}
+use Rattle.toll_plant.proofs.FaultEnds.{acted_all}
+use Rattle.toll_plant.proofs.GroupChains.{all_first}
 
 this_number : (n : ℕ) → (n == n) ≡ true
 this_number n = grind (arith, nat_tests)
@@ -84,35 +89,31 @@ answer_is H c command v is answer =
 after_is : (H : History) (c : Command) (command : PlantCmd) → recorded_command command ≡ Some c → after_plant H command ≡ grow H c
 after_is H c command is = ap (λ done. option_map_or (grow H) done H) is
 
-repeated_alone : (H : History) (c : Command) (command : PlantCmd) (v : Verdict) → recorded_command command ≡ Some c → verdict H c ≡ Repeated → IsPlantAnswer H command (Judged v) → (v ≡ Repeated) × (after_plant H command ≡ H)
+repeated_alone : (H : History) (c : Command) (command : PlantCmd) (v : Verdict) → recorded_command command ≡ Some c → verdict H c ≡ Repeated
+    → IsPlantAnswer H command (Judged v) → (v ≡ Repeated) × (after_plant H command ≡ H)
 repeated_alone H c command v is repeats answer = (answer_is H c command v is answer ∙ repeats, after_is H c command is ∙ ap (λ w. grown w H c) repeats)
 
-judged_repeats : (old new : History) (lawful : IsLawful old) (command : PlantCmd) (outcome : Outcome) → IsRecordStanding old (Some command)
-    → (v : Verdict) → IsPlantAnswer old command (Judged v) → outcome ≡ outcome_of_verdict v → new ≡ after_plant old command → (new ≡ old) × IsRepeatedOrFault outcome
-judged_repeats old new lawful command outcome s v answer is leaves =
+step_repeated : (old new : History) → IsLawful old → (command : Option PlantCmd) (outcome : Outcome) → IsRecordStanding old command
+    → IsRecordStep old command outcome new → (new ≡ old) × IsRepeatedOrFault outcome
+step_repeated old new lawful None outcome s step = absurd (cc s.requested)
+step_repeated old new lawful (Some command) outcome s (inl (v, answer, is, grows)) =
     let alone = repeated_alone old (by s.owner (Record s.row)) command v s.requested (standing_repeats old lawful (Some command) s) answer in
-    (leaves ∙ alone.1, inl (is ∙ ap outcome_of_verdict alone.0))
+    (grows ∙ alone.1, inl (is ∙ ap outcome_of_verdict alone.0))
+step_repeated old new lawful (Some command) outcome s (inr (fault, is, same)) = (same, inr (ap is_fault_outcome is))
 
-comes_repeated : (old new : History) → IsLawful old → (command : Option PlantCmd) (outcome : Outcome) → IsRecordStanding old command → Comes old command outcome new → (new ≡ old) × IsRepeatedOrFault outcome
-comes_repeated old new lawful None outcome s comes = absurd (cc s.requested)
-comes_repeated old new lawful (Some command) (came.Fault fault) s comes = (comes, inr refl)
-comes_repeated old new lawful (Some command) came.Accepted s comes = judged_repeats old new lawful command came.Accepted s comes.0 comes.1 comes.2 comes.3
-comes_repeated old new lawful (Some command) came.Repeated s comes = judged_repeats old new lawful command came.Repeated s comes.0 comes.1 comes.2 comes.3
-comes_repeated old new lawful (Some command) (came.Refused why) s comes = judged_repeats old new lawful command (came.Refused why) s comes.0 comes.1 comes.2 comes.3
-comes_repeated old new lawful (Some command) came.BadRecord s comes = judged_repeats old new lawful command came.BadRecord s comes.0 comes.1 comes.2 comes.3
-
-behind_repeated : (b : Bool) (middle new : History) (outcomes : List Outcome) (X : Type 0) → (X → (new ≡ middle) × AllByRecursion IsRepeatedOrFault outcomes) → MatchBool b ((outcomes ≡ []) × (new ≡ middle)) X → (new ≡ middle) × AllByRecursion IsRepeatedOrFault outcomes
-behind_repeated true middle new outcomes X rest ends = (ends.1, subst (AllByRecursion IsRepeatedOrFault) (sym ends.0) tt)
-behind_repeated false middle new outcomes X rest behind = rest behind
-
-pub all_repeated : (old new : History) → IsLawful old → (commands : List (Option PlantCmd)) (outcomes : List Outcome) → AllByRecursion (IsRecordStanding old) commands → IsImport old commands outcomes new → (new ≡ old) × AllByRecursion IsRepeatedOrFault outcomes
-all_repeated old new lawful [] [] standing run = (run, tt)
-all_repeated old new lawful (c ∷ commands) (outcome ∷ outcomes) standing run =
-    let first = comes_repeated old run.0 lawful c outcome standing.0 run.1 in
-    let rest = behind_repeated (is_fault_outcome outcome) old new outcomes (IsImport old commands outcomes new) (all_repeated old new lawful commands outcomes standing.1) (subst (λ H. MatchBool (is_fault_outcome outcome) ((outcomes ≡ []) × (new ≡ H)) (IsImport H commands outcomes new)) first.0 run.2) in
+run_repeated : (old new : History) → IsLawful old → (acted : Commands) (outcomes : List Outcome) → AllByRecursion (IsRecordStanding old) acted
+    → IsRun IsRecordStep old acted outcomes new → (new ≡ old) × AllByRecursion IsRepeatedOrFault outcomes
+run_repeated old new lawful [] [] standing run = (run, tt)
+run_repeated old new lawful (c ∷ acted) (outcome ∷ outcomes) standing run =
+    let first = step_repeated old run.0 lawful c outcome standing.0 run.1 in
+    let rest = run_repeated old new lawful acted outcomes standing.1 (subst (λ H. IsRun IsRecordStep H acted outcomes new) first.0 run.2) in
     (rest.0, (first.1, rest.1))
-all_repeated old new lawful [] (outcome ∷ outcomes) standing run = absurd run
-all_repeated old new lawful (c ∷ commands) [] standing run = absurd run
+run_repeated old new lawful acted outcomes standing run = absurd run
+
+pub all_repeated : (old new : History) → IsLawful old → (commands : Commands) (outcomes : List Outcome) → AllByRecursion (IsRecordStanding old) commands
+    → IsImport old commands outcomes new → (new ≡ old) × AllByRecursion IsRepeatedOrFault outcomes
+all_repeated old new lawful commands outcomes standing import =
+    run_repeated old new lawful import.acted outcomes (all_first (IsRecordStanding old) import.acted import.rest (subst (AllByRecursion (IsRecordStanding old)) (sym import.all) standing)) import.so
 
 -- ---- a record that was accepted or repeated stands
 
@@ -137,14 +138,17 @@ movements_refuse o t house (Actual order number segment Consumed material lot su
 movements_refuse o t house (Actual order number segment Produced material lot sublot) amount = tt
 
 -- If the verdict is repeated, the movement is there and not voided.
-repeat_means : (unknown there void taken : Bool) (more : Checks) → AllRefuse more → verdict_of_checks ((unknown, Some UnknownOwner) ∷ (there && void, Some Voided) ∷ (there, None) ∷ (taken, Some KeyConflict) ∷ more) ≡ Repeated → (there ≡ true) × (void ≡ false)
+repeat_means : (unknown there void taken : Bool) (more : Checks) → AllRefuse more
+    → verdict_of_checks ((unknown, Some UnknownOwner) ∷ (there && void, Some Voided) ∷ (there, None) ∷ (taken, Some KeyConflict) ∷ more) ≡ Repeated
+    → (there ≡ true) × (void ≡ false)
 repeat_means true there void taken more refuse is = absurd (cc is)
 repeat_means false true true taken more refuse is = absurd (cc is)
 repeat_means false true false taken more refuse is = (refl, refl)
 repeat_means false false void true more refuse is = absurd (cc is)
 repeat_means false false void false more refuse is = absurd (never_repeats more refuse is)
 
-repeated_stands : (H : History) (command : Option PlantCmd) (o : Bytes) (row : MoveRow) → option_and_then recorded_command command ≡ Some (by o (Record row)) → verdict H (by o (Record row)) ≡ Repeated → IsRecordStanding H command
+repeated_stands : (H : History) (command : Option PlantCmd) (o : Bytes) (row : MoveRow) → option_and_then recorded_command command ≡ Some (by o (Record row))
+    → verdict H (by o (Record row)) ≡ Repeated → IsRecordStanding H command
 unfolding checks
 repeated_stands H command o row requested repeated =
     let so = repeat_means (not (owner_known H o)) (is_some_where (same_movement row) (movement_of (acts o H) row.key)) (voided_in (acts o H) row.key) (is_some (movement_of (acts o H) row.key))
@@ -166,7 +170,9 @@ new_is_unvoided H lawful o row accepted = by_voided (voided_in (acts o H) row.ke
     by_voided false is = refl
     by_voided true is = absurd (false≢true (sym (ap (is_some_where (λ r. is_actual r.what)) (key_is_new H o row accepted)) ∙ void_of_actual o row.key H lawful is))
 
-accepted_stands : (H : History) → IsLawful H → (command : Option PlantCmd) (o : Bytes) (row : MoveRow) → option_and_then recorded_command command ≡ Some (by o (Record row)) → verdict H (by o (Record row)) ≡ Accepted → IsRecordStanding (by o (Record row) ∷ H) command
+accepted_stands : (H : History) → IsLawful H → (command : Option PlantCmd) (o : Bytes) (row : MoveRow)
+    → option_and_then recorded_command command ≡ Some (by o (Record row)) → verdict H (by o (Record row)) ≡ Accepted
+    → IsRecordStanding (by o (Record row) ∷ H) command
 accepted_stands H lawful command o row requested accepted =
     let found : movement_of (acts o (by o (Record row) ∷ H)) row.key ≡ Some row =
     movement_of-recorded H o row o row.key ∙ ap (λ b. cond b (Some row) (movement_of (acts o H) row.key)) (and_is _ _ (same_bytes-refl o) (same_bytes-refl row.key)) in
@@ -179,7 +185,8 @@ accepted_stands H lawful command o row requested accepted =
     }
 
 -- A standing record still stands after one more accepted movement.
-equal_still : (H : History) (w : Bytes) (other : MoveRow) → verdict H (by w (Record other)) ≡ Accepted → (o key : Bytes) (p : MoveRow → Bool) → is_some_where p (movement_of (acts o H) key) ≡ true → is_some_where p (movement_of (acts o (by w (Record other) ∷ H)) key) ≡ true
+equal_still : (H : History) (w : Bytes) (other : MoveRow) → verdict H (by w (Record other)) ≡ Accepted → (o key : Bytes) (p : MoveRow → Bool)
+    → is_some_where p (movement_of (acts o H) key) ≡ true → is_some_where p (movement_of (acts o (by w (Record other) ∷ H)) key) ≡ true
 equal_still H w other accepted o key p there =
     ap (is_some_where p) (movement_of-recorded H w other o key)
     ∙ elim (has_move_key o key (w, other)) as (λ b. has_move_key o key (w, other) ≡ b → is_some_where p (cond b (Some other) (movement_of (acts o H) key)) ≡ true) [
@@ -190,7 +197,8 @@ equal_still H w other accepted o key p there =
       | false ↦ λ miss. there
     ] refl
 
-still_stands : (H : History) (w : Bytes) (other : MoveRow) → verdict H (by w (Record other)) ≡ Accepted → (command : Option PlantCmd) → IsRecordStanding H command → IsRecordStanding (by w (Record other) ∷ H) command
+still_stands : (H : History) (w : Bytes) (other : MoveRow) → verdict H (by w (Record other)) ≡ Accepted → (command : Option PlantCmd)
+    → IsRecordStanding H command → IsRecordStanding (by w (Record other) ∷ H) command
 still_stands H w other accepted command s = record {
   owner = s.owner;
   row = s.row;
@@ -203,48 +211,39 @@ still_stands H w other accepted command s = record {
 abbrev LeavesStanding : History → History → Option PlantCmd → Type 0
 LeavesStanding old new command = IsRecordStanding new command × ((c : Option PlantCmd) → IsRecordStanding old c → IsRecordStanding new c)
 
-verdict_alone : (H : History) (command : PlantCmd) (v w : Verdict) → IsDeed command → IsPlantAnswer H command (Judged v) → v ≡ w → ((why : Refusal) → w ≡ Refused why → ⊥)
-    → (o : Bytes) × (row : MoveRow) × (recorded_command command ≡ Some (by o (Record row))) × (verdict H (by o (Record row)) ≡ w)
-verdict_alone H command v w (inl does) answer is never =
-    (does.0, does.1, does.2, sym (answer_is H (by does.0 (Record does.1)) command v does.2 answer) ∙ is)
-verdict_alone H command v w (inr unread) answer is never =
-    let reported : Judged v ≡ Judged (Refused unread.0) = subst (λ a. IsPlantAnswer H a (Judged v)) unread.1 answer in
-    let so : v ≡ Refused unread.0 = cc reported in
-    absurd (never unread.0 (sym is ∙ so))
+refused_kept : (why : Refusal) → IsAcceptedOrRepeated (came.Refused why) → ⊥
+refused_kept why (inl is) = cc is
+refused_kept why (inr is) = cc is
 
-pub verdict_accepted : (v : Verdict) → came.Accepted ≡ outcome_of_verdict v → v ≡ Accepted
-verdict_accepted Accepted is = refl
-verdict_accepted Repeated is = cc is
-verdict_accepted (Refused why) is = cc is
+deed_leaves : (H : History) → IsLawful H → (command : PlantCmd) (o : Bytes) (row : MoveRow) → recorded_command command ≡ Some (by o (Record row))
+    → (v : Verdict) → verdict H (by o (Record row)) ≡ v → IsAcceptedOrRepeated (outcome_of_verdict v) → LeavesStanding H (grown v H (by o (Record row))) (Some command)
+deed_leaves H lawful command o row requested Accepted is kept = (accepted_stands H lawful (Some command) o row requested is, still_stands H o row is)
+deed_leaves H lawful command o row requested Repeated is kept = (repeated_stands H (Some command) o row requested is, λ c s. s)
+deed_leaves H lawful command o row requested (Refused why) is kept = absurd (refused_kept why kept)
 
-repeated_of : (v : Verdict) → came.Repeated ≡ outcome_of_verdict v → v ≡ Repeated
-repeated_of Accepted is = cc is
-repeated_of Repeated is = refl
-repeated_of (Refused why) is = cc is
+judged_leaves : (H : History) → IsLawful H → (command : PlantCmd) → IsDeed command → (v : Verdict) → IsPlantAnswer H command (Judged v)
+    → IsAcceptedOrRepeated (outcome_of_verdict v) → LeavesStanding H (after_plant H command) (Some command)
+judged_leaves H lawful command (inl (o, row, requested)) v answer kept =
+    let c = by o (Record row) in
+    let is = answer_is H c command v requested answer in
+    let grows : after_plant H command ≡ grown v H c = after_is H c command requested ∙ ap (λ w. grown w H c) (sym is) in
+    subst (λ G. LeavesStanding H G (Some command)) (sym grows) (deed_leaves H lawful command o row requested v (sym is) kept)
+judged_leaves H lawful command (inr (why, unread)) v answer kept =
+    let reported : Judged v ≡ Judged (Refused why) = subst (λ a. IsPlantAnswer H a (Judged v)) unread answer in
+    let so : v ≡ Refused why = cc reported in
+    absurd (refused_kept why (subst (λ w. IsAcceptedOrRepeated (outcome_of_verdict w)) so kept))
 
-accepted_leaves : (old new : History) → IsLawful old → (command : PlantCmd) → IsDeed command → (v : Verdict) → IsPlantAnswer old command (Judged v) → came.Accepted ≡ outcome_of_verdict v → new ≡ after_plant old command → LeavesStanding old new (Some command)
-accepted_leaves old new lawful command deed v answer is leaves =
-    let so = verdict_alone old command v Accepted deed answer (verdict_accepted v is) (λ why never. cc never) in
-    let grown_is : new ≡ by so.0 (Record so.1) ∷ old = leaves ∙ (after_is old (by so.0 (Record so.1)) command so.2 ∙ ap (λ w. grown w old (by so.0 (Record so.1))) so.3) in
-    subst (λ H. LeavesStanding old H (Some command)) (sym grown_is) (accepted_stands old lawful (Some command) so.0 so.1 so.2 so.3, still_stands old so.0 so.1 so.3)
+fault_kept : (outcome : Outcome) → IsAcceptedOrRepeated outcome → is_fault_outcome outcome ≡ false
+fault_kept outcome (inl is) = ap is_fault_outcome is
+fault_kept outcome (inr is) = ap is_fault_outcome is
 
-repeated_leaves : (old new : History) (command : PlantCmd) → IsDeed command → (v : Verdict) → IsPlantAnswer old command (Judged v) → came.Repeated ≡ outcome_of_verdict v → new ≡ after_plant old command → LeavesStanding old new (Some command)
-repeated_leaves old new command deed v answer is leaves =
-    let so = verdict_alone old command v Repeated deed answer (repeated_of v is) (λ why never. cc never) in
-    let same : new ≡ old = leaves ∙ (after_is old (by so.0 (Record so.1)) command so.2 ∙ ap (λ w. grown w old (by so.0 (Record so.1))) so.3) in
-    subst (λ H. LeavesStanding old H (Some command)) (sym same) (repeated_stands old (Some command) so.0 so.1 so.2 so.3, λ c s. s)
-
-comes_leaves : (old new : History) → IsLawful old → (command : Option PlantCmd) → IsDeedOrNone command → (outcome : Outcome) → IsAcceptedOrRepeated outcome → Comes old command outcome new → LeavesStanding old new command
-comes_leaves old new lawful None deed outcome (inl is) comes = let never : came.BadRecord ≡ came.Accepted = sym comes.0 ∙ is in absurd (cc never)
-comes_leaves old new lawful None deed outcome (inr is) comes = let never : came.BadRecord ≡ came.Repeated = sym comes.0 ∙ is in absurd (cc never)
-comes_leaves old new lawful (Some command) deed came.Accepted kept comes = accepted_leaves old new lawful command deed comes.0 comes.1 comes.2 comes.3
-comes_leaves old new lawful (Some command) deed came.Repeated kept comes = repeated_leaves old new command deed comes.0 comes.1 comes.2 comes.3
-comes_leaves old new lawful (Some command) deed (came.Refused why) (inl is) comes = absurd (cc is)
-comes_leaves old new lawful (Some command) deed (came.Refused why) (inr is) comes = absurd (cc is)
-comes_leaves old new lawful (Some command) deed came.BadRecord (inl is) comes = absurd (cc is)
-comes_leaves old new lawful (Some command) deed came.BadRecord (inr is) comes = absurd (cc is)
-comes_leaves old new lawful (Some command) deed (came.Fault fault) (inl is) comes = absurd (cc is)
-comes_leaves old new lawful (Some command) deed (came.Fault fault) (inr is) comes = absurd (cc is)
+step_leaves : (old new : History) → IsLawful old → (command : Option PlantCmd) → IsDeedOrNone command → (outcome : Outcome) → IsAcceptedOrRepeated outcome
+    → IsRecordStep old command outcome new → LeavesStanding old new command
+step_leaves old new lawful None deed outcome (inl is) step = let never : came.BadRecord ≡ came.Accepted = sym step.0 ∙ is in absurd (cc never)
+step_leaves old new lawful None deed outcome (inr is) step = let never : came.BadRecord ≡ came.Repeated = sym step.0 ∙ is in absurd (cc never)
+step_leaves old new lawful (Some command) deed outcome kept (inl (v, answer, is, grows)) =
+    subst (λ H. LeavesStanding old H (Some command)) (sym grows) (judged_leaves old lawful command deed v answer (subst IsAcceptedOrRepeated is kept))
+step_leaves old new lawful (Some command) deed outcome kept (inr (fault, is, same)) = absurd (false≢true (sym (fault_kept outcome kept) ∙ ap is_fault_outcome is))
 
 -- ---- an earlier part of a lawful history is lawful
 
@@ -257,24 +256,10 @@ before_plant : (done : Option Command) (H : History) → IsLawful (option_map_or
 before_plant (Some c) H lawful = before_grown (verdict H c) H c lawful
 before_plant None H lawful = lawful
 
-before_record : (old new : History) (command : Option PlantCmd) → IsDeedOrNone command → (outcome : Outcome) → Comes old command outcome new → IsLawful new → IsLawful old
-before_record old new None deed outcome comes lawful = subst IsLawful comes.1 lawful
-before_record old new (Some command) deed (came.Fault fault) comes lawful = subst IsLawful comes lawful
-before_record old new (Some command) deed came.Accepted comes lawful = before_plant (recorded_command command) old (subst IsLawful comes.3 lawful)
-before_record old new (Some command) deed came.Repeated comes lawful = before_plant (recorded_command command) old (subst IsLawful comes.3 lawful)
-before_record old new (Some command) deed (came.Refused why) comes lawful = before_plant (recorded_command command) old (subst IsLawful comes.3 lawful)
-before_record old new (Some command) deed came.BadRecord comes lawful = before_plant (recorded_command command) old (subst IsLawful comes.3 lawful)
-
-standing_goes_on : (outcome : Outcome) → IsAcceptedOrRepeated outcome → is_fault_outcome outcome ≡ false
-standing_goes_on outcome (inl is) = ap is_fault_outcome is
-standing_goes_on outcome (inr is) = ap is_fault_outcome is
-
-before_import : (old new : History) (commands : List (Option PlantCmd)) → AllByRecursion IsDeedOrNone commands → (outcomes : List Outcome) → AllByRecursion IsAcceptedOrRepeated outcomes → IsImport old commands outcomes new → IsLawful new → IsLawful old
-before_import old new [] deeds [] kept run lawful = subst IsLawful run lawful
-before_import old new (c ∷ commands) deeds (outcome ∷ outcomes) kept run lawful =
-    before_record old run.0 c deeds.0 outcome run.1 (before_import run.0 new commands deeds.1 outcomes kept.1 (subst (λ b. MatchBool b ((outcomes ≡ []) × (new ≡ run.0)) (IsImport run.0 commands outcomes new)) (standing_goes_on outcome kept.0) run.2) lawful)
-before_import old new [] deeds (outcome ∷ outcomes) kept run lawful = absurd run
-before_import old new (c ∷ commands) deeds [] kept run lawful = absurd run
+before_record : (old new : History) (command : Option PlantCmd) (outcome : Outcome) → IsRecordStep old command outcome new → IsLawful new → IsLawful old
+before_record old new None outcome step lawful = subst IsLawful step.1 lawful
+before_record old new (Some command) outcome (inl (v, answer, is, grows)) lawful = before_plant (recorded_command command) old (subst IsLawful grows lawful)
+before_record old new (Some command) outcome (inr (fault, is, same)) lawful = subst IsLawful same lawful
 
 -- ---- what an import accepted or found repeated stands
 
@@ -282,12 +267,23 @@ before_import old new (c ∷ commands) deeds [] kept run lawful = absurd run
 abbrev LeavesAll : History → History → List (Option PlantCmd) → Type 0
 LeavesAll old new commands = AllByRecursion (IsRecordStanding new) commands × ((c : Option PlantCmd) → IsRecordStanding old c → IsRecordStanding new c)
 
-pub all_stand : (old new : History) → IsLawful new → (commands : List (Option PlantCmd)) → AllByRecursion IsDeedOrNone commands → (outcomes : List Outcome) → AllByRecursion IsAcceptedOrRepeated outcomes → IsImport old commands outcomes new → LeavesAll old new commands
-all_stand old new lawful [] deeds [] kept run = (tt, λ c s. subst (λ H. IsRecordStanding H c) (sym run) s)
-all_stand old new lawful (c ∷ commands) deeds (outcome ∷ outcomes) kept run =
-    let behind = subst (λ b. MatchBool b ((outcomes ≡ []) × (new ≡ run.0)) (IsImport run.0 commands outcomes new)) (standing_goes_on outcome kept.0) run.2 in
-    let first = comes_leaves old run.0 (before_record old run.0 c deeds.0 outcome run.1 (before_import run.0 new commands deeds.1 outcomes kept.1 behind lawful)) c deeds.0 outcome kept.0 run.1 in
-    let rest = all_stand run.0 new lawful commands deeds.1 outcomes kept.1 behind in
+run_stands : (old new : History) → IsLawful new → (acted : Commands) → AllByRecursion IsDeedOrNone acted → (outcomes : List Outcome)
+    → AllByRecursion IsAcceptedOrRepeated outcomes → IsRun IsRecordStep old acted outcomes new → LeavesAll old new acted
+run_stands old new lawful [] deeds [] kept run = (tt, λ c s. subst (λ H. IsRecordStanding H c) (sym run) s)
+run_stands old new lawful (c ∷ acted) deeds (outcome ∷ outcomes) kept run =
+    let before = run_back IsRecordStep IsLawful before_record old new (c ∷ acted) (outcome ∷ outcomes) run lawful in
+    let first = step_leaves old run.0 before c deeds.0 outcome kept.0 run.1 in
+    let rest = run_stands run.0 new lawful acted deeds.1 outcomes kept.1 run.2 in
     ((rest.1 c first.0, rest.0), λ d s. rest.1 d (first.1 d s))
-all_stand old new lawful [] deeds (outcome ∷ outcomes) kept run = absurd run
-all_stand old new lawful (c ∷ commands) deeds [] kept run = absurd run
+run_stands old new lawful acted deeds outcomes kept run = absurd run
+
+all_kept : (outcomes : List Outcome) → AllByRecursion IsAcceptedOrRepeated outcomes → list_any is_fault_outcome outcomes ≡ false
+all_kept [] kept = refl
+all_kept (outcome ∷ outcomes) kept = or_from (is_fault_outcome outcome) (list_any is_fault_outcome outcomes) (fault_kept outcome kept.0) (all_kept outcomes kept.1)
+
+pub all_stand : (old new : History) → IsLawful new → (commands : Commands) → AllByRecursion IsDeedOrNone commands → (outcomes : List Outcome)
+    → AllByRecursion IsAcceptedOrRepeated outcomes → IsImport old commands outcomes new
+    → AllByRecursion (IsRecordStanding new) commands
+all_stand old new lawful commands deeds outcomes kept import =
+    let acted = acted_all (λ acted. IsRun IsRecordStep old acted outcomes new) commands outcomes import (all_kept outcomes kept) in
+    (run_stands old new lawful commands deeds outcomes kept (subst (λ acted. IsRun IsRecordStep old acted outcomes new) acted import.so)).0

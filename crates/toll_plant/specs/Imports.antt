@@ -1,9 +1,10 @@
 -- The outcomes of the records of a file of actuals.
-use Rattle.std.specs.Prelude.{◌≡◌, ◌≢◌, ◌+◌, ◌⊎◌, ◌≤◌, ℕ, true, false, if◌then◌else◌, Option, Some, None, List, [], ◌∷◌, ◌++◌, length, map, take, Result, Ok, Err}
-use Rattle.std.specs.Bool.{MatchBool}
-use Rattle.toll_plant.specs.Common.{AllByRecursion, list_any, Bytes, History, Verdict, IsLawful, FindsNoDamage, CallEffect, Settles, Meaning, OverContent, Content, KeepFault, Memory, Damaged, Judged, IsPlantAnswer, after_plant, Represents, IsValidCommand, Over, PlantCmd}
+use Rattle.std.specs.Prelude.{◌≡◌, ◌≢◌, ◌+◌, ◌⊎◌, ◌≤◌, ℕ, Bool, true, false, if◌then◌else◌, Option, Some, None, List, [], ◌∷◌, ◌++◌, flat_map, length, map, take, Result, Ok, Err}
+use Rattle.toll_plant.specs.Common.{AllByRecursion, list_any, Bytes, History, Verdict, IsLawful, FindsNoDamage, CallEffect, Settles, Meaning, OverContent, Content, KeepFault, Memory, Damaged, Judged, IsPlantAnswer, after_plant, IsValidCommand, Over, PlantCmd}
+use Rattle.toll_desk.specs.Outcome.{HoldsFor}
 use Rattle.toll_desk.specs.PlantStaged.{looks_at_two}
-use Rattle.toll_desk.specs.Outcome.{HoldsFor, LeavesOr}
+use Rattle.toll_desk.specs.Steps.{AreStepsFrom, IsStepFrom}
+use Rattle.toll_history.specs.Runs.{IsRun}
 use Rattle.toll_plant.specs.Files.{Fields, HasActuals, command_in}
 use Rattle.toll_plant.specs.Outcomes.{outcome_of_verdict, is_outcome_accepted, is_fault_outcome}
 use Rattle.toll_plant.specs.declared.grouping.TheConstants.{GROUP_RECORDS}
@@ -21,7 +22,7 @@ abbrev pub End : Type 0
 End = Result (Unit {0}) KeepFault
 
 -- the commands of these records; None if a record gives no command
-abbrev pub commands_in : List Fields → List (Option PlantCmd)
+abbrev pub commands_in : List Fields → Commands
 commands_in records = map command_in records
 
 -- the outcomes in these lines
@@ -35,33 +36,50 @@ AreNumberedFrom n (l ∷ lines) = (l.number ≡ n) × AreNumberedFrom (n + 1) li
 
 -- ---- over histories
 
+-- Nothing follows an item that passes the test.
+abbrev pub EndsAt : {X : Type 0} → (X → Bool) → List X → Type 0
+EndsAt test [] = Unit {0}
+EndsAt test (x ∷ xs) = (test x ≡ true → xs ≡ []) × EndsAt test xs
+
+-- IsSo holds of the records that acted: all of these, or those up to the first fault.
+pub record UpToFault (IsSo : Commands → Type 0) (commands : Commands) (outcomes : List Outcome) : Type 0 where
+  pub acted : Commands
+  pub rest : Commands
+  pub all : acted ++ rest ≡ commands
+  pub so : IsSo acted
+  pub stops : EndsAt is_fault_outcome outcomes
+  pub whole : list_any is_fault_outcome outcomes ≡ false → rest ≡ []
+
+-- Over the old history, a record with this command has this outcome and leads to the new history. A command has a verdict, or meets a
+-- fault and changes nothing.
+abbrev pub IsRecordStep : History → Option PlantCmd → Outcome → History → Type 0
+IsRecordStep old None outcome new = (outcome ≡ BadRecord) × (new ≡ old)
+IsRecordStep old (Some command) outcome new =
+    ((verdict : Verdict) × IsPlantAnswer old command (Judged verdict) × (outcome ≡ outcome_of_verdict verdict) × (new ≡ after_plant old command))
+    ⊎ ((fault : KeepFault) × (outcome ≡ Fault fault) × (new ≡ old))
+
+-- Records with these commands have these outcomes one after another, up to a fault, and lead from the old history to the new one.
+abbrev pub IsImport : History → Commands → List Outcome → History → Type 0
+IsImport old commands outcomes new = UpToFault (λ acted. IsRun IsRecordStep old acted outcomes new) commands outcomes
+
 -- the history after a record with this command that meets no fault
 abbrev pub after_record : History → Option PlantCmd → History
 after_record H None = H
 after_record H (Some command) = after_plant H command
 
--- Over the old history, a record with this command has this outcome and leads to the new history.
-abbrev pub Comes : History → Option PlantCmd → Outcome → History → Type 0
-Comes old None outcome new = (outcome ≡ BadRecord) × (new ≡ old)
-Comes old (Some command) (Fault fault) new = new ≡ old
-Comes old (Some command) outcome new = (verdict : Verdict) × IsPlantAnswer old command (Judged verdict) × (outcome ≡ outcome_of_verdict verdict) × (new ≡ after_plant old command)
-
--- Over the old history, records with these commands have these outcomes one after another, up to a fault, and lead to the new history.
-abbrev pub IsImport : History → List (Option PlantCmd) → List Outcome → History → Type 0
-IsImport old [] [] new = new ≡ old
-IsImport old (c ∷ commands) (o ∷ outcomes) new =
-    (middle : History) × Comes old c o middle × MatchBool (is_fault_outcome o) ((outcomes ≡ []) × (new ≡ middle)) (IsImport middle commands outcomes new)
-IsImport old _ _ new = ⊥
-
--- ---- over a keep
-
 -- the history after records with these commands that meet no fault
-abbrev pub after_records : History → List (Option PlantCmd) → History
+abbrev pub after_records : History → Commands → History
 after_records H [] = H
 after_records H (command ∷ commands) = after_records (after_record H command) commands
 
+-- A first part of the records leads to this history.
+abbrev pub IsAfterFirst : History → Commands → History → Type 0
+IsAfterFirst H commands G = (count : ℕ) × (G ≡ after_records H (take count commands))
+
+-- ---- over a keep
+
 -- From this history the records had these outcomes, and the keep holds what the import leaves.
-pub record IsImportOf (holds : Content → Type 0) (H : History) (commands : List (Option PlantCmd)) (outcomes : List Outcome) : Type 0 where
+pub record IsImportOf (holds : Content → Type 0) (H : History) (commands : Commands) (outcomes : List Outcome) : Type 0 where
   pub last : History
   pub imported : IsImport H commands outcomes last
   pub lawful : IsLawful last
@@ -78,7 +96,7 @@ HasValidValues None = Unit {0}
 HasValidValues (Some command) = IsValidCommand command
 
 -- the outcome of the record that met a fault, if one did
-abbrev pub last_outcome : Result (Unit {0}) KeepFault → List Outcome
+abbrev pub last_outcome : End → List Outcome
 last_outcome (Ok done) = []
 last_outcome (Err fault) = Fault fault ∷ []
 
@@ -93,89 +111,47 @@ abbrev pub refused_at : KeepFault → List Outcome → List Outcome
 refused_at fault outcomes = before_accepted outcomes ++ Fault fault ∷ []
 
 -- No record met a fault, except the last one if the group ended with that fault.
-pub record EndWith (end : Result (Unit {0}) KeepFault) (reported : List Outcome) : Type 0 where
+pub record EndWith (end : End) (reported : List Outcome) : Type 0 where
   pub calm : List Outcome
   pub calmly : list_any is_fault_outcome calm ≡ false
   pub said : reported ≡ calm ++ last_outcome end
 
--- A group of records had these outcomes over a history whose rows were held, and what it leaves is held. A stop during the group leaves the
--- rows from before, or the rows after a first part of its records.
-pub record IsGroupDone (holds : Content → Type 0) (was_live : Type 0) (leaves : List Content → Type 0) (c : Content) (H : History) (commands : List (Option PlantCmd)) (reported : List Outcome) : Type 0 where
-  pub run : IsImportOf holds H commands reported
-  pub front : ℕ
-  pub crash : was_live → LeavesOr leaves c (after_records H (take front commands))
-
--- a group: the commands of its records, and their outcomes up to a fault
-pub record Group : Type 0 where
-  pub commands : List (Option PlantCmd)
-  pub reported : List Outcome
-  pub end : Result (Unit {0}) KeepFault
-
--- the records and the outcomes of these groups, of which the last comes first
-abbrev pub all_commands : List Group → List (Option PlantCmd)
-all_commands [] = []
-all_commands (g ∷ earlier) = all_commands earlier ++ g.commands
-
-abbrev pub all_outcomes : List Group → List Outcome
-all_outcomes [] = []
-all_outcomes (g ∷ earlier) = all_outcomes earlier ++ g.reported
-
--- No group ended with a fault.
-abbrev pub NoneEnded : List Group → Type 0
-NoneEnded groups = AllByRecursion (λ g. g.end ≡ Ok tt) groups
-
--- The records had these outcomes in these groups, each no longer than a group may be. The groups have all records, or those up to a fault.
-pub record IsInGroups (groups : List Group) (commands : List (Option PlantCmd)) (reported : List Outcome) : Type 0 where
-  pub rest : List (Option PlantCmd)
-  pub requested : all_commands groups ++ rest ≡ commands
-  pub said : all_outcomes groups ≡ reported
-  pub all : NoneEnded groups → rest ≡ []
-  pub bounded : AllByRecursion (λ g. length g.commands ≤ GROUP_RECORDS) groups
+-- The records had these outcomes in groups for which Are holds, each no longer than a group may be. No group follows one that met a
+-- fault. Without a fault, these records are left.
+pub record InGroups (Are : List Commands → List (List Outcome) → Type 0) (commands : Commands) (outcomes : List Outcome) (left : Commands) : Type 0 where
+  pub groups : List Commands
+  pub reports : List (List Outcome)
+  pub are : Are groups reports
+  pub bounded : AllByRecursion (λ group. length group ≤ GROUP_RECORDS) groups
+  pub stops : EndsAt (list_any is_fault_outcome) reports
+  pub outcomes_are : flat_map (λ report. report) reports ≡ outcomes
+  pub rest : Commands
+  pub commands_are : flat_map (λ group. group) groups ++ rest ≡ commands
+  pub whole : list_any is_fault_outcome outcomes ≡ false → rest ≡ left
 
 module _ {K : Type 0} (meaning : Meaning K) where
-  -- What `import_group` ensures for a group of records: either the keep was not used, or one call made its changes, all or none.
-  pub record IsGroupServed (old new : K) (commands : List (Option PlantCmd)) (reported : List Outcome) (end : Result (Unit {0}) KeepFault) : Type 0 where
+  -- What `import_group` ensures for a group of records: either the keep was not used, or one call made its changes, all or none. The group
+  -- is one step of the office: a stop during it leaves the rows from before, or those after a first part of its records.
+  pub record IsGroupServed (old new : K) (commands : Commands) (reported : List Outcome) (end : End) : Type 0 where
     pub ends : EndWith end reported
     pub goes : ((new ≡ old) × (end ≡ Ok tt)) ⊎ CallEffect meaning old new end
     pub settles : Settles meaning old new
     pub whole : FindsNoDamage meaning old new end
     pub quiet : OverContent meaning old new (λ c. list_any is_outcome_accepted reported ≡ false → meaning.holds new c)
-    pub done : Over meaning old new (λ c H. IsGroupDone (meaning.holds new) (meaning.is_store_open old) (meaning.leaves new) c H commands reported)
+    pub done : Over meaning old new (λ c H. IsStepFrom meaning IsImport IsAfterFirst old c H commands reported new)
 
-  -- These groups of records, of which the last comes first, changed the keep one after another. No group follows one that met a fault.
-  abbrev pub AreGroupsServed : K → List Group → K → Type 0
-  AreGroupsServed old [] new = new ≡ old
-  AreGroupsServed old (g ∷ earlier) new = (middle : K) × AreGroupsServed old earlier middle × NoneEnded earlier × IsGroupServed middle new g.commands g.reported g.end
+  -- A group changed the keep, and its records had these outcomes.
+  abbrev pub IsGroupStep : K → Commands → List Outcome → K → Type 0
+  IsGroupStep old commands reported new = (end : End) × IsGroupServed old new commands reported end
 
   -- The records had these outcomes group by group, up to a fault, and changed the keep.
-  abbrev pub AreRecordsServed : K → List (Option PlantCmd) → List Outcome → K → Type 0
-  AreRecordsServed old commands reported new = (groups : List Group) × IsInGroups groups commands reported × AreGroupsServed old groups new
+  abbrev pub AreRecordsServed : K → Commands → List Outcome → K → Type 0
+  AreRecordsServed old commands reported new = InGroups (λ groups reports. IsRun IsGroupStep old groups reports new) commands reported []
 
-  -- One step: a group leads from a history whose rows were held to another, whose rows are held then. A stop during the group leaves the
-  -- rows from before, or the rows after a first part of its records. A stop after it leaves exactly the new rows, unless the store met a
-  -- cause of Disk.
-  pub record IsGroupStep (old new : K) (c : Content) (H : History) (g : Group) (d : Content) (G : History) : Type 0 where
-    pub comes : IsImport H g.commands g.reported G
-    pub lawful : IsLawful G
-    pub held : meaning.holds new d
-    pub stands : Represents d G
-    pub front : ℕ
-    pub crash : meaning.is_store_open old → LeavesOr (meaning.leaves new) c (after_records H (take front g.commands))
-    pub settled : meaning.is_store_open old → meaning.leaves new (d ∷ []) ⊎ meaning.has_cause old new
-
-  -- Such steps one after another, of which the last comes first. A stop during one leaves the rows after all steps before it, or those
-  -- after a first part of its records.
-  abbrev pub AreGroupSteps : K → Content → History → List Group → K → Content → History → Type 0
-  AreGroupSteps old c H [] new d G = (new ≡ old) × (d ≡ c) × (G ≡ H)
-  AreGroupSteps old c H (g ∷ earlier) new d G = (middle : K) × (b : Content) × (F : History) × AreGroupSteps old c H earlier middle b F × IsGroupStep middle new b F g d G
-
-  -- The records are such steps, from rows that were held.
-  pub record AreRecordSteps (old : K) (c : Content) (H : History) (commands : List (Option PlantCmd)) (reported : List Outcome) (new : K) : Type 0 where
-    pub groups : List Group
-    pub parts : IsInGroups groups commands reported
-    pub content : Content
-    pub last : History
-    pub steps : AreGroupSteps old c H groups new content last
+  -- From rows that were held, the records are steps of the office, group by group.
+  abbrev pub AreRecordSteps : K → Content → History → Commands → List Outcome → K → Type 0
+  AreRecordSteps old c H commands reported new =
+      InGroups (λ groups reports. AreStepsFrom meaning IsImport IsAfterFirst old c H groups reports new) commands reported []
 
 -- The outcome is no fault except Memory.
 abbrev pub IsOpenOutcome : Outcome → Type 0
@@ -186,7 +162,7 @@ abbrev pub IsWholeOutcome : Outcome → Type 0
 IsWholeOutcome outcome = outcome ≢ Fault Damaged
 
 -- P holds of the commands of the file's records and of their outcomes.
-abbrev pub OfRecords : Bytes → (List (Option PlantCmd) → List Outcome → Type 0) → ImportReport → Type 0
+abbrev pub OfRecords : Bytes → (Commands → List Outcome → Type 0) → ImportReport → Type 0
 OfRecords file P report = (records : List Fields) × HasActuals file records × P (commands_in records) (outcomes_in report.lines.items)
 
 -- The records of the file are steps one after another over the keep.

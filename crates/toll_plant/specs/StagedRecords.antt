@@ -1,12 +1,12 @@
 -- Records of a group, whose changes are staged until all of them are done.
-use Rattle.std.specs.Prelude.{◌≡◌, ◌++◌, ◌⊎◌, true, false, Option, IsSome, List, [], ◌∷◌, Result, Ok, Err, IfErr, IfOk, IsOk, OnErr, OnOk}
+use Rattle.std.specs.Prelude.{◌≡◌, ◌++◌, ◌⊎◌, false, Option, IsSome, List, [], ◌∷◌, Result, Ok, Err, IfErr, IfOk, IsOk, OnErr, OnOk}
 use Rattle.toll_plant.specs.Common.{list_any, History, IsLawful, Content, AllChangesFit, content_after, FindsNoDamage, CallEffect, IsReading, Settles, Meaning, OverContent, OverLive, KeepFault, Memory, Represents, Over, PlantCmd}
 use Rattle.toll_base.specs.declared.decision.Change.{Change}
 use Rattle.toll_keep.specs.StagedChanges.{IsOver, ReadsThrough}
 use Rattle.toll_keep.specs.Reads.{HaveRead, IsContentKept}
 use Rattle.toll_keep.specs.declared.staged_changes.StagedChanges.{StagedChanges}
 use Rattle.toll_desk.specs.Plans.{ChangesLeadTo}
-use Rattle.toll_plant.specs.Imports.{Comes, EndWith, IsImport, IsOpenOutcome, refused_at}
+use Rattle.toll_plant.specs.Imports.{Commands, End, EndWith, IsImport, IsOpenOutcome, IsRecordStep, refused_at}
 use Rattle.toll_plant.specs.Outcomes.{is_outcome_accepted, is_fault_outcome}
 use Rattle.toll_plant.specs.declared.grouping.Staged.{Staged}
 use Rattle.toll_plant.specs.declared.outcome.Outcome.{Outcome}
@@ -16,7 +16,7 @@ use Rattle.toll_plant.specs.declared.outcome.Outcome.{Outcome}
 -- Over this content and history the record has this outcome, and its changes lead to the content of the history that it leaves.
 pub record IsRecordOver (c : Content) (H : History) (command : Option PlantCmd) (o : Outcome) (made : List Change) : Type 0 where
   pub next : History
-  pub comes : Comes H command o next
+  pub step : IsRecordStep H command o next
   pub lawful : IsLawful next
   pub leads : ChangesLeadTo c made next
 
@@ -41,31 +41,29 @@ pub record IsRecordStaged {K : Type 0} (meaning : Meaning K) (old new : K) (befo
 
 -- ---- all of a group
 
--- Over this content and history the records have these outcomes, and the changes lead to the content of the history that they leave. If
--- none of the changes is made and a fault takes their place, the records leave the history unchanged.
-pub record IsStagedFor (c : Content) (H : History) (commands : List (Option PlantCmd)) (reported : List Outcome) (changes : List Change) : Type 0 where
+-- Over this content and history the records have these outcomes, and the changes lead to the content of the history that they leave.
+pub record IsStagedFor (c : Content) (H : History) (commands : Commands) (reported : List Outcome) (changes : List Change) : Type 0 where
   pub last : History
   pub imported : IsImport H commands reported last
   pub lawful : IsLawful last
   pub leads : ChangesLeadTo c changes last
-  pub refused : list_any is_outcome_accepted reported ≡ true → (fault : KeepFault) → IsImport H commands (refused_at fault reported) H
 
--- The same, or rows couldn't be read.
-abbrev pub IsStagedOver : Content → History → List (Option PlantCmd) → List Outcome → Result Staged KeepFault → Type 0
+-- The same; or rows couldn't be read, and the first record that would have changed something meets the fault.
+abbrev pub IsStagedOver : Content → History → Commands → List Outcome → Result Staged KeepFault → Type 0
 IsStagedOver c H commands reported (Ok held) = IsStagedFor c H commands reported held.changes.items
 IsStagedOver c H commands reported (Err fault) = IsImport H commands (refused_at fault reported) H
 
 -- the end of the records whose outcomes are reported
-abbrev pub end_of : Result Staged KeepFault → Result (Unit {0}) KeepFault
+abbrev pub end_of : Result Staged KeepFault → End
 end_of (Ok held) = held.end
 end_of (Err fault) = Ok tt
 
 -- The keep was not used, and no record met a fault; or each reading call was answered.
-abbrev pub IsReadOrUnused : {K : Type 0} → Meaning K → (old new : K) → Result (Unit {0}) KeepFault → Type 0
+abbrev pub IsReadOrUnused : {K : Type 0} → Meaning K → (old new : K) → End → Type 0
 IsReadOrUnused meaning old new end = ((new ≡ old) × (end ≡ Ok tt)) ⊎ HaveRead meaning old new
 
 -- The records of a group were done one after another, and their changes are staged.
-pub record AreStaged {K : Type 0} (meaning : Meaning K) (old new : K) (commands : List (Option PlantCmd)) (reported : List Outcome) (result : Result Staged KeepFault) : Type 0 where
+pub record AreStaged {K : Type 0} (meaning : Meaning K) (old new : K) (commands : Commands) (reported : List Outcome) (result : Result Staged KeepFault) : Type 0 where
   pub ends : EndWith (end_of result) reported
   pub memory : IfErr (end_of result) (λ fault. fault ≡ Memory)
   pub requested : IfOk result (λ held. IsReadOrUnused meaning old new held.end)
@@ -77,7 +75,7 @@ pub record AreStaged {K : Type 0} (meaning : Meaning K) (old new : K) (commands 
 -- ---- the changes of a group, made in the keep
 
 -- What is ensured of changes that are made in the keep, of which there may be none.
-pub record AreCarried {K : Type 0} (meaning : Meaning K) (old new : K) (changes : List Change) (r : Result (Unit {0}) KeepFault) : Type 0 where
+pub record AreCarried {K : Type 0} (meaning : Meaning K) (old new : K) (changes : List Change) (r : End) : Type 0 where
   pub honest : meaning.is_honest new → meaning.is_honest old
   pub idle : changes ≡ [] → (new ≡ old) × (r ≡ Ok tt)
   pub goes : (changes ≡ [] → ⊥) → CallEffect meaning old new r
@@ -88,12 +86,12 @@ pub record AreCarried {K : Type 0} (meaning : Meaning K) (old new : K) (changes 
   pub crash : OverLive meaning old new (λ c. AllChangesFit c changes → meaning.leaves new (c ∷ content_after changes c ∷ []))
 
 -- If the changes were made, the outcomes and the end stay. Otherwise the outcomes report the fault.
-abbrev pub ReportsCommit : Result (Unit {0}) KeepFault → (reported : List Outcome) → (end : Result (Unit {0}) KeepFault) → (now : List Outcome) → (result : Result (Unit {0}) KeepFault) → Type 0
+abbrev pub ReportsCommit : End → (reported : List Outcome) → (end : End) → (now : List Outcome) → (result : End) → Type 0
 ReportsCommit (Ok done) reported end now result = (now ≡ reported) × (result ≡ end)
 ReportsCommit (Err fault) reported end now result = (now ≡ refused_at fault reported) × (result ≡ Err fault)
 
 -- The changes were made in the keep, and the outcomes report the result.
-pub record IsCommitted {K : Type 0} (meaning : Meaning K) (old new : K) (held : Staged) (reported now : List Outcome) (result : Result (Unit {0}) KeepFault) : Type 0 where
-  pub answer : Result (Unit {0}) KeepFault
+pub record IsCommitted {K : Type 0} (meaning : Meaning K) (old new : K) (held : Staged) (reported now : List Outcome) (result : End) : Type 0 where
+  pub answer : End
   pub carried : AreCarried meaning old new held.changes.items answer
   pub tells : ReportsCommit answer reported held.end now result

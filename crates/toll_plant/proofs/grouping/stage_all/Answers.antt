@@ -1,9 +1,11 @@
 use Rattle.std.proofs.Common.{◌≡◌, ◌+◌, ◌++◌, true, false, [], ◌∷◌, drop, Ok, Err, refl, sym, subst, ap, ◌∙◌}
-use Rattle.toll_plant.proofs.Common.{list_any, append-nil, drop_all, Memory}
+use Rattle.std.proofs.lemmas.Bool.{or_parts}
+use Rattle.toll_plant.proofs.Common.{list_any, append-nil, drop_all, false≢true, Memory}
 use Rattle.toll_plant.specs.StagedRecords.{IsStagedFor}
 use Rattle.toll_plant.specs.Outcomes.{is_outcome_accepted, is_fault_outcome}
-use Rattle.toll_plant.proofs.GroupRuns.{IsStagedSoFar, staged_all, held_to, refused_now, so_far_more}
-use Rattle.toll_plant.proofs.Holding.{asked_all, asked_next, calm_next, failed_next, faulty_memory, kept_next, kept_one, quiet_next, some_comes, through_next}
+use Rattle.toll_plant.proofs.FaultEnds.{ends_nowhere, ends_then, none_in}
+use Rattle.toll_plant.proofs.GroupRuns.{IsStagedSoFar, refused_now, so_far_more, staged_to}
+use Rattle.toll_plant.proofs.Holding.{asked_all, asked_next, calm_next, failed_next, faulty_memory, kept_next, kept_one, quiet_next, through_next}
 use Rattle.toll_plant.proofs.LineLemmas.{item_there}
 use Rattle.toll_plant.proofs.grouping.stage_all.Goals as goal
 
@@ -28,7 +30,7 @@ returns-in-Err-clause-held g c =
           let before = (kept_one K.meaning c.args.keep.now l.keep c.act.new.keep l.pending c.act.new.pending (Err c.in-Err.fault) held.reading honest).0 in
           let here = item_there commands i command c.loop-command-test.true c.command-item.is in
           let so_far = subst (λ left. IsStagedSoFar content H commands left reported l.pending.changes.items) here (so.so_far before content H there stands lawful) in
-          refused_now content H commands (drop (i + 1) commands) command reported l.pending.changes.items so_far (list_any is_outcome_accepted reported) refl c.in-Err.fault (some_comes so_far.now command c.in-Err.fault held.some);
+          refused_now content H commands reported l.pending.changes.items (drop (i + 1) commands) command so_far so.calm c.in-Err.fault held.some;
     }
 
 pub returns-then-is_fault-clause-held : goal.returns-then-is_fault-clause-held
@@ -57,7 +59,9 @@ returns-then-is_fault-clause-held g c =
           let so_far = subst (λ left. IsStagedSoFar content H commands left reported l.pending.changes.items) here (so.so_far before.0 content H there stands lawful) in
           let over = held.reported honest content (earlier.1 content there) (so.over before.0 content there) so_far.now so_far.leads.stands so_far.lawful in
           subst (λ said. IsStagedFor content H commands said c.into_changes.result.items) (sym c.push_reserved.ensures.items)
-          (subst (IsStagedFor content H commands (reported ++ o ∷ [])) (sym (c.into_changes.ensures ∙ held.held)) (held_to content H commands (drop (i + 1) commands) command reported l.pending.changes.items so_far o held.made over faulty));
+          (subst (IsStagedFor content H commands (reported ++ o ∷ [])) (sym (c.into_changes.ensures ∙ held.held))
+          (staged_to content H commands (reported ++ o ∷ []) (l.pending.changes.items ++ held.made) (drop (i + 1) commands) (so_far_more content H commands reported l.pending.changes.items (drop (i + 1) commands) command so_far o held.made over)
+          (ends_then is_fault_outcome reported (o ∷ []) so.calm (λ is. refl, tt)) (λ none. absurd (false≢true (sym (or_parts (is_fault_outcome o) false (none_in is_fault_outcome reported (o ∷ []) none).1).0 ∙ faulty)))));
     }
 
 pub loop-command-preserved : goal.loop-command-preserved
@@ -88,7 +92,7 @@ loop-command-preserved g c =
           let so_far = subst (λ left. IsStagedSoFar content H commands left reported l.pending.changes.items) here (so.so_far before.0 content H there stands lawful) in
           let over = held.reported honest content ((so.kept before.0).1 content there) (so.over before.0 content there) so_far.now so_far.leads.stands so_far.lawful in
           subst (λ said. IsStagedSoFar content H commands (drop (i + 1) commands) said c.act.new.pending.changes.items) (sym c.push_reserved.ensures.items)
-          (subst (IsStagedSoFar content H commands (drop (i + 1) commands) (reported ++ o ∷ [])) (sym held.held) (so_far_more content H commands (drop (i + 1) commands) command reported l.pending.changes.items so_far o held.made over calm));
+          (subst (IsStagedSoFar content H commands (drop (i + 1) commands) (reported ++ o ∷ [])) (sym held.held) (so_far_more content H commands reported l.pending.changes.items (drop (i + 1) commands) command so_far o held.made over));
     }
 
 pub returns-clause-held : goal.returns-clause-held
@@ -108,5 +112,5 @@ returns-clause-held g c =
       over = λ honest content H there stands lawful.
           let none = drop_all l.command-index commands c.loop-command-test.false in
           subst (IsStagedFor content H commands reported) (sym c.into_changes-2.ensures)
-          (staged_all content H commands reported l.pending.changes.items (subst (λ left. IsStagedSoFar content H commands left reported l.pending.changes.items) none (so.so_far honest content H there stands lawful)));
+          (staged_to content H commands reported l.pending.changes.items (drop l.command-index commands) (so.so_far honest content H there stands lawful) (ends_nowhere is_fault_outcome reported so.calm) (λ calm. none));
     }

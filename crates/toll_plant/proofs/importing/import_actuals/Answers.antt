@@ -1,13 +1,18 @@
 use Rattle.std.proofs.Common.{◌≡◌, Bool, true, false, sym, subst, ap, ◌∙◌}
-use Rattle.toll_plant.proofs.Common.{AllByRecursion, false≢true}
-use Rattle.toll_plant.specs.Imports.{AreRecordsServed, IsOpenOutcome, IsWholeOutcome, commands_in, outcomes_in}
-use Rattle.toll_plant.proofs.GroupChains.{all_honest, all_open, all_whole, run_of, steps_of}
-use Rattle.toll_plant.proofs.ImportDone.{fewer_left, so_on, so_over}
+use Rattle.toll_plant.proofs.Common.{false≢true}
+use Rattle.toll_plant.specs.Imports.{AreRecordsServed, commands_in, outcomes_in}
+use Rattle.toll_plant.proofs.GroupChains.{all_open, all_whole, groups_honest, run_of, steps_of}
+use Rattle.toll_plant.proofs.ImportDone.{fewer_left, so_begun, so_on, so_over}
 use Rattle.toll_plant.proofs.importing.import_actuals.Goals as goal
 
 -- If the import isn't over, not all is done.
 not_over : {X : Type 0} (over : Bool) → (X → over ≡ true) → over ≡ false → X → ⊥
 not_over over is not done = false≢true (sym not ∙ is done)
+
+pub loop-alloc-init : goal.loop-alloc-init
+loop-alloc-init g c =
+    let begun = c.in_ok-import.ensures.begun in
+    (begun.records, begun.read, so_begun g.K.Keep.meaning c.args.keep.now (commands_in begun.records) c.in_ok-import.import begun.left begun.none)
 
 pub loop-alloc-smaller : goal.loop-alloc-smaller
 loop-alloc-smaller g c =
@@ -35,29 +40,31 @@ served g c =
     )
 
 pub returns-clause-honest : goal.returns-clause-honest
-returns-clause-honest g c now =
-    let all = served g c in
-    all_honest g.K.Keep.meaning c.args.keep.now c.loop-alloc.keep all.2.0 all.2.2 now
+returns-clause-honest g c =
+    let (records, read, all) = served g c in
+    groups_honest g.K.Keep.meaning c.args.keep.now c.loop-alloc.keep all.groups all.reports all.are
 
 pub returns-clause-served : goal.returns-clause-served
 returns-clause-served = served
 
 pub returns-clause-run : goal.returns-clause-run
 returns-clause-run g c now content H held stands lawful =
-    let all = served g c in
-    (all.0, all.1, run_of g.K.Keep.meaning c.args.keep.now c.loop-alloc.keep (commands_in all.0) (outcomes_in c.into_report.result.lines.items) all.2.0 all.2.1 all.2.2 now content H held stands lawful)
+    let (records, read, all) = served g c in
+    let run = run_of g.K.Keep.meaning c.args.keep.now c.loop-alloc.keep (commands_in records) (outcomes_in c.into_report.result.lines.items) all in
+    (records, read, run now content H held stands lawful)
 
 pub returns-clause-steps : goal.returns-clause-steps
 returns-clause-steps g c now content H held stands lawful =
-    let all = served g c in
-    (all.0, all.1, steps_of g.K.Keep.meaning c.args.keep.now c.loop-alloc.keep (commands_in all.0) (outcomes_in c.into_report.result.lines.items) all.2.0 all.2.1 all.2.2 now content H held stands lawful)
+    let (records, read, all) = served g c in
+    let steps = steps_of g.K.Keep.meaning c.args.keep.now c.loop-alloc.keep (commands_in records) (outcomes_in c.into_report.result.lines.items) all in
+    (records, read, steps now content H held stands lawful)
 
 pub returns-clause-whole : goal.returns-clause-whole
-returns-clause-whole g c now content H held stands lawful =
-    let all = served g c in
-    subst (AllByRecursion IsWholeOutcome) all.2.1.said (all_whole g.K.Keep.meaning c.args.keep.now c.loop-alloc.keep all.2.0 all.2.2 now content H held stands lawful)
+returns-clause-whole g c =
+    let (records, read, all) = served g c in
+    all_whole g.K.Keep.meaning c.args.keep.now c.loop-alloc.keep (commands_in records) (outcomes_in c.into_report.result.lines.items) all
 
 pub returns-clause-open : goal.returns-clause-open
-returns-clause-open g c never_closes now content H held stands lawful =
-    let all = served g c in
-    subst (AllByRecursion IsOpenOutcome) all.2.1.said (all_open g.K.Keep.meaning never_closes c.args.keep.now c.loop-alloc.keep all.2.0 all.2.2 now content H held stands lawful)
+returns-clause-open g c never_closes =
+    let (records, read, all) = served g c in
+    all_open g.K.Keep.meaning never_closes c.args.keep.now c.loop-alloc.keep (commands_in records) (outcomes_in c.into_report.result.lines.items) all

@@ -1,8 +1,7 @@
 use Rattle.std.proofs.Common.{◌++◌, drop, ap, sym, ◌∙◌, arith}
 use Rattle.toll_plant.specs.Imports.{outcomes_in}
-use Rattle.toll_plant.specs.ImportStates.{left_behind}
 use Rattle.toll_plant.specs.declared.grouping.TheConstants.{GROUP_RECORDS}
-use Rattle.toll_plant.proofs.ImportDone.{behind_is, group_acted, over_from, rest_is}
+use Rattle.toll_plant.proofs.ImportDone.{behind_is, group_acted, left_behind, over_from, rest_is}
 use Rattle.toll_plant.proofs.import.Import.resume.Goals as goal
 
 pub returns-in-Ok : goal.returns-in-Ok
