@@ -1,17 +1,19 @@
 -- The inputs at the listeners are a run of events.
-use Rattle.std.proofs.Common.{◌≡◌, Bool, List, [], ◌∷◌, ◌++◌, Option, drop, Result, Ok, Err, refl, sym, subst, ap, ◌∙◌, inl, inr}
-use Rattle.std.specs.Prelude.{if◌then◌else◌, take}
-use Rattle.toll_service.proofs.Common.{list_any, append-nil, Bytes, PlantCmd, Content, Meaning, Yields as TurnComesTo, Input, IsWholeRun, Request, Task, Turn, Listener, Owners, Plant, Poll, Ready, Pending, EndWith, HasValidValues, outcomes_in, is_fault_outcome, HasActed, ImportState, left_behind, GROUP_RECORDS, Outcome, Printout, AreServed, IsAnswered, Answer, Event}
+use Rattle.std.proofs.Common.{◌≡◌, Bool, List, [], ◌∷◌, ◌++◌, drop, Err, refl, sym, subst, ap, ◌∙◌, inl, inr}
+use Rattle.std.specs.Prelude.{take}
+use Rattle.toll_service.proofs.Common.{append-nil, Bytes, Content, Meaning, Yields as TurnComesTo, Input, IsWholeRun, Request, Task, Turn, Listener, Owners, Plant, Poll, Ready, Pending, outcomes_in, HasActed, ImportState, GROUP_RECORDS, Printout, AreServed, IsAnswered, Answer, Event}
 use Rattle.toll_desk.specs.Reads.{Over}
-use Rattle.toll_keep.specs.declared.fault.KeepFault.{KeepFault}
-use Rattle.toll_plant.proofs.GroupChains.{all_take, calm_group, faulty_group, group_honest}
+use Rattle.toll_plant.proofs.FaultEnds.{all_acted}
+use Rattle.toll_plant.proofs.GroupChains.{group_honest}
 use Rattle.toll_service.proofs.ImportRuns.{records_run}
-use Rattle.toll_service.proofs.Pieces.{run_behind, run_from, piece_run_none}
 use Rattle.toll_service.specs.Listeners.{ImportResumed, ImportYields, IsRequestedDone, IsServedIfRoom}
-use Rattle.toll_service.specs.Events.{AreAllEventsOf, AreEventsOf, AreGroupEvents, AreRecordEvents, AreTurnEvents, IsPrintoutOf}
+use Rattle.toll_service.specs.Events.{AreActedEvents, AreAllEventsOf, AreEventsOf, AreGroupEvents, AreRecordEvents, AreTurnEvents, IsPrintoutOf}
 use Rattle.toll_service.specs.Serving.{AnswersOver, HasServed, IsRunAs, IsRunWhereAnswered, ResumesOver, RunsOver}
 use Rattle.toll_service.specs.Requested.{Requested, RunCommand, ImportFile, UnknownWords, requested_by_call}
-use Rattle.toll_wire.proofs.Serving.{run_all_honest, events_run_of, run_steps_of}
+use Rattle.toll_history.proofs.RunLemmas.{run_then}
+use Rattle.toll_wire.specs.OfficeRuns.{IsStep}
+use Rattle.toll_wire.proofs.Private.{run_of}
+use Rattle.toll_wire.proofs.Serving.{events_honest, events_run}
 use Rattle.toll_wire.specs.declared.event.Answer.TheVariants.{Bytes as Reply, Plant as CommandReply}
 use Rattle.toll_wire.specs.declared.event.Event.TheVariants.{Owner, Plant as Command}
 
@@ -26,7 +28,8 @@ module _ {K : Type 0} (meaning : Meaning K) (settled : (k : K) (c : Content) →
   event_nothing old new Are same are = record {
     honest = subst meaning.is_honest same;
     run = λ now c H held stands lawful.
-        record { events = []; answers = []; are = are; run = piece_run_none (meaning.holds new) H c (subst (λ k. meaning.holds k c) (sym same) held) stands lawful };
+        let still = subst (λ k. meaning.holds k c) (sym same) held in
+        record { events = []; answers = []; are = are; run = run_of (meaning.holds new) H H [] [] refl lawful (record { content = c; held = still; stands = stands }) };
   }
 
   -- A run serves any weaker relation of events and answers.
@@ -40,13 +43,9 @@ module _ {K : Type 0} (meaning : Meaning K) (settled : (k : K) (c : Content) →
   -- One event was served.
   one_ran : (old new : K) (e : Event) (a : Answer) (Are : List Event → List Answer → Type 0) → AreServed meaning old (e ∷ []) (a ∷ []) new → Are (e ∷ []) (a ∷ []) → Ran old new Are
   one_ran old new e a Are served are = record {
-    honest = run_all_honest meaning old new (e ∷ []) (a ∷ []) served;
-    run = λ now c H held stands lawful. record {
-      events = e ∷ [];
-      answers = a ∷ [];
-      are = are;
-      run = events_run_of meaning settled old new (e ∷ []) (a ∷ []) c H held stands lawful (run_steps_of meaning settled old new (e ∷ []) (a ∷ []) served now c H held stands lawful);
-    };
+    honest = events_honest meaning old new (e ∷ []) (a ∷ []) served;
+    run = λ now c H held stands lawful.
+        record { events = e ∷ []; answers = a ∷ []; are = are; run = events_run meaning settled old new (e ∷ []) (a ∷ []) served now c H held stands lawful };
   }
 
   -- ---- a request
@@ -82,41 +81,34 @@ module _ {K : Type 0} (meaning : Meaning K) (settled : (k : K) (c : Content) →
 
   -- ---- an import that goes on
 
-  -- The outcomes of a group determine which records are left after it.
-  left_of : (end : Result (Unit {0}) KeepFault) (reported : List Outcome) (commands : List (Option PlantCmd)) → EndWith end reported
-      → left_behind end commands ≡ (if list_any is_fault_outcome reported then [] else commands)
-  left_of (Ok done) reported commands ends = let calm = calm_group (Ok done) reported ends refl in rw calm refl
-  left_of (Err fault) reported commands ends = let faulty = faulty_group fault reported ends in rw faulty refl
-
   acted_ran : (old new : K) (was now : ImportState) (poll : Poll ImportState) (keep_usable : Bool) → ImportYields now poll keep_usable → HasActed meaning old new was now → Ran old new (AreGroupEvents was poll)
-  acted_ran old new was now poll keep_usable comes acted =
-      let group = take GROUP_RECORDS was.left in
-      record {
-        honest = group_honest meaning old new (record { commands = group; reported = acted.reported; end = acted.end }) acted.served;
-        run = λ honest c H held stands lawful.
-            let done = (acted.served.done honest c H held stands lawful).run in
-            let r = records_run H group acted.reported done.last (all_take HasValidValues GROUP_RECORDS was.left acted.valid) done.imported in
-            record {
-              events = r.events;
-              answers = r.answers;
-              are = record {
-                now = now;
-                reported = acted.reported;
-                are = r.are;
-                said = acted.said;
-                left = acted.left ∙ left_of acted.end acted.reported (drop GROUP_RECORDS was.left) acted.served.ends;
-                keep_usable = keep_usable;
-                comes = comes;
-              };
-              run = run_from (meaning.holds new) H done.last r.events r.answers r.happenings r.reported lawful r.shown r.valid r.run done.lawful done.left;
-            };
-      }
+  acted_ran old new was now poll keep_usable comes acted = record {
+    honest = group_honest meaning old new (take GROUP_RECORDS was.left) acted.reported acted.served;
+    run = λ honest c H held stands lawful.
+        let (d, G, step) = acted.served.1.done honest c H held stands lawful in
+        let imported = step.step in
+        let r = records_run H G imported.acted acted.reported imported.so in
+        record {
+          events = r.events;
+          answers = r.answers;
+          are = record {
+            now = now;
+            reported = acted.reported;
+            are = record { acted = imported.acted; rest = imported.rest; all = imported.all; so = r.are; stops = imported.stops; whole = imported.whole };
+            said = acted.said;
+            left = acted.left;
+            keep_usable = keep_usable;
+            comes = comes;
+          };
+          run = run_of (meaning.holds new) H G r.events r.answers r.run step.lawful (record { content = d; held = step.held; stands = step.stands });
+        };
+  }
 
   none_left : (was : ImportState) (poll : Poll ImportState) (keep_usable : Bool) → was.left ≡ [] → ImportYields was poll keep_usable → AreGroupEvents was poll [] []
   none_left was poll keep_usable none comes = record {
     now = was;
     reported = [];
-    are = subst (λ left. AreRecordEvents [] (take GROUP_RECORDS left) [] []) (sym none) tt;
+    are = subst (λ left. AreActedEvents (take GROUP_RECORDS left) [] [] []) (sym none) (all_acted (λ acted. AreRecordEvents acted [] [] []) [] [] tt refl);
     said = sym (append-nil (outcomes_in was.lines));
     left = subst (λ left. left ≡ drop GROUP_RECORDS left) (sym none) refl;
     keep_usable = keep_usable;
@@ -160,7 +152,8 @@ module _ {K : Type 0} (meaning : Meaning K) (settled : (k : K) (c : Content) →
               events = f.events ++ o.events;
               answers = f.answers ++ o.answers;
               are = one_part turn turns f.events o.events f.answers o.answers f.are o.are;
-              run = run_behind (meaning.holds (keep middle)) (meaning.holds (keep new)) H f.events o.events f.answers o.answers lawful f.run o.run;
+              run = run_of (meaning.holds (keep new)) H o.run.last (f.events ++ o.events) (f.answers ++ o.answers)
+                  (run_then IsStep H f.run.last o.run.last f.events o.events f.answers o.answers f.run.run o.run.run) o.run.lawful o.run.left;
             };
       }
 

@@ -5,9 +5,10 @@ use Rattle.toll_service.proofs.Common.{Vec, list_any, append-nil, Bytes, AreOwn,
 use Rattle.std.proofs.lemmas.Bool.Decides.{nat_tests}
 use Rattle.toll_base.proofs.Texts.{nat_eq-exact}
 use Rattle.toll_server.specs.ConnectionStates.{pending_task}
-use Rattle.toll_service.proofs.RecordEvents.{records_longer, records_then}
+use Rattle.toll_plant.proofs.FaultEnds.{up_to_longer, up_to_then}
+use Rattle.toll_service.proofs.ImportRuns.{events_then}
 use Rattle.toll_service.specs.Listeners.{BeginsImport, IsReportResponse}
-use Rattle.toll_service.specs.Events.{AreEventsOf, AreGroupEvents, AreRecordEvents, AreServedTurns, AreTurnEvents, IsPrintoutOf, ServedTurn, answers_of, events_of, turns_of}
+use Rattle.toll_service.specs.Events.{AreActedEvents, AreEventsOf, AreGroupEvents, AreRecordEvents, AreServedTurns, AreTurnEvents, IsPrintoutOf, ServedTurn, answers_of, events_of, turns_of}
 use Rattle.toll_service.specs.Whole.{AreAllOfRequest, first_response, own_parts, response_or, until_response}
 use Rattle.toll_plant.specs.Imports.{Commands}
 
@@ -18,23 +19,24 @@ eq_self n = grind (arith, nat_tests)
 
 -- If no record is left after a group, its events are those of all records that were left.
 all_left : (b : Bool) (reported : List Outcome) (left : Commands) (events : List Event) (answers : List Answer) → list_any is_fault_outcome reported ≡ b
-    → AreRecordEvents reported (take GROUP_RECORDS left) events answers → cond b [] (drop GROUP_RECORDS left) ≡ [] → AreRecordEvents reported left events answers
+    → AreActedEvents (take GROUP_RECORDS left) reported events answers → cond b [] (drop GROUP_RECORDS left) ≡ [] → AreActedEvents left reported events answers
 all_left true reported left events answers faulty are none =
-    subst (λ commands. AreRecordEvents reported commands events answers) (take-append-drop GROUP_RECORDS left)
-    (records_longer reported (take GROUP_RECORDS left) (drop GROUP_RECORDS left) events answers faulty are)
+    subst (λ commands. AreActedEvents commands reported events answers) (take-append-drop GROUP_RECORDS left)
+    (up_to_longer (λ acted. AreRecordEvents acted reported events answers) (take GROUP_RECORDS left) (drop GROUP_RECORDS left) reported faulty are)
 all_left false reported left events answers calm are none =
     let whole : take GROUP_RECORDS left ≡ left =
     sym (append-nil (take GROUP_RECORDS left)) ∙ ap (λ more. take GROUP_RECORDS left ++ more) (sym none) ∙ take-append-drop GROUP_RECORDS left in
-    subst (λ commands. AreRecordEvents reported commands events answers) whole are
+    subst (λ commands. AreActedEvents commands reported events answers) whole are
 
 -- Otherwise the events of the records that are left follow.
 more_left : (b : Bool) (reported more : List Outcome) (left behind : Commands) (events later : List Event) (answers others : List Answer) → list_any is_fault_outcome reported ≡ b
-    → AreRecordEvents reported (take GROUP_RECORDS left) events answers → behind ≢ [] → behind ≡ cond b [] (drop GROUP_RECORDS left) → AreRecordEvents more behind later others
-    → AreRecordEvents (reported ++ more) left (events ++ later) (answers ++ others)
+    → AreActedEvents (take GROUP_RECORDS left) reported events answers → behind ≢ [] → behind ≡ cond b [] (drop GROUP_RECORDS left) → AreActedEvents behind more later others
+    → AreActedEvents left (reported ++ more) (events ++ later) (answers ++ others)
 more_left true reported more left behind events later answers others faulty are some is then = absurd (some is)
 more_left false reported more left behind events later answers others calm are some is then =
-    subst (λ commands. AreRecordEvents (reported ++ more) commands (events ++ later) (answers ++ others)) (take-append-drop GROUP_RECORDS left)
-    (records_then reported more (take GROUP_RECORDS left) (drop GROUP_RECORDS left) events later answers others calm are (subst (λ commands. AreRecordEvents more commands later others) is then))
+    subst (λ commands. AreActedEvents commands (reported ++ more) (events ++ later) (answers ++ others)) (ap (λ rest. take GROUP_RECORDS left ++ rest) is ∙ take-append-drop GROUP_RECORDS left)
+    (up_to_then (λ acted. AreRecordEvents acted reported events answers) (λ acted. AreRecordEvents acted more later others) (λ acted. AreRecordEvents acted (reported ++ more) (events ++ later) (answers ++ others))
+    (take GROUP_RECORDS left) behind reported more calm (λ acted next. events_then acted next reported more events later answers others) are then)
 
 -- ---- an import that is left
 
@@ -42,7 +44,7 @@ more_left false reported more left behind events later answers others calm are s
 record Ends (was : ImportState) (text : Bytes) (events : List Event) (answers : List Answer) : Type 0 where
   lines : List ImportLine
   reported : List Outcome
-  are : AreRecordEvents reported was.left events answers
+  are : AreActedEvents was.left reported events answers
   said : outcomes_in lines ≡ outcomes_in was.lines ++ reported
   keep_usable : Bool
   telling : IsReportResponse lines text keep_usable
@@ -69,7 +71,7 @@ next_turn was next text events later answers others g rest =
       lines = rest.lines;
       reported = g.reported ++ rest.reported;
       are = more_left (list_any is_fault_outcome g.reported) g.reported rest.reported was.left g.now.left events later answers others refl g.are g.comes.0 g.left
-          (subst (λ import. AreRecordEvents rest.reported import.left later others) same rest.are);
+          (subst (λ import. AreActedEvents import.left rest.reported later others) same rest.are);
       said = rest.said ∙ ap (λ import. outcomes_in import.lines ++ rest.reported) same ∙ ap (λ before. before ++ rest.reported) g.said ∙ append_assoc (outcomes_in was.lines) g.reported rest.reported;
       keep_usable = rest.keep_usable;
       telling = rest.telling;
@@ -128,8 +130,8 @@ whole_import requested text import events answers begins ends =
           begins.begun.records,
           begins.begun.read,
           subst (AreNumberedFrom 1) (sym report.its) report.numbered,
-          subst (λ outcomes. AreRecordEvents outcomes (commands_in begins.begun.records) events answers) reported
-              (subst (λ commands. AreRecordEvents ends.reported commands events answers) begins.begun.left ends.are),
+          subst (λ outcomes. AreActedEvents (commands_in begins.begun.records) outcomes events answers) reported
+              (subst (λ commands. AreActedEvents commands ends.reported events answers) begins.begun.left ends.are),
         ),
         report.printed,
       );

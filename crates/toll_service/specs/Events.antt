@@ -1,10 +1,10 @@
 -- The inputs of a server as events of the office.
 use Rattle.std.specs.Prelude.{◌≡◌, ◌⊎◌, Bool, if◌then◌else◌, List, [], ◌∷◌, ◌++◌, drop, flat_map, map, take, Option, Some, None, Result, Ok, Err}
-use Rattle.std.specs.Bool.{MatchBool}
 use Rattle.std.specs.List.{AllByRecursion, list_any}
-use Rattle.toll_service.specs.Common.{Bytes, PlantCmd, IsCall, Input, Request, Task, Turn, Listener, Owners, Plant, Poll, Ready, Pending, AreNumberedFrom, commands_in, outcomes_in, ImportState, ImportFault, ImportReport, IsImportPrintout, IsReplyPrintout, Printout, out_bytes, Answer, Event}
+use Rattle.toll_service.specs.Common.{Bytes, IsCall, Input, Request, Task, Turn, Listener, Owners, Plant, Poll, Ready, Pending, AreNumberedFrom, commands_in, outcomes_in, ImportState, ImportFault, ImportReport, IsImportPrintout, IsReplyPrintout, Printout, out_bytes, Answer, Event}
 use Rattle.toll_desk.specs.Translations.{meaning_of_plant_reply}
 use Rattle.toll_plant.specs.Files.{Fields, HasActuals}
+use Rattle.toll_plant.specs.Imports.{Commands, UpToFault}
 use Rattle.toll_plant.specs.Outcomes.{is_fault_outcome, record_outcome}
 use Rattle.toll_plant.specs.declared.grouping.TheConstants.{GROUP_RECORDS}
 use Rattle.toll_plant.specs.declared.outcome.Outcome.{Outcome}
@@ -14,23 +14,23 @@ use Rattle.toll_service.specs.Requested.{Requested, RunCommand, ImportFile, Unkn
 use Rattle.toll_wire.specs.declared.event.Answer.TheVariants.{Bytes as Reply, Plant as CommandReply}
 use Rattle.toll_wire.specs.declared.event.Event.TheVariants.{Owner, Plant as Command}
 
--- No record acts after a fault.
-abbrev pub AreNone : List Outcome → List Event → List Answer → Type 0
-AreNone outcomes events answers = (outcomes ≡ []) × (events ≡ []) × (answers ≡ [])
-
--- Each record that gives a command is an event, and its outcome reports that event's answer. The list has all records, or those up to a
--- fault.
-abbrev pub AreRecordEvents : List Outcome → List (Option PlantCmd) → List Event → List Answer → Type 0
+-- Each record that gives a command is an event, and its outcome reports that event's answer. A record without a command is no event.
+abbrev pub AreRecordEvents : Commands → List Outcome → List Event → List Answer → Type 0
 AreRecordEvents [] [] [] [] = Unit {0}
-AreRecordEvents (o ∷ outcomes) (None ∷ records) events answers = (o ≡ BadRecord) × AreRecordEvents outcomes records events answers
-AreRecordEvents (o ∷ outcomes) (Some c ∷ records) (Command d ∷ events) (CommandReply reply ∷ answers) =
-    (d ≡ c) × (o ≡ record_outcome (meaning_of_plant_reply reply)) × MatchBool (is_fault_outcome o) (AreNone outcomes events answers) (AreRecordEvents outcomes records events answers)
+AreRecordEvents (None ∷ records) (o ∷ outcomes) events answers = (o ≡ BadRecord) × AreRecordEvents records outcomes events answers
+AreRecordEvents (Some c ∷ records) (o ∷ outcomes) (Command d ∷ events) (CommandReply reply ∷ answers) =
+    (d ≡ c) × (o ≡ record_outcome (meaning_of_plant_reply reply)) × AreRecordEvents records outcomes events answers
 AreRecordEvents _ _ _ _ = ⊥
+
+-- The records that acted, up to the first fault, are these events.
+abbrev pub AreActedEvents : Commands → List Outcome → List Event → List Answer → Type 0
+AreActedEvents commands outcomes events answers = UpToFault (λ acted. AreRecordEvents acted outcomes events answers) commands outcomes
 
 -- The events of an import are those of its records. A file that was not imported has none.
 abbrev pub AreImportEvents : Bytes → Result ImportReport ImportFault → List Event → List Answer → Type 0
 AreImportEvents file (Ok report) events answers =
-    (records : List Fields) × HasActuals file records × AreNumberedFrom 1 report.lines.items × AreRecordEvents (outcomes_in report.lines.items) (commands_in records) events answers
+    (records : List Fields) × HasActuals file records × AreNumberedFrom 1 report.lines.items
+    × AreActedEvents (commands_in records) (outcomes_in report.lines.items) events answers
 AreImportEvents file (Err fault) events answers = (events ≡ []) × (answers ≡ [])
 
 -- The plant's request is these events, and the printout reports their answers.
@@ -63,7 +63,7 @@ AreEventsOf Plant requested reported events answers = IsCallServed requested rep
 pub record AreGroupEvents (was : ImportState) (poll : Poll ImportState) (events : List Event) (answers : List Answer) : Type 0 where
   pub now : ImportState
   pub reported : List Outcome
-  pub are : AreRecordEvents reported (take GROUP_RECORDS was.left) events answers
+  pub are : AreActedEvents (take GROUP_RECORDS was.left) reported events answers
   pub said : outcomes_in now.lines ≡ outcomes_in was.lines ++ reported
   pub left : now.left ≡ (if list_any is_fault_outcome reported then [] else drop GROUP_RECORDS was.left)
   pub keep_usable : Bool
