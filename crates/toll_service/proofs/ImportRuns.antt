@@ -2,12 +2,13 @@
 use Rattle.std.proofs.Common.{◌≡◌, List, [], ◌∷◌, ◌++◌, Some, None, refl, subst, inl, inr}
 use Rattle.toll_service.proofs.Common.{PlantCmd, PlantReply, History, record_outcome, Outcome, Answer, Event}
 use Rattle.toll_desk.specs.Translations.{meaning_of_plant_reply}
+use Rattle.toll_desk.specs.OfficeSteps.{IsPlantStep}
 use Rattle.toll_desk.specs.declared.plant_cmd.PlantReply.TheVariants as plant
 use Rattle.toll_history.specs.Runs.{IsRun}
 use Rattle.toll_plant.specs.Common.{Accepted, Repeated, Refused}
 use Rattle.toll_plant.specs.Imports.{Commands, IsRecordStep}
 use Rattle.toll_service.specs.Events.{AreRecordEvents}
-use Rattle.toll_wire.specs.OfficeRuns.{IsPlantStep, IsStep}
+use Rattle.toll_wire.specs.OfficeRuns.{IsStep}
 use Rattle.toll_wire.specs.declared.event.Answer.TheVariants.{Plant as CommandReply}
 use Rattle.toll_wire.specs.declared.event.Event.TheVariants.{Plant as Command}
 

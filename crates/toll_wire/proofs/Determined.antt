@@ -10,7 +10,8 @@ use Rattle.toll_wire.specs.declared.event.Event.TheVariants.{Owner, Plant as Com
 use Rattle.toll_wire.specs.declared.event.Answer.{Answer}
 use Rattle.toll_wire.specs.declared.event.Answer.TheVariants.{Bytes as Reply, Plant as CommandReply}
 use Rattle.toll_wire.specs.declared.outgoing.Out.TheVariants.{Text, Unavailable}
-use Rattle.toll_wire.specs.OfficeRuns.{IsPlantStep, IsStep, ReplyText, PlantMeaning, NoFaults, meaning_of_answer}
+use Rattle.toll_desk.specs.OfficeSteps.{IsPlantStep}
+use Rattle.toll_wire.specs.OfficeRuns.{IsStep, ReplyText, PlantMeaning, NoFaults, meaning_of_answer}
 use Rattle.toll_wire.specs.Parts.{OwnEvent, Sent, Did, AreAlone}
 use Rattle.toll_wire.specs.ReplyTexts.{text_of_failure, text_of_reply_meaning}
 use Rattle.toll_wire.specs.Sayings.{Asks, Fails, Saying, By, Nobody, IsTold, after_saying}

@@ -12,7 +12,8 @@ use Rattle.toll_wire.specs.declared.event.Event.TheVariants.{Owner, Plant as Com
 use Rattle.toll_wire.specs.declared.event.Answer.{Answer}
 use Rattle.toll_wire.specs.declared.event.Answer.TheVariants.{Bytes as Reply, Plant as CommandReply}
 use Rattle.toll_wire.specs.declared.outgoing.Out.TheVariants.{Text, Unavailable}
-use Rattle.toll_wire.specs.OfficeRuns.{IsPlantStep, IsStep}
+use Rattle.toll_desk.specs.OfficeSteps.{IsPlantStep}
+use Rattle.toll_wire.specs.OfficeRuns.{IsStep}
 use Rattle.toll_wire.specs.Sayings.{Saying, By, Asks, Fails, Nobody, Says, after_saying, claimed_in, claims}
 use Rattle.toll_wire.proofs.Valid.{IsValidSaying, says_valid}
 

@@ -13,7 +13,8 @@ use Rattle.toll_wire.specs.declared.event.Event.TheVariants.{Owner, Plant as Com
 use Rattle.toll_wire.specs.declared.event.Answer.{Answer}
 use Rattle.toll_wire.specs.declared.event.Answer.TheVariants.{Bytes as Reply, Plant as CommandReply}
 use Rattle.toll_wire.specs.declared.outgoing.Out.TheVariants.{Text, Unavailable}
-use Rattle.toll_wire.specs.OfficeRuns.{IsPlantStep, IsStep, IsRunOf}
+use Rattle.toll_desk.specs.OfficeSteps.{IsPlantStep}
+use Rattle.toll_wire.specs.OfficeRuns.{IsStep, IsRunOf}
 use Rattle.toll_wire.specs.Parts.{OwnEvent, Sent, Did, IsClaimed, done_for, WithDone, IsPart, AreAlone, HasPart, RepliesAsAlone, IsPrivate}
 use Rattle.toll_wire.specs.Sayings.{Saying, By, Asks, Fails, Nobody, Says, IsTold, after_saying, claims}
 use Rattle.toll_wire.proofs.Growth.{lawful_before_run, part-after_saying}

@@ -1,15 +1,15 @@
 -- Events of the office, one after another, are a run.
 use Rattle.std.proofs.Common.{◌≡◌, ◌⊎◌, false, List, [], ◌∷◌, Result, Ok, Err, refl, sym, subst, ap, ◌∙◌, inl, inr}
-use Rattle.toll_wire.proofs.Common.{Vec, AllByRecursion, false≢true, History, IsLawful, Meaning, Content, CallEffect, Settles, Represents, KeepFault, Memory, Disk, Damaged, Closed, PlantCmd, PlantAnswer, IsPlantAnswer, after_plant, meaning_of_plant_reply, IsValidCommand, CommandEffect, IsDone}
+use Rattle.toll_wire.proofs.Common.{Vec, AllByRecursion, false≢true, History, IsLawful, Meaning, Content, CallEffect, Settles, Represents, KeepFault, Memory, Disk, Damaged, Closed, PlantCmd, PlantAnswer, meaning_of_plant_reply}
 use Rattle.std.specs.Prelude.{ℕ}
 use Rattle.toll_base.specs.declared.refusal.Refusal.{Refusal}
 use Rattle.toll_history.proofs.RunLemmas.{run_back}
 use Rattle.toll_answers.proofs.OwnReplies.{lawful-after_plant}
 use Rattle.toll_answers.specs.declared.plant_cmd.PlantCmd.TheVariants as cmd
 use Rattle.toll_desk.specs.Reads.{Over}
-use Rattle.toll_desk.specs.Steps.{IsStepFrom, state_at}
+use Rattle.toll_desk.specs.Steps.{AfterCalls, Calls, IsStepFrom, state_at}
 use Rattle.toll_desk.specs.declared.plant_cmd.PlantReply.{PlantReply}
-use Rattle.toll_desk.proofs.StepLemmas.{history_run, stands_after, steps_from}
+use Rattle.toll_desk.proofs.StepLemmas.{history_run, stands_after, step_as, steps_from}
 use Rattle.toll_wire.specs.declared.event.Event.{Event}
 use Rattle.toll_wire.specs.declared.event.Event.TheVariants.{Owner, Plant as Command}
 use Rattle.toll_wire.specs.declared.event.Answer.{Answer}
@@ -18,7 +18,8 @@ use Rattle.toll_wire.specs.declared.outgoing.Out.{Out}
 use Rattle.toll_wire.specs.declared.outgoing.Out.TheVariants.{Text, Unavailable}
 use Rattle.toll_wire.specs.Sayings.{Saying, Says, after_saying}
 use Rattle.toll_wire.specs.Steps.{IsSayingServed}
-use Rattle.toll_wire.specs.OfficeRuns.{IsPlantStep, IsStep, MayMake, IsEventServed, AreServed, AreSteps, IsOpenAnswer, IsRunOf}
+use Rattle.toll_desk.specs.OfficeSteps.{PlantCalls, plant_steps}
+use Rattle.toll_wire.specs.OfficeRuns.{IsStep, MayMake, IsEventServed, AreServed, AreSteps, IsOpenAnswer, IsRunOf}
 use Rattle.toll_wire.proofs.Growth.{lawful-after_saying}
 use Rattle.toll_wire.proofs.Private.{run_of}
 
@@ -27,7 +28,7 @@ module _ {K : Type 0} (meaning : Meaning K) where
   event_honest : (old new : K) (e : Event) (a : Answer) → IsEventServed meaning old e a new → meaning.is_honest new → meaning.is_honest old
   event_honest old new (Owner bytes) (Reply out) (inl answered) = answered.2.honest
   event_honest old new (Owner bytes) (Reply out) (inr unread) = subst meaning.is_honest unread.same
-  event_honest old new (Command command) (CommandReply reply) served = served.honest
+  event_honest old new (Command command) (CommandReply reply) served = served.0.store.honest
   event_honest old new (Owner bytes) (CommandReply reply) served = absurd served
   event_honest old new (Command command) (Reply out) served = absurd served
 
@@ -92,36 +93,6 @@ module _ {K : Type 0} (meaning : Meaning K) where
         },
       )
 
-      -- the plant has an answer, or there was a fault
-      plant_step : (command : PlantCmd) (reply : PlantReply) (outcome : Result PlantAnswer KeepFault) → meaning_of_plant_reply reply ≡ outcome
-          → Settles meaning old new → IsValidCommand command
-          → IsDone (meaning.holds new) (meaning.is_store_open old) (meaning.leaves new) c (after_plant H command) outcome (IsPlantAnswer H command)
-          → Step (Command command) (CommandReply reply)
-      plant_step command reply (Ok answer) is rests valid done = (
-        done.done.content,
-        after_plant H command,
-        record {
-          step = subst (λ outcome. IsPlantStep H command outcome (after_plant H command)) (sym is) (done.reported, refl);
-          lawful = lawful-after_plant H command lawful valid;
-          held = done.done.held;
-          stands = done.done.stands;
-          crash = λ live. (after_plant H command, refl, done.crash live);
-          settled = rests_behind rests done.done.content done.done.held;
-        },
-      )
-      plant_step command reply (Err fault) is rests valid done = (
-        c,
-        H,
-        record {
-          step = subst (λ outcome. IsPlantStep H command outcome H) (sym is) refl;
-          lawful = lawful;
-          held = done.undone;
-          stands = stands;
-          crash = λ live. (after_plant H command, refl, done.crash live);
-          settled = rests_behind rests c done.undone;
-        },
-      )
-
     event_step : (old new : K) (e : Event) (a : Answer) → IsEventServed meaning old e a new
         → Over meaning old new (λ c H. IsStepFrom meaning IsStep MayMake old c H e a new)
     event_step old new (Owner bytes) (Reply out) (inl (s, says, serving)) now c H held stands lawful =
@@ -129,7 +100,8 @@ module _ {K : Type 0} (meaning : Meaning K) where
     event_step old new (Owner bytes) (Reply out) (inr unread) now c H held stands lawful =
         subst (λ out. IsStepFrom meaning IsStep MayMake old c H (Owner bytes) (Reply out) new) (sym unread.unavailable) (unread_step old new now c H held stands lawful bytes unread.same)
     event_step old new (Command command) (CommandReply reply) served now c H held stands lawful =
-        plant_step old new now c H held stands lawful command reply (meaning_of_plant_reply reply) refl served.settles served.valid (served.done now c H held stands lawful)
+        step_as meaning plant_steps.step plant_steps.may_make IsStep MayMake old new c H command (meaning_of_plant_reply reply) (Command command) (CommandReply reply)
+        (λ G step. step.1) (λ G makes. makes) (served.0.over now c H held stands lawful)
     event_step old new (Owner bytes) (CommandReply reply) served now c H held stands lawful = absurd served
     event_step old new (Command command) (Reply out) served now c H held stands lawful = absurd served
 
@@ -158,22 +130,18 @@ module _ {K : Type 0} (meaning : Meaning K) where
       run_memory_alone old new Damaged goes = absurd (false≢true (sym (never_closes new) ∙ goes.closes))
       run_memory_alone old new Closed goes = absurd (false≢true (sym (never_closes new) ∙ goes.closes))
 
-      abbrev GoesAs : K → K → PlantCmd → Result PlantAnswer KeepFault → Type 0
-      GoesAs old new command outcome = CommandEffect meaning old new command outcome
-
-      fault_alone : (old new : K) (command : PlantCmd) (fault : KeepFault) → GoesAs old new command (Err fault) → ¬ (fault ≡ Damaged)
-          → ((why : Refusal) → command ≡ cmd.Unread why → ⊥) → fault ≡ Memory
-      fault_alone old new (cmd.Recall lot) fault (inl goes) whole read = run_memory_alone old new fault goes
-      fault_alone old new (cmd.Recall lot) fault (inr damaged) whole read = let is : fault ≡ Damaged = (cc damaged.0) in absurd (whole is)
-      fault_alone old new (cmd.Unread why) fault goes whole read = absurd (read why refl)
-      fault_alone old new _ fault goes whole read = run_memory_alone old new fault goes
+      fault_alone : (old new : K) (command : PlantCmd) (fault : KeepFault) (calls : Calls) → PlantCalls command (Err fault) calls
+          → AfterCalls meaning old new calls → ¬ (fault ≡ Damaged) → fault ≡ Memory
+      fault_alone old new (cmd.Unread why) fault calls is goes whole = let refused = is.0 in absurd (cc refused)
+      fault_alone old new (cmd.Recall lot) fault calls (inl is) goes whole = run_memory_alone {X = Unit {0}} old new fault (subst (AfterCalls meaning old new) is goes)
+      fault_alone old new (cmd.Recall lot) fault calls (inr damaged) goes whole = let is : fault ≡ Damaged = (cc damaged.0) in absurd (whole is)
+      fault_alone old new _ fault calls is goes whole = run_memory_alone {X = Unit {0}} old new fault (subst (AfterCalls meaning old new) is goes)
 
       open_event : (old new : K) (e : Event) (a : Answer) → IsEventServed meaning old e a new → Over meaning old new (λ c H. IsOpenAnswer a)
       open_event old new (Owner bytes) (Reply out) served now c H held stands lawful = tt
       open_event old new (Command command) (CommandReply reply) served now c H held stands lawful = λ fault is.
-          fault_alone old new command fault (subst (GoesAs old new command) is served.goes)
-          (λ damaged. served.undamaged now c H held stands lawful (is ∙ ap (λ f. Err f) damaged))
-          (λ why unread. let read = (served.unread why unread).0 in let never : Ok _ ≡ Err fault = sym read ∙ is in (cc never))
+          fault_alone old new command fault served.0.outcome (subst (λ r. PlantCalls command r served.0.outcome) is served.0.calls) served.0.store.goes
+          (λ damaged. (served.0.over now c H held stands lawful).2.step.0 (is ∙ ap (λ f. Err f) damaged))
       open_event old new (Owner bytes) (CommandReply reply) served now c H held stands lawful = absurd served
       open_event old new (Command command) (Reply out) served now c H held stands lawful = absurd served
 

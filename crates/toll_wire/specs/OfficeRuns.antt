@@ -2,10 +2,11 @@
 use Rattle.std.specs.Prelude.{◌≡◌, ◌⊎◌, true, is_some, Option, Some, None, option_map, List, Result, Ok, Err}
 use Rattle.std.specs.List.{AllByRecursion}
 use Rattle.std.specs.Result.{result_ok}
-use Rattle.toll_wire.specs.Common.{Bytes, History, IsLawful, Meaning, Content, KeepFault, Memory, PlantCmd, PlantAnswer, IsPlantAnswer, after_plant, meaning_of_plant_reply, HoldsFor}
+use Rattle.toll_wire.specs.Common.{Bytes, History, IsLawful, Meaning, Content, KeepFault, Memory, PlantCmd, PlantAnswer, after_plant, meaning_of_plant_reply, HoldsFor}
+use Rattle.toll_answers.specs.PlantAnswers.{IsValidCommand}
 use Rattle.toll_history.specs.Runs.{IsRun}
-use Rattle.toll_desk.specs.PlantServed.{IsPlantServed}
-use Rattle.toll_desk.specs.Steps.{AreStepsFrom}
+use Rattle.toll_desk.specs.OfficeSteps.{IsPlantStep, plant_steps}
+use Rattle.toll_desk.specs.Steps.{AreStepsFrom, IsKeepStep}
 use Rattle.toll_wire.specs.declared.event.Event.{Event}
 use Rattle.toll_wire.specs.declared.event.Event.TheVariants.{Owner, Plant as Command}
 use Rattle.toll_wire.specs.declared.event.Answer.{Answer}
@@ -16,11 +17,6 @@ use Rattle.toll_wire.specs.Sayings.{Saying, Says, IsTold, after_saying}
 use Rattle.toll_wire.specs.Steps.{IsAnswered}
 
 -- ---- one step
-
--- the plant has the answer over the history, which grows by the command; or there was a fault, and the history stays
-abbrev pub IsPlantStep : History → PlantCmd → Result PlantAnswer KeepFault → History → Type 0
-IsPlantStep old command (Ok answer) new = IsPlantAnswer old command answer × (new ≡ after_plant old command)
-IsPlantStep old command (Err fault) new = new ≡ old
 
 -- From the old history the event may get the answer and lead to the new one. A request without a reply leaves the history.
 abbrev pub IsStep : History → Event → Answer → History → Type 0
@@ -40,7 +36,8 @@ module _ {K : Type 0} (meaning : Meaning K) where
   -- the event got this answer
   abbrev pub IsEventServed : K → Event → Answer → K → Type 0
   IsEventServed old (Owner bytes) (Reply out) new = IsAnswered meaning old new bytes.items out
-  IsEventServed old (Command command) (CommandReply reply) new = IsPlantServed meaning old new command reply
+  IsEventServed old (Command command) (CommandReply reply) new =
+      IsKeepStep meaning plant_steps old command (meaning_of_plant_reply reply) new × IsValidCommand command
   IsEventServed old _ _ new = ⊥
 
   -- the events got these answers one after another, and made the one keep of the other

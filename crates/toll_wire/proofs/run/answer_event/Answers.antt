@@ -5,4 +5,4 @@ use Rattle.toll_wire.proofs.run.answer_event.Goals as goal
 
 pub returns-in-Plant : goal.returns-in-Plant
 returns-in-Plant g c =
-    subst (λ event. IsEventServed g.K.Keep.meaning c.args.keep.now event (Plant c.plant_do.result) c.plant_do.new.keep) (sym c.in-Plant.is) c.plant_do.ensures
+    subst (λ event. IsEventServed g.K.Keep.meaning c.args.keep.now event (Plant c.plant_do.result) c.plant_do.new.keep) (sym c.in-Plant.is) (c.plant_do.ensures.step, c.plant_do.ensures.valid)
