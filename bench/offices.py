@@ -63,7 +63,7 @@ def owner_name(place: int) -> str:
 
 
 def product(batch: int, place: int) -> str:
-    return f"P-{batch:05}-{place}"
+    return f"P-{batch:05}-{place:02}"
 
 
 def batch_name(batch: int) -> tuple[str, int]:
@@ -146,6 +146,13 @@ def records(count: int, first: int = 0) -> Iterator[str]:
         lot = f"2,produced,PRODUCT,{owner},{product(batch, place // 100)}"
         lot = lot if place % 2 else f"1,consumed,RAW,{owner},R-{n % 100 + 1:05}"
         yield f"C{n:05},{owner},{order},{number},{lot},S1,1,101\n"
+
+
+def script(count: int) -> Iterator[str]:
+    """The lines of a script that receives so many lots and releases them."""
+    yield f"material-add {HOUSE} WATER liter\n"
+    yield from (f"receive {HOUSE} A{n:05} WATER W-{n + 1:05} S1 1000 101\n" for n in range(count))
+    yield from (f"release W-{n + 1:05}\n" for n in range(count))
 
 
 @contextlib.contextmanager

@@ -1,6 +1,9 @@
-"""bench/: offices keep the office's own limits, and what is measured beside the program looks and writes as it does."""
+"""bench/: offices keep the office's own limits, what is measured beside the program looks and writes as it does, counts
+are of what a program does, and tables have what was measured."""
 import collections
 import json
+import math
+import os
 import re
 import sqlite3
 import subprocess
@@ -9,11 +12,13 @@ from collections.abc import Iterator
 from pathlib import Path
 
 import pytest
-from conftest import ROOT
+from conftest import ROOT, script
 
 sys.path.append(str(ROOT))
-from bench import beside, offices  # noqa: E402
+from bench import beside, counting, offices  # noqa: E402
 from bench.offices import CONSUMED, HOUSE, PRODUCED, RECEIVED, WATER, Dense, Genealogy  # noqa: E402
+from bench.running import Figures, Office  # noqa: E402
+from bench.table import Column, Number, lines, measure, too_fast  # noqa: E402
 
 Output = pytest.CaptureFixture[str]
 KINDS = (ROOT / "crates" / "toll_sql" / "src" / "table_kind.rt").read_text()
@@ -54,6 +59,16 @@ def test_half_of_a_dense_genealogy_is_the_front_of_all() -> None:
 def test_a_second_file_of_actuals_goes_on_behind_the_first() -> None:
     first, second, both = (list(offices.records(*given)) for given in ((300,), (100, 300), (400,)))
     assert first[0] == second[0] and first + second[1:] == both
+
+
+def test_later_names_sort_behind_earlier_ones() -> None:
+    script_lines = [line.split() for line in offices.script(1_001)]
+    received, released = ([line for line in script_lines if line[0] == verb] for verb in ("receive", "release"))
+    actuals = [line.split(",") for line in offices.records(2_000)][1:]
+    made = [offices.product(batch, place) for batch in (1, 1_000) for place in range(100)]
+    for names in ([line[2] for line in received], [line[4] for line in received], [line[0] for line in actuals], made):
+        assert names == sorted(set(names))
+    assert [line[1] for line in released] == [line[4] for line in received] and len(script_lines) == 2_003
 
 
 # What stands beside
@@ -127,7 +142,101 @@ def test_columns_are_those_of_the_office() -> None:
         base.execute(offices.MOVE, next(Dense(10).moves("A")))
 
 
-@pytest.mark.parametrize("words", [["--no-such"], ["nothing"], ["--runs", "x"], ["--program", "/etc/passwd"]])
+# What is counted
+
+def test_instructions_are_those_of_the_program(tmp_path: Path) -> None:
+    def of(count: int) -> float:
+        return Office(Path("/usr/bin/echo"), None, str(tmp_path), is_counted=True).run("", *["word"] * count)
+
+    base = of(1)
+    assert 0 < base < of(5_000) - 0.1 and of(1) == pytest.approx(base, rel=0.01)
+
+
+def test_instructions_of_a_running_program_are_counted_up_to_each_look(tmp_path: Path) -> None:
+    counter, figures = counting.Callgrind(str(tmp_path)), [0.0]
+    with subprocess.Popen(counter.words(["cat"]), stdin=subprocess.PIPE, stdout=subprocess.PIPE) as program:
+        assert program.stdin and program.stdout
+        for line in (b"1\n", b"2\n", b"3\n"):
+            os.write(program.stdin.fileno(), line)
+            assert program.stdout.readline() == line
+            counter.dump(program.pid)
+            figures.append(counter.millions())
+    start, *later = [after - before for before, after in zip(figures, figures[1:])]
+    assert all(0 < figure < start / 10 for figure in later) and counter.millions() > figures[-1]
+    assert not list(tmp_path.glob("*/vgdb*"))
+
+
+def test_calls_of_the_system_are_those_of_a_process_meanwhile() -> None:
+    with subprocess.Popen(["cat"], stdin=subprocess.PIPE, stdout=subprocess.PIPE) as program:
+        assert program.stdin and program.stdout
+        with counting.system_calls(program.pid) as counts:
+            for _ in range(20):
+                os.write(program.stdin.fileno(), b"1\n")
+                assert program.stdout.readline() == b"1\n"
+    assert counts["write"] in (19, 20) and counts["read"] in (19, 20, 21)  # one may not have ended
+    assert counts["all"] == counts["read"] + counts["write"] and len(counts) == 3
+    with pytest.raises(OSError), counting.system_calls(program.pid):
+        pass
+
+
+# Tables
+
+def test_a_table_has_ratios_and_growths_of_what_the_first_program_takes() -> None:
+    figures = {"work": 0.2, "small": 0.0012, "count": 1_800, "ratio": Number(1.366)}
+    first, other = Column("A", Path("a"), figures=figures), Column("B", Path("b"), figures={"work": 0.4, "other": 1.0})
+    counted = Column("A: M", Path("a"), is_counted=True, figures={"work": 1_892.0, "ratio": Number(2)})
+    half = Column("half", Path("a"), 2, True, {"work": 946.0, "ratio": Number(1)})
+    python = Column("Python", None, figures={"work": math.nan})
+    assert [*lines("works", [first, other, python, counted], half)] == [
+        "| works | A | B | A / B | Python | A: M | growth |", "|---" * 7 + "|",
+        "| work | 200 ms | 400 ms | 0.50 |  | 1,892.00 | 1.00 |", "| small | 1.20 ms |  |  |  |  |  |",
+        "| count | 1,800 |  |  |  |  |  |", "| ratio | 1.37 |  |  |  | 2.00 |  |",
+        "| other |  | 1,000 ms |  |  |  |  |"]
+
+
+def test_rows_that_grow_faster_than_the_size_may_are_named() -> None:
+    whole = Column("A", None, figures={"square": 4.0, "in proportion": 2.0, "constant": 1.0, "ratio": Number(9)})
+    half = Column("half", None, 2, figures=dict.fromkeys(whole.figures, 1.0))
+    assert [*too_fast([whole], half)] == ["square grows by the power 2.00"]
+
+
+def test_a_ratio_is_of_the_better_figures(tmp_path: Path) -> None:
+    column = Column("A", None)
+    for rows in ((("first", 1.0), ("second", 3.0)), (("first", 2.0), ("second", 1.2))):
+        column.measure(lambda *_, of=rows: iter(of), None, str(tmp_path))
+    column.relate("ratio", "second", "first")
+    column.relate("none", "third", "first")
+    assert column.figures == {"first": 1.0, "second": 1.2, "ratio": 1.2}
+
+
+def test_programs_take_turns_and_what_they_print_is_compared(tmp_path: Path) -> None:
+    programs = [script(tmp_path / name, f"echo {name} >> {tmp_path}/log; echo {name}") for name in "AB"]
+    sizes = list[int]()
+
+    def work(office: Office, parts: int) -> Figures:
+        sizes.append(parts)
+        if office.program:
+            yield office.time("stock", "stock", "OWNER")
+            yield office.time("none", "orders", HOUSE)
+
+    columns = [*map(Column, ("A", "B", "Python"), (*programs, None)), Column("half", programs[0], 2)]
+    assert measure(work, columns, 2, str(tmp_path)) == ["stock"]
+    assert (tmp_path / "log").read_text().split() == [*"AABBAA"] * 2 and sizes == [1, 1, 1, 2] * 2
+    assert all(0 <= figure < 1 for column in columns for figure in column.figures.values())
+    assert measure(work, [columns[0], columns[3]], 1, str(tmp_path)) == []
+
+
+@pytest.mark.parametrize("words", [["--no-such"], ["nothing"], ["--runs", "x"], ["--program", "/etc/passwd"],
+                                   ["--instructions", "attacks"]])
 def test_a_wrong_use_has_status_2(words: list[str]) -> None:
     done = subprocess.run(["/usr/bin/python3", ROOT / "bench" / "run", *words], capture_output=True, text=True)
     assert done.returncode == 2 and done.stdout == ""
+
+
+@pytest.mark.parametrize("word, package", [("--instructions", "valgrind"), ("calls", "strace"), ("commands", "wrk")])
+def test_a_package_that_is_missing_is_named(tmp_path: Path, word: str, package: str) -> None:
+    for name in {"hyperfine", "wrk", "curl", "valgrind", "strace"} - {package}:
+        script(tmp_path / name, "")
+    done = subprocess.run(["/usr/bin/python3", ROOT / "bench" / "run", word], capture_output=True, text=True,
+                          env={"PATH": str(tmp_path)})
+    assert done.returncode == 2 and done.stderr.splitlines()[-1].endswith(f"error: Debian's {package} is missing")
