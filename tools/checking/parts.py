@@ -100,7 +100,7 @@ PLANT_NEEDS = ("python3-pytest", "python3-hypothesis", "python3-click", "python3
 BUILD_NEEDS = ("debhelper", "dh-python", "dpkg-dev", "git", "pybuild-plugin-pyproject", "python3-all", "python3-click", "python3-jinja2",
                "python3-odf", "python3-openpyxl", "python3-setuptools")
 TESTS_NEED = (*PLANT_NEEDS, *BUILD_NEEDS, "shellcheck", "python3-pyflakes", "python3-yaml", "nginx-light", "openssl", "curl", "systemd", "mandoc",
-              "python3-jsonschema", "libjson-validator-perl", "nodejs")
+              "python3-jsonschema", "libjson-validator-perl", "nodejs", "strace", "valgrind")
 
 PRELOADS = ("python3-pytest", "gcc", "libc6-dev")
 
