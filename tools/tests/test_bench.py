@@ -66,9 +66,10 @@ def test_later_names_sort_behind_earlier_ones() -> None:
     received, released = ([line for line in script_lines if line[0] == verb] for verb in ("receive", "release"))
     actuals = [line.split(",") for line in offices.records(2_000)][1:]
     products = [offices.product(batch, place) for batch in (1, 1_000) for place in range(100)]
-    for names in ([line[2] for line in received], [line[4] for line in received], [line[0] for line in actuals], products):
+    keys, lots = ([line[place] for line in received] for place in (2, 4))
+    for names in (keys, lots, [line[0] for line in actuals], products):
         assert names == sorted(set(names))
-    assert [line[1] for line in released] == [line[4] for line in received] and len(script_lines) == 2_003
+    assert [line[1] for line in released] == lots and len(script_lines) == 2_003
 
 
 # What stands beside
