@@ -29,7 +29,7 @@ pub use Rattle.toll_base.specs.Values.{IsBatchNo, is_digit, is_name, is_name_byt
 pub use Rattle.toll_base.specs.declared.refusal.Refusal.TheVariants.{OrderExists, UnknownLot}
 pub use Rattle.toll_base.specs.declared.request.Request.{Request}
 pub use Rattle.toll_desk.specs.Translations.{is_granted, may_change, meaning_of_plant_reply, writes}
-pub use Rattle.toll_desk.specs.Outcome.{IsDone, finished}
+pub use Rattle.toll_desk.specs.Outcome.{finished}
 pub use Rattle.toll_desk.specs.Representing.{Represents}
 pub use Rattle.toll_history.specs.Command.{CancelOrder, Command, PlaceOrder, Reject, Release, by}
 pub use Rattle.toll_history.specs.History.{History, acts, part}

@@ -1,20 +1,27 @@
 -- Requests that are served, over any keep.
-use Rattle.std.proofs.Common.{◌≡◌, ℕ, Bool, true, false, ◌&&◌, cond, List, [], ◌∷◌, Some, None, Result, Ok, Err, IfErr, IfOk, refl, sym, ap, subst, inl, inr}
-use Rattle.toll_wire.proofs.Common.{Vec, starts_with, digits, false≢true, Bytes, History, Meaning, Content, ContentKeepsRules, AllChangesFit, content_after, CallEffect, IsReading, Represents, KeepFault, Memory, Damaged, Request, OwnerReply, ReplyForbidden, ReplyRefused, has_owner_key, IsReply, after_reply, is_granted, may_change, writes, finished, IsDone, reply_text, Forbidden}
-use Rattle.std.specs.Prelude.{◌≢◌, OnOk, OnErr, IsTrue, nat_eq, codes}
+use Rattle.std.proofs.Common.{◌≡◌, ℕ, Bool, true, false, ◌&&◌, cond, List, [], Some, None, Result, Ok, Err, IfErr, IfOk, refl, sym, subst, inl, inr}
+use Rattle.toll_wire.proofs.Common.{Vec, starts_with, digits, false≢true, Bytes, History, IsLawful, Meaning, Content, CallEffect, IsReading, Represents, KeepFault, Memory, Request, OwnerReply, ReplyForbidden, ReplyRefused, has_owner_key, IsReply, IsValidOwnerRequest, after_reply, is_granted, may_change, writes, finished, reply_text, Forbidden}
+use Rattle.std.specs.Prelude.{OnErr, IsTrue, nat_eq, codes}
+use Rattle.std.proofs.lemmas.Result.{IfOk-weaker}
 use Rattle.toll_base.specs.declared.decision.Change.{Change}
-use Rattle.toll_desk.specs.Clauses.{IfPlacedAgain}
+use Rattle.toll_keep.proofs.Calls.{Rests, answered, failed_call, goes_fault, goes_memory, read_memory, settles_still}
+use Rattle.toll_keep.specs.CallEffects.{Keeps}
+use Rattle.toll_desk.specs.Clauses.{IfUnchanging, OverContentRows}
+use Rattle.toll_desk.specs.OfficeSteps.{owner_steps}
+use Rattle.toll_desk.specs.Outcome.{CommitEffect}
 use Rattle.toll_desk.specs.Plans.{IsPlan}
 use Rattle.toll_desk.specs.Reads.{Over}
-use Rattle.toll_keep.proofs.Calls.{Rests, goes_as, goes_fault, goes_memory, settles, spared}
-use Rattle.toll_desk.proofs.CommitLemmas.{done_of, goes_on}
+use Rattle.toll_desk.specs.Steps.{Calls, IsKeepStep, IsStepFrom, StoreEffect, calls_of}
+use Rattle.toll_desk.proofs.CommitLemmas.{and_false, commit_step, goes_on}
+use Rattle.toll_desk.proofs.OwnerPlans.{lawful_after_reply}
+use Rattle.toll_desk.proofs.StepLemmas.{step_as, store_of}
 use Rattle.toll_protocol.specs.declared.http_messages.failure.Failure.{Failure}
 use Rattle.toll_wire.specs.declared.outgoing.Out.{Out}
 use Rattle.toll_wire.specs.declared.outgoing.Out.TheVariants.{Text, Unavailable}
 use Rattle.toll_wire.specs.OutTexts.{IsText, text_if}
 use Rattle.toll_wire.specs.ReplyTexts.{fault_or_memory, text_of_failure, text_of_reply_meaning, text_if_reply}
 use Rattle.toll_wire.specs.Sayings.{ClaimedRequest, Asks, Fails, Saying, By, Nobody, IsTold, MayBeReply, after_saying}
-use Rattle.toll_wire.specs.Steps.{reply_outcome, IfPlacedBefore, IsReplyWhere, IsGranted, IsSayingServed, IsFaultMet, IsServing, ReplyEffect}
+use Rattle.toll_wire.specs.Steps.{IfPlacedBefore, IfSayingUnchanging, IsReplyWhere, IsGranted, IsSayingStep, IsFaultMet, SayingCalls, saying_steps}
 
 -- ---- texts
 
@@ -32,46 +39,21 @@ grants_none q reported text is not = by_grant (is_granted (Ok reported)) refl
     by_grant : (b : Bool) → is_granted (Ok reported) ≡ b → (writes q && is_granted (Ok reported)) ≡ false
     by_grant true granted = absurd (not (subst (λ t. IsTrue (starts_with nat_eq t (codes "HTTP/1.1 200 "))) (sym is) (granted_text reported granted)))
     by_grant false granted = rw granted (and_false (writes q))
-      where
-        and_false : (b : Bool) → (b && false) ≡ false
-        and_false true = refl
-        and_false false = refl
-
-asks_none : (q : Request) (reported : OwnerReply) → writes q ≡ false → may_change q (Ok reported) ≡ false
-asks_none q reported none = rw none refl
-
--- ---- what is done if nothing changes
-
-module _ (holds : Content → Type 0) (was_live : Type 0) (leaves : List Content → Type 0) (c : Content) (held : holds c) where
-  -- nothing was done
-  pub none_done : {X E : Type 0} (G : History) (e : E) (IsTold : X → Type 0) → (was_live → leaves (c ∷ [])) → IsDone holds was_live leaves c G (Err e) IsTold
-  none_done G e IsTold stop = record { reported = tt; done = tt; undone = held; crash = λ was. record { others = []; stand = tt; left = stop was } }
-
-  -- nothing was to be done
-  pub none_to_do : {X E : Type 0} (H : History) (outcome : Result X E) (IsTold : X → Type 0) → Represents c H → (was_live → leaves (c ∷ [])) → IfOk outcome IsTold → IsDone holds was_live leaves c H outcome IsTold
-  none_to_do H (Ok x) IsTold stands stop reported = record {
-    reported = reported;
-    done = record { content = c; held = held; stands = stands };
-    undone = tt;
-    crash = λ was. record { others = []; stand = tt; left = stop was };
-  }
-  none_to_do H (Err e) IsTold stands stop reported = none_done H e IsTold stop
 
 -- what is so of the one text that there may be is so of the reply
-pub so_of_text : (out : Out) (text : Bytes) (P : Bytes → Type 0) → IsText out (Some text) → P text → IfOk (reply_outcome out) P
-so_of_text (Text reported) text P is so = subst P (sym is) so
-so_of_text Unavailable text P is so = tt
-
 so_of_reply : (out : Out) (text : Bytes) (P : Bytes → Type 0) → IsText out (Some text) → P text → IsReplyWhere P out
 so_of_reply (Text reported) text P is so = subst P (sym is) so
 so_of_reply Unavailable text P is so = tt
 
--- what is so at all is so if an order is placed again
-so_again : (c : Content) (saying : Saying) (P : Type 0) → P → IfPlacedBefore c saying P
-so_again c (By o (Some key) (Asks q)) P p = λ order recipe batches is there. p
-so_again c (By o (Some key) (Fails text)) P p = tt
-so_again c (By o None asking) P p = tt
-so_again c (Nobody text) P p = tt
+-- what is so at all is so if the saying is to change nothing
+so_unchanging : (c : Content) (saying : Saying) (out : Out) (P : Type 0) → P → IfSayingUnchanging c saying out P
+so_unchanging c saying out P p = record { asks = λ none. p; quiet = λ not. p; once = so_again saying }
+  where
+    so_again : (saying : Saying) → IfPlacedBefore c saying P
+    so_again (By o (Some key) (Asks q)) = λ order recipe batches is there. p
+    so_again (By o (Some key) (Fails text)) = tt
+    so_again (By o None asking) = tt
+    so_again (Nobody text) = tt
 
 -- what is so of a lack of memory is so of the only fault that there can be
 pub met_memory : {X : Type 0} (P : KeepFault → Type 0) (r : Result X KeepFault) → IfErr r (λ fault. fault ≡ Memory) → P Memory → IfErr r P
@@ -80,195 +62,149 @@ met_memory P (Err fault) is p = subst P (sym is) p
 
 module _ {K : Type 0} (meaning : Meaning K) where
   abbrev Serves : K → K → Saying → Out → Type 0
-  Serves old new saying out = IsServing meaning old new saying out
+  Serves old new saying out = IsKeepStep meaning saying_steps old saying out new
 
-  abbrev ServedReads : {X : Type 0} → K → K → Result X KeepFault → Type 0
-  ServedReads old new r = IsReading meaning old new r
+  -- ---- what leaves the content
 
-  -- ---- without a call of the keep
+  -- A step that leaves the content and its history.
+  pub still_from : {E A : Type 0} (Step : History → E → A → History → Type 0) (MayMake : History → E → History → Type 0) (old new : K) (c : Content) (H : History)
+      → Represents c H → IsLawful H → Keeps meaning old new → meaning.holds old c → (e : E) (a : A) → Step H e a H → (G : History) → MayMake H e G
+      → IsStepFrom meaning Step MayMake old c H e a new
+  still_from Step MayMake old new c H stands lawful keeps held e a step G makes = (
+    c,
+    H,
+    record {
+      step = step;
+      lawful = lawful;
+      held = keeps.content c held;
+      stands = stands;
+      crash = λ live. (G, makes, record { others = []; stand = tt; left = keeps.crash live c held });
+      settled = λ live. inl (keeps.crash live c held);
+    },
+  )
 
-  -- replies to the bytes alone, and without a key
-  pub untouched : (k : K) (settled : (c : Content) → meaning.is_honest k → meaning.is_store_open k → meaning.holds k c → meaning.leaves k (c ∷ [])) (text : Bytes) (out : Out) → IsText out (Some text) → Serves k k (Nobody text) out
-  untouched k settled text out is = record {
-    tells = so_of_reply out text (MayBeReply (Nobody text)) is refl;
-    goes = refl;
-    honest = λ now. now;
-    settles = λ now lived c held. inl (lived, settled c now lived held);
-    asks = λ now c held none. held;
-    quiet = λ now c held not. held;
-    once = λ now c held. tt;
-    served = λ now c H held stands lawful. none_to_do (meaning.holds k) (meaning.is_store_open k) (meaning.leaves k) c held H (reply_outcome out) (IsTold H (Nobody text)) stands (λ live. settled c now live held) (so_of_text out text (IsTold H (Nobody text)) is refl);
+  -- A keep that isn't called keeps its content.
+  pub keeps_still : Rests meaning → (k : K) → meaning.is_honest k → Keeps meaning k k
+  keeps_still rests k now = record { content = λ c held. held; crash = λ live c held. rests k c now live held }
+
+  -- A reply that leaves the content.
+  still_step : (old new : K) (s : Saying) (out : Out) (calls : Calls) → SayingCalls s out calls → StoreEffect meaning old new calls → (meaning.is_honest new → Keeps meaning old new)
+      → IsReplyWhere (MayBeReply s) out → Over meaning old new (λ c H. IsReplyWhere (λ text. IsTold H s text × (H ≡ after_saying H s)) out) → Serves old new s out
+  still_step old new s out calls called store keeps tells replies = record {
+    outcome = calls;
+    calls = (tells, called);
+    store = store;
+    still = λ now c held. so_unchanging c s out (meaning.holds new c) ((keeps now).content c held);
+    over = λ now c H held stands lawful.
+        still_from saying_steps.step saying_steps.may_make old new c H stands lawful (keeps now) held s out (step_of H out (replies now c H held stands lawful)) (after_saying H s) refl;
   }
+    where
+      step_of : (H : History) (out : Out) → IsReplyWhere (λ text. IsTold H s text × (H ≡ after_saying H s)) out → IsSayingStep H s out H
+      step_of H (Text text) step = step
+      step_of H Unavailable step = refl
 
-  pub keyless : (k : K) (settled : (c : Content) → meaning.is_honest k → meaning.is_store_open k → meaning.holds k c → meaning.leaves k (c ∷ [])) (o : Bytes) (asking : ClaimedRequest) (out : Out) → IsText out (Some (text_of_failure Forbidden)) → Serves k k (By o None asking) out
-  keyless k settled o asking out is = record {
-    tells = so_of_reply out (text_of_failure Forbidden) (MayBeReply (By o None asking)) is refl;
-    goes = refl;
-    honest = λ now. now;
-    settles = λ now lived c held. inl (lived, settled c now lived held);
-    asks = λ now c held none. held;
-    quiet = λ now c held not. held;
-    once = λ now c held. tt;
-    served = λ now c H held stands lawful. none_to_do (meaning.holds k) (meaning.is_store_open k) (meaning.leaves k) c held H (reply_outcome out) (IsTold H (By o None asking)) stands (λ live. settled c now live held) (so_of_text out (text_of_failure Forbidden) (IsTold H (By o None asking)) is refl);
-  }
+  -- a reply that needs no call of the keep
+  pub uncalled : Rests meaning → (k : K) (s : Saying) (text : Bytes) (out : Out) → IsText out (Some text) → SayingCalls s out None → MayBeReply s text
+      → ((H : History) → IsTold H s text × (H ≡ after_saying H s)) → Serves k k s out
+  uncalled rests k s text out is called may replies =
+      still_step k k s out None called
+      (record {
+        honest = λ now. now;
+        goes = refl;
+        settles = settles_still meaning k rests;
+        spared = λ none. absurd (cc none);
+        whole = λ now c held rules none. (cc none);
+      })
+      (keeps_still rests k) (so_of_reply out text (MayBeReply s) is may)
+      (λ now c H held stands lawful. so_of_reply out text (λ text. IsTold H s text × (H ≡ after_saying H s)) is (replies H))
 
   -- ---- after a reading
 
-  module _ (old new : K) (o key : Bytes) where
-    abbrev GoesOut : Out → Type 0
-    GoesOut out = ReplyEffect meaning old new out
-
-    abbrev served_failed : {X : Type 0} → KeepFault → Result X KeepFault
-    served_failed fault = Err fault
-
-    -- calls that answered, or a fault of one, and then no reply
-    goes_untold : {X : Type 0} → Rests meaning → (r : Result X KeepFault) → ServedReads old new r → GoesOut Unavailable
-    goes_untold settled (Ok x) reads = record {
-      outcome = Err Memory;
-      is = (Memory, refl);
-      goes = goes_memory meaning old new x reads.goes;
-      spared = λ is. spared meaning {X = Unit {0}} old new (Err Memory) settled is (goes_memory meaning old new x reads.goes) (λ now c held. (reads.keeps now).content c held);
-      whole = λ now c held rules is. (cc is);
-    }
-    goes_untold {X} settled (Err fault) reads = record {
-      outcome = Err fault;
-      is = (fault, refl);
-      goes = goes_fault meaning old new fault reads.goes;
-      spared = λ is. spared meaning {X = Unit {0}} old new (Err fault) settled is (goes_fault meaning old new fault reads.goes) (λ now c held. (reads.keeps now).content c held);
-      whole = λ now c held rules is. let same : fault ≡ Damaged = (cc is) in reads.whole now c held rules (ap (λ f. served_failed {X = X} f) same);
-    }
-
-    -- calls that answered, and a reply
-    goes_told : {X : Type 0} (x : X) (text : Vec ℕ) → CallEffect {X = X} meaning old new (Ok x) → GoesOut (Text text)
-    goes_told x text goes = record {
-      outcome = Ok tt;
-      is = refl;
-      goes = goes_as meaning old new x tt goes;
-      spared = λ is. absurd (cc is);
-      whole = λ now c held rules is. (cc is);
-    }
+  module _ (rests : Rests meaning) (old new : K) where
+    read_store : {X : Type 0} (r : Result X KeepFault) → IsReading meaning old new r → StoreEffect meaning old new (calls_of r)
+    read_store r reads = store_of meaning old new rests r reads.goes (λ now c held. on_err r ((reads.keeps now).content c held)) reads.whole
+      where
+        on_err : {X P : Type 0} (r : Result X KeepFault) → P → OnErr r P
+        on_err (Ok x) p = tt
+        on_err (Err fault) p = p
 
     -- the fault is that of the reading, or there was no memory after it
-    pub met_reading : {X : Type 0} (r : Result X KeepFault) → ServedReads old new r → IsFaultMet meaning old new (fault_or_memory r)
+    pub met_reading : {X : Type 0} (r : Result X KeepFault) → IsReading meaning old new r → IsFaultMet meaning old new (fault_or_memory r)
     met_reading (Ok x) reads = inr (goes_memory meaning old new x reads.goes)
     met_reading (Err fault) reads = inr (goes_fault meaning old new fault reads.goes)
 
     -- no reply, after calls that answered or after a fault of one
-    pub untold : {X : Type 0} → Rests meaning → (asking : ClaimedRequest) (r : Result X KeepFault) → ServedReads old new r → Serves old new (By o (Some key) asking) Unavailable
-    untold settled asking r reads = record {
-      tells = tt;
-      goes = goes_untold settled r reads;
-      honest = reads.goes.honest;
-      settles = settles meaning old new r settled reads.goes;
-      asks = λ now c held none. (reads.keeps now).content c held;
-      quiet = λ now c held not. (reads.keeps now).content c held;
-      once = λ now c held. so_again c (By o (Some key) asking) (meaning.holds new c) ((reads.keeps now).content c held);
-      served = λ now c H held stands lawful.
-          none_done (meaning.holds new) (meaning.is_store_open old) (meaning.leaves new) c ((reads.keeps now).content c held) (after_saying H (By o (Some key) asking)) tt (IsTold H (By o (Some key) asking)) (λ live. (reads.keeps now).crash live c held);
-    }
+    pub untold : {X : Type 0} (o key : Bytes) (asking : ClaimedRequest) (r : Result X KeepFault) → IsReading meaning old new r → Serves old new (By o (Some key) asking) Unavailable
+    untold {X} o key asking r reads = by_reading r reads
+      where
+        by_fault : (fault : KeepFault) → IsReading meaning old new (failed_call {X = X} fault) → Serves old new (By o (Some key) asking) Unavailable
+        by_fault fault reads =
+            still_step old new (By o (Some key) asking) Unavailable (Some (Err fault)) (fault, refl) (read_store (failed_call {X = X} fault) reads) reads.keeps tt (λ now c H held stands lawful. tt)
 
-    module _ (failure : Failure) {X : Type 0} (x : X) (reads : ServedReads {X = X} old new (Ok x)) (b : Bool) (admits : meaning.is_honest new → (c : Content) (H : History) → meaning.holds old c → Represents c H → b ≡ has_owner_key o key H) where
-      abbrev served_failing : Saying
-      served_failing = By o (Some key) (Fails (text_of_failure failure))
+        by_reading : (r : Result X KeepFault) → IsReading meaning old new r → Serves old new (By o (Some key) asking) Unavailable
+        by_reading (Ok x) reads = by_fault Memory (read_memory meaning old new x reads.goes reads.keeps)
+        by_reading (Err fault) reads = by_fault fault reads
 
-      -- the reply names the check that failed if the key is right, and else only says that it is forbidden
-      pub served_refused : Rests meaning → (out : Out) → IsText out (Some (cond b (text_of_failure failure) (text_of_failure Forbidden))) → Serves old new served_failing out
-      served_refused settled Unavailable is = untold settled (Fails (text_of_failure failure)) (Ok x) reads
-      served_refused settled (Text text) is = record {
-        tells = (b, tt, is);
-        goes = goes_told x text reads.goes;
-        honest = reads.goes.honest;
-        settles = settles meaning old new _ settled reads.goes;
-        asks = λ now c held none. (reads.keeps now).content c held;
-        quiet = λ now c held not. (reads.keeps now).content c held;
-        once = λ now c held. tt;
-        served = λ now c H held stands lawful.
-            none_to_do (meaning.holds new) (meaning.is_store_open old) (meaning.leaves new) c ((reads.keeps now).content c held) H (reply_outcome (Text text)) (IsTold H served_failing) stands (λ live. (reads.keeps now).crash live c held)
-            (b, admits now c H held stands, is);
-      }
+    -- the reply names the check that failed if the key is right, and else only says that it is forbidden
+    pub served_refused : {X : Type 0} (o key : Bytes) (failure : Failure) (x : X) → IsReading meaning old new (answered x) → (b : Bool)
+        → Over meaning old new (λ c H. b ≡ has_owner_key o key H) → (out : Out) → IsText out (Some (cond b (text_of_failure failure) (text_of_failure Forbidden)))
+        → Serves old new (By o (Some key) (Fails (text_of_failure failure))) out
+    served_refused o key failure x reads b admits Unavailable is = untold o key (Fails (text_of_failure failure)) (answered x) reads
+    served_refused o key failure x reads b admits (Text text) is =
+        still_step old new (By o (Some key) (Fails (text_of_failure failure))) (Text text) (Some (Ok tt)) refl (read_store (answered x) reads) reads.keeps (b, tt, is)
+        (λ now c H held stands lawful. ((b, admits now c H held stands lawful, is), refl))
 
   -- ---- after a plan
 
-  -- what is so of the call that made the changes of a plan, over any content
-  pub record Carries (middle new : K) (changes : List Change) (made : Result (Unit {0}) KeepFault) : Type 0 where
-    pub honest : meaning.is_honest new → meaning.is_honest middle
-    pub idle : changes ≡ [] → (new ≡ middle) × (made ≡ Ok tt)
-    pub goes : (changes ≡ [] → ⊥) → CallEffect meaning middle new made
-    pub all : meaning.is_honest new → (c : Content) → meaning.holds middle c → AllChangesFit c changes → OnOk made (meaning.holds new (content_after changes c))
-    pub none : meaning.is_honest new → (c : Content) → meaning.holds middle c → OnErr made (meaning.holds new c)
-    pub whole : meaning.is_honest new → (c : Content) → meaning.holds middle c → ContentKeepsRules c → made ≢ Err Damaged
-    pub crash : meaning.is_honest new → meaning.is_store_open middle → (c : Content) → meaning.holds middle c → AllChangesFit c changes → meaning.leaves new (c ∷ content_after changes c ∷ [])
-
-  module _ (old middle new : K) (o key : Bytes) (q : Request) (reported : OwnerReply) (changes : List Change) (reads : ServedReads {X = OwnerReply} old middle (Ok reported)) (quiet : may_change q (Ok reported) ≡ false → changes ≡ []) (once : meaning.is_honest middle → (c : Content) → meaning.holds old c → IfPlacedAgain (c.rows o) q (changes ≡ []))
-      (plan : Over meaning old middle (λ c H. IsPlan c H o key q reported changes)) (text : Vec ℕ) (is : text.items ≡ text_of_reply_meaning reported) where
+  module _ (old new : K) (o key : Bytes) (q : Request) (text : Vec ℕ) where
     abbrev asking : Saying
     asking = By o (Some key) (Asks q)
 
-    abbrev planned : Result OwnerReply KeepFault
-    planned = Ok reported
-
-    served_goes_made : (made : Result (Unit {0}) KeepFault) → Carries middle new changes made → CallEffect meaning old new (finished planned made)
-    served_goes_made made carries = goes_on meaning old middle new planned changes made reads.goes tt carries.idle carries.goes
-
-    -- if there was nothing to change, the content stays
-    served_still : (made : Result (Unit {0}) KeepFault) → Carries middle new changes made → meaning.is_honest new → (c : Content) → meaning.holds old c → changes ≡ [] → meaning.holds new c
-    served_still made carries now c held none = subst (λ k. meaning.holds k c) (sym (carries.idle none).0) ((reads.keeps (carries.honest now)).content c held)
-
-    -- and what says no 200 changed nothing
-    served_quiet_out : (made : Result (Unit {0}) KeepFault) → Carries middle new changes made → meaning.is_honest new → (c : Content) → meaning.holds old c → ¬ (IsGranted (text_if text made)) → meaning.holds new c
-    served_quiet_out (Ok done) carries now c held not = served_still (Ok done) carries now c held (quiet (grants_none q reported text is not))
-    served_quiet_out (Err fault) carries now c held not = carries.none now c ((reads.keeps (carries.honest now)).content c held)
-
-    served_goes_out : Rests meaning → (made : Result (Unit {0}) KeepFault) → Carries middle new changes made → ReplyEffect meaning old new (text_if text made)
-    served_goes_out settled (Ok done) carries = goes_told old new o key reported text (served_goes_made (Ok done) carries)
-    served_goes_out settled (Err fault) carries = record {
-      outcome = Err fault;
-      is = (fault, refl);
-      goes = goes_fault meaning old new fault (served_goes_made (Err fault) carries);
-      spared = λ is. spared meaning {X = Unit {0}} old new (Err fault) settled is (goes_fault meaning old new fault (served_goes_made (Err fault) carries)) (λ now c held. served_quiet_out (Err fault) carries now c held (λ no. no));
-      whole = λ now c held rules damaged. let same : fault ≡ Damaged = (cc damaged) in carries.whole now c ((reads.keeps (carries.honest now)).content c held) rules (ap (λ f. Err f) same);
+    -- The owner's step is that of its request, if the text of the reply is there before its changes are made.
+    owner_step_told : (planned : Result OwnerReply KeepFault) → IsText (Text text) (text_if_reply planned) → (made : Result (Unit {0}) KeepFault)
+        → IsKeepStep meaning (owner_steps o key) old q (finished planned made) new → Serves old new asking (text_if text made)
+    owner_step_told (Ok reported) is (Ok done) step = record {
+      outcome = step.outcome;
+      calls = ((reported, tt, is), step.calls);
+      store = step.store;
+      still = λ now c held. let still = step.still now c held in record {
+        asks = λ none. still.quiet (rw none refl);
+        quiet = λ not. still.quiet (grants_none q reported text is not);
+        once = still.once;
+      };
+      over = λ now c H held stands lawful.
+          step_as meaning (owner_steps o key).step (owner_steps o key).may_make saying_steps.step saying_steps.may_make old new c H q (Ok reported) asking (Text text)
+          (λ G step. ((reported, step.1.0, is), step.1.1)) (λ G makes. makes) (step.over now c H held stands lawful);
     }
-
-    tells_out : (made : Result (Unit {0}) KeepFault) → IsReplyWhere (MayBeReply asking) (text_if text made)
-    tells_out (Ok done) = (reported, tt, is)
-    tells_out (Err fault) = tt
-
-    served_out : (made : Result (Unit {0}) KeepFault) (c : Content) (H : History) → IsDone (meaning.holds new) (meaning.is_store_open old) (meaning.leaves new) c (after_reply o key H q) (finished planned made) (IsReply o key H q) →
-        IsSayingServed (meaning.holds new) (meaning.is_store_open old) (meaning.leaves new) c H asking (text_if text made)
-    served_out (Ok done) c H came = record { reported = (reported, came.reported, is); done = came.done; undone = tt; crash = came.crash }
-    served_out (Err fault) c H came = record { reported = tt; done = tt; undone = came.undone; crash = came.crash }
-
-    -- the text of a plan is replied once its changes were made
-    pub told_after : Rests meaning → (made : Result (Unit {0}) KeepFault) → Carries middle new changes made → Serves old new asking (text_if text made)
-    told_after settled made carries = record {
-      tells = tells_out made;
-      goes = served_goes_out settled made carries;
-      honest = λ now. reads.goes.honest (carries.honest now);
-      settles = settles meaning old new (finished planned made) settled (served_goes_made made carries);
-      asks = λ now c held none. served_still made carries now c held (quiet (asks_none q reported none));
-      quiet = served_quiet_out made carries;
-      once = λ now c held order recipe batches is_place there. served_still made carries now c held (once (carries.honest now) c held order recipe batches is_place there);
-      served = λ now c H held stands lawful.
-          let before = carries.honest now in
-          let keeps = reads.keeps before in
-          let between = keeps.content c held in
-          let plans = plan before c H held stands lawful in
-          served_out made c H (done_of meaning old middle new made c (after_reply o key H q) (IsReply o key H q) changes changes refl
-          (record { idle = carries.idle; all = carries.all now c between; none = carries.none now c between; crash = λ live. carries.crash now live c between }) between
-          planned tt (plans.reply, plans.leads) (λ was. reads.goes.shown before) (λ live. keeps.crash live c held) (finished planned made) refl);
+    owner_step_told (Ok reported) is (Err fault) step = record {
+      outcome = step.outcome;
+      calls = (tt, (fault, step.calls));
+      store = step.store;
+      still = λ now c held. so_unchanging c asking Unavailable (meaning.holds new c) ((step.still now c held).quiet (and_false (writes q)));
+      over = λ now c H held stands lawful.
+          step_as meaning (owner_steps o key).step (owner_steps o key).may_make saying_steps.step saying_steps.may_make old new c H q (Err fault) asking Unavailable
+          (λ G step. step.1) (λ G makes. makes) (step.over now c H held stands lawful);
     }
+    owner_step_told (Err fault) is made step = absurd is
 
-  -- the same for a plan whose changes are read through a reference
-  pub plan_told : Rests meaning → (old middle new : K) (o key : Bytes) (q : Request) (planned : Result OwnerReply KeepFault) (changes made_of : List Change) → made_of ≡ changes → ServedReads old middle planned → (may_change q planned ≡ false → changes ≡ []) → (meaning.is_honest middle → (c : Content) → meaning.holds old c → IfPlacedAgain (c.rows o) q (changes ≡ [])) →
-      Over meaning old middle (λ c H. IfOk planned (λ reported. IsPlan c H o key q reported changes)) → (text : Vec ℕ) → IsText (Text text) (text_if_reply planned) → (made : Result (Unit {0}) KeepFault) → Carries middle new made_of made → Serves old new (By o (Some key) (Asks q)) (text_if text made)
-  plan_told settled old middle new o key q (Ok reported) changes made_of same reads quiet once plan text is made carries =
-      told_after old middle new o key q reported changes reads quiet once plan text is settled made (subst (λ changes. Carries middle new changes made) same carries)
-  plan_told settled old middle new o key q (Err fault) changes made_of same reads quiet once plan text is made carries = absurd is
+  -- a plan with a text, and then its changes, which are read through a reference
+  module _ (old middle new : K) (o key : Bytes) (q : Request) (planned : Result OwnerReply KeepFault) (changes made : List Change) (same : made ≡ changes) (reads : IsReading meaning old middle planned)
+      (text : Vec ℕ) (is : IsText (Text text) (text_if_reply planned)) (result : Result (Unit {0}) KeepFault) (commit : CommitEffect meaning middle new made result) where
+    pub plan_told : Rests meaning → IsValidOwnerRequest q → IfUnchanging (OverContentRows meaning old middle o) q planned (changes ≡ [])
+        → Over meaning old middle (λ c H. IfOk planned (λ reported. IsPlan c H o key q reported changes)) → Serves old new (By o (Some key) (Asks q)) (text_if text result)
+    plan_told rests valid idle plan =
+        owner_step_told old new o key q text planned is result
+        (commit_step meaning rests old middle new planned (finished planned result) changes made result same refl reads commit (may_change q) (λ fault. and_false (writes q)) idle.quiet
+        (IsReply o key) (after_reply o key) q (λ H lawful. lawful_after_reply o key H q lawful valid)
+        (λ honest c H held stands lawful. IfOk-weaker planned _ _ (λ x plan. (plan.reply, plan.leads)) (plan honest c H held stands lawful)) _ refl _
+        (λ honest c held P stays none. record { quiet = stays; once = λ order recipe batches asks there. none (idle.once honest c held order recipe batches asks there) }))
 
-  -- the fault that the making of the changes met, after a plan that has a text
-  pub met_making : (old middle new : K) (planned : Result OwnerReply KeepFault) (changes made_of : List Change) → made_of ≡ changes → ServedReads old middle planned
-      → (text : Vec ℕ) → IsText (Text text) (text_if_reply planned) → (fault : KeepFault) (made : Result (Unit {0}) KeepFault) → made ≡ Err fault → Carries middle new made_of made → IsFaultMet meaning old new fault
-  met_making old middle new (Ok reported) changes made_of same reads text is fault made failed carries =
-      let goes : CallEffect meaning old new (finished {X = OwnerReply} (Ok reported) made) = goes_on meaning old middle new (Ok reported) made_of made reads.goes tt carries.idle carries.goes in
-      inr (goes_fault meaning {X = OwnerReply} old new fault (subst (λ m. CallEffect meaning old new (finished {X = OwnerReply} (Ok reported) m)) failed goes))
-  met_making old middle new (Err failing) changes made_of same reads text is fault made failed carries = absurd is
+    -- the fault that the making of the changes met
+    pub met_making : (fault : KeepFault) → result ≡ Err fault → IsFaultMet meaning old new fault
+    met_making fault failed = by_plan planned reads.goes is
+      where
+        by_plan : (planned : Result OwnerReply KeepFault) → CallEffect meaning old middle planned → IsText (Text text) (text_if_reply planned) → IsFaultMet meaning old new fault
+        by_plan (Ok reported) goes is =
+            inr (goes_fault meaning {X = OwnerReply} old new fault
+            (subst (λ m. CallEffect meaning old new (finished {X = OwnerReply} (Ok reported) m)) failed (goes_on meaning old middle new (Ok reported) made result goes tt commit.idle commit.goes)))
+        by_plan (Err failing) goes is = absurd is

@@ -1,14 +1,12 @@
 -- Events of the office, one after another, are a run.
-use Rattle.std.proofs.Common.{◌≡◌, ◌⊎◌, false, List, [], ◌∷◌, Result, Ok, Err, refl, sym, subst, ap, ◌∙◌, inl, inr}
-use Rattle.toll_wire.proofs.Common.{Vec, AllByRecursion, false≢true, History, IsLawful, Meaning, Content, CallEffect, Settles, Represents, KeepFault, Memory, Disk, Damaged, Closed, PlantCmd, PlantAnswer, meaning_of_plant_reply}
+use Rattle.std.proofs.Common.{◌≡◌, false, List, [], ◌∷◌, Err, refl, sym, subst, ap, ◌∙◌, inl, inr}
+use Rattle.toll_wire.proofs.Common.{Vec, AllByRecursion, false≢true, History, Meaning, Content, CallEffect, KeepFault, Memory, Disk, Damaged, Closed, PlantCmd, meaning_of_plant_reply}
 use Rattle.std.specs.Prelude.{ℕ}
-use Rattle.toll_base.specs.declared.refusal.Refusal.{Refusal}
 use Rattle.toll_history.proofs.RunLemmas.{run_back}
-use Rattle.toll_answers.proofs.OwnReplies.{lawful-after_plant}
 use Rattle.toll_answers.specs.declared.plant_cmd.PlantCmd.TheVariants as cmd
 use Rattle.toll_desk.specs.Reads.{Over}
+use Rattle.toll_keep.specs.CallEffects.{Keeps}
 use Rattle.toll_desk.specs.Steps.{AfterCalls, Calls, IsStepFrom, state_at}
-use Rattle.toll_desk.specs.declared.plant_cmd.PlantReply.{PlantReply}
 use Rattle.toll_desk.proofs.StepLemmas.{history_run, stands_after, step_as, steps_from}
 use Rattle.toll_wire.specs.declared.event.Event.{Event}
 use Rattle.toll_wire.specs.declared.event.Event.TheVariants.{Owner, Plant as Command}
@@ -16,18 +14,18 @@ use Rattle.toll_wire.specs.declared.event.Answer.{Answer}
 use Rattle.toll_wire.specs.declared.event.Answer.TheVariants.{Bytes as Reply, Plant as CommandReply}
 use Rattle.toll_wire.specs.declared.outgoing.Out.{Out}
 use Rattle.toll_wire.specs.declared.outgoing.Out.TheVariants.{Text, Unavailable}
-use Rattle.toll_wire.specs.Sayings.{Saying, Says, after_saying}
-use Rattle.toll_wire.specs.Steps.{IsSayingServed}
+use Rattle.toll_wire.specs.Sayings.{Saying, Says}
+use Rattle.toll_wire.specs.Steps.{IsSayingStep, saying_steps}
 use Rattle.toll_desk.specs.OfficeSteps.{PlantCalls, plant_steps}
 use Rattle.toll_wire.specs.OfficeRuns.{IsStep, MayMake, IsEventServed, AreServed, AreSteps, IsOpenAnswer, IsRunOf}
-use Rattle.toll_wire.proofs.Growth.{lawful-after_saying}
 use Rattle.toll_wire.proofs.Private.{run_of}
+use Rattle.toll_wire.proofs.Served.{keeps_still, still_from}
 
 module _ {K : Type 0} (meaning : Meaning K) where
   -- a keep that is honest now has always been so
   event_honest : (old new : K) (e : Event) (a : Answer) → IsEventServed meaning old e a new → meaning.is_honest new → meaning.is_honest old
-  event_honest old new (Owner bytes) (Reply out) (inl answered) = answered.2.honest
-  event_honest old new (Owner bytes) (Reply out) (inr unread) = subst meaning.is_honest unread.same
+  event_honest old new (Owner bytes) (Reply out) (inl answered) = answered.2.store.honest
+  event_honest old new (Owner bytes) (Reply out) (inr unread) = subst meaning.is_honest unread.1
   event_honest old new (Command command) (CommandReply reply) served = served.0.store.honest
   event_honest old new (Owner bytes) (CommandReply reply) served = absurd served
   event_honest old new (Command command) (Reply out) served = absurd served
@@ -39,66 +37,19 @@ module _ {K : Type 0} (meaning : Meaning K) where
   module _ (settled : (k : K) (c : Content) → meaning.is_honest k → meaning.is_store_open k → meaning.holds k c → meaning.leaves k (c ∷ [])) where
     -- ---- one event is a step
 
-    module _ (old new : K) (now : meaning.is_honest new) (c : Content) (H : History) (held : meaning.holds old c) (stands : Represents c H) (lawful : IsLawful H) where
-      abbrev Step : Event → Answer → Type 0
-      Step e a = IsStepFrom meaning IsStep MayMake old c H e a new
-
-      -- a stop behind it leaves what is held
-      rests_behind : Settles meaning old new → (d : Content) → meaning.holds new d → meaning.is_store_open old
-          → meaning.leaves new (d ∷ []) ⊎ meaning.has_cause old new
-      rests_behind rests d there live = elim (rests now live d there) [ inl lives ↦ inl lives.1 | inr cause ↦ inr cause ]
-
-      -- its bytes were not read
-      unread_step : (bytes : Vec ℕ) → new ≡ old → Step (Owner bytes) (Reply Unavailable)
-      unread_step bytes same =
-          let still = subst (λ k. meaning.holds k c) (sym same) held in
-          let rests = λ (live : meaning.is_store_open old). settled new c now (subst meaning.is_store_open (sym same) live) still in (
-            c,
-            H,
-            record {
-              step = refl;
-              lawful = lawful;
-              held = still;
-              stands = stands;
-              crash = λ live. (H, inr refl, record { others = []; stand = tt; left = rests live });
-              settled = λ live. inl (rests live);
-            },
-          )
-
-      -- what its bytes say was served
-      reply_step : (bytes : Vec ℕ) (s : Saying) (out : Out) → Settles meaning old new → Says bytes.items s
-          → IsSayingServed (meaning.holds new) (meaning.is_store_open old) (meaning.leaves new) c H s out → Step (Owner bytes) (Reply out)
-      reply_step bytes s (Text text) rests says served = (
-        served.done.content,
-        after_saying H s,
-        record {
-          step = (s, says, served.reported, refl);
-          lawful = lawful-after_saying bytes.items H s says lawful;
-          held = served.done.held;
-          stands = served.done.stands;
-          crash = λ live. (after_saying H s, inl (s, says, refl), served.crash live);
-          settled = rests_behind rests served.done.content served.done.held;
-        },
-      )
-      reply_step bytes s Unavailable rests says served = (
-        c,
-        H,
-        record {
-          step = refl;
-          lawful = lawful;
-          held = served.undone;
-          stands = stands;
-          crash = λ live. (after_saying H s, inl (s, says, refl), served.crash live);
-          settled = rests_behind rests c served.undone;
-        },
-      )
+    -- the step of what the bytes say is one of the request
+    request_step : (bytes : Vec ℕ) (s : Saying) → Says bytes.items s → (out : Out) (H G : History) → IsSayingStep H s out G → IsStep H (Owner bytes) (Reply out) G
+    request_step bytes s says (Text text) H G (reported, made) = (s, says, reported, made)
+    request_step bytes s says Unavailable H G step = step
 
     event_step : (old new : K) (e : Event) (a : Answer) → IsEventServed meaning old e a new
         → Over meaning old new (λ c H. IsStepFrom meaning IsStep MayMake old c H e a new)
-    event_step old new (Owner bytes) (Reply out) (inl (s, says, serving)) now c H held stands lawful =
-        reply_step old new now c H held stands lawful bytes s out serving.settles says (serving.served now c H held stands lawful)
-    event_step old new (Owner bytes) (Reply out) (inr unread) now c H held stands lawful =
-        subst (λ out. IsStepFrom meaning IsStep MayMake old c H (Owner bytes) (Reply out) new) (sym unread.unavailable) (unread_step old new now c H held stands lawful bytes unread.same)
+    event_step old new (Owner bytes) (Reply out) (inl (s, says, step)) now c H held stands lawful =
+        step_as meaning saying_steps.step saying_steps.may_make IsStep MayMake old new c H s out (Owner bytes) (Reply out)
+        (request_step bytes s says out H) (λ G makes. inl (s, says, makes)) (step.over now c H held stands lawful)
+    event_step old new (Owner bytes) (Reply out) (inr (unread, same)) now c H held stands lawful =
+        still_from meaning IsStep MayMake old new c H stands lawful (subst (λ k. Keeps meaning old k) (sym same) (keeps_still meaning settled old (subst meaning.is_honest same now))) held
+        (Owner bytes) (Reply out) (subst (λ out. IsStep H (Owner bytes) (Reply out) H) (sym unread) refl) H (inr refl)
     event_step old new (Command command) (CommandReply reply) served now c H held stands lawful =
         step_as meaning plant_steps.step plant_steps.may_make IsStep MayMake old new c H command (meaning_of_plant_reply reply) (Command command) (CommandReply reply)
         (λ G step. step.1) (λ G makes. makes) (served.0.over now c H held stands lawful)

@@ -8,7 +8,7 @@ pub use Rattle.toll_base.specs.Values.{house_name}
 pub use Rattle.toll_base.specs.declared.lot.LotId.{LotId}
 pub use Rattle.toll_base.specs.declared.request.Request.{Request}
 pub use Rattle.toll_desk.specs.Translations.{meaning_of_plant_reply, meaning_of_reply, writes}
-pub use Rattle.toll_desk.specs.Outcome.{HoldsFor, IsDone}
+pub use Rattle.toll_desk.specs.Outcome.{HoldsFor}
 pub use Rattle.toll_history.specs.History.{History, part}
 pub use Rattle.toll_history.specs.Verdict.{Accepted, IsLawful}
 pub use Rattle.toll_keep.specs.Content.{Content, ContentKeepsRules}

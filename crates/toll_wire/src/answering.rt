@@ -1,10 +1,12 @@
 //! Answering a request.
 ghost use Rattle.std.specs.Prelude.{◌≡◌, IfErr, Some};
+ghost use Rattle.toll_answers.specs.Replies.{IsValidOwnerRequest};
+ghost use Rattle.toll_desk.specs.Steps.{IsKeepStep};
 ghost use Rattle.toll_desk.specs.Translations.{meaning_of_reply};
 ghost use Rattle.toll_wire.specs.OutTexts.{out_of};
 ghost use Rattle.toll_wire.specs.ReplyTexts.{fault_or_memory, text_of_failure};
 ghost use Rattle.toll_wire.specs.Sayings.{Asks, By, Fails};
-ghost use Rattle.toll_wire.specs.Steps.{IsAnswered, IsFaultMet, IsServing};
+ghost use Rattle.toll_wire.specs.Steps.{IsAnswered, IsFaultMet, saying_steps};
 
 use crate::outgoing::Out;
 use crate::reply::{fail, reply_out};
@@ -72,7 +74,8 @@ fn serve<K: Keep>(
     key: &[u8],
     request: &Request,
 ) -> Result<Vec<u8>, KeepFault>
-    ensures serves { IsServing K.meaning keep.old keep.new (By owner.now (Some key.now) (Asks request.now)) (out_of result) }
+    requires { IsValidOwnerRequest request.now }
+    ensures serves { IsKeepStep K.meaning saying_steps keep.old (By owner.now (Some key.now) (Asks request.now)) (out_of result) keep.new }
     ensures met { IfErr result (IsFaultMet K.meaning keep.old keep.new) }
 {
     let planned = owner_plan(alloc, keep, owner, key, request);
@@ -103,7 +106,7 @@ fn refuse<K: Keep>(
     key: &[u8],
     failure: Failure,
 ) -> Result<Vec<u8>, KeepFault>
-    ensures serves { IsServing K.meaning keep.old keep.new (By owner.now (Some key.now) (Fails (text_of_failure failure))) (out_of result) }
+    ensures serves { IsKeepStep K.meaning saying_steps keep.old (By owner.now (Some key.now) (Fails (text_of_failure failure))) (out_of result) keep.new }
     ensures met { IfErr result (IsFaultMet K.meaning keep.old keep.new) }
 {
     match admit(alloc, keep, owner, key) {

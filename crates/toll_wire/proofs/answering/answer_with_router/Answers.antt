@@ -1,8 +1,9 @@
-use Rattle.std.proofs.Common.{inl, refl, subst, sym}
+use Rattle.std.proofs.Common.{None, inl, refl, subst, sym}
 use Rattle.toll_protocol.specs.declared.http_messages.failure.Failure.TheVariants.{Forbidden}
 use Rattle.toll_wire.specs.ReplyTexts.{text_of_failure}
+use Rattle.toll_wire.specs.Sayings.{By, Nobody}
 use Rattle.toll_wire.specs.Steps.{IsAnswered, IsFaultMet}
-use Rattle.toll_wire.proofs.Served.{met_memory, untouched, keyless}
+use Rattle.toll_wire.proofs.Served.{met_memory, uncalled}
 use Rattle.toll_wire.proofs.answering.answer_with_router.Goals as goal
 use Rattle.toll_wire.proofs.answering.answer_with_router.Goals.{in_default-via-in-Some+in_default, in_default-via-in_default}
 
@@ -13,7 +14,7 @@ returns-in-Err-clause-answered g c =
     subst (λ out. IsAnswered K.meaning keep keep c.args.bytes.now out) (sym c.into_text.ensures.text) (inl (
       _,
       (_, c.in-Err.ensures, refl),
-      untouched K.meaning keep (λ content. g.met.K.Keep.settled keep content) (text_of_failure c.in-Err.failure) c.fail.result c.fail.ensures,
+      uncalled K.meaning g.met.K.Keep.settled keep (Nobody (text_of_failure c.in-Err.failure)) (text_of_failure c.in-Err.failure) c.fail.result c.fail.ensures refl refl (λ H. (refl, refl)),
     ))
 
 pub returns-in-Err-clause-met : goal.returns-in-Err-clause-met
@@ -26,8 +27,8 @@ returns-in_default-clause-answered g c =
     let keep = c.args.keep.now in
     let out = c.fail-in_default.result in
     subst (λ out. IsAnswered K.meaning keep keep c.args.bytes.now out) (sym c.into_text-in_default.ensures.text) (elim c.in_default.branch [
-      | in_default-via-in-Some+in_default w ↦ inl (_, (_, rw (w.in_default.is-0, w.in_default.is-1) at c.in-Ok.ensures, (_, c.in-Ok-route_request.ensures, refl)), keyless K.meaning keep (λ content. g.met.K.Keep.settled keep content) _ _ out c.fail-in_default.ensures)
-      | in_default-via-in_default w ↦ inl (_, (_, rw w.in_default.is-0 at c.in-Ok.ensures, (_, c.in-Ok-route_request.ensures, refl)), untouched K.meaning keep (λ content. g.met.K.Keep.settled keep content) (text_of_failure Forbidden) out c.fail-in_default.ensures)
+      | in_default-via-in-Some+in_default w ↦ inl (_, (_, rw (w.in_default.is-0, w.in_default.is-1) at c.in-Ok.ensures, (_, c.in-Ok-route_request.ensures, refl)), uncalled K.meaning g.met.K.Keep.settled keep (By _ None _) (text_of_failure Forbidden) out c.fail-in_default.ensures refl refl (λ H. (refl, refl)))
+      | in_default-via-in_default w ↦ inl (_, (_, rw w.in_default.is-0 at c.in-Ok.ensures, (_, c.in-Ok-route_request.ensures, refl)), uncalled K.meaning g.met.K.Keep.settled keep (Nobody (text_of_failure Forbidden)) (text_of_failure Forbidden) out c.fail-in_default.ensures refl refl (λ H. (refl, refl)))
     ])
 
 pub returns-in_default-clause-met : goal.returns-in_default-clause-met
