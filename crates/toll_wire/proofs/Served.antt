@@ -33,7 +33,8 @@ granted_text (ReplyRefused why) granted = absurd (false≢true granted)
 granted_text _ granted = refl
 
 -- so what doesn't say 200 grants no change
-grants_none : (q : Request) (reported : OwnerReply) (text : Vec ℕ) → text.items ≡ text_of_reply_meaning reported → ¬ (IsGranted (Text text)) → may_change q (Ok reported) ≡ false
+grants_none : (q : Request) (reported : OwnerReply) (text : Vec ℕ) → text.items ≡ text_of_reply_meaning reported → ¬ (IsGranted (Text text))
+    → may_change q (Ok reported) ≡ false
 grants_none q reported text is not = by_grant (is_granted (Ok reported)) refl
   where
     by_grant : (b : Bool) → is_granted (Ok reported) ≡ b → (writes q && is_granted (Ok reported)) ≡ false
@@ -87,25 +88,31 @@ module _ {K : Type 0} (meaning : Meaning K) where
   pub keeps_still : Rests meaning → (k : K) → meaning.is_honest k → Keeps meaning k k
   keeps_still rests k now = record { content = λ c held. held; crash = λ live c held. rests k c now live held }
 
+  -- The text replies to what is said, which leaves the history.
+  abbrev LeavesHistory : History → Saying → Bytes → Type 0
+  LeavesHistory H s text = IsTold H s text × (H ≡ after_saying H s)
+
   -- A reply that leaves the content.
-  still_step : (old new : K) (s : Saying) (out : Out) (calls : Calls) → SayingCalls s out calls → StoreEffect meaning old new calls → (meaning.is_honest new → Keeps meaning old new)
-      → IsReplyWhere (MayBeReply s) out → Over meaning old new (λ c H. IsReplyWhere (λ text. IsTold H s text × (H ≡ after_saying H s)) out) → Serves old new s out
+  still_step : (old new : K) (s : Saying) (out : Out) (calls : Calls) → SayingCalls s out calls → StoreEffect meaning old new calls
+      → (meaning.is_honest new → Keeps meaning old new) → IsReplyWhere (MayBeReply s) out
+      → Over meaning old new (λ c H. IsReplyWhere (LeavesHistory H s) out) → Serves old new s out
   still_step old new s out calls called store keeps tells replies = record {
     outcome = calls;
     calls = (tells, called);
     store = store;
     still = λ now c held. so_unchanging c s out (meaning.holds new c) ((keeps now).content c held);
     over = λ now c H held stands lawful.
-        still_from saying_steps.step saying_steps.may_make old new c H stands lawful (keeps now) held s out (step_of H out (replies now c H held stands lawful)) (after_saying H s) refl;
+        still_from saying_steps.step saying_steps.may_make old new c H stands lawful (keeps now) held s out
+        (step_of H out (replies now c H held stands lawful)) (after_saying H s) refl;
   }
     where
-      step_of : (H : History) (out : Out) → IsReplyWhere (λ text. IsTold H s text × (H ≡ after_saying H s)) out → IsSayingStep H s out H
+      step_of : (H : History) (out : Out) → IsReplyWhere (LeavesHistory H s) out → IsSayingStep H s out H
       step_of H (Text text) step = step
       step_of H Unavailable step = refl
 
   -- a reply that needs no call of the keep
   pub uncalled : Rests meaning → (k : K) (s : Saying) (text : Bytes) (out : Out) → IsText out (Some text) → SayingCalls s out None → MayBeReply s text
-      → ((H : History) → IsTold H s text × (H ≡ after_saying H s)) → Serves k k s out
+      → ((H : History) → LeavesHistory H s text) → Serves k k s out
   uncalled rests k s text out is called may replies =
       still_step k k s out None called
       (record {
@@ -116,7 +123,7 @@ module _ {K : Type 0} (meaning : Meaning K) where
         whole = λ now c held rules none. (cc none);
       })
       (keeps_still rests k) (so_of_reply out text (MayBeReply s) is may)
-      (λ now c H held stands lawful. so_of_reply out text (λ text. IsTold H s text × (H ≡ after_saying H s)) is (replies H))
+      (λ now c H held stands lawful. so_of_reply out text (LeavesHistory H s) is (replies H))
 
   -- ---- after a reading
 
@@ -134,12 +141,14 @@ module _ {K : Type 0} (meaning : Meaning K) where
     met_reading (Err fault) reads = inr (goes_fault meaning old new fault reads.goes)
 
     -- no reply, after calls that answered or after a fault of one
-    pub untold : {X : Type 0} (o key : Bytes) (asking : ClaimedRequest) (r : Result X KeepFault) → IsReading meaning old new r → Serves old new (By o (Some key) asking) Unavailable
+    pub untold : {X : Type 0} (o key : Bytes) (asking : ClaimedRequest) (r : Result X KeepFault) → IsReading meaning old new r
+        → Serves old new (By o (Some key) asking) Unavailable
     untold {X} o key asking r reads = by_reading r reads
       where
         by_fault : (fault : KeepFault) → IsReading meaning old new (failed_call {X = X} fault) → Serves old new (By o (Some key) asking) Unavailable
         by_fault fault reads =
-            still_step old new (By o (Some key) asking) Unavailable (Some (Err fault)) (fault, refl) (read_store (failed_call {X = X} fault) reads) reads.keeps tt (λ now c H held stands lawful. tt)
+            still_step old new (By o (Some key) asking) Unavailable (Some (Err fault)) (fault, refl) (read_store (failed_call {X = X} fault) reads) reads.keeps
+            tt (λ now c H held stands lawful. tt)
 
         by_reading : (r : Result X KeepFault) → IsReading meaning old new r → Serves old new (By o (Some key) asking) Unavailable
         by_reading (Ok x) reads = by_fault Memory (read_memory meaning old new x reads.goes reads.keeps)
@@ -151,8 +160,8 @@ module _ {K : Type 0} (meaning : Meaning K) where
         → Serves old new (By o (Some key) (Fails (text_of_failure failure))) out
     served_refused o key failure x reads b admits Unavailable is = untold o key (Fails (text_of_failure failure)) (answered x) reads
     served_refused o key failure x reads b admits (Text text) is =
-        still_step old new (By o (Some key) (Fails (text_of_failure failure))) (Text text) (Some (Ok tt)) refl (read_store (answered x) reads) reads.keeps (b, tt, is)
-        (λ now c H held stands lawful. ((b, admits now c H held stands lawful, is), refl))
+        still_step old new (By o (Some key) (Fails (text_of_failure failure))) (Text text) (Some (Ok tt)) refl (read_store (answered x) reads) reads.keeps
+        (b, tt, is) (λ now c H held stands lawful. ((b, admits now c H held stands lawful, is), refl))
 
   -- ---- after a plan
 
@@ -173,8 +182,8 @@ module _ {K : Type 0} (meaning : Meaning K) where
         once = still.once;
       };
       over = λ now c H held stands lawful.
-          step_as meaning (owner_steps o key).step (owner_steps o key).may_make saying_steps.step saying_steps.may_make old new c H q (Ok reported) asking (Text text)
-          (λ G step. ((reported, step.1.0, is), step.1.1)) (λ G makes. makes) (step.over now c H held stands lawful);
+          step_as meaning (owner_steps o key).step (owner_steps o key).may_make saying_steps.step saying_steps.may_make old new c H q (Ok reported)
+          asking (Text text) (λ G step. ((reported, step.1.0, is), step.1.1)) (λ G makes. makes) (step.over now c H held stands lawful);
     }
     owner_step_told (Ok reported) is (Err fault) step = record {
       outcome = step.outcome;
@@ -182,29 +191,36 @@ module _ {K : Type 0} (meaning : Meaning K) where
       store = step.store;
       still = λ now c held. so_unchanging c asking Unavailable (meaning.holds new c) ((step.still now c held).quiet (and_false (writes q)));
       over = λ now c H held stands lawful.
-          step_as meaning (owner_steps o key).step (owner_steps o key).may_make saying_steps.step saying_steps.may_make old new c H q (Err fault) asking Unavailable
-          (λ G step. step.1) (λ G makes. makes) (step.over now c H held stands lawful);
+          step_as meaning (owner_steps o key).step (owner_steps o key).may_make saying_steps.step saying_steps.may_make old new c H q (Err fault)
+          asking Unavailable (λ G step. step.1) (λ G makes. makes) (step.over now c H held stands lawful);
     }
     owner_step_told (Err fault) is made step = absurd is
 
   -- a plan with a text, and then its changes, which are read through a reference
-  module _ (old middle new : K) (o key : Bytes) (q : Request) (planned : Result OwnerReply KeepFault) (changes made : List Change) (same : made ≡ changes) (reads : IsReading meaning old middle planned)
-      (text : Vec ℕ) (is : IsText (Text text) (text_if_reply planned)) (result : Result (Unit {0}) KeepFault) (commit : CommitEffect meaning middle new made result) where
+  module _ (old middle new : K) (o key : Bytes) (q : Request) (planned : Result OwnerReply KeepFault) (changes made : List Change) (same : made ≡ changes)
+      (reads : IsReading meaning old middle planned) (text : Vec ℕ) (is : IsText (Text text) (text_if_reply planned)) (result : Result (Unit {0}) KeepFault)
+      (commit : CommitEffect meaning middle new made result) where
     pub plan_told : Rests meaning → IsValidOwnerRequest q → IfUnchanging (OverContentRows meaning old middle o) q planned (changes ≡ [])
-        → Over meaning old middle (λ c H. IfOk planned (λ reported. IsPlan c H o key q reported changes)) → Serves old new (By o (Some key) (Asks q)) (text_if text result)
+        → Over meaning old middle (λ c H. IfOk planned (λ reported. IsPlan c H o key q reported changes))
+        → Serves old new (By o (Some key) (Asks q)) (text_if text result)
     plan_told rests valid idle plan =
         owner_step_told old new o key q text planned is result
-        (commit_step meaning rests old middle new planned (finished planned result) changes made result same refl reads commit (may_change q) (λ fault. and_false (writes q)) idle.quiet
+        (commit_step meaning rests old middle new planned (finished planned result) changes made result same refl reads commit
+        (may_change q) (λ fault. and_false (writes q)) idle.quiet
         (IsReply o key) (after_reply o key) q (λ H lawful. lawful_after_reply o key H q lawful valid)
         (λ honest c H held stands lawful. IfOk-weaker planned _ _ (λ x plan. (plan.reply, plan.leads)) (plan honest c H held stands lawful)) _ refl _
-        (λ honest c held P stays none. record { quiet = stays; once = λ order recipe batches asks there. none (idle.once honest c held order recipe batches asks there) }))
+        (λ honest c held P stays none. record {
+          quiet = stays;
+          once = λ order recipe batches asks there. none (idle.once honest c held order recipe batches asks there);
+        }))
 
     -- the fault that the making of the changes met
     pub met_making : (fault : KeepFault) → result ≡ Err fault → IsFaultMet meaning old new fault
     met_making fault failed = by_plan planned reads.goes is
       where
-        by_plan : (planned : Result OwnerReply KeepFault) → CallEffect meaning old middle planned → IsText (Text text) (text_if_reply planned) → IsFaultMet meaning old new fault
+        by_plan : (planned : Result OwnerReply KeepFault) → CallEffect meaning old middle planned → IsText (Text text) (text_if_reply planned)
+            → IsFaultMet meaning old new fault
         by_plan (Ok reported) goes is =
-            inr (goes_fault meaning {X = OwnerReply} old new fault
-            (subst (λ m. CallEffect meaning old new (finished {X = OwnerReply} (Ok reported) m)) failed (goes_on meaning old middle new (Ok reported) made result goes tt commit.idle commit.goes)))
+            let makes = goes_on meaning old middle new (Ok reported) made result goes tt commit.idle commit.goes in
+            inr (goes_fault meaning {X = OwnerReply} old new fault (subst (λ m. CallEffect meaning old new (finished {X = OwnerReply} (Ok reported) m)) failed makes))
         by_plan (Err failing) goes is = absurd is

@@ -38,7 +38,8 @@ module _ {K : Type 0} (meaning : Meaning K) where
     -- ---- one event is a step
 
     -- the step of what the bytes say is one of the request
-    request_step : (bytes : Vec ℕ) (s : Saying) → Says bytes.items s → (out : Out) (H G : History) → IsSayingStep H s out G → IsStep H (Owner bytes) (Reply out) G
+    request_step : (bytes : Vec ℕ) (s : Saying) → Says bytes.items s → (out : Out) (H G : History) → IsSayingStep H s out G
+        → IsStep H (Owner bytes) (Reply out) G
     request_step bytes s says (Text text) H G (reported, made) = (s, says, reported, made)
     request_step bytes s says Unavailable H G step = step
 
@@ -48,8 +49,8 @@ module _ {K : Type 0} (meaning : Meaning K) where
         step_as meaning saying_steps.step saying_steps.may_make IsStep MayMake old new c H s out (Owner bytes) (Reply out)
         (request_step bytes s says out H) (λ G makes. inl (s, says, makes)) (step.over now c H held stands lawful)
     event_step old new (Owner bytes) (Reply out) (inr (unread, same)) now c H held stands lawful =
-        still_from meaning IsStep MayMake old new c H stands lawful (subst (λ k. Keeps meaning old k) (sym same) (keeps_still meaning settled old (subst meaning.is_honest same now))) held
-        (Owner bytes) (Reply out) (subst (λ out. IsStep H (Owner bytes) (Reply out) H) (sym unread) refl) H (inr refl)
+        let keeps = subst (λ k. Keeps meaning old k) (sym same) (keeps_still meaning settled old (subst meaning.is_honest same now)) in
+        still_from meaning IsStep MayMake old new c H stands lawful keeps held (Owner bytes) (Reply out) (subst (λ out. IsStep H (Owner bytes) (Reply out) H) (sym unread) refl) H (inr refl)
     event_step old new (Command command) (CommandReply reply) served now c H held stands lawful =
         step_as meaning plant_steps.step plant_steps.may_make IsStep MayMake old new c H command (meaning_of_plant_reply reply) (Command command) (CommandReply reply)
         (λ G step. step.1) (λ G makes. makes) (served.0.over now c H held stands lawful)
