@@ -35,9 +35,9 @@ pub use Rattle.toll_history.specs.Command.{Command, Record, by}
 pub use Rattle.toll_history.specs.History.{adds_owner, owner_known}
 pub use Rattle.toll_history.specs.Movements.{has_move_key, movement_of, movements, voided_in, voids_key}
 pub use Rattle.toll_history.specs.Verdict.{grow, grown, verdict}
-pub use Rattle.toll_keep.proofs.Calls.{Rests, goes_as, goes_fault, goes_memory, goes_then, read_fault, settles}
+pub use Rattle.toll_keep.proofs.Calls.{Rests, goes_then, read_fault, settles_still}
 pub use Rattle.toll_keep.specs.StagedChanges.{IsOver, IsReadThrough, ReadsThrough}
 pub use Rattle.toll_keep.specs.Reads.{IsContentKept}
 pub use Rattle.toll_keep.specs.declared.fault.KeepFault.TheVariants.{Closed, Disk}
-pub use Rattle.toll_plant.specs.Common.{Accepted, AllByRecursion, BadAmount, BadName, Bytes, Content, Damaged, CallEffect, History, IsLawful, IsPlantAnswer, IsReading, IsValidCommand, Judged, KeepFault, Meaning, Memory, PlantCmd, PlantAnswer, Refusal, Refused, Repeated, Settles, Represents, Verdict, acts, content_after, after_plant, bytes_eq, recorded_command, is_some_where, list_all, list_any, same_bytes, where_so}
+pub use Rattle.toll_plant.specs.Common.{Accepted, AllByRecursion, BadAmount, BadName, Bytes, Content, Damaged, CallEffect, History, IsLawful, IsPlantAnswer, IsReading, IsValidCommand, Judged, KeepFault, Meaning, Memory, OverContent, PlantCmd, PlantAnswer, Refusal, Refused, Repeated, Settles, Represents, Verdict, acts, content_after, after_plant, bytes_eq, recorded_command, is_some_where, list_all, list_any, same_bytes, where_so}
 pub use mathlib.Core.Bool.{false≢true}

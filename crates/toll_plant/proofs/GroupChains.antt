@@ -1,17 +1,17 @@
 -- Groups of records, one after another.
-use Rattle.std.proofs.Common.{◌≡◌, ◌++◌, ℕ, drop, take-append-drop, true, false, List, [], ◌∷◌, Ok, Err, refl, sym, subst, ap, ◌∙◌, append_assoc, inl, inr}
-use Rattle.std.specs.Prelude.{flat_map, take}
+use Rattle.std.proofs.Common.{◌≡◌, ◌++◌, ℕ, drop, take-append-drop, true, false, Some, None, List, [], ◌∷◌, Ok, Err, IfErr, refl, sym, subst, ap, ◌∙◌, append_assoc, inl, inr}
+use Rattle.std.specs.Prelude.{◌⊎◌, flat_map, take}
 use Rattle.std.proofs.lemmas.Bool.{or_from, or_parts}
 use Rattle.toll_plant.proofs.Common.{AllByRecursion, list_any, append-nil, list_any-append, false≢true, History, CallEffect, Meaning, KeepFault, Memory, Disk, Damaged, Closed}
 use Rattle.toll_desk.proofs.KeptRules.{represented_keeps_rules}
 use Rattle.toll_desk.proofs.StepLemmas.{StandsLawful, history_run, stands_after, steps_from}
 use Rattle.toll_desk.specs.Reads.{Over}
-use Rattle.toll_desk.specs.Steps.{state_at}
+use Rattle.toll_desk.specs.Steps.{AfterCalls, Calls, IsKeepStep, StoreEffect, state_at}
 use Rattle.toll_history.proofs.RunLemmas.{run_back}
 use Rattle.toll_history.specs.Runs.{IsRun}
 use Rattle.toll_plant.proofs.FaultEnds.{all_acted, run_ends, up_to_longer}
 use Rattle.toll_plant.proofs.GroupRuns.{imports_then}
-use Rattle.toll_plant.specs.Imports.{AreRecordSteps, AreRecordsServed, Commands, End, EndWith, EndsAt, IsAfterFirst, IsGroupServed, IsGroupStep, IsImport, IsImportOf, IsOpenOutcome, IsRecordStep, IsWholeOutcome, last_outcome}
+use Rattle.toll_plant.specs.Imports.{AreRecordSteps, AreRecordsServed, Commands, End, EndWith, EndsAt, IsAfterFirst, IsEndAfter, IsImport, IsImportOf, IsOpenOutcome, IsRecordStep, IsWholeOutcome, group_steps, last_outcome}
 use Rattle.toll_plant.specs.Outcomes.{is_fault_outcome}
 use Rattle.toll_plant.specs.declared.outcome.Outcome.{Outcome}
 use Rattle.toll_plant.specs.declared.outcome.Outcome.TheVariants as came
@@ -53,6 +53,13 @@ calm_whole o calm is = false≢true (sym calm ∙ ap is_fault_outcome is)
 calm_open : (o : Outcome) → is_fault_outcome o ≡ false → IsOpenOutcome o
 calm_open o calm fault is = absurd (false≢true (sym calm ∙ ap is_fault_outcome is))
 
+-- The fault at the end of a group is that of its calls, or Memory.
+fault_after : (calls : Calls) (end : End) (fault : KeepFault) → IsEndAfter calls end → end ≡ Err fault
+    → (fault ≡ Memory) ⊎ (calls ≡ Some (Err fault))
+fault_after None end fault ends is = let never : Err fault ≡ Ok tt = sym is ∙ ends in absurd (cc never)
+fault_after (Some (Ok done)) end fault ends is = inl (subst (λ e. IfErr e (λ f. f ≡ Memory)) is ends)
+fault_after (Some (Err failed)) end fault ends is = inr (ap (λ r. Some r) (sym ends ∙ is))
+
 -- ---- groups over histories
 
 abbrev all_commands : List Commands → Commands
@@ -86,12 +93,12 @@ imported_all H last groups reports rest run stops whole = absurd run
 
 module _ {K : Type 0} (meaning : Meaning K) where
   abbrev GroupStep : K → Commands → List Outcome → K → Type 0
-  GroupStep = IsGroupStep meaning
+  GroupStep = IsKeepStep meaning group_steps
 
   -- A keep that is honest now was honest before.
-  pub group_honest : (old new : K) (commands : Commands) (reported : List Outcome) → GroupStep old commands reported new → meaning.is_honest new
+  group_honest : (old new : K) (commands : Commands) (reported : List Outcome) → GroupStep old commands reported new → meaning.is_honest new
       → meaning.is_honest old
-  group_honest old new commands reported (end, served) now = elim served.goes [ inl none ↦ subst meaning.is_honest none.0 now | inr goes ↦ goes.honest now ]
+  group_honest old new commands reported step = step.store.honest
 
   pub groups_honest : (old new : K) (groups : List Commands) (reports : List (List Outcome)) → IsRun GroupStep old groups reports new → meaning.is_honest new
       → meaning.is_honest old
@@ -104,7 +111,7 @@ module _ {K : Type 0} (meaning : Meaning K) where
     steps_of now c H held stands lawful = record {
       groups = served.groups;
       reports = served.reports;
-      are = steps_from meaning IsImport IsAfterFirst GroupStep group_honest (λ old new commands reported step. step.1.done) old new
+      are = steps_from meaning IsImport IsAfterFirst GroupStep group_honest (λ old new commands reported step. step.over) old new
           served.groups served.reports served.are now c H held stands lawful;
       bounded = served.bounded;
       stops = served.stops;
@@ -134,16 +141,24 @@ module _ {K : Type 0} (meaning : Meaning K) where
   -- ---- a fact of each outcome
 
   module _ (P : Outcome → Type 0) (each : (o : Outcome) → is_fault_outcome o ≡ false → P o)
-      (last : (old new : K) (commands : Commands) (reported : List Outcome) (end : End) → IsGroupServed meaning old new commands reported end
-      → Over meaning old new (λ c H. (fault : KeepFault) → end ≡ Err fault → P (came.Fault fault))) where
+      (memory : P (came.Fault Memory)) (last : (old new : K) (calls : Calls) → StoreEffect meaning old new calls
+      → Over meaning old new (λ c H. (fault : KeepFault) → calls ≡ Some (Err fault) → P (came.Fault fault))) where
+    group_all : (old new : K) (commands : Commands) (reported : List Outcome) → GroupStep old commands reported new
+        → Over meaning old new (λ c H. AllByRecursion P reported)
+    group_all old new commands reported step now c H held stands lawful =
+        let (end, ends, after) = step.calls in
+        all_ended P each end reported ends (λ fault is. elim (fault_after step.outcome end fault after is) [
+          | inl lacks ↦ subst (λ f. P (came.Fault f)) (sym lacks) memory
+          | inr failed ↦ last old new step.outcome step.store now c H held stands lawful fault failed
+        ])
+
     groups_all : (old new : K) (groups : List Commands) (reports : List (List Outcome)) → IsRun GroupStep old groups reports new
         → Over meaning old new (λ c H. AllByRecursion P (all_outcomes reports))
     groups_all old new [] [] run now c H held stands lawful = tt
     groups_all old new (group ∷ groups) (report ∷ reports) run now c H held stands lawful =
-        let (end, served) = run.1 in
         let then = groups_honest run.0 new groups reports run.2 now in
-        let (d, G, step) = served.done then c H held stands lawful in
-        all_both P report (all_outcomes reports) (all_ended P each end report served.ends (last old run.0 group report end served then c H held stands lawful))
+        let (d, G, step) = run.1.over then c H held stands lawful in
+        all_both P report (all_outcomes reports) (group_all old run.0 group report run.1 then c H held stands lawful)
         (groups_all run.0 new groups reports run.2 now d G step.held step.stands step.lawful)
     groups_all old new groups reports run now c H held stands lawful = absurd run
 
@@ -154,9 +169,9 @@ module _ {K : Type 0} (meaning : Meaning K) where
 
   pub all_whole : (old new : K) (commands : Commands) (reported : List Outcome) → AreRecordsServed meaning old commands reported new
       → Over meaning old new (λ c H. AllByRecursion IsWholeOutcome reported)
-  all_whole = records_all IsWholeOutcome calm_whole (λ old new commands reported end served now c H held stands lawful fault is damaged.
+  all_whole = records_all IsWholeOutcome calm_whole (λ is. (cc is)) (λ old new calls store now c H held stands lawful fault is damaged.
       let same : fault ≡ Damaged = cc damaged in
-      served.whole now c held (represented_keeps_rules H c lawful stands) (is ∙ ap (λ f. Err f) same))
+      store.whole now c held (represented_keeps_rules H c lawful stands) (is ∙ ap (λ f. Some (Err f)) same))
 
   -- over a keep that never closes
   module _ (never_closes : (k : K) → meaning.is_closed k ≡ false) where
@@ -168,9 +183,6 @@ module _ {K : Type 0} (meaning : Meaning K) where
 
     pub all_open : (old new : K) (commands : Commands) (reported : List Outcome) → AreRecordsServed meaning old commands reported new
         → Over meaning old new (λ c H. AllByRecursion IsOpenOutcome reported)
-    all_open = records_all IsOpenOutcome calm_open (λ old new commands reported end served now c H held stands lawful fault is other same.
+    all_open = records_all IsOpenOutcome calm_open (λ fault same. (cc same)) (λ old new calls store now c H held stands lawful fault is other same.
         let e : fault ≡ other = cc same in
-        sym e ∙ elim served.goes [
-          | inl none ↦ (let never : Err fault ≡ Ok tt = sym is ∙ none.1 in absurd (cc never))
-          | inr goes ↦ memory_alone old new fault (subst (λ end. CallEffect meaning old new end) is goes)
-        ])
+        sym e ∙ memory_alone old new fault (subst (AfterCalls meaning old new) is store.goes))

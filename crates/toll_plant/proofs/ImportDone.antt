@@ -3,12 +3,13 @@ use Rattle.std.proofs.Common.{◌≡◌, ℕ, ◌+◌, ◌-◌, ◌<◌, ◌≤�
 use Rattle.std.specs.Prelude.{◌==◌, ◌||◌, flat_map, min, take}
 use Rattle.std.proofs.lemmas.Bool.{or_from}
 use Rattle.std.proofs.lemmas.List.{flat_map_more}
+use Rattle.toll_desk.specs.Steps.{IsKeepStep}
 use Rattle.toll_history.proofs.RunLemmas.{run_more}
 use Rattle.toll_history.specs.Runs.{IsRun}
 use Rattle.toll_plant.proofs.Common.{AllByRecursion, list_any, append-nil, list_any-append, false≢true, drop-append-add, drop_all, drop_min, length-drop, length-take, length-take-le, take_min, take_rest, Meaning}
 use Rattle.toll_plant.proofs.FaultEnds.{ends_then, none_in}
 use Rattle.toll_plant.proofs.GroupChains.{all_both}
-use Rattle.toll_plant.specs.Imports.{AreRecordsServed, Commands, End, EndWith, HasValidValues, InGroups, IsGroupServed, IsGroupStep, outcomes_in}
+use Rattle.toll_plant.specs.Imports.{AreRecordsServed, Commands, End, EndWith, HasValidValues, InGroups, group_steps, outcomes_in}
 use Rattle.toll_plant.specs.ImportStates.{HasActed, ImportState, IsResumed}
 use Rattle.toll_plant.specs.Outcomes.{is_fault_outcome}
 use Rattle.toll_plant.specs.declared.grouping.TheConstants.{GROUP_RECORDS}
@@ -52,9 +53,9 @@ module _ {K : Type 0} (meaning : Meaning K) (old new : K) (was now : ImportState
   -- A group has acted.
   pub group_acted : piece ≡ drop next commands → drop next commands ≡ was.left → AllByRecursion HasValidValues (drop next commands)
       → empty ≡ (length piece == 0) → empty ≡ false
-      → k ≡ min (length piece) GROUP_RECORDS → group ≡ take k piece → IsGroupServed meaning old new group reported end → outcomes_in now.lines ≡ outcomes_in was.lines ++ reported
+      → k ≡ min (length piece) GROUP_RECORDS → group ≡ take k piece → IsKeepStep meaning group_steps old group reported new → EndWith end reported → outcomes_in now.lines ≡ outcomes_in was.lines ++ reported
       → now.left ≡ left_behind end (drop GROUP_RECORDS (drop next commands)) → IsResumed meaning old new was now
-  group_acted is before valid tests not count front served said left =
+  group_acted is before valid tests not count front step ends said left =
       let all : piece ≡ was.left = is ∙ before in
       let group_is : group ≡ take GROUP_RECORDS was.left =
       front ∙ ap (λ m. take m piece) (group_size k GROUP_RECORDS piece count) ∙ take_min GROUP_RECORDS piece ∙ ap (take GROUP_RECORDS) all in
@@ -62,9 +63,9 @@ module _ {K : Type 0} (meaning : Meaning K) (old new : K) (was now : ImportState
         some = some_left empty piece was.left all tests not;
         valid = subst (AllByRecursion HasValidValues) before valid;
         reported = reported;
-        served = (end, subst (λ acting. IsGroupServed meaning old new acting reported end) group_is served);
+        served = subst (λ acting. IsKeepStep meaning group_steps old acting reported new) group_is step;
         said = said;
-        left = left ∙ left_of end reported (drop GROUP_RECORDS (drop next commands)) served.ends
+        left = left ∙ left_of end reported (drop GROUP_RECORDS (drop next commands)) ends
             ∙ ap (λ rest. cond (list_any is_fault_outcome reported) [] (drop GROUP_RECORDS rest)) before;
       })
 
@@ -102,7 +103,7 @@ no_report (report ∷ reports) calm =
 module _ {K : Type 0} (meaning : Meaning K) (first : K) (commands : Commands) where
   -- The records so far had outcomes in groups. After a fault none is left.
   pub record IsImportedSoFar (keep : K) (import : ImportState) : Type 0 where
-    pub groups : InGroups (λ groups reports. IsRun (IsGroupStep meaning) first groups reports keep) commands (outcomes_in import.lines) import.left
+    pub groups : InGroups (λ groups reports. IsRun (IsKeepStep meaning group_steps) first groups reports keep) commands (outcomes_in import.lines) import.left
     pub over : list_any is_fault_outcome (outcomes_in import.lines) ≡ true → import.left ≡ []
 
   pub so_begun : (import : ImportState) → import.left ≡ commands → import.lines ≡ [] → IsImportedSoFar first import
@@ -144,7 +145,7 @@ module _ {K : Type 0} (meaning : Meaning K) (first : K) (commands : Commands) wh
           groups = record {
             groups = earlier.groups ++ group ∷ [];
             reports = earlier.reports ++ acted.reported ∷ [];
-            are = run_more (IsGroupStep meaning) first keep next earlier.groups earlier.reports group acted.reported earlier.are acted.served;
+            are = run_more (IsKeepStep meaning group_steps) first keep next earlier.groups earlier.reports group acted.reported earlier.are acted.served;
             bounded = all_both (λ group. length group ≤ GROUP_RECORDS) earlier.groups (group ∷ []) earlier.bounded (within, tt);
             stops = ends_then (list_any is_fault_outcome) earlier.reports (acted.reported ∷ []) (no_report earlier.reports (ap (list_any is_fault_outcome) earlier.outcomes_are ∙ was_calm)) (λ faulty. refl, tt);
             outcomes_are = sym (flat_map_more (λ report. report) [] earlier.reports acted.reported) ∙ ap (λ before. before ++ acted.reported) earlier.outcomes_are ∙ sym acted.said;
@@ -165,4 +166,4 @@ module _ {K : Type 0} (meaning : Meaning K) (first : K) (commands : Commands) wh
   -- All records were served, or those up to a fault.
   pub so_over : (keep : K) (import : ImportState) → import.left ≡ [] → IsImportedSoFar keep import
       → AreRecordsServed meaning first commands (outcomes_in import.lines) keep
-  so_over keep import none so = subst (InGroups (λ groups reports. IsRun (IsGroupStep meaning) first groups reports keep) commands (outcomes_in import.lines)) none so.groups
+  so_over keep import none so = subst (InGroups (λ groups reports. IsRun (IsKeepStep meaning group_steps) first groups reports keep) commands (outcomes_in import.lines)) none so.groups

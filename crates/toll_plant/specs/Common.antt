@@ -11,8 +11,8 @@ pub use Rattle.toll_desk.specs.Reads.{Over}
 pub use Rattle.toll_desk.specs.Representing.{Represents}
 pub use Rattle.toll_history.specs.History.{History, acts}
 pub use Rattle.toll_history.specs.Verdict.{Accepted, IsLawful, Refused, Repeated, Verdict}
-pub use Rattle.toll_keep.specs.Content.{Content, AllChangesFit, content_after}
-pub use Rattle.toll_keep.specs.CallEffects.{FindsNoDamage, CallEffect, IsReading, Settles}
-pub use Rattle.toll_keep.specs.Meaning.{Meaning, OverContent, OverLive}
+pub use Rattle.toll_keep.specs.Content.{Content, content_after}
+pub use Rattle.toll_keep.specs.CallEffects.{CallEffect, IsReading, Settles}
+pub use Rattle.toll_keep.specs.Meaning.{Meaning, OverContent}
 pub use Rattle.toll_keep.specs.declared.fault.KeepFault.{KeepFault}
 pub use Rattle.toll_keep.specs.declared.fault.KeepFault.TheVariants.{Damaged, Memory}

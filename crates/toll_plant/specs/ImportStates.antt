@@ -1,9 +1,10 @@
 -- An import that is under way.
 use Rattle.std.specs.Prelude.{◌≡◌, ◌≢◌, ◌⊎◌, ◌+◌, ◌≤◌, ℕ, if◌then◌else◌, List, [], ◌++◌, length, take, drop, vec_capacity, vec_len}
 use Rattle.std.specs.Global.{Vec}
+use Rattle.toll_desk.specs.Steps.{IsKeepStep}
 use Rattle.toll_plant.specs.Common.{AllByRecursion, list_any, Bytes, Meaning}
 use Rattle.toll_plant.specs.Files.{Fields, HasActuals}
-use Rattle.toll_plant.specs.Imports.{AreNumberedFrom, CanBeStaged, Commands, HasValidValues, IsGroupStep, commands_in, outcomes_in}
+use Rattle.toll_plant.specs.Imports.{AreNumberedFrom, CanBeStaged, Commands, HasValidValues, commands_in, group_steps, outcomes_in}
 use Rattle.toll_plant.specs.Outcomes.{is_fault_outcome}
 use Rattle.toll_plant.specs.declared.grouping.TheConstants.{GROUP_RECORDS}
 use Rattle.toll_plant.specs.declared.importing.TheConstants.{MOST_FILE_BYTES}
@@ -40,7 +41,7 @@ module _ {K : Type 0} (meaning : Meaning K) (old new : K) (was now : ImportState
     pub some : was.left ≢ []
     pub valid : AllByRecursion HasValidValues was.left
     pub reported : List Outcome
-    pub served : IsGroupStep meaning old (take GROUP_RECORDS was.left) reported new
+    pub served : IsKeepStep meaning group_steps old (take GROUP_RECORDS was.left) reported new
     pub said : outcomes_in now.lines ≡ outcomes_in was.lines ++ reported
     pub left : now.left ≡ (if list_any is_fault_outcome reported then [] else drop GROUP_RECORDS was.left)
 

@@ -1,9 +1,9 @@
 -- The outcomes of the records of a file of actuals.
-use Rattle.std.specs.Prelude.{◌≡◌, ◌≢◌, ◌+◌, ◌⊎◌, ◌≤◌, ℕ, Bool, true, false, if◌then◌else◌, Option, Some, None, List, [], ◌∷◌, ◌++◌, flat_map, length, map, take, Result, Ok, Err}
-use Rattle.toll_plant.specs.Common.{AllByRecursion, list_any, Bytes, History, Verdict, IsLawful, FindsNoDamage, CallEffect, Settles, Meaning, OverContent, Content, KeepFault, Memory, Damaged, Judged, IsPlantAnswer, after_plant, IsValidCommand, Over, PlantCmd}
+use Rattle.std.specs.Prelude.{◌≡◌, ◌≢◌, ◌+◌, ◌⊎◌, ◌≤◌, ℕ, Bool, true, false, if◌then◌else◌, Option, Some, None, List, [], ◌∷◌, ◌++◌, flat_map, length, map, take, Result, Ok, Err, IfErr}
+use Rattle.toll_plant.specs.Common.{AllByRecursion, list_any, Bytes, History, Verdict, IsLawful, Meaning, Content, KeepFault, Memory, Damaged, Judged, IsPlantAnswer, after_plant, IsValidCommand, PlantCmd}
 use Rattle.toll_desk.specs.Outcome.{HoldsFor}
 use Rattle.toll_desk.specs.PlantStaged.{looks_at_two}
-use Rattle.toll_desk.specs.Steps.{AreStepsFrom, IsStepFrom}
+use Rattle.toll_desk.specs.Steps.{AreStepsFrom, Calls, IsKeepStep, StepKind}
 use Rattle.toll_history.specs.Runs.{IsRun}
 use Rattle.toll_plant.specs.Files.{Fields, HasActuals, command_in}
 use Rattle.toll_plant.specs.Outcomes.{outcome_of_verdict, is_outcome_accepted, is_fault_outcome}
@@ -116,6 +116,22 @@ pub record EndWith (end : End) (reported : List Outcome) : Type 0 where
   pub calmly : list_any is_fault_outcome calm ≡ false
   pub said : reported ≡ calm ++ last_outcome end
 
+-- The group may end like this after calls with this outcome. If all calls succeeded, there may have been no memory to decide a record.
+abbrev pub IsEndAfter : Calls → End → Type 0
+IsEndAfter None end = end ≡ Ok tt
+IsEndAfter (Some (Ok done)) end = IfErr end (λ fault. fault ≡ Memory)
+IsEndAfter (Some (Err fault)) end = end ≡ Err fault
+
+-- The steps of groups of records. The records of a group are an import. A stop during the step leaves the rows from before, or those after a
+-- first part of the records. Only an accepted record changes rows.
+abbrev pub group_steps : StepKind Commands (List Outcome)
+group_steps = record {
+  step = IsImport;
+  may_make = IsAfterFirst;
+  calls = λ commands reported calls. (end : End) × EndWith end reported × IsEndAfter calls end;
+  if_still = λ c commands reported P. list_any is_outcome_accepted reported ≡ false → P;
+}
+
 -- The records had these outcomes in groups for which Are holds, each no longer than a group may be. No group follows one that met a
 -- fault. Without a fault, these records are left.
 pub record InGroups (Are : List Commands → List (List Outcome) → Type 0) (commands : Commands) (outcomes : List Outcome) (left : Commands) : Type 0 where
@@ -130,23 +146,10 @@ pub record InGroups (Are : List Commands → List (List Outcome) → Type 0) (co
   pub whole : list_any is_fault_outcome outcomes ≡ false → rest ≡ left
 
 module _ {K : Type 0} (meaning : Meaning K) where
-  -- What `import_group` ensures for a group of records: either the keep was not used, or one call made its changes, all or none. The group
-  -- is one step of the office: a stop during it leaves the rows from before, or those after a first part of its records.
-  pub record IsGroupServed (old new : K) (commands : Commands) (reported : List Outcome) (end : End) : Type 0 where
-    pub ends : EndWith end reported
-    pub goes : ((new ≡ old) × (end ≡ Ok tt)) ⊎ CallEffect meaning old new end
-    pub settles : Settles meaning old new
-    pub whole : FindsNoDamage meaning old new end
-    pub quiet : OverContent meaning old new (λ c. list_any is_outcome_accepted reported ≡ false → meaning.holds new c)
-    pub done : Over meaning old new (λ c H. IsStepFrom meaning IsImport IsAfterFirst old c H commands reported new)
-
-  -- A group changed the keep, and its records had these outcomes.
-  abbrev pub IsGroupStep : K → Commands → List Outcome → K → Type 0
-  IsGroupStep old commands reported new = (end : End) × IsGroupServed old new commands reported end
-
   -- The records had these outcomes group by group, up to a fault, and changed the keep.
   abbrev pub AreRecordsServed : K → Commands → List Outcome → K → Type 0
-  AreRecordsServed old commands reported new = InGroups (λ groups reports. IsRun IsGroupStep old groups reports new) commands reported []
+  AreRecordsServed old commands reported new =
+      InGroups (λ groups reports. IsRun (IsKeepStep meaning group_steps) old groups reports new) commands reported []
 
   -- From rows that were held, the records are steps of the office, group by group.
   abbrev pub AreRecordSteps : K → Content → History → Commands → List Outcome → K → Type 0

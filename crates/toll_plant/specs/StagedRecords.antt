@@ -1,10 +1,11 @@
 -- Records of a group, whose changes are staged until all of them are done.
-use Rattle.std.specs.Prelude.{◌≡◌, ◌++◌, ◌⊎◌, false, Option, IsSome, List, [], ◌∷◌, Result, Ok, Err, IfErr, IfOk, IsOk, OnErr, OnOk}
-use Rattle.toll_plant.specs.Common.{list_any, History, IsLawful, Content, AllChangesFit, content_after, FindsNoDamage, CallEffect, IsReading, Settles, Meaning, OverContent, OverLive, KeepFault, Memory, Represents, Over, PlantCmd}
+use Rattle.std.specs.Prelude.{◌≡◌, ◌++◌, ◌⊎◌, false, Option, IsSome, List, [], Result, Ok, Err, IfErr, IfOk, IsOk, OnErr}
+use Rattle.toll_plant.specs.Common.{list_any, History, IsLawful, Content, content_after, IsReading, Meaning, OverContent, KeepFault, Memory, Represents, Over, PlantCmd}
 use Rattle.toll_base.specs.declared.decision.Change.{Change}
 use Rattle.toll_keep.specs.StagedChanges.{IsOver, ReadsThrough}
 use Rattle.toll_keep.specs.Reads.{HaveRead, IsContentKept}
 use Rattle.toll_keep.specs.declared.staged_changes.StagedChanges.{StagedChanges}
+use Rattle.toll_desk.specs.Outcome.{CommitEffect}
 use Rattle.toll_desk.specs.Plans.{ChangesLeadTo}
 use Rattle.toll_plant.specs.Imports.{Commands, End, EndWith, IsImport, IsOpenOutcome, IsRecordStep, refused_at}
 use Rattle.toll_plant.specs.Outcomes.{is_outcome_accepted, is_fault_outcome}
@@ -74,17 +75,6 @@ pub record AreStaged {K : Type 0} (meaning : Meaning K) (old new : K) (commands 
 
 -- ---- the changes of a group, made in the keep
 
--- What is ensured of changes that are made in the keep, of which there may be none.
-pub record AreCarried {K : Type 0} (meaning : Meaning K) (old new : K) (changes : List Change) (r : End) : Type 0 where
-  pub honest : meaning.is_honest new → meaning.is_honest old
-  pub idle : changes ≡ [] → (new ≡ old) × (r ≡ Ok tt)
-  pub goes : (changes ≡ [] → ⊥) → CallEffect meaning old new r
-  pub settles : Settles meaning old new
-  pub all : OverContent meaning old new (λ c. AllChangesFit c changes → OnOk r (meaning.holds new (content_after changes c)))
-  pub none : OverContent meaning old new (λ c. OnErr r (meaning.holds new c))
-  pub whole : FindsNoDamage meaning old new r
-  pub crash : OverLive meaning old new (λ c. AllChangesFit c changes → meaning.leaves new (c ∷ content_after changes c ∷ []))
-
 -- If the changes were made, the outcomes and the end stay. Otherwise the outcomes report the fault.
 abbrev pub ReportsCommit : End → (reported : List Outcome) → (end : End) → (now : List Outcome) → (result : End) → Type 0
 ReportsCommit (Ok done) reported end now result = (now ≡ reported) × (result ≡ end)
@@ -93,5 +83,5 @@ ReportsCommit (Err fault) reported end now result = (now ≡ refused_at fault re
 -- The changes were made in the keep, and the outcomes report the result.
 pub record IsCommitted {K : Type 0} (meaning : Meaning K) (old new : K) (held : Staged) (reported now : List Outcome) (result : End) : Type 0 where
   pub answer : End
-  pub carried : AreCarried meaning old new held.changes.items answer
+  pub carried : CommitEffect meaning old new held.changes.items answer
   pub tells : ReportsCommit answer reported held.end now result

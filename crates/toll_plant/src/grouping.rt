@@ -1,8 +1,9 @@
 //! A group of records of a file of actuals, with one change of the keep for all of them.
 ghost use Rattle.std.specs.Prelude.{◌≡◌, ◌+◌, ◌<◌, ◌≤◌, [], false, Err, OnErr, length, take, vec_capacity, vec_len};
 ghost use Rattle.std.specs.List.{AllByRecursion, list_any};
+ghost use Rattle.toll_desk.specs.Steps.{IsKeepStep};
 ghost use Rattle.toll_plant.specs.StagedRecords.{AreStaged, IsCommitted, IsRecordStaged};
-ghost use Rattle.toll_plant.specs.Imports.{CanBeStaged, IsGroupServed, before_accepted, refused_at};
+ghost use Rattle.toll_plant.specs.Imports.{CanBeStaged, EndWith, before_accepted, group_steps, refused_at};
 ghost use Rattle.toll_plant.specs.Outcomes.{is_outcome_accepted};
 
 use crate::outcome::Outcome;
@@ -35,7 +36,8 @@ pub fn import_group<K: Keep>(
 ) -> Result<(), KeepFault>
     requires can { AllByRecursion CanBeStaged commands.now }
     requires room { length commands.now ≤ vec_capacity outcomes.old }
-    ensures served { IsGroupServed K.meaning keep.old keep.new commands.now outcomes.new.items result }
+    ensures step { IsKeepStep K.meaning group_steps keep.old commands.now outcomes.new.items keep.new }
+    ensures ends { EndWith result outcomes.new.items }
     ensures within { vec_len outcomes.new ≤ length commands.now }
     ensures capacity { vec_capacity outcomes.new ≡ vec_capacity outcomes.old }
 {
