@@ -4,7 +4,6 @@ use Rattle.std.specs.Prelude.{take}
 use Rattle.toll_service.proofs.Common.{append-nil, Bytes, Content, Meaning, Yields as TurnComesTo, Input, IsWholeRun, Request, Task, Turn, Listener, Owners, Plant, Poll, Ready, Pending, outcomes_in, HasActed, ImportState, GROUP_RECORDS, Printout, AreServed, IsAnswered, Answer, Event}
 use Rattle.toll_desk.specs.Reads.{Over}
 use Rattle.toll_plant.proofs.FaultEnds.{all_acted}
-use Rattle.toll_plant.proofs.GroupChains.{group_honest}
 use Rattle.toll_service.proofs.ImportRuns.{records_run}
 use Rattle.toll_service.specs.Listeners.{ImportResumed, ImportYields, IsRequestedDone, IsServedIfRoom}
 use Rattle.toll_service.specs.Events.{AreActedEvents, AreAllEventsOf, AreEventsOf, AreGroupEvents, AreRecordEvents, AreTurnEvents, IsPrintoutOf}
@@ -83,9 +82,9 @@ module _ {K : Type 0} (meaning : Meaning K) (settled : (k : K) (c : Content) →
 
   acted_ran : (old new : K) (was now : ImportState) (poll : Poll ImportState) (keep_usable : Bool) → ImportYields now poll keep_usable → HasActed meaning old new was now → Ran old new (AreGroupEvents was poll)
   acted_ran old new was now poll keep_usable comes acted = record {
-    honest = group_honest meaning old new (take GROUP_RECORDS was.left) acted.reported acted.served;
+    honest = acted.served.store.honest;
     run = λ honest c H held stands lawful.
-        let (d, G, step) = acted.served.1.done honest c H held stands lawful in
+        let (d, G, step) = acted.served.over honest c H held stands lawful in
         let imported = step.step in
         let r = records_run H G imported.acted acted.reported imported.so in
         record {
