@@ -269,6 +269,21 @@ def test_a_fault_that_follows_another_begins_when_that_one_has_ended(at_work: Of
         assert server.lines() == ["fault Locked began", "fault Locked ended", "fault NotOurs began"]
 
 
+def test_a_server_takes_the_lock_of_the_file_that_is_at_its_path(at_work: Office) -> None:
+    with at_work.serve() as server:
+        assert server.ask(ORDERS).startswith("200 ")
+        os.unlink(f"{at_work.db}.lock")
+        with locked(at_work):
+            assert server.ask(ORDERS) == UNAVAILABLE
+        assert server.ask(ORDERS).startswith("200 ")
+        os.rename(f"{at_work.db}.lock", f"{at_work.db}.lock-before")
+        with open(f"{at_work.db}.lock-before") as moved:
+            fcntl.flock(moved, fcntl.LOCK_EX)
+            assert server.ask(ORDERS).startswith("200 ")
+        assert os.path.exists(f"{at_work.db}.lock")
+        assert server.lines() == ["fault Locked began", "fault Locked ended"]
+
+
 def test_a_server_has_its_file_open_before_it_listens_and_says_so_where_it_cannot(at_work: Office) -> None:
     with at_work.serve() as server:
         files = pathlib.Path(f"/proc/{server.process.pid}/fd")

@@ -10,5 +10,5 @@ use toll_office::run;
 use toll_opener::{SqlOpener, run_script};
 
 fn main(rt: HostRuntime) -> ExitCode {
-    ExitCode::from(u8::try_from(run(&rt, SqlOpener, run_script)).unwrap_or(u8::MAX))
+    ExitCode::from(u8::try_from(run(&rt, SqlOpener::new(), run_script)).unwrap_or(u8::MAX))
 }

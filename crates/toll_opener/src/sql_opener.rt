@@ -12,7 +12,7 @@ use std::io::ErrorKind;
 use std::os::unix::fs::OpenOptionsExt;
 use toll_base::{Name, Slice};
 use toll_keep::{CachedKeep, Keep, KeepFault};
-use toll_service::{FILE_MODE, KeepOpener, Lease, LeftFiles, OfficeFault, OfficePath, take_lock};
+use toll_service::{FILE_MODE, KeepOpener, Lease, LeftFiles, LockFile, OfficeFault, OfficePath};
 use toll_sql::{OpenFault, SqlKeep};
 
 /// The keep of an office on a file.
@@ -21,16 +21,28 @@ pub type FileKeep = CachedKeep<SqlKeep<FileStore<StoreFile>>>;
 /// The path that names no file for `sqlite`.
 const NO_FILE: &str = ":memory:";
 
-/// Opens an office whose rows are in tables. If there is no office in the file yet, one is made.
-#[derive(Clone, Copy)]
-pub struct SqlOpener;
+/// Opens an office whose rows are in tables. If there is no office in the file yet, one is made. The lock file
+/// stays open between leases.
+#[derive(Drop)]
+pub struct SqlOpener {
+    lock: LockFile,
+}
+
+impl SqlOpener {
+    /// Nothing is open yet.
+    pub fn new() -> Self {
+        SqlOpener {
+            lock: LockFile::new(),
+        }
+    }
+}
 
 /// The place of the office in this file.
 pub fn office_at<'a>(rt: &'a HostRuntime, path: &'a str) -> OfficePath<'a, SqlOpener> {
     OfficePath {
         rt,
         path,
-        opener: SqlOpener,
+        opener: SqlOpener::new(),
     }
 }
 
@@ -42,7 +54,11 @@ impl KeepOpener<FileKeep> for SqlOpener {
     ghost is_opened = { λ keep. IsOpened keep };
 
     fn lock(&mut self, rt: &HostRuntime, path: &str) -> Result<Lease, OfficeFault> {
-        take_lock(rt, path)
+        self.lock.lock(rt, path)
+    }
+
+    fn unlock(&mut self, lease: Lease) {
+        self.lock.unlock(lease);
     }
 
     fn is_unchanged(

@@ -10,7 +10,7 @@ use Rattle.toll_service.specs.declared.office_fault.OfficeFault.{OfficeFault}
 
 -- It is the same file, with the same length and time of writing.
 abbrev pub HasContentOf : Stamp → Stamp → Type 0
-HasContentOf a b = (a.device ≡ b.device) × (a.inode ≡ b.inode) × (a.bytes ≡ b.bytes) × (a.written ≡ b.written)
+HasContentOf a b = (a.id ≡ b.id) × (a.bytes ≡ b.bytes) × (a.written ≡ b.written)
 
 -- The file, its name and its mode are unchanged too.
 abbrev pub IsStampUnchanged : Stamp → Stamp → Type 0

@@ -2,6 +2,7 @@
 ghost use Rattle.std.specs.Prelude.{◌≡◌, ◌↔◌, None, true, IfErr, IfOk, IfSome};
 ghost use Rattle.toll_service.specs.FileChanges.{AreUntouched, HadSomething, HasContentOf, AreCommitsLost, IsEndLost, IsLogLost, IsStampUnchanged};
 
+use crate::file_id::FileId;
 use crate::lock::Lease;
 use crate::log_end::{FoundEnd, LogEnd, end_of};
 use crate::office_fault::OfficeFault;
@@ -14,8 +15,7 @@ use std::{fs, io};
 /// are 0 for a file that isn't there.
 #[derive(Clone, Copy)]
 pub struct Stamp {
-    pub device: u64,
-    pub inode: u64,
+    pub id: FileId,
     pub bytes: u64,
     pub written: (i64, i64),
     pub changed: (i64, i64),
@@ -23,8 +23,10 @@ pub struct Stamp {
 
 /// The stamp of a file that isn't there.
 const ABSENT: Stamp = Stamp {
-    device: 0,
-    inode: 0,
+    id: FileId {
+        device: 0,
+        inode: 0,
+    },
     bytes: 0,
     written: (0, 0),
     changed: (0, 0),
@@ -35,8 +37,7 @@ impl Stamp {
     pub fn of(rt: &HostRuntime, path: &str) -> io::Result<Self> {
         match fs::metadata(rt, path) {
             Ok(found) => Ok(Stamp {
-                device: found.dev(),
-                inode: found.ino(),
+                id: FileId::of(&found),
                 bytes: found.len(),
                 written: (found.mtime(), found.mtime_nsec()),
                 changed: (found.ctime(), found.ctime_nsec()),
@@ -50,10 +51,7 @@ impl Stamp {
     fn has_content_of(&self, other: &Stamp) -> bool
         ensures { (result ≡ true) ↔ HasContentOf self.now other.now }
     {
-        self.device == other.device
-            && self.inode == other.inode
-            && self.bytes == other.bytes
-            && self.written == other.written
+        self.id == other.id && self.bytes == other.bytes && self.written == other.written
     }
 
     // Whether neither the file nor its name or mode changed either.
@@ -79,6 +77,22 @@ impl FileStamps {
             database: Stamp::of(rt, path)?,
             log: Stamp::of(rt, log.as_str())?,
         })
+    }
+}
+
+/// The log of an office, which stays open to be read.
+#[derive(Drop)]
+pub struct OpenLog {
+    file: File,
+    id: FileId,
+}
+
+impl OpenLog {
+    /// Opens the log at this path.
+    pub fn open(rt: &HostRuntime, log: &str) -> io::Result<Self> {
+        let file = File::open(rt, log)?;
+        let id = FileId::of(&file.metadata()?);
+        Ok(OpenLog { file, id })
     }
 }
 
@@ -125,7 +139,7 @@ impl FoundFiles {
 }
 
 impl LeftFiles {
-    /// The state of the files now. The log is read only if it has changed since `before`.
+    /// The state of the files now, which were left as `before` says. The log is read only if it has changed since.
     pub fn of(
         rt: &HostRuntime,
         path: &str,
@@ -141,6 +155,33 @@ impl LeftFiles {
             None => log_end(rt, path, &None)?,
         };
         Ok(LeftFiles { stamps, log_end })
+    }
+
+    /// The state of the files now, if only this process has changed them since they were left so, by an office
+    /// whose log is open and which met no fault. The database is looked at only if the log was begun anew, since
+    /// the office writes to it only then. So a change that another program made meanwhile isn't taken for its own.
+    pub fn after_turn(
+        &self,
+        rt: &HostRuntime,
+        path: &str,
+        lease: &Lease,
+        open: &OpenLog,
+    ) -> io::Result<Self>
+        ensures { IfOk result (λ left. IsStampUnchanged self.now.stamps.log left.stamps.log → left.log_end ≡ self.now.log_end) }
+    {
+        let log = Stamp::of(rt, log_path(rt, path)?.as_str())?;
+        if self.stamps.log.is_same(&log) {
+            return Ok(*self);
+        }
+        if log.id == open.id {
+            let log_end = end_of(&open.file, &self.log_end)?;
+            if is_continued(&self.log_end, &log_end) {
+                let database = self.stamps.database;
+                let stamps = FileStamps { database, log };
+                return Ok(LeftFiles { stamps, log_end });
+            }
+        }
+        LeftFiles::of(rt, path, lease, &Some(*self))
     }
 
     /// Whether no other program has changed the files of the office at this path since they were left so. If
@@ -231,6 +272,14 @@ impl LeftFiles {
 
 fn log_path(rt: &HostRuntime, path: &str) -> io::Result<String> {
     Ok(format!(in rt.alloc(); "{path}-wal")?)
+}
+
+// Whether a log has the salts that it had before, so that it was only added to.
+fn is_continued(before: &Option<LogEnd>, end: &Option<LogEnd>) -> bool {
+    match (before, end) {
+        (Some(before), Some(end)) => before.salts == end.salts,
+        _ => false,
+    }
 }
 
 // The last commit in the log of the office at this path, of which an earlier one may be known.

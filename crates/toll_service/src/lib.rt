@@ -7,6 +7,7 @@ mod answering;
 mod damage;
 mod doing;
 mod fault_log;
+mod file_id;
 mod file_stamps;
 mod keep_service;
 mod laws;
@@ -34,13 +35,14 @@ mod words;
 pub use answering::answer_at;
 pub use doing::{answer_once, with_keep};
 pub use fault_log::{FaultLog, ServingFault};
+pub use file_id::FileId;
 pub use file_stamps::{FileChange, FileStamps, FoundFiles, LeftFiles, Stamp};
 pub use keep_service::KeepService;
 pub use laws::{
     turns_between_two_openings_are_a_run, turns_of_a_request_are_all_of_it,
     turns_over_a_keep_are_a_run,
 };
-pub use lock::{FILE_MODE, Lease, take_lock};
+pub use lock::{FILE_MODE, Lease, LockFile, take_lock};
 pub use log_end::{FoundEnd, LogEnd, ReadAt, end_of};
 pub use office_fault::OfficeFault;
 pub use office_path::{KeepOpener, OfficePath};

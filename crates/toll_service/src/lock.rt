@@ -1,41 +1,93 @@
 //! The lock of an office's file.
+use crate::file_id::FileId;
 use crate::office_fault::OfficeFault;
 use std::fs::{File, OpenOptions};
 use std::os::unix::fs::OpenOptionsExt;
+use std::{fs, io};
 
 /// The mode of each file that is made for an office: only its user may read and write it.
 pub const FILE_MODE: u32 = 0o600;
 
-/// The lock of an office's file, while it is held. Only [`take_lock`] makes one. What may be done only under the
-/// lock takes it. Released or dropped, it leaves the lock to other programs.
+/// The lock of an office's file, while it is held. Only [`take_lock`] and [`LockFile::lock`] make one. What may be
+/// done only under the lock takes it. Released or dropped, it leaves the lock to other programs.
 #[derive(Drop)]
 pub struct Lease {
-    lock: File,
+    lock: OpenLock,
 }
 
 impl Lease {
     /// Releases the lock.
     pub fn release(self) {
-        let _ = self.lock.unlock();
+        let _ = self.lock.file.unlock();
     }
 }
 
 /// Takes the lock of the file, `FILE.lock`, without waiting.
 pub fn take_lock(rt: &HostRuntime, path: &str) -> Result<Lease, OfficeFault> {
-    let Ok(name) = format!(in rt.alloc(); "{path}.lock") else {
-        return Err(OfficeFault::Memory);
-    };
-    let Ok(lock) = OpenOptions::new()
-        .read(true)
-        .write(true)
-        .create(true)
-        .mode(FILE_MODE)
-        .open(rt, name.as_str())
-    else {
-        return Err(OfficeFault::Locked);
-    };
-    match lock.try_lock() {
-        Ok(()) => Ok(Lease { lock }),
-        Err(_) => Err(OfficeFault::Locked),
+    LockFile::new().lock(rt, path)
+}
+
+/// The file `FILE.lock`, which stays open between leases, so that the next lease needn't open it.
+#[derive(Drop)]
+pub struct LockFile {
+    open: Option<OpenLock>,
+}
+
+impl LockFile {
+    /// It isn't open yet.
+    pub fn new() -> Self {
+        LockFile { open: None }
+    }
+
+    /// Takes the lock without waiting. If another file is at the path of `FILE.lock` by now, or none, the lock is
+    /// that of the file that is opened or made there.
+    pub fn lock(&mut self, rt: &HostRuntime, path: &str) -> Result<Lease, OfficeFault> {
+        let Ok(name) = format!(in rt.alloc(); "{path}.lock") else {
+            return Err(OfficeFault::Memory);
+        };
+        if let Some(lock) = self.open.take() {
+            if lock.file.try_lock().is_ok() && lock.is_at(rt, name.as_str()) {
+                return Ok(Lease { lock });
+            }
+        }
+        match OpenLock::open(rt, name.as_str()) {
+            Ok(lock) if lock.file.try_lock().is_ok() => Ok(Lease { lock }),
+            _ => Err(OfficeFault::Locked),
+        }
+    }
+
+    /// Releases the lock. The file stays open, unless the lock can't be released without closing it.
+    pub fn unlock(&mut self, lease: Lease) {
+        let Lease { lock } = lease;
+        self.open = match lock.file.unlock() {
+            Ok(()) => Some(lock),
+            Err(_) => None,
+        };
+    }
+}
+
+/// A lock file that is open, locked or not.
+#[derive(Drop)]
+struct OpenLock {
+    file: File,
+    id: FileId,
+}
+
+impl OpenLock {
+    fn open(rt: &HostRuntime, name: &str) -> io::Result<Self> {
+        let file = OpenOptions::new()
+            .read(true)
+            .write(true)
+            .create(true)
+            .mode(FILE_MODE)
+            .open(rt, name)?;
+        let id = FileId::of(&file.metadata()?);
+        Ok(OpenLock { file, id })
+    }
+
+    // Whether it is the file at this path. This is looked at under the lock: whoever finds another file there
+    // takes the lock of that one.
+    fn is_at(&self, rt: &HostRuntime, name: &str) -> bool {
+        matches!(fs::metadata(rt, name), Ok(found) if FileId::of(&found) == self.id)
     }
 }

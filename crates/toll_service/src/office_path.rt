@@ -31,6 +31,13 @@ pub trait KeepOpener<K: Keep>: Drop {
     fn lock(&mut self, rt: &HostRuntime, path: &str) -> Result<Lease, OfficeFault>
         ensures { openings self.new ≡ option_map (after_lock result) (openings self.old) };
 
+    /// Releases the lock, and may keep its file open for the next lease.
+    fn unlock(&mut self, lease: Lease)
+        ensures { openings self.new ≡ openings self.old }
+    {
+        lease.release();
+    }
+
     /// Looks whether no other program has changed the files since they were left so, as
     /// [`LeftFiles::is_unchanged`] says. NotOurs if committed changes are gone.
     fn is_unchanged(

@@ -9,7 +9,7 @@ ghost use Rattle.toll_service.specs.Sessions.{AreAsLeft, AreCounted, IsAtHand, I
 
 use crate::answering::answer_at;
 use crate::damage::Damage;
-use crate::file_stamps::LeftFiles;
+use crate::file_stamps::{LeftFiles, OpenLog};
 use crate::lock::Lease;
 use crate::notes::Notes;
 use crate::office_fault::OfficeFault;
@@ -158,7 +158,7 @@ impl<K: Keep + Drop> OfficeSession<K> {
             Err(fault) => {
                 self.imports = self.imports.saturating_sub(1);
                 if let Some(lease) = self.lock.take() {
-                    self.give_back(lease);
+                    self.give_back(office_path, lease);
                 }
                 Err(StoppedImport { fault, import })
             }
@@ -189,7 +189,7 @@ impl<K: Keep + Drop> OfficeSession<K> {
         match self.open(office_path, &lease) {
             Ok(opened) => Ok((opened, lease)),
             Err(fault) => {
-                self.give_back(lease);
+                self.give_back(office_path, lease);
                 Err(fault)
             }
         }
@@ -295,20 +295,26 @@ impl<K: Keep + Drop> OfficeSession<K> {
         ensures damage { self.new.damage ≡ self.old.damage }
         ensures lock { IsLockKept self.new }
     {
-        self.note_files(office_path.rt, office_path.path, &lease);
+        let log = opened.log_after(fault);
+        self.note_files(office_path.rt, office_path.path, &lease, log);
         self.opened = match (fault, self.imports) {
             (Some(_), _) => None,
             (None, 0) => opened.release(office_path, &lease),
             (None, _) => Some(opened),
         };
-        self.give_back(lease);
+        self.give_back(office_path, lease);
     }
 
-    // Notes the state in which the files are left.
-    fn note_files(&mut self, rt: &HostRuntime, path: &str, lease: &Lease)
+    // Notes the state in which the files are left: by an office whose log is open, if that was open before the turn
+    // and met no fault.
+    fn note_files(&mut self, rt: &HostRuntime, path: &str, lease: &Lease, log: Option<&OpenLog>)
         ensures { self.new ≡ record self.old { left = self.new.left } }
     {
-        self.left = LeftFiles::of(rt, path, lease, &self.left).ok();
+        let left = match (&self.left, log) {
+            (Some(left), Some(log)) => left.after_turn(rt, path, lease, log),
+            (left, _) => LeftFiles::of(rt, path, lease, left),
+        };
+        self.left = left.ok();
     }
 
     // Writes on standard error that the file was opened anew, and how long that took.
@@ -326,14 +332,15 @@ impl<K: Keep + Drop> OfficeSession<K> {
     }
 
     // Keeps the lease while an import is under way, and releases it otherwise.
-    fn give_back(&mut self, lease: Lease)
+    fn give_back<O: KeepOpener<K>>(&mut self, office_path: &mut OfficePath<'_, O>, lease: Lease)
         ensures same { self.new ≡ record self.old { lock = self.new.lock } }
         ensures lock { IsLockKept self.new }
+        ensures unasked { IsNoneOpened (O.openings office_path.old.opener) (O.openings office_path.new.opener) }
     {
         self.lock = if self.imports > 0 {
             Some(lease)
         } else {
-            lease.release();
+            office_path.opener.unlock(lease);
             None
         };
     }
@@ -371,7 +378,7 @@ impl<K: Keep + Drop> OfficeSession<K> {
         }
         let lease = office_path.opener.lock(office_path.rt, office_path.path)?;
         let are_as_left = self.are_files_as_left(office_path, &lease);
-        lease.release();
+        office_path.opener.unlock(lease);
         Ok(are_as_left)
     }
 
@@ -432,7 +439,7 @@ impl<K: Keep + Drop> OfficeSession<K> {
             return;
         };
         self.probe_rows(office_path, &lease, owner);
-        self.give_back(lease);
+        self.give_back(office_path, lease);
     }
 
     // The lease, if the files are as they were left: the one that is kept, or one that is taken.
@@ -467,7 +474,7 @@ impl<K: Keep + Drop> OfficeSession<K> {
         let is_damaged = has_damaged_rows(office_path, lease, &owner);
         self.damage.note_owner(owner, is_damaged);
         self.note_rows(office_path.rt, &owner, is_damaged);
-        self.note_files(office_path.rt, office_path.path, lease);
+        self.note_files(office_path.rt, office_path.path, lease, None);
     }
 
     /// Closes the file, if it is open and the lock is taken. All answered changes are in the file whether or
@@ -480,7 +487,7 @@ impl<K: Keep + Drop> OfficeSession<K> {
             if let Some(opened) = left {
                 opened.close(&mut office_path.opener, &lease);
             }
-            lease.release();
+            office_path.opener.unlock(lease);
         }
     }
 }

@@ -2,12 +2,13 @@
 ghost use Rattle.std.specs.Prelude.{◌≡◌, IfErr, IfOk, IfSome, OnOk};
 ghost use Rattle.toll_service.specs.Openings.{IsOneOpened, IsOneRefused, IsNoneOpened};
 
+use crate::file_stamps::OpenLog;
 use crate::lock::Lease;
 use crate::office_fault::OfficeFault;
 use crate::office_path::{KeepOpener, OfficePath};
 use crate::shared_file::SharedFile;
 use std::io;
-use toll_keep::Keep;
+use toll_keep::{Keep, KeepFault};
 
 /// An open office, and its files if they can be released.
 pub struct OpenOffice<K> {
@@ -25,7 +26,8 @@ impl<K: Drop> Drop for OpenOffice<K> {
 #[derive(Drop)]
 struct Files {
     database: SharedFile,
-    log: SharedFile,
+    log: OpenLog,
+    were_released: bool,
 }
 
 impl<K: Keep + Drop> OpenOffice<K> {
@@ -57,22 +59,31 @@ impl<K: Keep + Drop> OpenOffice<K> {
         ensures released { IfSome result (λ released. released.keep ≡ self.keep) }
         ensures unasked { IsNoneOpened (O.openings office_path.old.opener) (O.openings office_path.new.opener) }
     {
-        let is_released = match &self.files {
-            Some(Files { database, log }) => database.unlock().is_ok() && log.unlock().is_ok(),
-            None => false,
+        let OpenOffice { keep, files } = self;
+        let files = match files {
+            Some(files) => files.release(),
+            None => None,
         };
-        if is_released {
-            return Some(self);
+        if files.is_some() {
+            return Some(OpenOffice { keep, files });
         }
-        self.close(&mut office_path.opener, lease);
+        office_path.opener.close(keep, lease);
         None
     }
 
     /// Locks the files again. Returns whether no other program has them.
     pub fn reacquire(&self, _lease: &Lease) -> bool {
         match &self.files {
-            Some(Files { database, log }) => database.lock().is_ok() && log.lock().is_ok(),
+            Some(files) => files.database.lock().is_ok(),
             None => false,
+        }
+    }
+
+    /// The log, if the office was open before the turn and met no fault in it.
+    pub fn log_after(&self, fault: Option<KeepFault>) -> Option<&OpenLog> {
+        match (&self.files, fault) {
+            (Some(files), None) if files.were_released => Some(&files.log),
+            _ => None,
         }
     }
 
@@ -86,11 +97,28 @@ impl<K: Keep + Drop> OpenOffice<K> {
 }
 
 impl Files {
+    // The files of the office at this path, which `sqlite` has open and locked. Their locks are those of the
+    // database from now on: `sqlite` opens a log only under the lock of its database.
     fn of(rt: &HostRuntime, path: &str) -> io::Result<Self> {
         let log = format!(in rt.alloc(); "{path}-wal")?;
+        let database = SharedFile::of(rt, path)?;
+        SharedFile::of(rt, log.as_str())?.unlock()?;
+        let log = OpenLog::open(rt, log.as_str())?;
         Ok(Files {
-            database: SharedFile::of(rt, path)?,
-            log: SharedFile::of(rt, log.as_str())?,
+            database,
+            log,
+            were_released: false,
         })
+    }
+
+    // The files, unless they can't be released.
+    fn release(self) -> Option<Self> {
+        match self.database.unlock() {
+            Ok(()) => Some(Files {
+                were_released: true,
+                ..self
+            }),
+            Err(_) => None,
+        }
     }
 }

@@ -1,7 +1,7 @@
 //! A file of `sqlite` that other programs may use while it stays open.
+use crate::file_id::FileId;
 use os::RangeLock;
 use std::io::ErrorKind;
-use std::os::unix::fs::MetadataExt;
 use std::{fs, io};
 
 /// The first byte that `sqlite` locks in each of its files, and the number of bytes.
@@ -47,14 +47,11 @@ fn set_lock(descriptor: i32, kind: RangeLock) -> io::Result<()> {
 // The descriptor by which `sqlite` has the file open. Another descriptor of the file, such as one that the
 // program was started with, can't lock what that one has locked.
 fn descriptor_of(rt: &HostRuntime, path: &str) -> io::Result<i32> {
-    let file = fs::metadata(rt, path)?;
+    let file = FileId::of(&fs::metadata(rt, path)?);
     for descriptor in 0..MOST_DESCRIPTORS {
         let link = format!(in rt.alloc(); "/proc/self/fd/{descriptor}")?;
         if let Ok(found) = fs::metadata(rt, link.as_str()) {
-            if found.dev() == file.dev()
-                && found.ino() == file.ino()
-                && set_lock(descriptor, RangeLock::Exclusive).is_ok()
-            {
+            if FileId::of(&found) == file && set_lock(descriptor, RangeLock::Exclusive).is_ok() {
                 return Ok(descriptor);
             }
         }

@@ -1,0 +1,20 @@
+//! Which file it is.
+use std::fs::Metadata;
+use std::os::unix::fs::MetadataExt;
+
+/// The disk on which a file lies, and its place there.
+#[derive(Clone, Copy, PartialEq, Eq)]
+pub struct FileId {
+    pub device: u64,
+    pub inode: u64,
+}
+
+impl FileId {
+    /// The file of which this is known.
+    pub fn of(found: &Metadata) -> Self {
+        FileId {
+            device: found.dev(),
+            inode: found.ino(),
+        }
+    }
+}
