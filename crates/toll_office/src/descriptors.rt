@@ -5,8 +5,8 @@ use std::fs;
 use toll_server::MOST_CONNECTIONS;
 
 /// How many descriptors the program has open beside its connections, at most: the standard streams, the poll,
-/// the two listeners, the office's lock, file, log and folder, a connection that is about to be closed, and a
-/// dozen that it may have inherited.
+/// the two listeners, the office's lock, file and folder, its log twice, a connection that is about to be closed,
+/// and a dozen that it may have inherited.
 const OWN_DESCRIPTORS: usize = 24;
 
 /// How many connections may be open at once, so that the process has descriptors for everything else that it

@@ -6,6 +6,7 @@
 mod descriptors;
 mod plant_listener;
 mod programs;
+mod readiness;
 mod resolving;
 mod serving;
 mod socket_connector;

@@ -5,6 +5,7 @@ use mio::{Registry, Token};
 use std::alloc::AllocError;
 use std::io;
 use std::io::{ErrorKind, Write};
+use std::os::fd::RawFd;
 use std::time::Instant;
 use toll_programs::VERSION;
 use toll_protocol::handshake;
@@ -82,6 +83,11 @@ impl<'a> PlantListener<'a> {
     /// Registers the listener by this token, which reports that a client connects.
     pub fn register(&mut self, registry: &Registry, token: Token) -> io::Result<()> {
         self.file.register(registry, token)
+    }
+
+    /// The descriptor at which connections wait.
+    pub fn as_raw_fd(&self) -> RawFd {
+        self.file.as_raw_fd()
     }
 
     /// The next connection, which was sent the handshake, or `WouldBlock` if none waits. A client that can't

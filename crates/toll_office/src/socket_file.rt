@@ -3,9 +3,10 @@ use mio::net::{UnixListener, UnixStream};
 use mio::{Interest, Registry, Token};
 use std::fs::Permissions;
 use std::io::ErrorKind;
-use std::os::unix::fs::{FileTypeExt, MetadataExt, PermissionsExt};
+use std::os::fd::{AsRawFd, RawFd};
+use std::os::unix::fs::{FileTypeExt, PermissionsExt};
 use std::{fs, io};
-use toll_service::FILE_MODE;
+use toll_service::{FILE_MODE, FileId};
 
 /// How many connections may wait before the file has its mode.
 const MOST_EARLY: usize = 8192;
@@ -17,23 +18,6 @@ pub struct SocketFile<'a> {
     path: String,
     made: FileId,
     listener: UnixListener,
-}
-
-/// The disk on which a file lies, and its place there.
-#[derive(Clone, Copy, PartialEq, Eq)]
-struct FileId {
-    device: u64,
-    inode: u64,
-}
-
-impl FileId {
-    fn of(rt: &HostRuntime, path: &str) -> io::Result<Self> {
-        let found = fs::symlink_metadata(rt, path)?;
-        Ok(FileId {
-            device: found.dev(),
-            inode: found.ino(),
-        })
-    }
 }
 
 impl Drop for SocketFile<'_> {
@@ -57,7 +41,7 @@ impl<'a> SocketFile<'a> {
     pub fn listen(rt: &'a HostRuntime, path: String) -> io::Result<Self> {
         clear(rt, path.as_str())?;
         let listener = UnixListener::bind(rt, path.as_str())?;
-        let made = FileId::of(rt, path.as_str())?;
+        let made = FileId::of(&fs::symlink_metadata(rt, path.as_str())?);
         let file = SocketFile {
             rt,
             path,
@@ -88,6 +72,11 @@ impl<'a> SocketFile<'a> {
         registry.register(&mut self.listener, token, Interest::READABLE)
     }
 
+    /// The descriptor at which connections wait.
+    pub fn as_raw_fd(&self) -> RawFd {
+        self.listener.as_raw_fd()
+    }
+
     /// The next connection, or `WouldBlock` if none waits.
     pub fn accept(&self) -> io::Result<UnixStream> {
         let (stream, _) = self.listener.accept()?;
@@ -97,7 +86,7 @@ impl<'a> SocketFile<'a> {
 
 // Whether the file that was made is at this path.
 fn is_at(rt: &HostRuntime, path: &str, made: FileId) -> bool {
-    matches!(FileId::of(rt, path), Ok(found) if found == made)
+    matches!(fs::symlink_metadata(rt, path), Ok(found) if FileId::of(&found) == made)
 }
 
 /// Whether a file is at this path that stays: one at which another server listens, or one that is no socket

@@ -4,12 +4,14 @@ ghost use Rattle.toll_server.specs.declared.network.TheConstants.{MOST_CONNECTIO
 
 use crate::descriptors::most_connections;
 use crate::plant_listener::{ListenerFault, PlantListener};
+use crate::readiness::are_waiting;
 use crate::socket_stream::SocketStream;
 use mio::net::TcpListener;
 use mio::{Events, Interest, Poll, Token};
 use std::io;
 use std::io::ErrorKind;
 use std::net::{Ipv4Addr, SocketAddr, SocketAddrV4};
+use std::os::fd::AsRawFd;
 use std::time::{Duration, Instant};
 use toll_server::{Accepted, Listener, Network, NetworkFault};
 use toll_service::{FaultLog, ServingFault};
@@ -100,20 +102,29 @@ impl<'a> Sockets<'a> {
         self.listener.update(self.rt, fault);
     }
 
-    // The next connection. Connections of the plant come first.
+    // The next connection. Connections of the plant come first. A listener is asked only if a connection waits there:
+    // asking in vain takes the system much longer than looking.
     fn accept(&self) -> io::Result<(Listener, SocketStream)> {
-        if let Ok(listener) = &self.plant {
-            match listener.accept() {
+        let plant = self.plant.as_ref().ok();
+        let (plant_waits, owner_waits) = are_waiting(
+            plant.map(|listener| listener.as_raw_fd()),
+            self.owners.as_ref().map(|listener| listener.as_raw_fd()),
+        );
+        match plant {
+            Some(listener) if plant_waits => match listener.accept() {
                 Ok(stream) => return Ok((Listener::Plant, SocketStream::Plant(stream))),
                 Err(fault) if fault.kind() == ErrorKind::WouldBlock => {}
                 Err(fault) => return Err(fault),
-            }
+            },
+            _ => {}
         }
-        let Some(owners) = &self.owners else {
-            return Err(ErrorKind::WouldBlock.into());
-        };
-        let (stream, _) = owners.accept()?;
-        Ok((Listener::Owners, SocketStream::Owner(stream)))
+        match &self.owners {
+            Some(listener) if owner_waits => {
+                let (stream, _) = listener.accept()?;
+                Ok((Listener::Owners, SocketStream::Owner(stream)))
+            }
+            _ => Err(ErrorKind::WouldBlock.into()),
+        }
     }
 
     // The next connection, which has this key from then on.
