@@ -5,7 +5,9 @@ use std::os::unix::fs::MetadataExt;
 /// The disk on which a file lies, and its place there.
 #[derive(Clone, Copy, PartialEq, Eq)]
 pub struct FileId {
+    /// The number of the disk.
     pub device: u64,
+    /// The number of the file on it.
     pub inode: u64,
 }
 
