@@ -1,5 +1,6 @@
 -- Rows that are found.
 use Rattle.std.proofs.Common.{◌≡◌, Bool, true, false, cond, Option, Some, None, is_some, is_none, List, [], ◌∷◌, refl, sym, ap, ◌∙◌}
+use Rattle.toll_base.specs.Table.{replace_row, insert_row, put_row}
 use Rattle.toll_work.proofs.Common.{false≢true, option_map, option_map_or, is_eq, Ordering, row_at}
 
 -- A row that is found has the key.
@@ -11,6 +12,20 @@ row_at-key cmp key (x ∷ xs) k row found =
       | true ↦ λ hit is. let same : x ≡ row = (cc) in ap (λ r. is_eq (cmp k (key r))) (sym same) ∙ hit
       | false ↦ λ miss is. row_at-key cmp key xs k row is
     ] refl found
+
+replaced_again : {K R : Type 0} (cmp : K → K → Ordering) (key : R → K) (rows : List R) (row : R) → row_at cmp key rows (key row) ≡ Some row → replace_row cmp key rows row ≡ rows
+unfolding row_at
+replaced_again cmp key [] row found = refl
+replaced_again cmp key (x ∷ xs) row found =
+    elim (is_eq (cmp (key row) (key x))) as (λ b. cond b (Some x) (row_at cmp key xs (key row)) ≡ Some row → cond b (row ∷ xs) (x ∷ replace_row cmp key xs row) ≡ x ∷ xs) [
+      | true ↦ λ is. let same : x ≡ row = (cc) in ap (λ r. r ∷ xs) (sym same)
+      | false ↦ λ is. ap (λ rest. x ∷ rest) (replaced_again cmp key xs row is)
+    ] found
+
+-- A known row that is put again changes nothing.
+pub put_again : {K R : Type 0} (cmp : K → K → Ordering) (key : R → K) (rows : List R) (row : R) → row_at cmp key rows (key row) ≡ Some row → put_row cmp key rows row ≡ rows
+unfolding put_row
+put_again cmp key rows row found = ap (λ b. cond b (replace_row cmp key rows row) (insert_row cmp key rows row)) (ap is_some found) ∙ replaced_again cmp key rows row found
 
 pub known_not_none : {X : Type 0} (x : Option X) → is_some x ≡ true → is_none x ≡ false
 known_not_none (Some x) h = refl

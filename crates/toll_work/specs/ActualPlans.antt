@@ -1,11 +1,12 @@
 -- The plans of actuals and of their voids: their checks, and the rows that they put if none applies.
-use Rattle.std.specs.Prelude.{ℕ, ◌++◌, nat_lt, is_none, Some, [], ◌∷◌}
+use Rattle.std.specs.Prelude.{ℕ, ◌++◌, nat_lt, if◌then◌else◌, is_none, is_some, Some, [], ◌∷◌}
 use Rattle.toll_work.specs.Common.{Bytes, Slice, batch_at, recipe_at, requirement_at, is_idle, is_some_where, Decision, MoveRow, BadSegment, BatchIdle, CrossOwner, LimitReached, NotEnough, NotInRecipe, Consumed, Produced, Lot, Move, Sublot, Void, lot_bounds, IsDecided, puts_of, gained, less_in_sublot, OwnerFacts, facts_of, Checks, actual_checks, amount_in, consumed_checks, crosses, key_checks, open_batch_checks, produced_checks, tables_for}
 use Rattle.toll_base.specs.declared.decision.Change.TheVariants.{Put}
 use Rattle.toll_base.specs.declared.lot.Disposition.TheVariants.{Quarantined}
 use Rattle.toll_base.specs.declared.lot.Origin.TheVariants.{Batch}
 use Rattle.toll_base.specs.declared.role.Role.{Role}
 use Rattle.toll_base.specs.Rows.{lot_row_of}
+use Rattle.toll_base.specs.Slice.{lot_at}
 use Rattle.toll_work.specs.Voiding.{giving_bounds, void_batch_checks}
 use Rattle.toll_work.specs.declared.actuals.ActualUse.{ActualUse}
 
@@ -47,13 +48,13 @@ IsConsumptionPlan own house row used d =
     IsDecided (key_checks (facts_of own) row ++ use_checks own used Consumed ++ source_checks own (source_of own house used) used row.amount)
     (Put own.owner (Move row) ∷ Put used.lot.owner (Sublot (less_in_sublot used.lot.lot used.sublot row.amount (source_of own house used))) ∷ []) d
 
--- A production puts its movement, its lot, quarantined, and the sublot with this amount more.
+-- A production puts its movement, its lot, quarantined, if it is new, and the sublot with this amount more.
 abbrev pub IsProductionPlan : Slice → MoveRow → ActualUse → Decision → Type 0
 IsProductionPlan s row used d =
     IsDecided (key_checks (facts_of s) row ++ use_checks s used Produced ++ target_checks s used row.amount)
     (puts_of s.owner (Move row
-    ∷ Lot (lot_row_of used.lot.lot used.material (Batch used.order used.number) Quarantined)
-    ∷ Sublot (gained used.lot.lot used.sublot row.amount (facts_of s))
+    ∷ (if is_some (lot_at s used.lot.lot) then [] else Lot (lot_row_of used.lot.lot used.material (Batch used.order used.number) Quarantined) ∷ [])
+    ++ Sublot (gained used.lot.lot used.sublot row.amount (facts_of s))
     ∷ [])) d
 
 -- The void of a consumption puts itself, and the sublot with this amount more.

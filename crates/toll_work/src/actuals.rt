@@ -132,6 +132,12 @@ fn plan_production(
     if let Err(why) = check_production(own, used, row.amount) {
         return Ok(Decision::Refuse(why));
     }
+    let moved = Change::Put(owner, Row::Move(*row));
+    let gaining = sublot_gaining(own, used.lot.lot, used.sublot, row.amount);
+    let gained = Change::Put(owner, Row::Sublot(gaining));
+    if own.lot(&used.lot.lot).is_some() {
+        return Decision::accept_all(alloc, &[moved, gained]);
+    }
     let lot = LotRow {
         lot: used.lot.lot,
         material: used.material,
@@ -141,15 +147,7 @@ fn plan_production(
         },
         disposition: Disposition::Quarantined,
     };
-    let sublot = sublot_gaining(own, used.lot.lot, used.sublot, row.amount);
-    Decision::accept_all(
-        alloc,
-        &[
-            Change::Put(owner, Row::Move(*row)),
-            Change::Put(owner, Row::Lot(lot)),
-            Change::Put(owner, Row::Sublot(sublot)),
-        ],
-    )
+    Decision::accept_all(alloc, &[moved, Change::Put(owner, Row::Lot(lot)), gained])
 }
 
 /// The rows of this owner, which is the owner or HOUSE.
