@@ -41,7 +41,7 @@ impl<'a> SocketFile<'a> {
     pub fn listen(rt: &'a HostRuntime, path: String) -> io::Result<Self> {
         clear(rt, path.as_str())?;
         let listener = UnixListener::bind(rt, path.as_str())?;
-        let made = FileId::of(&fs::symlink_metadata(rt, path.as_str())?);
+        let made = FileId::from(&fs::symlink_metadata(rt, path.as_str())?);
         let file = SocketFile {
             rt,
             path,
@@ -86,7 +86,7 @@ impl<'a> SocketFile<'a> {
 
 // Whether the file that was made is at this path.
 fn is_at(rt: &HostRuntime, path: &str, made: FileId) -> bool {
-    matches!(fs::symlink_metadata(rt, path), Ok(found) if FileId::of(&found) == made)
+    matches!(fs::symlink_metadata(rt, path), Ok(metadata) if FileId::from(&metadata) == made)
 }
 
 /// Whether a file is at this path that stays: one at which another server listens, or one that is no socket

@@ -1,5 +1,5 @@
 -- The records of an imported file are events of a run.
-use Rattle.std.proofs.Common.{◌≡◌, List, [], ◌∷◌, ◌++◌, Some, None, refl, subst, inl, inr}
+use Rattle.std.proofs.Common.{◌≡◌, List, [], ◌∷◌, ◌++◌, Some, None, Ok, Err, refl, subst}
 use Rattle.toll_service.proofs.Common.{PlantCmd, PlantReply, History, record_outcome, Outcome, Answer, Event}
 use Rattle.toll_desk.specs.Translations.{meaning_of_plant_reply}
 use Rattle.toll_desk.specs.OfficeSteps.{IsPlantStep}
@@ -23,10 +23,10 @@ events_then acted later reported more events others answers behind first then = 
 
 -- A record with a command is a step of the office, and its outcome reports the reply.
 record_event : (old new : History) (c : PlantCmd) (o : Outcome) → IsRecordStep old (Some c) o new → (reply : PlantReply) × (o ≡ record_outcome (meaning_of_plant_reply reply)) × IsPlantStep old c (meaning_of_plant_reply reply) new
-record_event old new c o (inl (Accepted, answer, is, grows)) = (plant.Accepted, is, (answer, grows))
-record_event old new c o (inl (Repeated, answer, is, grows)) = (plant.Repeated, is, (answer, grows))
-record_event old new c o (inl (Refused why, answer, is, grows)) = (plant.Refused why, is, (answer, grows))
-record_event old new c o (inr (fault, is, same)) = (plant.Fault fault, is, same)
+record_event old new c o (Ok Accepted, step, is) = (plant.Accepted, is, step)
+record_event old new c o (Ok Repeated, step, is) = (plant.Repeated, is, step)
+record_event old new c o (Ok (Refused why), step, is) = (plant.Refused why, is, step)
+record_event old new c o (Err fault, step, is) = (plant.Fault fault, is, step)
 
 -- The events of records, as a run.
 pub record RecordsRun (H last : History) (acted : Commands) (outcomes : List Outcome) : Type 0 where

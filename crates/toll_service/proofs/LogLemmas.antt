@@ -1,9 +1,12 @@
 -- Parts of a log, and what comparisons of them say.
-use Rattle.std.proofs.Common.{◌≡◌, ◌≢◌, subst, add-one, ℕ, ◌+◌, ◌<◌, ◌≤◌, Bool, true, eqb, List, length, take, drop, sym, refl, ◌∙◌, ap₂, arith, ◌&&◌, not, false, ap, below_more, Option, None, Some}
+use Rattle.std.proofs.Common.{Bor, ◌-◌, [], ◌≡◌, ◌≢◌, subst, add-one, ℕ, ◌+◌, ◌<◌, ◌≤◌, Bool, true, eqb, List, length, take, drop, sym, refl, ◌∙◌, ap₂, arith, ◌&&◌, not, false, ap, below_more, Option, None, Some}
 use Rattle.std.proofs.lemmas.Bool.{eq-eqb, eqb-true, and_parts, and_from, false≢true, not-true, not-false}
 use Rattle.std.proofs.lemmas.Slice.Eq.{bytes_eq-Decides}
 use Rattle.std.specs.Str.{bytes_eq}
 use Rattle.std.specs.Prelude.{IfSome}
+use Rattle.std.specs.Slice.{IsGetRangeResult}
+use Rattle.std.specs.List.{slice_range}
+use Rattle.sqlite_wal.proofs.PartLemmas.{part-part}
 use Rattle.sqlite_wal.specs.Format.{IsFrame, part, stored_sum}
 use Rattle.sqlite_wal.specs.PageSize.{bytes_of}
 use Rattle.sqlite_wal.specs.Recovery.{Passes, frame, frame_at, header, sum_before}
@@ -45,6 +48,28 @@ known_if P R (Some bytes) h known = h bytes known
 pub both_known : (P Q R : List ℕ → Type 0) (o : Option (List ℕ)) → ((bytes : List ℕ) → P bytes → Q bytes → R bytes) → IfSome o P → IfSome o Q → IfSome o R
 both_known P Q R None h one other = tt
 both_known P Q R (Some bytes) h one other = h bytes one other
+
+-- nothing was read ahead
+pub none_ahead : (o : Option (List ℕ)) → IfSome o (λ bytes. IsFilled bytes 0 true [])
+unfolding part
+none_ahead None = tt
+none_ahead (Some bytes) = (omega arith, refl)
+
+-- a part of what was read ahead
+piece_ahead : (bytes ahead piece : List ℕ) (from at begun done : ℕ) → IsFilled bytes from true ahead → at ≡ from + begun
+    → (begun ≤ done) × (done ≤ length ahead) × (piece ≡ slice_range ahead begun done) × (length piece + begun ≡ done) → IsFilled bytes at true piece
+unfolding part
+piece_ahead bytes ahead piece from at begun done (inside, is) here (low, high, cut, len) =
+    let count : done - begun ≡ length piece = omega (arith, len) in (
+      omega (arith, inside, here, high, len),
+      cut ∙ ap (λ (n : ℕ). take n (drop begun ahead)) count ∙ ap (λ (l : List ℕ). part l begun (length piece)) is
+          ∙ part-part bytes from (length ahead) begun (length piece) inside (omega (arith, high, len)) ∙ ap (λ (a : ℕ). part bytes a (length piece)) (sym here),
+    )
+
+pub part_ahead : (o : Option (List ℕ)) (ahead : List ℕ) (from at begun done : ℕ) (r : Option (Bor (List ℕ))) → IfSome o (λ bytes. IsFilled bytes from true ahead)
+    → at ≡ from + begun → IsGetRangeResult ahead begun done r → IfSome r (λ piece. IfSome o (λ bytes. IsFilled bytes at true piece.now))
+part_ahead o ahead from at begun done None read here got = tt
+part_ahead o ahead from at begun done (Some piece) read here got = known_if _ _ o (λ bytes filled. piece_ahead bytes ahead piece.now from at begun done filled here got.0) read
 
 module _ (bytes buffer : List ℕ) (at : ℕ) where
   too_short : (is_whole : Bool) → is_whole ≡ false → IsFilled bytes at is_whole buffer → length bytes < at + length buffer

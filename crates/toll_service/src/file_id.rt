@@ -11,12 +11,11 @@ pub struct FileId {
     pub inode: u64,
 }
 
-impl FileId {
-    /// The file of which this is known.
-    pub fn of(found: &Metadata) -> Self {
+impl From<&Metadata> for FileId {
+    fn from(metadata: &Metadata) -> Self {
         FileId {
-            device: found.dev(),
-            inode: found.ino(),
+            device: metadata.dev(),
+            inode: metadata.ino(),
         }
     }
 }

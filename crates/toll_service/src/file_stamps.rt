@@ -4,11 +4,11 @@ ghost use Rattle.toll_service.specs.FileChanges.{AreUntouched, HadSomething, Has
 
 use crate::file_id::FileId;
 use crate::lock::Lease;
-use crate::log_end::{FoundEnd, LogEnd, end_of};
+use crate::log_end::{FoundEnd, LogEnd, ReadAt, end_of};
 use crate::office_fault::OfficeFault;
-use std::fs::File;
+use std::fs::{File, Metadata};
 use std::io::ErrorKind;
-use std::os::unix::fs::MetadataExt;
+use std::os::unix::fs::{FileExt, MetadataExt};
 use std::{fs, io};
 
 /// Which file it is, its length, when it was written, and when that or its name or mode changed. All fields
@@ -32,16 +32,22 @@ const ABSENT: Stamp = Stamp {
     changed: (0, 0),
 };
 
+impl From<&Metadata> for Stamp {
+    fn from(metadata: &Metadata) -> Self {
+        Stamp {
+            id: FileId::from(metadata),
+            bytes: metadata.len(),
+            written: (metadata.mtime(), metadata.mtime_nsec()),
+            changed: (metadata.ctime(), metadata.ctime_nsec()),
+        }
+    }
+}
+
 impl Stamp {
     /// The stamp of the file at this path.
     pub fn of(rt: &HostRuntime, path: &str) -> io::Result<Self> {
         match fs::metadata(rt, path) {
-            Ok(found) => Ok(Stamp {
-                id: FileId::of(&found),
-                bytes: found.len(),
-                written: (found.mtime(), found.mtime_nsec()),
-                changed: (found.ctime(), found.ctime_nsec()),
-            }),
+            Ok(metadata) => Ok(Stamp::from(&metadata)),
             Err(fault) if fault.kind() == ErrorKind::NotFound => Ok(ABSENT),
             Err(fault) => Err(fault),
         }
@@ -84,15 +90,42 @@ impl FileStamps {
 #[derive(Drop)]
 pub struct OpenLog {
     file: File,
-    id: FileId,
 }
 
 impl OpenLog {
     /// Opens the log at this path.
     pub fn open(rt: &HostRuntime, log: &str) -> io::Result<Self> {
         let file = File::open(rt, log)?;
-        let id = FileId::of(&file.metadata()?);
-        Ok(OpenLog { file, id })
+        Ok(OpenLog { file })
+    }
+
+    // The log as it is now.
+    fn now(&self) -> io::Result<StampedLog<'_>> {
+        Ok(StampedLog {
+            file: &self.file,
+            stamp: Stamp::from(&self.file.metadata()?),
+        })
+    }
+}
+
+/// An open log, of which only the bytes are read that it had when it was stamped.
+#[derive(Clone, Copy)]
+struct StampedLog<'a> {
+    file: &'a File,
+    stamp: Stamp,
+}
+
+impl ReadAt for StampedLog<'_> {
+    fn len(&self) -> u64 {
+        self.stamp.bytes
+    }
+
+    fn fill_at(&self, at: u64, buffer: &mut [u8]) -> io::Result<bool> {
+        match self.file.read_exact_at(buffer, at) {
+            Ok(()) => Ok(true),
+            Err(fault) if fault.kind() == ErrorKind::UnexpectedEof => Ok(false),
+            Err(fault) => Err(fault),
+        }
     }
 }
 
@@ -169,14 +202,15 @@ impl LeftFiles {
     ) -> io::Result<Self>
         ensures { IfOk result (λ left. IsStampUnchanged self.now.stamps.log left.stamps.log → left.log_end ≡ self.now.log_end) }
     {
-        let log = Stamp::of(rt, log_path(rt, path)?.as_str())?;
-        if self.stamps.log.is_same(&log) {
+        let log = open.now()?;
+        if self.stamps.log.is_same(&log.stamp) {
             return Ok(*self);
         }
-        if log.id == open.id {
-            let log_end = end_of(&open.file, &self.log_end)?;
+        if self.stamps.log.id == log.stamp.id {
+            let log_end = end_of(&log, &self.log_end)?;
             if is_continued(&self.log_end, &log_end) {
                 let database = self.stamps.database;
+                let log = log.stamp;
                 let stamps = FileStamps { database, log };
                 return Ok(LeftFiles { stamps, log_end });
             }
@@ -285,7 +319,7 @@ fn is_continued(before: &Option<LogEnd>, end: &Option<LogEnd>) -> bool {
 // The last commit in the log of the office at this path, of which an earlier one may be known.
 fn log_end(rt: &HostRuntime, path: &str, before: &Option<LogEnd>) -> io::Result<Option<LogEnd>> {
     match open_log(rt, path)? {
-        Some(log) => end_of(&log, before),
+        Some(log) => end_of(&log.now()?, before),
         None => Ok(None),
     }
 }
@@ -293,16 +327,16 @@ fn log_end(rt: &HostRuntime, path: &str, before: &Option<LogEnd>) -> io::Result<
 // What became of the end of the log.
 fn find_end(rt: &HostRuntime, path: &str, end: &LogEnd) -> io::Result<FoundEnd> {
     match open_log(rt, path)? {
-        Some(log) => end.find(&log),
+        Some(log) => end.find(&log.now()?),
         None => Ok(FoundEnd::BegunAnew),
     }
 }
 
 // The log of the office at this path, if there is one.
-fn open_log(rt: &HostRuntime, path: &str) -> io::Result<Option<File>> {
+fn open_log(rt: &HostRuntime, path: &str) -> io::Result<Option<OpenLog>> {
     let log = log_path(rt, path)?;
-    match File::open(rt, log.as_str()) {
-        Ok(file) => Ok(Some(file)),
+    match OpenLog::open(rt, log.as_str()) {
+        Ok(log) => Ok(Some(log)),
         Err(fault) if fault.kind() == ErrorKind::NotFound => Ok(None),
         Err(fault) => Err(fault),
     }

@@ -81,13 +81,13 @@ impl OpenLock {
             .create(true)
             .mode(FILE_MODE)
             .open(rt, name)?;
-        let id = FileId::of(&file.metadata()?);
+        let id = FileId::from(&file.metadata()?);
         Ok(OpenLock { file, id })
     }
 
     // Whether it is the file at this path. This is looked at under the lock: whoever finds another file there
     // takes the lock of that one.
     fn is_at(&self, rt: &HostRuntime, name: &str) -> bool {
-        matches!(fs::metadata(rt, name), Ok(found) if FileId::of(&found) == self.id)
+        matches!(fs::metadata(rt, name), Ok(metadata) if FileId::from(&metadata) == self.id)
     }
 }

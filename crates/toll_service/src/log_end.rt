@@ -1,22 +1,24 @@
 //! The committed end of a write-ahead log of SQLite, whose format is public
 //! (https://sqlite.org/fileformat2.html#the_write_ahead_log): a header, and frames of one page each.
-ghost use Rattle.std.specs.Prelude.{◌≡◌, ◌↔◌, ◌+◌, ◌*◌, ◌<◌, ◌≤◌, ◌^◌, ℕ, List, Option, None, IsTrue, IfOk, IfSome, MatchOption, length};
+ghost use Rattle.std.proofs.Props.{props};
+ghost use Rattle.std.specs.Prelude.{◌≡◌, ◌↔◌, ◌+◌, ◌*◌, ◌<◌, ◌≤◌, ◌^◌, ℕ, List, Option, None, true, IsTrue, IfOk, IfSome, MatchOption, length};
 ghost use Rattle.sqlite_wal.specs.Format.{IsFrame, IsHeader, IsSigned, be32, part, stored_sum};
 ghost use Rattle.sqlite_wal.specs.PageSize.{IsPageSize, bytes_of};
 ghost use Rattle.sqlite_wal.specs.Recovery.{frame_at, header};
 ghost use Rattle.toll_service.specs.LogEnds.{AreFrames, IsCommitOf, IsEarlierEnd, IsEndOf, IsEndOfFrames, IsFilled, IsFoundAs, IsHeaderOfFrame, IsLogHeader, IsReached};
 
 use sqlite_wal::{PageSize, checksum_of};
-use std::fs::File;
 use std::io;
 use std::io::ErrorKind;
-use std::os::unix::fs::FileExt;
 
 const HEADER_BYTES: usize = 32;
 
 const FRAME_HEADER_BYTES: usize = 24;
 
 const MOST_FRAME_BYTES: usize = FRAME_HEADER_BYTES + 65_536;
+
+/// How many bytes are read ahead, in which are the headers of four frames with pages of 4,096 bytes.
+const AHEAD_BYTES: usize = 16_384;
 
 /// The version of the format, which has not changed since SQLite 3.7.0.
 const VERSION: u32 = 3_007_000;
@@ -29,17 +31,79 @@ pub trait ReadAt {
     // The bytes of the file, if they are known.
     ghost content: { Self → Option (List ℕ) } = { λ _. None };
 
+    /// The number of its bytes.
+    fn len(&self) -> u64
+        ensures { IfSome (content self.now) (λ bytes. result ≡ length bytes) };
+
     /// Fills the buffer with the bytes from this place on. Returns false if the file ends before.
     fn fill_at(&self, at: u64, buffer: &mut [u8]) -> io::Result<bool>
         ensures { IfOk result (λ filled. IfSome (content self.now) (λ bytes. IsFilled bytes at filled buffer.new)) };
 }
 
-impl ReadAt for File {
+/// A file of which some bytes were read ahead.
+struct ReadAhead<'a, F: ReadAt> {
+    file: &'a F,
+    at: u64,
+    bytes: &'a [u8],
+    ghost read: { IfSome (F.content file.now) (λ content. IsFilled content at true bytes.now) } by { Prim.hlevel props },
+}
+
+impl<F: ReadAt> Drop for ReadAhead<'_, F> {
+    fn drop(self) {
+        let ReadAhead {
+            file: _,
+            at: _,
+            bytes: _,
+        } = self;
+    }
+}
+
+impl<'a, F: ReadAt> ReadAhead<'a, F> {
+    // Reads as many bytes of the file from this place on as the buffer takes.
+    fn at(file: &'a F, at: u64, buffer: &'a mut [u8]) -> io::Result<Self>
+        ensures { IfOk result (λ ahead. ahead.file.now ≡ file.now) }
+    {
+        let left = file.len().saturating_sub(at).min(buffer.len() as u64);
+        let bytes = &mut buffer[..left as usize];
+        if file.fill_at(at, bytes)? {
+            Ok(ReadAhead { file, at, bytes })
+        } else {
+            Ok(ReadAhead {
+                file,
+                at: 0,
+                bytes: &[],
+            })
+        }
+    }
+
+    // So many bytes from this place on, if they were read ahead.
+    fn part(&self, at: u64, count: usize) -> Option<&[u8]>
+        ensures count { IfSome result (λ bytes. length bytes.now ≡ count) }
+        ensures read { IfSome result (λ bytes. IfSome (F.content self.now.file.now) (λ content. IsFilled content at true bytes.now)) }
+    {
+        let begun = at.checked_sub(self.at)? as usize;
+        let end = begun.checked_add(count)?;
+        self.bytes.get(begun..end)
+    }
+}
+
+impl<F: ReadAt> ReadAt for ReadAhead<'_, F> {
+    ghost content = { λ ahead. F.content ahead.file.now };
+
+    fn len(&self) -> u64 {
+        self.file.len()
+    }
+
     fn fill_at(&self, at: u64, buffer: &mut [u8]) -> io::Result<bool> {
-        match self.read_exact_at(buffer, at) {
-            Ok(()) => Ok(true),
-            Err(fault) if fault.kind() == ErrorKind::UnexpectedEof => Ok(false),
-            Err(fault) => Err(fault),
+        if self.len().saturating_sub(at) < buffer.len() as u64 {
+            return Ok(false);
+        }
+        match self.part(at, buffer.len()) {
+            Some(bytes) => {
+                buffer.copy_from_slice(bytes);
+                Ok(true)
+            }
+            None => self.file.fill_at(at, buffer),
         }
     }
 }
@@ -106,7 +170,7 @@ impl LogEnd {
 }
 
 /// The last commit in the log, if there is one. `before` is an earlier end of it: if the log still has its
-/// salts, only frames behind it are looked at. No page is read.
+/// salts, only frames behind it are looked at. The first few headers are read with the pages between them.
 pub fn end_of<F: ReadAt>(log: &F, before: &Option<LogEnd>) -> io::Result<Option<LogEnd>>
     ensures { IfOk result (λ end. IfSome (F.content log.now) (λ bytes. IsEarlierEnd bytes before.now → IsEndOf bytes end)) }
 {
@@ -121,7 +185,10 @@ pub fn end_of<F: ReadAt>(log: &F, before: &Option<LogEnd>) -> io::Result<Option<
         Some(end) if end.salts == salts => Some(*end),
         _ => None,
     };
-    last_commit(log, salts, page_size, known)
+    let mut buffer = [0; AHEAD_BYTES];
+    let first = first_behind(&known);
+    let log = ReadAhead::at(log, place_of(first, page_size), &mut buffer)?;
+    last_commit(&log, salts, page_size, known)
 }
 
 // The last commit in a log with these salts, of which an earlier one may be known.
@@ -134,12 +201,8 @@ fn last_commit<F: ReadAt>(
     ensures { IfOk result (λ end. IfSome (F.content log.now) (λ bytes.
         IfSome known (IsCommitOf (bytes_of page_size) salts bytes) → IsEndOfFrames (bytes_of page_size) salts bytes end)) }
 {
-    let first = match &known {
-        Some(end) => end.frames,
-        None => 0,
-    };
     let mut end = known;
-    for i in first..u32::MAX {
+    for i in first_behind(&known)..u32::MAX {
         let Some(frame) = frame_header_at(log, &salts, page_size, i)? else {
             return Ok(end);
         };
@@ -153,6 +216,16 @@ fn last_commit<F: ReadAt>(
         }
     }
     Err(ErrorKind::InvalidData.into())
+}
+
+// The number of the first frame behind a commit; 0 if none is known.
+fn first_behind(known: &Option<LogEnd>) -> u32
+    ensures { MatchOption known.now (result ≡ 0) (λ end. result ≡ end.frames) }
+{
+    match known {
+        Some(end) => end.frames,
+        None => 0,
+    }
 }
 
 // The header of frame i, if it is the log's: the file has it, with these salts.

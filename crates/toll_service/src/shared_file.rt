@@ -47,11 +47,13 @@ fn set_lock(descriptor: i32, kind: RangeLock) -> io::Result<()> {
 // The descriptor by which `sqlite` has the file open. Another descriptor of the file, such as one that the
 // program was started with, can't lock what that one has locked.
 fn descriptor_of(rt: &HostRuntime, path: &str) -> io::Result<i32> {
-    let file = FileId::of(&fs::metadata(rt, path)?);
+    let file = FileId::from(&fs::metadata(rt, path)?);
     for descriptor in 0..MOST_DESCRIPTORS {
         let link = format!(in rt.alloc(); "/proc/self/fd/{descriptor}")?;
-        if let Ok(found) = fs::metadata(rt, link.as_str()) {
-            if FileId::of(&found) == file && set_lock(descriptor, RangeLock::Exclusive).is_ok() {
+        if let Ok(metadata) = fs::metadata(rt, link.as_str()) {
+            if FileId::from(&metadata) == file
+                && set_lock(descriptor, RangeLock::Exclusive).is_ok()
+            {
                 return Ok(descriptor);
             }
         }

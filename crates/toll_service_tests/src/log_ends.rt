@@ -51,6 +51,10 @@ struct KnownFile<'a> {
 impl ReadAt for KnownFile<'_> {
     ghost content = { λ file. Some file.bytes.now };
 
+    fn len(&self) -> u64 {
+        self.bytes.len() as u64
+    }
+
     fn fill_at(&self, at: u64, buffer: &mut [u8]) -> io::Result<bool> {
         let begun = at as usize;
         if self.bytes.len() < begun || self.bytes.len() - begun < buffer.len() {
