@@ -1,22 +1,22 @@
 -- Words that several proofs here use.
 pub use Rattle.std.proofs.lemmas.Bool.{not-true, or_parts}
 pub use Rattle.std.proofs.lemmas.Bool.Decides.{nat_tests}
-pub use Rattle.std.proofs.lemmas.List.{append-nil, drop_all, map-append, take_all, take_more}
+pub use Rattle.std.proofs.lemmas.List.{append-nil, map-append, take_all, take_more}
 pub use Rattle.std.proofs.lemmas.List.Elements.{Contains-get_or, Contains-push_cases}
-pub use Rattle.std.proofs.lemmas.Result.{IfOk-weaker, on_ok_weaker}
+pub use Rattle.std.proofs.lemmas.Result.{IfOk-weaker}
 pub use Rattle.std.specs.Cmp.Lexicographic.{nat_list_cmp_total}
 pub use Rattle.std.specs.List.{list_any, position_or_len}
 pub use Rattle.std.specs.Option.{IfSome, is_some, option_map, option_map_or}
 pub use Rattle.std.specs.Ordering.{is_eq}
 pub use Rattle.toll_answers.proofs.KnownLots.{lots_known, lots_owned, some_mapped}
-pub use Rattle.toll_answers.specs.Edges.{IsOwnEdge, IsOwnJoined, IsPlantEdge, IsPlantJoined, WasDone}
+pub use Rattle.toll_answers.specs.Edges.{IsOwnEdge, IsOwnJoined, IsPlantJoined, WasDone}
 pub use Rattle.toll_answers.specs.PlantAnswers.{AreOrdersShown, IsBatchShownOr, IsCheckedOr, IsPlantAnswer, IsQuestionAnswer, IsVerdictOr, Judged, PlantAnswer, Shows, after_plant, asked_about, recorded_command, concerned, lot_checks, owner_checks}
 pub use Rattle.toll_answers.specs.Recall.{IsRecall, recall_line_of}
 unfoldable pub use Rattle.toll_answers.specs.Replies.{IsReply, after_reply}
 pub use Rattle.toll_answers.specs.Replies.{IsOrdersReply, IsOwnerAnswer, IsBatchOr, IsLotOr, IsOrderOr, IsTraceOr, IsWritingReply, after_answer, has_owner_key}
-pub use Rattle.toll_answers.specs.Texts.{batch_text, orders_text, recall_text, trace_text}
+pub use Rattle.toll_answers.specs.Texts.{batch_text, orders_text, recall_text}
 pub use Rattle.toll_answers.specs.OwnerReply.{ReplyBatch, ReplyForbidden, ReplyLot, ReplyOrder, ReplyOrders, ReplyRefused, ReplyTrace, OwnerReply}
-pub use Rattle.toll_answers.specs.Views.{IsLotViewOf, consumes_lot, has_consumed}
+pub use Rattle.toll_answers.specs.Views.{IsLotViewOf}
 pub use Rattle.toll_answers.specs.declared.genealogy.recall.RecallLine.{RecallLine}
 pub use Rattle.toll_answers.specs.declared.plant_cmd.PlantCmd.{PlantCmd}
 pub use Rattle.toll_answers.specs.declared.views.lot.LotView.{LotView}
@@ -27,7 +27,7 @@ pub use Rattle.toll_base.proofs.Texts.{nat_eq-exact, same_bytes-exact, same_byte
 pub use Rattle.toll_base.specs.Bytes.{Bytes, bytes_cmp, same_bytes}
 pub use Rattle.toll_base.specs.Changes.{after_change, after_changes, changes_of}
 pub use Rattle.toll_base.specs.Keys.{pair_cmp, requirement_cmp, result_cmp}
-pub use Rattle.toll_base.specs.Lots.{lot_id, same_lot}
+pub use Rattle.toll_base.specs.Lots.{lot_id}
 pub use Rattle.toll_base.specs.Slice.{Slice, batch_at, empty_slice, lot_at, order_at, with_row}
 pub use Rattle.toll_base.specs.SliceRules.{KeepsRules}
 unfoldable pub use Rattle.toll_base.specs.Table.{row_at}
@@ -63,7 +63,7 @@ pub use Rattle.toll_history.specs.History.{History, adds_owner, count_owners, co
 unfoldable pub use Rattle.toll_history.specs.Holders.{holder}
 pub use Rattle.toll_history.specs.Holders.{OpenedBatch, opened, opened_by}
 unfoldable pub use Rattle.toll_history.specs.Movements.{count_lots, count_sublots, lot_made, material_used, stock, sublot_known}
-pub use Rattle.toll_history.specs.Movements.{Made, movement_recorded, voided_in}
+pub use Rattle.toll_history.specs.Movements.{Made}
 pub use Rattle.toll_history.specs.OwnChanges.{EachChange, PutsOnly, PutsOnlyWith, is_put_in_house, is_put_of}
 pub use Rattle.toll_history.specs.OwnerFacts.{IsRowsOf, OwnerFacts, lot_row, sublot_row, facts_given, facts_of}
 unfoldable pub use Rattle.toll_history.specs.Verdict.{checks}
@@ -71,7 +71,7 @@ pub use Rattle.toll_history.specs.Verdict.{Accepted, Checks, IsLawful, IsValidAc
 pub use Rattle.toll_history.specs.Work.{batch_of, cancels, closes, count_opened, added_row, is_closed, material_of, measure_of, opens, order_of, order_placed, state_of, unit_of, unit_opened}
 pub use Rattle.toll_keep.proofs.Calls.{goes_as, goes_fault, goes_then, read_fault, read_memory, read_ok, reads_then, settles, settles_still, spared}
 pub use Rattle.toll_keep.proofs.Outcomes.{of_ok}
-pub use Rattle.toll_keep.proofs.Slicing.{has_found, has_more, has_new, owner-with_row}
+pub use Rattle.toll_keep.proofs.Slicing.{has_found, has_more, has_new}
 pub use Rattle.toll_keep.specs.Content.{Content, ContentKeepsRules, AllChangesFit, PutsToKnown, content_after, after_owners, after_units, knows, empty_content, slice_of}
 pub use Rattle.toll_keep.specs.CallEffects.{CallEffect, IsReading, Keeps}
 pub use Rattle.toll_keep.specs.Holding.{IsEdgeOfSome, IsHolder, is_on}
@@ -80,8 +80,7 @@ pub use Rattle.toll_keep.specs.Slices.{has_slice, is_slice_of}
 pub use Rattle.toll_keep.specs.declared.fault.KeepFault.{KeepFault}
 pub use Rattle.toll_stock.specs.LotTotals.{totals_given}
 pub use Rattle.toll_trace.proofs.Members.{Contains-cases, Contains-here, Contains-later, Contains-none}
-pub use Rattle.toll_trace.specs.Chain.{IsChain, IsJoined, edge_of}
-pub use Rattle.toll_trace.specs.Edges.{AreEdges}
+pub use Rattle.toll_trace.specs.Chain.{IsChain}
 pub use Rattle.toll_trace.specs.Trace.{IsTrace}
 pub use Rattle.toll_trace.specs.declared.step.Step.{Step}
 pub use Rattle.toll_trace.specs.declared.way.Way.TheVariants.{Forward}

@@ -7,7 +7,6 @@ pub use Rattle.toll_answers.specs.Replies.{IsOwnerAnswer, IsLotOr, IsOrderOr, Is
 pub use Rattle.toll_answers.specs.OwnerReply.{ReplyBatch, ReplyForbidden, ReplyLot, ReplyOrder, ReplyOrders, ReplyRefused, ReplyStock, ReplyTrace, OwnerReply}
 pub use Rattle.toll_answers.specs.declared.genealogy.recall.RecallLine.{RecallLine}
 pub use Rattle.toll_base.specs.Bytes.{Bytes, bytes_cmp, same_bytes}
-pub use Rattle.toll_base.specs.Lots.{lot_id}
 pub use Rattle.toll_base.specs.Slice.{Slice, order_at}
 pub use Rattle.toll_base.specs.Values.{house_name}
 pub use Rattle.toll_base.specs.Words.{is_some_where, where_so}
@@ -17,10 +16,10 @@ pub use Rattle.toll_base.specs.declared.lot.Disposition.{Disposition}
 pub use Rattle.toll_base.specs.declared.lot.LotId.{LotId}
 pub use Rattle.toll_base.specs.declared.refusal.Refusal.{Refusal}
 pub use Rattle.toll_base.specs.declared.request.Request.{Request}
-pub use Rattle.toll_history.specs.Command.{Action, AddMaterial, AddOwner, AddRecipe, AddTest, AddUnit, CancelOrder, CloseBatch, Command, CommandBatch, OpenBatch, PlaceOrder, Record, RecordResult, Reject, Release, Require, Void, by, moves}
+pub use Rattle.toll_history.specs.Command.{Action, AddOwner, AddUnit, Command, OpenBatch, Record, Reject, Release, Require, Void, by}
 pub use Rattle.toll_history.specs.History.{History, acts, owner_known}
 pub use Rattle.toll_history.specs.OwnerFacts.{IsRowsOf, lot_row, sublot_row}
-pub use Rattle.toll_history.specs.Verdict.{Accepted, Checks, IsLawful, IsValidAction, Refused, Repeated, Verdict, grow, is_actual, verdict}
+pub use Rattle.toll_history.specs.Verdict.{Accepted, Checks, IsLawful, Refused, Repeated, Verdict, grow, is_actual, verdict}
 pub use Rattle.toll_keep.specs.Content.{Content, ContentKeepsRules, AllChangesFit, content_after, slice_of}
 pub use Rattle.toll_keep.specs.CallEffects.{CallEffect, IsReading, IsSpared, Settles}
 pub use Rattle.toll_keep.specs.Meaning.{Meaning, OverContent}

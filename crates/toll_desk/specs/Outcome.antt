@@ -1,5 +1,5 @@
 -- What came of what was asked, over a keep.
-use Rattle.std.specs.Prelude.{◌≡◌, List, [], ◌∷◌, Result, Ok, Err, IfOk, OnOk, OnErr}
+use Rattle.std.specs.Prelude.{◌≡◌, List, [], ◌∷◌, Result, Ok, Err, OnOk, OnErr}
 use Rattle.toll_desk.specs.Common.{AllChangesFit, CallEffect, Change, Content, History, KeepFault, Meaning, OverContent, Settles, content_after}
 use Rattle.toll_keep.specs.CallEffects.{FindsNoDamage}
 use Rattle.toll_keep.specs.Meaning.{OverLive}
@@ -38,10 +38,3 @@ pub record HoldsFor (holds : Content → Type 0) (G : History) : Type 0 where
   pub content : Content
   pub held : holds content
   pub stands : Represents content G
-
--- The reply is right, and the keep holds the content of that history, or after a fault the content from before. A stop leaves one of the two.
-pub record IsDone {X E : Type 0} (holds : Content → Type 0) (was_live : Type 0) (leaves : List Content → Type 0) (c : Content) (G : History) (outcome : Result X E) (IsTold : X → Type 0) : Type 0 where
-  pub reported : IfOk outcome IsTold
-  pub done : OnOk outcome (HoldsFor holds G)
-  pub undone : OnErr outcome (holds c)
-  pub crash : was_live → LeavesOr leaves c G

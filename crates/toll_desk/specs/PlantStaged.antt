@@ -1,15 +1,17 @@
 -- Commands of the plant of which the changes are held back.
-use Rattle.std.specs.Prelude.{◌≡◌, ◌++◌, ◌⊎◌, Bool, true, false, Option, List, [], Result, Ok, Err, IfOk, IsOk}
-use Rattle.toll_desk.specs.Common.{Change, History, IsLawful, Verdict, Content, content_after, Meaning, OverContent, KeepFault, Memory, IsPlantAnswer, Judged, PlantCmd, PlantAnswer, after_plant, recorded_command, concerned}
+use Rattle.std.specs.Prelude.{◌≡◌, ◌++◌, ◌⊎◌, Bool, true, false, Option, Some, None, List, [], Result, Ok, Err, IfOk}
+use Rattle.toll_desk.specs.Common.{Change, History, IsLawful, Refused, Verdict, Content, Meaning, OverContent, KeepFault, Memory, Judged, PlantCmd, PlantAnswer, recorded_command, concerned}
 use Rattle.toll_answers.specs.declared.plant_cmd.PlantCmd.TheVariants as cmd
 use Rattle.toll_desk.specs.Representing.{Represents}
 use Rattle.toll_base.specs.Words.{is_some_where}
-use Rattle.toll_keep.specs.StagedChanges.{IsOver, ReadsThrough}
+use Rattle.toll_keep.specs.StagedChanges.{IsOver, OverLaid, ReadsThrough}
 use Rattle.toll_keep.specs.declared.staged_changes.StagedChanges.{StagedChanges}
 use Rattle.toll_desk.specs.Translations.{is_answer_accepted, meaning_of_plant_reply}
 use Rattle.toll_desk.specs.Clauses.{IsPlantPlanned}
+use Rattle.toll_desk.specs.OfficeSteps.{IsPlantStep}
 use Rattle.toll_desk.specs.Plans.{ChangesLeadTo}
 use Rattle.toll_desk.specs.Reads.{AreBoth}
+use Rattle.toll_desk.specs.Steps.{Calls, calls_of}
 use Rattle.toll_desk.specs.Subjects.{is_shared}
 use Rattle.toll_desk.specs.declared.deciding.Both.{Both}
 use Rattle.toll_desk.specs.declared.plant_cmd.PlantReply.{PlantReply}
@@ -37,28 +39,38 @@ abbrev pub IsVerdictOrMemory : Result PlantAnswer KeepFault → Type 0
 IsVerdictOrMemory (Ok reported) = (v : Verdict) × (reported ≡ Judged v)
 IsVerdictOrMemory (Err fault) = fault ≡ Memory
 
--- the command was accepted
-abbrev pub grants : Result PlantReply KeepFault → Bool
-grants (Ok reply) = is_answer_accepted (meaning_of_plant_reply reply)
-grants (Err fault) = false
+-- ---- the step
 
--- Unless it is a fault, the reply answers the command, and the changes lead to the content after the command.
-abbrev pub IsAnsweredOver : Content → History → PlantCmd → List Change → Result PlantAnswer KeepFault → Type 0
-IsAnsweredOver c H q changes outcome = IfOk outcome (λ reported. IsPlantAnswer H q reported × ChangesLeadTo c changes (after_plant H q))
+-- the answer, or a fault: the rows couldn't be read, or memory ran out
+abbrev pub staged_answer : Result PlantReply KeepFault → Result PlantAnswer KeepFault
+staged_answer (Ok reply) = meaning_of_plant_reply reply
+staged_answer (Err fault) = Err fault
 
--- neither the keep nor the pending changes were asked, and there was no fault
-pub record IsKeepUnread {K : Type 0} (old new : K) (before now : StagedChanges) (result : Result PlantReply KeepFault) : Type 0 where
-  pub keep : new ≡ old
-  pub pending : now ≡ before
-  pub reported : IfOk result (λ reply. IsOk (meaning_of_plant_reply reply))
-  pub answered : IsOk result
+-- A command that couldn't be read is refused, and the keep is not called. After any other the calls of the keep had this result.
+abbrev pub StagedCalls : PlantCmd → Result PlantReply KeepFault → Calls → Type 0
+StagedCalls (cmd.Unread why) result calls = (staged_answer result ≡ Ok (Judged (Refused why))) × (calls ≡ None)
+StagedCalls _ result calls = calls ≡ calls_of result
 
--- what is asked was answered over what the keep holds with the pending changes put, and what it changes is pending too
-pub record IsPlantStaged {K : Type 0} (meaning : Meaning K) (old new : K) (before now : StagedChanges) (command : PlantCmd) (result : Result PlantReply KeepFault) : Type 0 where
-  pub reading : IsKeepUnread old new before now result ⊎ ReadsThrough meaning old new before result
-  pub made : List Change
-  pub held : now.changes.items ≡ before.changes.items ++ made
-  pub quiet : grants result ≡ false → made ≡ []
+-- The keep was read with the staged changes, and the calls had this outcome. If it was not called, nothing is different.
+abbrev pub AfterReads : {K : Type 0} → Meaning K → (old new : K × StagedChanges) → Calls → Type 0
+AfterReads meaning old new None = new ≡ old
+AfterReads meaning old new (Some outcome) = ReadsThrough meaning old.0 new.0 old.1 outcome
+
+-- From each lawful history that the content stands for there is a step of the plant, and the changes lead to the history after it.
+abbrev pub IsStepWith : Content → PlantCmd → Result PlantAnswer KeepFault → List Change → Type 0
+IsStepWith c command answer changes = (H : History) → Represents c H → IsLawful H
+    → (G : History) × IsPlantStep H command answer G × IsLawful G × ChangesLeadTo c changes G
+
+-- The command is one step over what a keep holds with the changes staged before it, and its own changes are staged behind them.
+pub record IsPlantStaged {K : Type 0} (meaning : Meaning K) (old : K × StagedChanges) (command : PlantCmd)
+    (result : Result PlantReply KeepFault) (new : K × StagedChanges) : Type 0 where
+  pub outcome : Calls
+  pub calls : StagedCalls command result outcome
+  pub reads : AfterReads meaning old new outcome
   pub judged : IfOk result (λ reply. IsVerdictOrMemory (meaning_of_plant_reply reply))
-  pub over : OverContent meaning old new (λ c. IsOver c before → IsOver c now)
-  pub reported : OverContent meaning old new (λ c. IsOver c before → (H : History) → Represents (content_after before.changes.items c) H → IsLawful H → IfOk result (λ reply. IsAnsweredOver (content_after before.changes.items c) H command made (meaning_of_plant_reply reply)))
+  pub own : List Change
+  pub held : new.1.changes.items ≡ old.1.changes.items ++ own
+  -- Only an accepted command has changes.
+  pub still : is_answer_accepted (staged_answer result) ≡ false → own ≡ []
+  pub laid : OverContent meaning old.0 new.0 (λ c. IsOver c old.1 → IsOver c new.1)
+  pub over : OverLaid meaning old.0 new.0 old.1 (λ c. IsStepWith c command (staged_answer result) own)

@@ -31,7 +31,7 @@ pub fn plant_stage<K: Keep>(
     command: &PlantCmd,
 ) -> Result<PlantReply, KeepFault>
     requires { looks_at_two command.now ≡ true }
-    ensures held { IsPlantStaged K.meaning keep.old keep.new pending.old pending.new command.now result }
+    ensures held { IsPlantStaged K.meaning (keep.old, pending.old) command.now result (keep.new, pending.new) }
     ensures valid { IsValidCommand command.now }
 {
     // For the proof: the bounds that the types give the values.
@@ -50,7 +50,7 @@ fn stage_shared<K: Keep>(
 ) -> Result<PlantReply, KeepFault>
     requires shared { IsCommandSuchThat (λ a. is_shared a ≡ true) (recorded_command command.now) }
     requires valid { IsCommandSuchThat IsValidAction (recorded_command command.now) }
-    ensures { IsPlantStaged K.meaning keep.old keep.new pending.old pending.new command.now result }
+    ensures { IsPlantStaged K.meaning (keep.old, pending.old) command.now result (keep.new, pending.new) }
 {
     match both_over(alloc, keep, pending, &command.owner()) {
         Ok(both) => {

@@ -1,14 +1,12 @@
 -- The records of a group, one after another, and their outcomes if the group's changes were not made.
-use Rattle.std.proofs.Common.{◌≡◌, ◌<◌, ◌≤◌, suc, Bool, true, false, ◌||◌, cond, Option, Some, None, List, [], ◌∷◌, ◌++◌, length, inl, inr, refl, sym, subst, ap, ◌∙◌, append_assoc, arith}
+use Rattle.std.proofs.Common.{◌≡◌, ◌<◌, ◌≤◌, suc, Bool, true, false, ◌||◌, cond, Option, Some, None, List, [], ◌∷◌, ◌++◌, length, Ok, Err, refl, sym, subst, ap, ◌∙◌, arith}
 use Rattle.std.specs.Prelude.{take, IsSome}
 use Rattle.std.proofs.lemmas.Bool.{or_from, or_parts}
-use Rattle.toll_history.proofs.RunLemmas.{run_more, run_one, run_then}
+use Rattle.toll_history.proofs.RunLemmas.{run_one, run_then}
 use Rattle.toll_history.specs.Command.{Command}
 use Rattle.toll_history.specs.Runs.{IsRun}
-use Rattle.toll_keep.proofs.StagedLemmas.{after_behind, fits_behind}
-use Rattle.toll_plant.proofs.Common.{list_any, append-nil, false≢true, Change, History, Verdict, Accepted, Repeated, Refused, IsLawful, grown, verdict, Content, content_after, KeepFault, Represents, IsQuestionAnswer, IsVerdictOr, Judged, recorded_command, grow, option_map_or, ChangesLeadTo, PlantCmd}
+use Rattle.toll_plant.proofs.Common.{list_any, false≢true, History, Verdict, Accepted, Repeated, Refused, grown, verdict, KeepFault, IsQuestionAnswer, IsVerdictOr, Judged, recorded_command, grow, option_map_or, PlantCmd}
 use Rattle.toll_plant.proofs.FaultEnds.{all_acted, run_ends, up_to_then}
-use Rattle.toll_plant.specs.StagedRecords.{IsStagedFor, IsRecordOver}
 use Rattle.toll_plant.specs.Imports.{Commands, EndsAt, IsAfterFirst, IsImport, IsRecordStep, after_record, after_records, before_accepted, refused_at}
 use Rattle.toll_plant.specs.Outcomes.{is_outcome_accepted, is_fault_outcome, outcome_of_verdict}
 use Rattle.toll_plant.specs.declared.outcome.Outcome.{Outcome}
@@ -17,7 +15,8 @@ use Rattle.toll_plant.specs.declared.outcome.Outcome.TheVariants as came
 -- ---- the outcomes before the first accepted record
 
 -- They have no fault if none of these is a fault, and one of these is accepted or the others have none either.
-pub calm_before : (xs ys : List Outcome) → list_any is_fault_outcome xs ≡ false → (list_any is_outcome_accepted xs ≡ false → list_any is_fault_outcome (before_accepted ys) ≡ false)
+pub calm_before : (xs ys : List Outcome) → list_any is_fault_outcome xs ≡ false
+    → (list_any is_outcome_accepted xs ≡ false → list_any is_fault_outcome (before_accepted ys) ≡ false)
     → list_any is_fault_outcome (before_accepted (xs ++ ys)) ≡ false
 calm_before [] ys none calm = calm refl
 calm_before (o ∷ xs) ys none calm =
@@ -70,21 +69,22 @@ quiet_verdict H None otherwise v none answer = refl
 -- A record that was not accepted changes nothing.
 step_quiet : (old new : History) (command : Option PlantCmd) (o : Outcome) → is_outcome_accepted o ≡ false → IsRecordStep old command o new → new ≡ old
 step_quiet old new None o none step = step.1
-step_quiet old new (Some command) o none (inl (v, answer, is, grows)) =
+step_quiet old new (Some command) o none (Ok v, (answer, grows), is) =
     grows ∙ quiet_verdict old (recorded_command command) (IsQuestionAnswer old command (Judged v)) v (ap is_outcome_accepted (sym is) ∙ none) answer
-step_quiet old new (Some command) o none (inr (fault, is, same)) = same
+step_quiet old new (Some command) o none (Err fault, same, is) = same
 
 -- A record with a fault changes nothing.
 fault_step : (old new : History) (command : Option PlantCmd) (o : Outcome) → is_fault_outcome o ≡ true → IsRecordStep old command o new → new ≡ old
 fault_step old new None o faulty step = step.1
-fault_step old new (Some command) o faulty (inl (v, answer, is, grows)) = absurd (false≢true (sym (calm_verdict v) ∙ ap is_fault_outcome (sym is) ∙ faulty))
-fault_step old new (Some command) o faulty (inr (fault, is, same)) = same
+fault_step old new (Some command) o faulty (Ok v, (answer, grows), is) = absurd (false≢true (sym (calm_verdict v) ∙ ap is_fault_outcome (sym is) ∙ faulty))
+fault_step old new (Some command) o faulty (Err fault, same, is) = same
 
 -- A record without a fault changes the history by its command.
-calm_step : (old new : History) (command : Option PlantCmd) (o : Outcome) → is_fault_outcome o ≡ false → IsRecordStep old command o new → new ≡ after_record old command
+calm_step : (old new : History) (command : Option PlantCmd) (o : Outcome) → is_fault_outcome o ≡ false → IsRecordStep old command o new
+    → new ≡ after_record old command
 calm_step old new None o calm step = step.1
-calm_step old new (Some command) o calm (inl (v, answer, is, grows)) = grows
-calm_step old new (Some command) o calm (inr (fault, is, same)) = absurd (false≢true (sym calm ∙ ap is_fault_outcome is))
+calm_step old new (Some command) o calm (Ok v, (answer, grows), is) = grows
+calm_step old new (Some command) o calm (Err fault, same, is) = absurd (false≢true (sym calm ∙ ap is_fault_outcome is))
 
 -- An accepted record has a command.
 accepted_some : (old new : History) (command : Option PlantCmd) (o : Outcome) → is_outcome_accepted o ≡ true → IsRecordStep old command o new → IsSome command
@@ -94,13 +94,14 @@ accepted_some old new (Some command) o some step = refl
 -- ---- records one after another
 
 -- Each command may meet a fault, after which no record acts.
-pub fault_first : (H : History) (command : Option PlantCmd) (left : Commands) (fault : KeepFault) → IsSome command → IsImport H (command ∷ left) (came.Fault fault ∷ []) H
+pub fault_first : (H : History) (command : Option PlantCmd) (left : Commands) (fault : KeepFault) → IsSome command
+    → IsImport H (command ∷ left) (came.Fault fault ∷ []) H
 fault_first H None left fault some = absurd (cc some)
 fault_first H (Some command) left fault some = record {
   acted = Some command ∷ [];
   rest = left;
   all = refl;
-  so = run_one IsRecordStep H H (Some command) (came.Fault fault) (inr (fault, refl, refl));
+  so = run_one IsRecordStep H H (Some command) (came.Fault fault) (Err fault, refl, refl);
   stops = (λ some. refl, tt);
   whole = λ none. absurd (cc none);
 }
@@ -110,7 +111,8 @@ pub imports_then : (old middle new : History) (commands more : Commands) (report
     → IsImport old commands reported middle → IsImport middle more behind new
     → IsImport old (commands ++ more) (reported ++ behind) new
 imports_then old middle new commands more reported behind calm =
-    up_to_then (λ acted. IsRun IsRecordStep old acted reported middle) (λ later. IsRun IsRecordStep middle later behind new) (λ all. IsRun IsRecordStep old all (reported ++ behind) new) commands more reported behind calm
+    up_to_then (λ acted. IsRun IsRecordStep old acted reported middle) (λ later. IsRun IsRecordStep middle later behind new)
+    (λ all. IsRun IsRecordStep old all (reported ++ behind) new) commands more reported behind calm
     (λ acted later. run_then IsRecordStep old middle new acted later reported behind)
 
 -- The history that records leave is that after a first part of them without faults.
@@ -129,12 +131,14 @@ run_front old new (c ∷ acted) rest (o ∷ reported) run stops =
 run_front old new acted rest reported run stops = absurd run
 
 pub front_of : (old new : History) (commands : Commands) (reported : List Outcome) → IsImport old commands reported new → IsAfterFirst old commands new
-front_of old new commands reported import = subst (λ all. IsAfterFirst old all new) import.all (run_front old new import.acted import.rest reported import.so import.stops)
+front_of old new commands reported import = subst (λ all. IsAfterFirst old all new) import.all
+    (run_front old new import.acted import.rest reported import.so import.stops)
 
 -- If the changes are not made, the first record that would have changed something has the fault instead. If there is none, the next has it.
 pub run_refused : (old new : History) (acted left : Commands) (reported : List Outcome) (fault : KeepFault) → IsRun IsRecordStep old acted reported new
     → list_any is_fault_outcome (before_accepted reported) ≡ false
-    → (list_any is_outcome_accepted reported ≡ false → IsImport new left (came.Fault fault ∷ []) new) → IsImport old (acted ++ left) (refused_at fault reported) old
+    → (list_any is_outcome_accepted reported ≡ false → IsImport new left (came.Fault fault ∷ []) new)
+    → IsImport old (acted ++ left) (refused_at fault reported) old
 run_refused old new [] left [] fault run calm next = subst (λ H. IsImport H left (came.Fault fault ∷ []) H) run (next refl)
 run_refused old new (c ∷ acted) left (o ∷ reported) fault run calm next =
     elim (is_outcome_accepted o) as (λ b. is_outcome_accepted o ≡ b → list_any is_fault_outcome (cond b [] (o ∷ before_accepted reported)) ≡ false
@@ -143,62 +147,11 @@ run_refused old new (c ∷ acted) left (o ∷ reported) fault run calm next =
       | false ↦ λ is calm.
           let parts = or_parts (is_fault_outcome o) (list_any is_fault_outcome (before_accepted reported)) calm in
           let same = step_quiet old run.0 c o is run.1 in
-          let rest = run_refused run.0 new acted left reported fault run.2 parts.1 (λ none. next (or_from (is_outcome_accepted o) (list_any is_outcome_accepted reported) is none)) in
+          let rest = run_refused run.0 new acted left reported fault run.2 parts.1 (λ none. next
+          (or_from (is_outcome_accepted o) (list_any is_outcome_accepted reported) is none)) in
           imports_then old old old (c ∷ []) (acted ++ left) (o ∷ []) (refused_at fault reported) (or_from (is_fault_outcome o) false parts.0 refl)
-          (all_acted (λ acted. IsRun IsRecordStep old acted (o ∷ []) old) (c ∷ []) (o ∷ []) (run_one IsRecordStep old old c o (subst (IsRecordStep old c o) same run.1)) (or_from (is_fault_outcome o) false parts.0 refl))
+          (all_acted (λ acted. IsRun IsRecordStep old acted (o ∷ []) old) (c ∷ []) (o ∷ [])
+          (run_one IsRecordStep old old c o (subst (IsRecordStep old c o) same run.1)) (or_from (is_fault_outcome o) false parts.0 refl))
           (subst (λ H. IsImport H (acted ++ left) (refused_at fault reported) H) same rest)
     ] refl calm
 run_refused old new acted left reported fault run calm next = absurd run
-
--- ---- a group, record by record
-
-leads_more : (c : Content) (changes made : List Change) (G next : History) → ChangesLeadTo c changes G → ChangesLeadTo (content_after changes c) made next
-    → ChangesLeadTo c (changes ++ made) next
-leads_more c changes made G next first then = record {
-  stands = subst (λ content. Represents content next) (sym (after_behind changes made c)) then.stands;
-  fits = fits_behind changes made c first.fits then.fits;
-}
-
--- The records so far led to a history, and others are left.
-pub record IsStagedSoFar (c : Content) (H : History) (commands left : Commands) (reported : List Outcome) (changes : List Change) : Type 0 where
-  pub now : History
-  pub acted : Commands
-  pub all : acted ++ left ≡ commands
-  pub run : IsRun IsRecordStep H acted reported now
-  pub lawful : IsLawful now
-  pub leads : ChangesLeadTo c changes now
-
-pub so_far_none : (c : Content) (H : History) (commands : Commands) → Represents c H → IsLawful H → IsStagedSoFar c H commands commands [] []
-so_far_none c H commands stands lawful =
-    record { now = H; acted = []; all = refl; run = refl; lawful = lawful; leads = record { stands = stands; fits = tt } }
-
-module _ (c : Content) (H : History) (commands : Commands) (reported : List Outcome) (changes : List Change) where
-  -- The records are done: none is left, or the last met a fault.
-  pub staged_to : (left : Commands) → IsStagedSoFar c H commands left reported changes → EndsAt is_fault_outcome reported
-      → (list_any is_fault_outcome reported ≡ false → left ≡ []) → IsStagedFor c H commands reported changes
-  staged_to left so_far stops whole = record {
-    last = so_far.now;
-    imported = record { acted = so_far.acted; rest = left; all = so_far.all; so = so_far.run; stops = stops; whole = whole };
-    lawful = so_far.lawful;
-    leads = so_far.leads;
-  }
-
-  module _ (left : Commands) (command : Option PlantCmd) (so_far : IsStagedSoFar c H commands (command ∷ left) reported changes) where
-    -- The next record's rows couldn't be read.
-    pub refused_now : list_any is_fault_outcome reported ≡ false → (fault : KeepFault) → IsSome command → IsImport H commands (refused_at fault reported) H
-    refused_now calm fault some =
-        subst (λ all. IsImport H all (refused_at fault reported) H) so_far.all
-        (run_refused H so_far.now so_far.acted (command ∷ left) reported fault so_far.run (subst (λ xs. list_any is_fault_outcome (before_accepted xs) ≡ false) (append-nil reported) (calm_before reported [] calm (λ none. refl)))
-        (λ none. fault_first so_far.now command left fault some))
-
-    -- one more record
-    pub so_far_more : (o : Outcome) (made : List Change) → IsRecordOver (content_after changes c) so_far.now command o made
-        → IsStagedSoFar c H commands left (reported ++ o ∷ []) (changes ++ made)
-    so_far_more o made over = record {
-      now = over.next;
-      acted = so_far.acted ++ command ∷ [];
-      all = append_assoc so_far.acted (command ∷ []) left ∙ so_far.all;
-      run = run_more IsRecordStep H so_far.now over.next so_far.acted reported command o so_far.run over.step;
-      lawful = over.lawful;
-      leads = leads_more c changes made so_far.now over.next so_far.leads over.leads;
-    }

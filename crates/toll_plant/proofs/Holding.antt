@@ -1,20 +1,29 @@
 -- Records that are staged, one by one.
-use Rattle.std.proofs.Common.{◌≡◌, ◌+◌, ◌<◌, ℕ, zero, suc, true, false, Some, None, List, [], ◌∷◌, ◌++◌, length, get_or, drop, Result, Ok, Err, refl, sym, subst, ap, ◌∙◌, inl, inr, append_assoc, arith}
-use Rattle.std.specs.Prelude.{◌⊎◌, take, IsOk}
-use mathlib.Core.Bool.{or-false}
-use Rattle.toll_plant.proofs.Common.{AllByRecursion, list_any, append-nil, take_more, list_any-append, false≢true, Verdict, Accepted, Repeated, Refused, History, IsLawful, Content, content_after, IsReading, Meaning, IsOver, IsReadThrough, ReadsThrough, IsContentKept, KeepFault, Memory, read_fault, Represents, IsPlantAnswer, Judged, PlantAnswer, after_plant, IsPlantStaged, IsAnsweredOver, IsKeepUnread, IsVerdictOrMemory, IsValidCommand, is_answer_accepted as is_granted, meaning_of_plant_reply, ChangesLeadTo, Change, PlantCmd}
-use Rattle.toll_keep.specs.declared.staged_changes.StagedChanges.{StagedChanges}
-use Rattle.toll_answers.proofs.OwnReplies.{lawful-after_plant}
+use Rattle.std.proofs.Common.{◌≡◌, ◌+◌, ◌<◌, ℕ, zero, suc, true, false, Option, Some, None, List, [], ◌∷◌, ◌++◌, length, get_or, drop, Result, Ok, Err, refl, sym, subst, ap, ◌∙◌, inl, inr, append_assoc, arith}
+use Rattle.std.specs.Prelude.{◌⊎◌, take, IsSome}
+use Rattle.std.proofs.lemmas.Bool.{or_from, or_parts}
+use Rattle.std.proofs.lemmas.List.Elements.{All-nil}
+use Rattle.toll_answers.specs.declared.plant_cmd.PlantCmd.TheVariants.{Unread}
+use Rattle.toll_desk.specs.OfficeSteps.{IsPlantStep}
+use Rattle.toll_desk.specs.PlantStaged.{AfterReads, IsPlantStaged, IsVerdictOrMemory}
+use Rattle.toll_desk.specs.Reads.{Over}
 use Rattle.toll_desk.specs.declared.plant_cmd.PlantReply.{PlantReply}
-use Rattle.toll_plant.specs.StagedRecords.{IsReadOrUnused, IsNothingStaged, IsRecordStaged, IsRecordOver}
-use Rattle.toll_plant.specs.Imports.{End, IsOpenOutcome, before_accepted}
-use Rattle.toll_plant.specs.Outcomes.{is_outcome_accepted, is_fault_outcome, outcome_of_verdict, record_outcome}
-use Rattle.toll_plant.specs.declared.grouping.Staged.{Staged}
-use Rattle.toll_plant.specs.declared.outcome.Outcome.{Outcome}
-use Rattle.toll_plant.specs.declared.outcome.Outcome.TheVariants as came
-use Rattle.toll_plant.proofs.FaultEnds.{none_in}
+use Rattle.toll_history.proofs.RunLemmas.{run_follows, run_more, run_while}
+use Rattle.toll_history.specs.Runs.{IsRun}
+use Rattle.toll_keep.proofs.StagedLemmas.{after_behind, fits_behind}
+use Rattle.toll_keep.specs.Content.{slice_of}
+use Rattle.toll_keep.specs.Reads.{HaveRead, IsContentKept}
+use Rattle.toll_keep.specs.Remembered.{AreOf, is_addition}
+use Rattle.toll_keep.specs.StagedChanges.{IsOver, ReadsThrough}
+use Rattle.toll_keep.specs.declared.staged_changes.StagedChanges.{StagedChanges}
+use Rattle.toll_plant.proofs.Common.{AllByRecursion, list_any, append-nil, take_more, false≢true, Verdict, Accepted, Repeated, Refused, History, IsLawful, Content, content_after, Meaning, KeepFault, Memory, Represents, IsPlantAnswer, Judged, PlantAnswer, is_answer_accepted as is_granted, meaning_of_plant_reply, ChangesLeadTo, Change, PlantCmd}
 use Rattle.toll_plant.proofs.GroupRuns.{calm_verdict}
 use Rattle.toll_plant.proofs.LineLemmas.{item_there}
+use Rattle.toll_plant.specs.Imports.{Commands, IsRecordStep, before_accepted}
+use Rattle.toll_plant.specs.Outcomes.{is_outcome_accepted, is_fault_outcome, outcome_of_verdict, record_outcome}
+use Rattle.toll_plant.specs.StagedRecords.{AreRecordsStaged, IsRecordStaged}
+use Rattle.toll_plant.specs.declared.outcome.Outcome.{Outcome}
+use Rattle.toll_plant.specs.declared.outcome.Outcome.TheVariants as came
 
 -- A fact of each item holds of the one at a place.
 pub so_of_item : {X : Type 0} (P : X → Type 0) (xs : List X) (i : ℕ) (x : X) → i < length xs → x ≡ get_or xs i x → AllByRecursion P xs → P x
@@ -24,16 +33,19 @@ so_of_item P (y ∷ xs) (suc i) x lt is all = so_of_item P xs i x (omega (arith,
 
 -- ---- how many records come before the first accepted one
 
-pub front_more : (reported : List Outcome) (i : ℕ) (o : Outcome) → i < length reported → o ≡ get_or reported i o → is_outcome_accepted o ≡ false → before_accepted reported ≡ take i reported ++ before_accepted (drop i reported)
+pub front_more : (reported : List Outcome) (i : ℕ) (o : Outcome) → i < length reported → o ≡ get_or reported i o → is_outcome_accepted o ≡ false
+    → before_accepted reported ≡ take i reported ++ before_accepted (drop i reported)
     → before_accepted reported ≡ take (i + 1) reported ++ before_accepted (drop (i + 1) reported)
 front_more reported i o lt is none so_far =
     let here : drop i reported ≡ o ∷ drop (i + 1) reported = item_there reported i o lt is in
     let first : before_accepted (o ∷ drop (i + 1) reported) ≡ o ∷ before_accepted (drop (i + 1) reported) = (rw none refl) in
     let more : take (i + 1) reported ≡ take i reported ++ o ∷ [] = take_more reported i o lt ∙ ap (λ x. take i reported ++ x ∷ []) (sym is) in
-    so_far ∙ ap (λ rest. take i reported ++ rest) (ap before_accepted here ∙ first) ∙ sym (append_assoc (take i reported) (o ∷ []) (before_accepted (drop (i + 1) reported)))
+    so_far ∙ ap (λ rest. take i reported ++ rest) (ap before_accepted here ∙ first)
+    ∙ sym (append_assoc (take i reported) (o ∷ []) (before_accepted (drop (i + 1) reported)))
     ∙ ap (λ xs. xs ++ before_accepted (drop (i + 1) reported)) (sym more)
 
-pub front_there : (reported : List Outcome) (i : ℕ) (o : Outcome) → i < length reported → o ≡ get_or reported i o → is_outcome_accepted o ≡ true → before_accepted reported ≡ take i reported ++ before_accepted (drop i reported) → before_accepted reported ≡ take i reported
+pub front_there : (reported : List Outcome) (i : ℕ) (o : Outcome) → i < length reported → o ≡ get_or reported i o → is_outcome_accepted o ≡ true
+    → before_accepted reported ≡ take i reported ++ before_accepted (drop i reported) → before_accepted reported ≡ take i reported
 front_there reported i o lt is some so_far =
     let here : drop i reported ≡ o ∷ drop (i + 1) reported = item_there reported i o lt is in
     let none : before_accepted (o ∷ drop (i + 1) reported) ≡ [] = (rw some refl) in
@@ -42,141 +54,186 @@ front_there reported i o lt is some so_far =
 -- ---- one record
 
 -- a verdict, or a lack of memory, as an outcome
-outcome_quiet : (outcome : Result PlantAnswer KeepFault) → IsVerdictOrMemory outcome → is_outcome_accepted (record_outcome outcome) ≡ false → is_granted outcome ≡ false
-outcome_quiet (Err fault) judges none = refl
-outcome_quiet (Ok reported) judges none = subst (λ t. is_outcome_accepted (record_outcome (Ok t)) ≡ false → is_granted (Ok t) ≡ false) (sym judges.1) (go judges.0) none
+outcome_quiet : (answer : Result PlantAnswer KeepFault) → IsVerdictOrMemory answer → is_outcome_accepted (record_outcome answer) ≡ false
+    → is_granted answer ≡ false
+outcome_quiet (Err fault) judged none = refl
+outcome_quiet (Ok x) judged none = subst (λ t. is_outcome_accepted (record_outcome (Ok t)) ≡ false → is_granted (Ok t) ≡ false) (sym judged.1)
+    (go judged.0) none
   where
     go : (v : Verdict) → is_outcome_accepted (outcome_of_verdict v) ≡ false → is_granted (Ok (Judged v)) ≡ false
     go Accepted none = absurd (cc none)
     go Repeated none = refl
     go (Refused why) none = refl
 
-outcome_open : (outcome : Result PlantAnswer KeepFault) → IsVerdictOrMemory outcome → IsOpenOutcome (record_outcome outcome)
-outcome_open (Err fault) memory other is = let same : fault ≡ other = cc is in sym same ∙ memory
-outcome_open (Ok reported) judges other is =
-    absurd (false≢true (sym (calm_verdict judges.0) ∙ ap is_fault_outcome (ap (λ t. record_outcome (Ok t)) (sym judges.1) ∙ is)))
+outcome_memory : (answer : Result PlantAnswer KeepFault) → IsVerdictOrMemory answer → is_fault_outcome (record_outcome answer) ≡ true
+    → record_outcome answer ≡ came.Fault Memory
+outcome_memory (Err fault) memory faulty = ap (λ f. came.Fault f) memory
+outcome_memory (Ok x) judged faulty =
+    absurd (false≢true (sym (ap (λ t. is_fault_outcome (record_outcome (Ok t))) judged.1 ∙ calm_verdict judged.0) ∙ faulty))
 
-calm_outcome : (outcome : Result PlantAnswer KeepFault) → IsVerdictOrMemory outcome → IsOk outcome → is_fault_outcome (record_outcome outcome) ≡ false
-calm_outcome (Err fault) judges ok = absurd (cc ok)
-calm_outcome (Ok reported) judges ok = ap (λ t. is_fault_outcome (record_outcome (Ok t))) judges.1 ∙ calm_verdict judges.0
+outcome_step : (H G : History) (command : PlantCmd) (answer : Result PlantAnswer KeepFault) → IsVerdictOrMemory answer → IsPlantStep H command answer G
+    → IsRecordStep H (Some command) (record_outcome answer) G
+outcome_step H G command (Err fault) judged step = (Err fault, step, refl)
+outcome_step H G command (Ok x) judged step =
+    (Ok judged.0, (subst (IsPlantAnswer H command) judged.1 step.0, step.1), ap (λ t. record_outcome (Ok t)) judged.1)
 
-record_over : (c : Content) (H : History) (command : PlantCmd) (outcome : Result PlantAnswer KeepFault) (made : List Change) → Represents c H → IsLawful H → IsValidCommand command → IsVerdictOrMemory outcome → (is_granted outcome ≡ false → made ≡ [])
-    → IsAnsweredOver c H command made outcome → IsRecordOver c H (Some command) (record_outcome outcome) made
-record_over c H command (Err fault) made stands lawful valid judges quiet reported = record {
-  next = H;
-  step = inr (fault, refl, refl);
-  lawful = lawful;
-  leads = subst (λ changes. ChangesLeadTo c changes H) (sym (quiet refl)) (record { stands = stands; fits = tt });
+leads_more : (c : Content) (changes made : List Change) (G next : History) → ChangesLeadTo c changes G → ChangesLeadTo (content_after changes c) made next
+    → ChangesLeadTo c (changes ++ made) next
+leads_more c changes made G next first then = record {
+  stands = subst (λ content. Represents content next) (sym (after_behind changes made c)) then.stands;
+  fits = fits_behind changes made c first.fits then.fits;
 }
-record_over c H command (Ok what) made stands lawful valid judges quiet reported =
-    let answer : IsPlantAnswer H command (Judged judges.0) = subst (IsPlantAnswer H command) judges.1 reported.0 in
-    subst (λ t. IsRecordOver c H (Some command) (record_outcome (Ok t)) made) (sym judges.1) (record {
-      next = after_plant H command;
-      step = inl (judges.0, answer, refl, refl);
-      lawful = lawful-after_plant H command lawful valid;
-      leads = reported.1;
-    })
 
-module _ {K : Type 0} (meaning : Meaning K) (old new : K) (before now : StagedChanges) where
-  -- A record that gives no command uses nothing.
-  pub none_held : new ≡ old → now ≡ before → IsRecordStaged meaning old new before now None (Ok came.BadRecord)
-  none_held same still = record {
-    reading = inl (record { keep = same; pending = still; answered = refl; calm = refl });
-    made = [];
-    held = ap (λ o. o.changes.items) still ∙ sym (append-nil before.changes.items);
-    quiet = λ none. refl;
-    memory = λ fault is. absurd (cc is);
-    some = tt;
-    over = λ honest c there laid. subst (IsOver c) (sym still) laid;
-    reported = λ honest c there laid H stands lawful. record { next = H; step = (refl, refl); lawful = lawful; leads = record { stands = stands; fits = tt } };
+-- What is staged behind no other changes is over any content.
+over_first : (c : Content) (o : StagedChanges) → o.changes.items ≡ [] → o.slices.items ≡ [] → IsOver c o
+over_first c o no_changes no_slices = record {
+  slices = subst (AreOf (content_after o.changes.items c)) (sym no_slices) (All-nil (λ s. slice_of (content_after o.changes.items c) s.owner ≡ Some s));
+  puts = ap (list_any is_addition) no_changes;
+}
+
+module _ {K : Type 0} (meaning : Meaning K) where
+  abbrev IsRecord : K × StagedChanges → Option PlantCmd → Outcome → K × StagedChanges → Type 0
+  IsRecord was command o is = IsRecordStaged meaning was command (Ok o) is
+
+  -- The record met no fault and used nothing; or its reading calls were answered.
+  record_read : (was is : K × StagedChanges) (command : Option PlantCmd) (o : Outcome) → IsRecord was command o is
+      → ((is ≡ was) × (is_fault_outcome o ≡ false)) ⊎ ReadsThrough {X = Unit {0}} meaning was.0 is.0 was.1 (Ok tt)
+  record_read was is None o staged = inl (staged.1, ap is_fault_outcome staged.0)
+  record_read was is (Some command) o staged = by_command command staged.0 staged.1 staged.2
+    where
+      by_command : (q : PlantCmd) (reply : PlantReply) → IsPlantStaged meaning was q (Ok reply) is → o ≡ record_outcome (meaning_of_plant_reply reply)
+          → ((is ≡ was) × (is_fault_outcome o ≡ false)) ⊎ ReadsThrough {X = Unit {0}} meaning was.0 is.0 was.1 (Ok tt)
+      by_command (Unread why) reply one same =
+          inl (subst (AfterReads meaning was is) one.calls.1 one.reads, ap is_fault_outcome (same ∙ ap record_outcome one.calls.0))
+      by_command _ reply one same = inr (subst (AfterReads meaning was is) one.calls one.reads)
+
+  -- If the rows of a record couldn't be read, it has a command.
+  pub record_unread : (was is : K × StagedChanges) (command : Option PlantCmd) (fault : KeepFault) → IsRecordStaged meaning was command (Err fault) is
+      → IsSome command × ReadsThrough {X = Unit {0}} meaning was.0 is.0 was.1 (Err fault)
+  record_unread was is None fault staged = absurd staged
+  record_unread was is (Some command) fault staged = (refl, by_command command staged)
+    where
+      by_command : (q : PlantCmd) → IsPlantStaged meaning was q (Err fault) is → ReadsThrough {X = Unit {0}} meaning was.0 is.0 was.1 (Err fault)
+      by_command (Unread why) one = absurd (cc one.calls.0)
+      by_command _ one = subst (AfterReads meaning was is) one.calls one.reads
+
+  record_kept : (was is : K × StagedChanges) (command : Option PlantCmd) (o : Outcome) → IsRecord was command o is → IsContentKept meaning was.0 is.0
+  record_kept was is command o staged = elim (record_read was is command o staged) [
+    | inl none ↦ subst (λ s. IsContentKept meaning was.0 s.0) (sym none.0) (λ honest. (honest, λ c held. held))
+    | inr reads ↦ reads.kept
+  ]
+
+  record_quiet : (was is : K × StagedChanges) (command : Option PlantCmd) (o : Outcome) → IsRecord was command o is → is_outcome_accepted o ≡ false
+      → is.1.changes.items ≡ was.1.changes.items
+  record_quiet was is None o staged none = ap (λ s. s.1.changes.items) staged.1
+  record_quiet was is (Some command) o (reply, one, same) none =
+      one.held
+      ∙ ap (λ own. was.1.changes.items ++ own) (one.still (outcome_quiet (meaning_of_plant_reply reply) one.judged (ap is_outcome_accepted (sym same) ∙ none)))
+      ∙ append-nil was.1.changes.items
+
+  -- A fault of a record whose rows were read is Memory.
+  pub record_memory : (was is : K × StagedChanges) (command : Option PlantCmd) (o : Outcome) → IsRecord was command o is → is_fault_outcome o ≡ true
+      → o ≡ came.Fault Memory
+  record_memory was is None o staged faulty = absurd (false≢true (sym (ap is_fault_outcome staged.0) ∙ faulty))
+  record_memory was is (Some command) o (reply, one, same) faulty =
+      same ∙ outcome_memory (meaning_of_plant_reply reply) one.judged (ap is_fault_outcome (sym same) ∙ faulty)
+
+  -- The keep holds the content, and the staged changes lead from there to this lawful history.
+  pub record StandsStaged (c : Content) (s : K × StagedChanges) (H : History) : Type 0 where
+    pub held : meaning.holds s.0 c
+    pub over : IsOver c s.1
+    pub leads : ChangesLeadTo c s.1.changes.items H
+    pub lawful : IsLawful H
+
+  record_follows : (c : Content) (was is : K × StagedChanges) (command : Option PlantCmd) (o : Outcome) (H : History)
+      → IsRecord was command o is × meaning.is_honest is.0 → StandsStaged c was H → (G : History) × IsRecordStep H command o G × StandsStaged c is G
+  record_follows c was is None o H staged stands = (H, (staged.0.0, refl), subst (λ s. StandsStaged c s H) (sym staged.0.1) stands)
+  record_follows c was is (Some command) o H (staged, honest) stands =
+      let (reply, one, same) = staged in
+      let kept = record_kept was is (Some command) o staged honest in
+      let (G, step, lawful, leads) = one.over honest c stands.held stands.over H stands.leads.stands stands.lawful in (
+        G,
+        subst (λ o. IsRecordStep H (Some command) o G) (sym same) (outcome_step H G command (meaning_of_plant_reply reply) one.judged step),
+        record {
+          held = kept.1 c stands.held;
+          over = one.laid honest c stands.held stands.over;
+          leads = subst (λ changes. ChangesLeadTo c changes G) (sym one.held) (leads_more c was.1.changes.items one.own H G stands.leads leads);
+          lawful = lawful;
+        },
+      )
+
+  -- ---- records one after another
+
+  read_on : (first : K) (old new : K × StagedChanges) (commands : Commands) (reported : List Outcome) → IsRun IsRecord old commands reported new
+      → HaveRead meaning first old.0 → HaveRead meaning first new.0
+  read_on first old new [] [] run have = subst (λ s. HaveRead meaning first s.0) (sym run) have
+  read_on first old new (command ∷ commands) (o ∷ reported) run have =
+      read_on first run.0 new commands reported run.2 (elim (record_read old run.0 command o run.1) [
+        | inl none ↦ subst (λ s. HaveRead meaning first s.0) (sym none.0) have
+        | inr reads ↦ reads.answered first (inr have)
+      ])
+  read_on first old new commands reported run have = absurd run
+
+  abbrev IsUnused : (first : K) → K × StagedChanges → Type 0
+  IsUnused first s = (s.0 ≡ first) × (s.1.slices.items ≡ [])
+
+  unused_on : (first : K) (old new : K × StagedChanges) (commands : Commands) (reported : List Outcome) → IsRun IsRecord old commands reported new
+      → IsUnused first old → (IsUnused first new × (list_any is_fault_outcome reported ≡ false)) ⊎ HaveRead meaning first new.0
+  unused_on first old new [] [] run unused = inl (subst (IsUnused first) (sym run) unused, refl)
+  unused_on first old new (command ∷ commands) (o ∷ reported) run unused = elim (record_read old run.0 command o run.1) [
+    | inl none ↦
+        elim (unused_on first run.0 new commands reported run.2 (subst (IsUnused first) (sym none.0) unused)) [
+          | inl all ↦ inl (all.0, or_from (is_fault_outcome o) (list_any is_fault_outcome reported) none.1 all.1)
+          | inr have ↦ inr have
+        ]
+    | inr reads ↦ inr (read_on first run.0 new commands reported run.2 (reads.answered first (inl unused)))
+  ]
+  unused_on first old new commands reported run unused = absurd run
+
+  quiet_on : (old new : K × StagedChanges) (commands : Commands) (reported : List Outcome) → IsRun IsRecord old commands reported new
+      → list_any is_outcome_accepted reported ≡ false → new.1.changes.items ≡ old.1.changes.items
+  quiet_on old new [] [] run none = ap (λ s. s.1.changes.items) run
+  quiet_on old new (command ∷ commands) (o ∷ reported) run none =
+      let parts = or_parts (is_outcome_accepted o) (list_any is_outcome_accepted reported) none in
+      quiet_on run.0 new commands reported run.2 parts.1 ∙ record_quiet old run.0 command o run.1 parts.0
+  quiet_on old new commands reported run none = absurd run
+
+  -- The record at this place is staged behind those before it.
+  pub records_next : (old : K) (was is : K × StagedChanges) (commands : Commands) (i : ℕ) (command : Option PlantCmd) → i < length commands
+      → command ≡ get_or commands i command
+      → (reported now : List Outcome) (o : Outcome) → now ≡ reported ++ o ∷ [] → AreRecordsStaged meaning old (take i commands) reported was
+      → IsRecord was command o is
+      → AreRecordsStaged meaning old (take (i + 1) commands) now is
+  records_next old was is commands i command lt placed reported now o all records one = record {
+    first = records.first;
+    no_changes = records.no_changes;
+    no_slices = records.no_slices;
+    run = subst (λ outcomes. IsRun IsRecord (old, records.first) (take (i + 1) commands) outcomes is) (sym all)
+        (subst (λ acted. IsRun IsRecord (old, records.first) acted (reported ++ o ∷ []) is)
+        (sym (take_more commands i command lt ∙ ap (λ x. take i commands ++ x ∷ []) (sym placed)))
+        (run_more IsRecord (old, records.first) was is (take i commands) reported command o records.run one));
   }
 
-  module _ (command : PlantCmd) (valid : IsValidCommand command) where
-    reads_of : (reply : PlantReply) → IsVerdictOrMemory (meaning_of_plant_reply reply) → IsKeepUnread old new before now (Ok reply) ⊎ ReadsThrough meaning old new before (Ok reply)
-        → IsNothingStaged old new before now (Ok (record_outcome (meaning_of_plant_reply reply))) ⊎ ReadsThrough {X = Outcome} meaning old new before (Ok (record_outcome (meaning_of_plant_reply reply)))
-    reads_of reply judges (inl unasked) = inl (record { keep = unasked.keep; pending = unasked.pending; answered = refl; calm = calm_outcome (meaning_of_plant_reply reply) judges unasked.reported })
-    reads_of reply judges (inr reads) = inr (record { answered = λ first through. reads.answered first through; failed = λ first through. tt; kept = reads.kept })
+  module _ (old : K) (commands : Commands) (reported : List Outcome) (new : K × StagedChanges)
+      (records : AreRecordsStaged meaning old commands reported new) where
+    -- The keep was not used, and no record met a fault; or each reading call was answered.
+    pub records_read : (IsUnused old new × (list_any is_fault_outcome reported ≡ false)) ⊎ HaveRead meaning old new.0
+    records_read = unused_on old (old, records.first) new commands reported records.run (refl, records.no_slices)
 
-    -- A command was staged.
-    pub some_held : (reply : PlantReply) → IsPlantStaged meaning old new before now command (Ok reply) → IsRecordStaged meaning old new before now (Some command) (Ok (record_outcome (meaning_of_plant_reply reply)))
-    some_held reply is = record {
-      reading = reads_of reply is.judged is.reading;
-      made = is.made;
-      held = is.held;
-      quiet = λ none. is.quiet (outcome_quiet (meaning_of_plant_reply reply) is.judged none);
-      memory = outcome_open (meaning_of_plant_reply reply) is.judged;
-      some = tt;
-      over = is.over;
-      reported = λ honest c there laid H stands lawful. record_over (content_after before.changes.items c) H command (meaning_of_plant_reply reply) is.made stands lawful valid is.judged is.quiet (is.reported honest c there laid H stands lawful);
-    }
+    -- If no record was accepted, nothing is staged.
+    pub records_quiet : list_any is_outcome_accepted reported ≡ false → new.1.changes.items ≡ []
+    records_quiet none = quiet_on (old, records.first) new commands reported records.run none ∙ records.no_changes
 
-    failed_of : (fault : KeepFault) → IsKeepUnread old new before now (Err fault) ⊎ ReadsThrough {X = PlantReply} meaning old new before (Err fault) → IsNothingStaged old new before now (Err fault) ⊎ ReadsThrough {X = Outcome} meaning old new before (Err fault)
-    failed_of fault (inl unasked) = absurd (cc unasked.answered)
-    failed_of fault (inr reads) = inr (record {
-      answered = λ first through. tt;
-      failed = λ first through. let reading = reads.failed first through in read_fault meaning first new fault reading.goes reading.keeps reading.whole;
-      kept = reads.kept;
-    })
-
-    -- The rows of a command couldn't be read.
-    pub staged_unread_held : (fault : KeepFault) → IsPlantStaged meaning old new before now command (Err fault) → IsRecordStaged meaning old new before now (Some command) (Err fault)
-    staged_unread_held fault is = record {
-      reading = failed_of fault is.reading;
-      made = is.made;
-      held = is.held;
-      quiet = tt;
-      memory = tt;
-      some = refl;
-      over = is.over;
-      reported = λ honest c there laid H stands lawful. tt;
-    }
-
--- ---- records one after another
-
-module _ {K : Type 0} (meaning : Meaning K) (first keep next : K) (before now : StagedChanges) where
-  abbrev Reading : Result Outcome KeepFault → Type 0
-  Reading r = IsNothingStaged keep next before now r ⊎ ReadsThrough meaning keep next before r
-
-  pub through_next : (o : Outcome) → Reading (Ok o) → IsReadThrough meaning first keep before → IsReadThrough meaning first next now
-  through_next o (inl idle) through = subst (λ k. IsReadThrough meaning first k now) (sym idle.keep) (subst (IsReadThrough meaning first keep) (sym idle.pending) through)
-  through_next o (inr reads) through = inr (reads.answered first through)
-
-  pub kept_one : (r : Result Outcome KeepFault) → Reading r → IsContentKept meaning keep next
-  kept_one r (inl idle) = subst (IsContentKept meaning keep) (sym idle.keep) (λ honest. (honest, λ c there. there))
-  kept_one r (inr reads) = reads.kept
-
-  pub kept_next : (r : Result Outcome KeepFault) → Reading r → IsContentKept meaning first keep → IsContentKept meaning first next
-  kept_next r reading kept = λ honest.
-      let one = kept_one r reading honest in
-      let earlier = kept one.0 in (earlier.0, λ c there. one.1 c (earlier.1 c there))
-
-  -- If a record met a fault, the keep was used.
-  pub asked_next : (o : Outcome) (end : End) → is_fault_outcome o ≡ true → Reading (Ok o) → IsReadThrough meaning first keep before → IsReadOrUnused meaning first next end
-  asked_next o end faulty (inl idle) through = absurd (false≢true (sym idle.calm ∙ faulty))
-  asked_next o end faulty (inr reads) through = inr (reads.answered first through)
-
-  pub failed_next : (fault : KeepFault) → Reading (Err fault) → IsReadThrough meaning first keep before → IsReading {X = Staged} meaning first next (Err fault)
-  failed_next fault (inl idle) through = absurd (cc idle.answered)
-  failed_next fault (inr reads) through = let reading = reads.failed first through in read_fault meaning first next fault reading.goes reading.keeps reading.whole
-
-pub asked_all : {K : Type 0} (meaning : Meaning K) (first now : K) (o : StagedChanges) → IsReadThrough meaning first now o → IsReadOrUnused meaning first now (Ok tt)
-asked_all meaning first now o (inl none) = inl (none.0, refl)
-asked_all meaning first now o (inr have) = inr have
-
--- One more outcome.
-pub calm_next : (reported : List Outcome) (o : Outcome) → list_any is_fault_outcome reported ≡ false → is_fault_outcome o ≡ false → list_any is_fault_outcome (reported ++ o ∷ []) ≡ false
-calm_next reported o calm one = list_any-append is_fault_outcome reported (o ∷ []) ∙ (rw (calm, one) refl)
-
--- A fault that a record met over staged changes is Memory.
-pub faulty_memory : (o : Outcome) → is_fault_outcome o ≡ true → IsOpenOutcome o → o ≡ came.Fault Memory
-faulty_memory (came.Fault fault) faulty memory = ap (λ f. came.Fault f) (memory fault refl)
-faulty_memory came.Accepted faulty memory = absurd (cc faulty)
-faulty_memory came.Repeated faulty memory = absurd (cc faulty)
-faulty_memory (came.Refused why) faulty memory = absurd (cc faulty)
-faulty_memory came.BadRecord faulty memory = absurd (cc faulty)
-
--- If no record was accepted, nothing is staged.
-pub quiet_next : (reported : List Outcome) (o : Outcome) (before made now : List Change) → now ≡ before ++ made → (list_any is_outcome_accepted reported ≡ false → before ≡ []) → (is_outcome_accepted o ≡ false → made ≡ []) → list_any is_outcome_accepted (reported ++ o ∷ []) ≡ false → now ≡ []
-quiet_next reported o before made now is first one none =
-    let both = none_in is_outcome_accepted reported (o ∷ []) none in
-    is ∙ ap (λ changes. changes ++ made) (first both.0) ∙ one (sym (or-false (is_outcome_accepted o)) ∙ both.1)
+    -- From each lawful history that is held, the records have these outcomes, and the staged changes lead to the history after them.
+    pub records_run : Over meaning old new.0 (λ c H. (G : History) × IsRun IsRecordStep H commands reported G × StandsStaged c new G)
+    records_run now c H held stands lawful =
+        run_follows (λ was command o is. IsRecord was command o is × meaning.is_honest is.0) IsRecordStep (StandsStaged c) (record_follows c)
+        (old, records.first) new commands reported H
+        (run_while IsRecord (λ s. meaning.is_honest s.0) (λ was is command o staged honest. (record_kept was is command o staged honest).0)
+        (old, records.first) new commands reported records.run now)
+        (record {
+          held = held;
+          over = over_first c records.first records.no_changes records.no_slices;
+          leads = subst (λ changes. ChangesLeadTo c changes H) (sym records.no_changes) (record { stands = stands; fits = tt });
+          lawful = lawful;
+        })

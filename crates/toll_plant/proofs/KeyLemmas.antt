@@ -1,5 +1,5 @@
 -- A key acts once.
-use Rattle.std.proofs.Common.{◌≡◌, ◌+◌, ◌≤◌, ℕ, Bool, true, false, ◌&&◌, cond, Option, Some, None, is_some, List, [], ◌∷◌, ◌++◌, refl, sym, ap, subst, ◌∙◌, inl, inr, arith}
+use Rattle.std.proofs.Common.{◌≡◌, ◌+◌, ◌≤◌, ℕ, Bool, true, false, ◌&&◌, cond, Option, Some, None, is_some, List, [], ◌∷◌, ◌++◌, refl, sym, ap, subst, ◌∙◌, Ok, Err, arith}
 use Rattle.toll_plant.proofs.Common.{Bytes, same_bytes, Command, History, acts, movement_of, Verdict, Accepted, Repeated, Refused, IsLawful, IsPlantAnswer, grown, verdict, count_acts, found_once, Judged, IsQuestionAnswer, IsVerdictOr, after_plant, recorded_command, grow, is_some_where, option_map_or, PlantCmd}
 use Rattle.toll_history.specs.Laws.{has_this_key}
 use Rattle.toll_history.specs.Runs.{IsRun}
@@ -58,10 +58,10 @@ module _ (o key : Bytes) where
 
   step_counted : (old new : History) (command : Option PlantCmd) (outcome : Outcome) → IsRecordStep old command outcome new → key_counted command outcome + keyed old ≤ keyed new
   step_counted old new None outcome (bad, same) = uncounted old new None outcome (ap is_outcome_accepted bad) same
-  step_counted old new (Some command) outcome (inl (v, answer, is, grows)) =
+  step_counted old new (Some command) outcome (Ok v, (answer, grows), is) =
       subst (λ H. key_counted (Some command) outcome + keyed old ≤ keyed H) (sym grows)
       (subst (λ x. key_counted (Some command) x + keyed old ≤ keyed (after_plant old command)) (sym is) (judged_counted old command v answer))
-  step_counted old new (Some command) outcome (inr (fault, is, same)) = uncounted old new (Some command) outcome (ap is_outcome_accepted is) same
+  step_counted old new (Some command) outcome (Err fault, same, is) = uncounted old new (Some command) outcome (ap is_outcome_accepted is) same
 
   -- ---- records in order
 

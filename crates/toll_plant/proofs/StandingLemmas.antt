@@ -1,5 +1,5 @@
 -- A standing record is repeated, and a record that was accepted or repeated stands.
-use Rattle.std.proofs.Common.{◌≡◌, ℕ, Bool, true, false, ◌&&◌, ◌||◌, not, cond, Option, Some, None, is_some, List, [], ◌∷◌, refl, sym, ap, subst, ◌∙◌, inl, inr, arith}
+use Rattle.std.proofs.Common.{◌≡◌, ℕ, Bool, true, false, ◌&&◌, ◌||◌, not, cond, Option, Some, None, is_some, List, [], ◌∷◌, refl, sym, ap, subst, ◌∙◌, Ok, Err, inl, inr, arith}
 use Rattle.std.specs.Prelude.{◌==◌, option_and_then}
 use Rattle.toll_plant.proofs.Common.{nat_tests, AllByRecursion, list_any, not-false, false≢true, Bytes, same_bytes, house_name, is_some_where, MoveRow, Refusal, UnknownOwner, KeyConflict, Voided, Record, Command, by, History, acts, adds_owner, owner_known, has_move_key, movement_of, movements, voided_in, voids_key, any_acts, void_of_actual, grow, IsQuestionAnswer, IsVerdictOr, Judged, IsPlantAnswer, after_plant, recorded_command, option_map_or, PlantCmd}
 use Rattle.toll_base.specs.Moves.{same_movement, same_what}
@@ -96,10 +96,10 @@ repeated_alone H c command v is repeats answer = (answer_is H c command v is ans
 step_repeated : (old new : History) → IsLawful old → (command : Option PlantCmd) (outcome : Outcome) → IsRecordStanding old command
     → IsRecordStep old command outcome new → (new ≡ old) × IsRepeatedOrFault outcome
 step_repeated old new lawful None outcome s step = absurd (cc s.requested)
-step_repeated old new lawful (Some command) outcome s (inl (v, answer, is, grows)) =
+step_repeated old new lawful (Some command) outcome s (Ok v, (answer, grows), is) =
     let alone = repeated_alone old (by s.owner (Record s.row)) command v s.requested (standing_repeats old lawful (Some command) s) answer in
     (grows ∙ alone.1, inl (is ∙ ap outcome_of_verdict alone.0))
-step_repeated old new lawful (Some command) outcome s (inr (fault, is, same)) = (same, inr (ap is_fault_outcome is))
+step_repeated old new lawful (Some command) outcome s (Err fault, same, is) = (same, inr (ap is_fault_outcome is))
 
 run_repeated : (old new : History) → IsLawful old → (acted : Commands) (outcomes : List Outcome) → AllByRecursion (IsRecordStanding old) acted
     → IsRun IsRecordStep old acted outcomes new → (new ≡ old) × AllByRecursion IsRepeatedOrFault outcomes
@@ -241,9 +241,9 @@ step_leaves : (old new : History) → IsLawful old → (command : Option PlantCm
     → IsRecordStep old command outcome new → LeavesStanding old new command
 step_leaves old new lawful None deed outcome (inl is) step = let never : came.BadRecord ≡ came.Accepted = sym step.0 ∙ is in absurd (cc never)
 step_leaves old new lawful None deed outcome (inr is) step = let never : came.BadRecord ≡ came.Repeated = sym step.0 ∙ is in absurd (cc never)
-step_leaves old new lawful (Some command) deed outcome kept (inl (v, answer, is, grows)) =
+step_leaves old new lawful (Some command) deed outcome kept (Ok v, (answer, grows), is) =
     subst (λ H. LeavesStanding old H (Some command)) (sym grows) (judged_leaves old lawful command deed v answer (subst IsAcceptedOrRepeated is kept))
-step_leaves old new lawful (Some command) deed outcome kept (inr (fault, is, same)) = absurd (false≢true (sym (fault_kept outcome kept) ∙ ap is_fault_outcome is))
+step_leaves old new lawful (Some command) deed outcome kept (Err fault, same, is) = absurd (false≢true (sym (fault_kept outcome kept) ∙ ap is_fault_outcome is))
 
 -- ---- an earlier part of a lawful history is lawful
 
@@ -258,8 +258,8 @@ before_plant None H lawful = lawful
 
 before_record : (old new : History) (command : Option PlantCmd) (outcome : Outcome) → IsRecordStep old command outcome new → IsLawful new → IsLawful old
 before_record old new None outcome step lawful = subst IsLawful step.1 lawful
-before_record old new (Some command) outcome (inl (v, answer, is, grows)) lawful = before_plant (recorded_command command) old (subst IsLawful grows lawful)
-before_record old new (Some command) outcome (inr (fault, is, same)) lawful = subst IsLawful same lawful
+before_record old new (Some command) outcome (Ok v, (answer, grows), is) lawful = before_plant (recorded_command command) old (subst IsLawful grows lawful)
+before_record old new (Some command) outcome (Err fault, same, is) lawful = subst IsLawful same lawful
 
 -- ---- what an import accepted or found repeated stands
 

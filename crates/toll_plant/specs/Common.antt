@@ -7,12 +7,11 @@ pub use Rattle.toll_base.specs.Bytes.{Bytes, same_bytes}
 pub use Rattle.toll_base.specs.Words.{count, is_some_where, total, where_so}
 pub use Rattle.toll_base.specs.declared.refusal.Refusal.{Refusal}
 pub use Rattle.toll_base.specs.declared.refusal.Refusal.TheVariants.{BadAmount, BadName}
-pub use Rattle.toll_desk.specs.Reads.{Over}
 pub use Rattle.toll_desk.specs.Representing.{Represents}
 pub use Rattle.toll_history.specs.History.{History, acts}
 pub use Rattle.toll_history.specs.Verdict.{Accepted, IsLawful, Refused, Repeated, Verdict}
 pub use Rattle.toll_keep.specs.Content.{Content, content_after}
-pub use Rattle.toll_keep.specs.CallEffects.{CallEffect, IsReading, Settles}
+pub use Rattle.toll_keep.specs.CallEffects.{CallEffect}
 pub use Rattle.toll_keep.specs.Meaning.{Meaning, OverContent}
 pub use Rattle.toll_keep.specs.declared.fault.KeepFault.{KeepFault}
 pub use Rattle.toll_keep.specs.declared.fault.KeepFault.TheVariants.{Damaged, Memory}

@@ -1,12 +1,13 @@
 -- The outcomes of the records of a file of actuals.
-use Rattle.std.specs.Prelude.{◌≡◌, ◌≢◌, ◌+◌, ◌⊎◌, ◌≤◌, ℕ, Bool, true, false, if◌then◌else◌, Option, Some, None, List, [], ◌∷◌, ◌++◌, flat_map, length, map, take, Result, Ok, Err, IfErr}
-use Rattle.toll_plant.specs.Common.{AllByRecursion, list_any, Bytes, History, Verdict, IsLawful, Meaning, Content, KeepFault, Memory, Damaged, Judged, IsPlantAnswer, after_plant, IsValidCommand, PlantCmd}
+use Rattle.std.specs.Prelude.{◌≡◌, ◌≢◌, ◌+◌, ◌≤◌, ℕ, Bool, true, false, if◌then◌else◌, Option, Some, None, List, [], ◌∷◌, ◌++◌, flat_map, length, map, take, Result, Ok, Err, IfErr}
+use Rattle.toll_plant.specs.Common.{AllByRecursion, list_any, Bytes, History, Verdict, IsLawful, Meaning, Content, KeepFault, Memory, Damaged, after_plant, IsValidCommand, PlantCmd}
+use Rattle.toll_desk.specs.OfficeSteps.{IsPlantStep}
 use Rattle.toll_desk.specs.Outcome.{HoldsFor}
 use Rattle.toll_desk.specs.PlantStaged.{looks_at_two}
 use Rattle.toll_desk.specs.Steps.{AreStepsFrom, Calls, IsKeepStep, StepKind}
 use Rattle.toll_history.specs.Runs.{IsRun}
 use Rattle.toll_plant.specs.Files.{Fields, HasActuals, command_in}
-use Rattle.toll_plant.specs.Outcomes.{outcome_of_verdict, is_outcome_accepted, is_fault_outcome}
+use Rattle.toll_plant.specs.Outcomes.{is_outcome_accepted, is_fault_outcome, judged_answer, record_outcome}
 use Rattle.toll_plant.specs.declared.grouping.TheConstants.{GROUP_RECORDS}
 use Rattle.toll_plant.specs.declared.outcome.Outcome.{Outcome}
 use Rattle.toll_plant.specs.declared.outcome.Outcome.TheVariants.{BadRecord, Fault}
@@ -50,13 +51,12 @@ pub record UpToFault (IsSo : Commands → Type 0) (commands : Commands) (outcome
   pub stops : EndsAt is_fault_outcome outcomes
   pub whole : list_any is_fault_outcome outcomes ≡ false → rest ≡ []
 
--- Over the old history, a record with this command has this outcome and leads to the new history. A command has a verdict, or meets a
--- fault and changes nothing.
+-- Over the old history, a record with this command has this outcome and leads to the new history. A command is a step of the plant, with a
+-- verdict or a fault.
 abbrev pub IsRecordStep : History → Option PlantCmd → Outcome → History → Type 0
 IsRecordStep old None outcome new = (outcome ≡ BadRecord) × (new ≡ old)
 IsRecordStep old (Some command) outcome new =
-    ((verdict : Verdict) × IsPlantAnswer old command (Judged verdict) × (outcome ≡ outcome_of_verdict verdict) × (new ≡ after_plant old command))
-    ⊎ ((fault : KeepFault) × (outcome ≡ Fault fault) × (new ≡ old))
+    (judged : Result Verdict KeepFault) × IsPlantStep old command (judged_answer judged) new × (outcome ≡ record_outcome (judged_answer judged))
 
 -- Records with these commands have these outcomes one after another, up to a fault, and lead from the old history to the new one.
 abbrev pub IsImport : History → Commands → List Outcome → History → Type 0

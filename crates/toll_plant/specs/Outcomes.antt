@@ -16,6 +16,11 @@ record_outcome (Ok (Judged verdict)) = outcome_of_verdict verdict
 record_outcome (Ok (Shows text)) = came.Fault Damaged
 record_outcome (Err fault) = came.Fault fault
 
+-- the answer with this verdict, or the fault
+abbrev pub judged_answer : Result Verdict KeepFault → Result PlantAnswer KeepFault
+judged_answer (Ok verdict) = Ok (Judged verdict)
+judged_answer (Err fault) = Err fault
+
 -- whether the outcome is a fault, after which no record acts
 abbrev pub is_fault_outcome : Outcome → Bool
 is_fault_outcome (came.Fault fault) = true

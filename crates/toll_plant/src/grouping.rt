@@ -108,7 +108,7 @@ fn act<K: Keep>(
     command: &Option<PlantCmd>,
 ) -> Result<Outcome, KeepFault>
     requires { CanBeStaged command.now }
-    ensures { IsRecordStaged K.meaning keep.old keep.new pending.old pending.new command.now result }
+    ensures { IsRecordStaged K.meaning (keep.old, pending.old) command.now result (keep.new, pending.new) }
 {
     match command {
         None => Ok(Outcome::BadRecord),
