@@ -1,10 +1,8 @@
 -- Recalls of two histories that agree on an owner's commands and on HOUSE's.
-use Rattle.std.proofs.Common.{◌≡◌, false, Option, Some, List, [], ◌∷◌, map, sym, ap, subst, ◌∙◌, inl, inr}
-use Rattle.std.specs.Prelude.{Contains}
-use Rattle.toll_answers.proofs.Common.{option_map, Bytes, same_bytes, house_name, History, part, acts, IsLawful, LotId, acts-part, Step, Forward, Contains-none, Contains-cases, Contains-map, Contains-from_map}
+use Rattle.std.proofs.Common.{◌≡◌, false, Option, Some, List, [], ◌∷◌, map, sym, ap, subst, ◌∙◌, inl, inr, Contains}
+use Rattle.toll_answers.proofs.Common.{option_map, Bytes, same_bytes, house_name, History, part, acts, IsLawful, LotId, acts-part, Step, Forward, Contains-none, Contains-cases, Contains-map, Contains-from_map, IsPlantJoined}
 use Rattle.toll_history.proofs.OwnAmounts.{on_hand-part, shipped-part}
 use Rattle.toll_history.proofs.OwnFacts.{lot_row-part}
-use Rattle.toll_answers.specs.Edges.{IsPlantJoined}
 use Rattle.toll_answers.specs.Recall.{recall_line_of, IsRecall}
 use Rattle.toll_answers.specs.declared.genealogy.recall.RecallLine.{RecallLine}
 use Rattle.toll_answers.proofs.Recalls.{steps_along, chains_agree}

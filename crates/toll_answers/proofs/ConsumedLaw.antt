@@ -1,6 +1,7 @@
 -- A standing consumption that a slice has is one of every lawful history of which it has the rows.
 use Rattle.std.proofs.Common.{◌≡◌, Bool, true, false, not, ◌&&◌, ◌||◌, cond, Option, Some, None, List, [], ◌∷◌, refl, sym, ap, ◌∙◌}
-use Rattle.toll_answers.proofs.Common.{false≢true, nat_list_cmp_total, AllByRecursion, list_any, Bytes, same_bytes, bytes_cmp, Slice, IsInKeyOrder, row_at, is_some_where, or_else, where_so, same_bytes-exact, same_bytes-refl, History, acts, OwnerFacts, IsRowsOf, Accepted, IsLawful, IsValidAction, verdict, each_found}
+use Rattle.toll_trace.proofs.Parts.{same_test}
+use Rattle.toll_answers.proofs.Common.{false≢true, nat_list_cmp_total, AllByRecursion, list_any, Bytes, same_bytes, bytes_cmp, Slice, IsInKeyOrder, row_at, is_some_where, or_else, where_so, same_bytes-exact, same_bytes-refl, History, acts, OwnerFacts, IsRowsOf, Accepted, IsLawful, IsValidAction, verdict, each_found, has_consumed_in, consumes_lot, has_consumed}
 use Rattle.std.proofs.lemmas.Bool.{or_left, or_right}
 use Rattle.toll_base.specs.declared.lot.LotId.{LotId}
 use Rattle.toll_base.specs.declared.movement.MoveRow.{MoveRow}
@@ -9,14 +10,6 @@ use Rattle.toll_history.specs.Movements.{movement_of, movement_recorded, voided_
 use Rattle.toll_history.proofs.Acts.{along_acts}
 use Rattle.toll_history.proofs.Found.{key_is_new}
 use Rattle.toll_history.proofs.Options.{not_both}
-use Rattle.toll_answers.specs.InSlice.{has_consumed_in}
-use Rattle.toll_answers.specs.Views.{consumes_lot, has_consumed}
-
-equal_if_iff : (a b : Bool) → (a ≡ true → b ≡ true) → (b ≡ true → a ≡ true) → a ≡ b
-equal_if_iff true true there back = refl
-equal_if_iff true false there back = sym (there refl)
-equal_if_iff false true there back = back refl
-equal_if_iff false false there back = refl
 
 or_cases : (a b : Bool) {C : Type 0} → (a || b) ≡ true → (a ≡ true → C) → (b ≡ true → C) → C
 or_cases true b is first second = first refl
@@ -80,7 +73,7 @@ module _ (p : MoveRow → Bool) where
   -- the rows that have each movement at its key have one that passes just where an action recorded one
   any_is : (o : Bytes) (H : History) → IsLawful H → (rows : List MoveRow) → IsInKeyOrder bytes_cmp (λ r. r.key) rows → ((k : Bytes) → row_at bytes_cmp (λ r. r.key) rows k ≡ movement_of (acts o H) k) → list_any p rows ≡ list_any is_recorded (acts o H)
   any_is o H lawful rows ordered at =
-      equal_if_iff _ _
+      same_test _ _
       (λ any. let found = consumed_any_of (row_at bytes_cmp (λ r. r.key) rows) rows (each_found bytes_cmp nat_list_cmp_total (λ r. r.key) rows ordered) any in consumed_found_recorded (acts o H) found.0.key found.0 (sym (at found.0.key) ∙ found.1) found.2)
       (λ any. let found = along_acts AnyIsFound o (λ none. absurd (false≢true none)) (found_more o) H lawful any in found_any rows found.0.key found.0 (at found.0.key ∙ found.1) found.2)
 

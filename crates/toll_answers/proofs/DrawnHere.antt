@@ -1,9 +1,6 @@
 -- The edges of an owner's actions, and the traces over them, made from lists: for examples.
-use Rattle.std.proofs.Common.{◌≡◌, not, Some, List, [], ◌∷◌, map, refl, sym, ap, subst, inl, inr}
-use Rattle.std.specs.Prelude.{Contains, filter}
-use Rattle.std.specs.List.{filter_map}
-use Rattle.toll_answers.proofs.Common.{IsStrictlySortedBy, not-true, Action, Record, movement_recorded, voided_in, LotId, Edge, MoveRow, Way, edge_of, IsJoined, AreEdges, lot_cmp, edge_cmp, IsTrace, Contains-none, Contains-here, Contains-later, Contains-cases, Contains-filter, Contains-from_filter, Contains-filter_map, Contains-from_filter_map, drawn_same, trace_same}
-use Rattle.std.specs.Ordering.{is_eq}
+use Rattle.std.proofs.Common.{◌≡◌, not, Some, List, [], ◌∷◌, map, refl, sym, ap, subst, inl, inr, Contains, filter}
+use Rattle.toll_answers.proofs.Common.{IsStrictlySortedBy, not-true, Action, Record, movement_recorded, voided_in, LotId, Edge, MoveRow, Way, edge_of, IsJoined, AreEdges, lot_cmp, edge_cmp, IsTrace, Contains-none, Contains-here, Contains-later, Contains-cases, Contains-filter, Contains-from_filter, Contains-filter_map, Contains-from_filter_map, drawn_same, trace_same, WasDone, IsOwnEdge, IsOwnJoined, filter_map, is_eq}
 use Rattle.std.proofs.lemmas.Cmp.{tied_itself}
 use Rattle.toll_trace.specs.InOrder.{IsInOrder}
 use Rattle.toll_trace.specs.Search.{step_at}
@@ -11,7 +8,6 @@ use Rattle.toll_trace.proofs.Orders.{lots_total}
 use Rattle.toll_trace.proofs.DrawnRows.{drawn, listed_drawn, drawn_listed}
 use Rattle.toll_trace.proofs.Levels.{reached_start, reached_more, trace_done}
 use Rattle.toll_trace.proofs.Rounds.{led_to, level_by_edges}
-use Rattle.toll_answers.specs.Edges.{WasDone, IsOwnEdge, IsOwnJoined}
 
 -- ---- edges
 

@@ -1,11 +1,10 @@
 -- The lots that an edge joins are known, and whose they are.
 use Rattle.std.proofs.Common.{◌≡◌, ◌⊎◌, true, ◌&&◌, is_some, sym, subst, ◌∙◌}
-use Rattle.toll_answers.proofs.Common.{Bytes, same_bytes, house_name, lot_id, same_lot, History, acts, BringsOwn, TakesKnown, lot_made, brings_into, takes_from, lot_row, IsLawful, Edge, LotId, same_bytes-refl, member_of_all}
+use Rattle.toll_answers.proofs.Common.{Bytes, same_bytes, house_name, lot_id, same_lot, History, acts, BringsOwn, TakesKnown, lot_made, brings_into, takes_from, lot_row, IsLawful, Edge, LotId, same_bytes-refl, member_of_all, IsOwnEdge}
 use Rattle.toll_base.proofs.Bools.{and_is}
 use Rattle.toll_history.proofs.Lots.{sublot_lot}
 use Rattle.toll_history.proofs.Owned.{all_bring_own, all_take_known}
 pub use Rattle.toll_stock.proofs.Mapped.{some_mapped}
-use Rattle.toll_answers.specs.Edges.{IsOwnEdge}
 use Rattle.toll_answers.proofs.OwnEdges.{edge_end, edge_start}
 use Rattle.toll_answers.proofs.Standing.{recorded_moved}
 

@@ -1,9 +1,7 @@
 -- The view of a lot that a slice gives is that of every lawful history of which it has the rows.
 use Rattle.std.proofs.Common.{◌≡◌, Bool, true, cond, Option, Some, None, List, filter, sym, ap, subst, ◌∙◌}
-use Rattle.toll_answers.proofs.Common.{is_eq, Ordering, Bytes, same_bytes, pair_cmp, result_cmp, Slice, lot_at, IsInKeyOrder, AreRowsGiven, row_at, LotRow, SublotRow, same_bytes-exact, History, acts, OwnerFacts, IsRowsOf, lot_row, row_at-filter, filter_ordered}
+use Rattle.toll_answers.proofs.Common.{is_eq, Ordering, Bytes, same_bytes, pair_cmp, result_cmp, Slice, lot_at, IsInKeyOrder, AreRowsGiven, row_at, LotRow, SublotRow, same_bytes-exact, History, acts, OwnerFacts, IsRowsOf, lot_row, row_at-filter, filter_ordered, IsLotViewIn, results_of_lot, sublots_of_lot, IsLotViewOf}
 use Rattle.toll_base.specs.declared.rows.ResultRow.{ResultRow}
-use Rattle.toll_answers.specs.InSlice.{IsLotViewIn}
-use Rattle.toll_answers.specs.Views.{results_of_lot, sublots_of_lot, IsLotViewOf}
 use Rattle.toll_answers.specs.declared.views.lot.LotView.{LotView}
 use Rattle.toll_answers.proofs.StockLaw.{measure_is}
 use Rattle.toll_work.proofs.ViewLaw.{tied_first}

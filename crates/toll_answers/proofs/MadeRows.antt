@@ -1,12 +1,8 @@
 -- Rows in key order, and what is made of those of which something is made.
 use Rattle.std.proofs.Common.{◌≡◌, Bool, true, false, cond, Option, Some, None, List, [], ◌∷◌, map, refl, sym, ap, subst, ◌∙◌}
+use Rattle.toll_answers.proofs.Common.{option_and_then, AllByRecursion, cons_option, filter_map, IsStrictlySortedBy, is_eq, Less, Equal}
 use Rattle.std.specs.Cmp.{IsTotalOrder, Equal-is}
-use Rattle.std.specs.List.{AllByRecursion, cons_option, filter_map}
-use Rattle.std.specs.List.Sorted.{IsStrictlySortedBy}
-use Rattle.std.specs.Option.{option_and_then}
-use Rattle.std.specs.Ordering.{is_eq}
 use Rattle.std.specs.declared.cmp.Ordering.{Ordering}
-use Rattle.std.specs.declared.cmp.Ordering.TheVariants.{Less, Equal}
 use Rattle.toll_base.specs.Table.{row_at, IsInKeyOrder}
 
 module _ {K R L : Type 0} (cmp : K → K → Ordering) (o : IsTotalOrder cmp) (key : R → K) (make : R → Option L) (made_key : L → K) (same : (row : R) (made : L) → make row ≡ Some made → made_key made ≡ key row) where

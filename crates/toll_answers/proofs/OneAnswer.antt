@@ -1,6 +1,6 @@
 -- Over a list of commands the plant has one answer to a command or a question.
 use Rattle.std.proofs.Common.{◌≡◌, Option, Some, None, List, [], ◌∷◌, map, refl, sym, ap, ◌∙◌}
-use Rattle.toll_answers.proofs.Common.{nat_list_cmp_total, Bytes, bytes_cmp, RequirementKey, requirement_cmp, pair_cmp, History, acts, order_of, Verdict, Accepted, Repeated, Refused, verdict_of_checks, LotId, pair_cmp_total, requirement_cmp_total, trace_unique, Forward, IsPlantJoined, line_key, RequirementLine, BatchRow, OrderRow}
+use Rattle.toll_answers.proofs.Common.{nat_list_cmp_total, Bytes, bytes_cmp, RequirementKey, requirement_cmp, pair_cmp, History, acts, order_of, Verdict, Accepted, Repeated, Refused, verdict_of_checks, LotId, pair_cmp_total, requirement_cmp_total, trace_unique, Forward, IsPlantJoined, line_key, RequirementLine, BatchRow, OrderRow, orders_text, stock_text, shown_over, IsStockText, batch_text, trace_text, recall_text}
 use Rattle.toll_trace.specs.declared.way.Way.{Way}
 use Rattle.toll_history.specs.Command.{Command}
 use Rattle.toll_answers.specs.declared.plant_cmd.PlantCmd.{PlantCmd}
@@ -8,7 +8,6 @@ use Rattle.toll_answers.specs.declared.plant_cmd.PlantCmd.TheVariants as cmd
 use Rattle.toll_answers.specs.PlantAnswers.{recorded_command, PlantAnswer, Shows, AreOrdersShown, IsStockShown, IsBatchShown, IsBatchShownOr, IsTraceShown, IsRecallShown, IsCheckedOr, owner_checks, lot_checks, IsVerdictOr, IsQuestionAnswer, IsPlantAnswer}
 use Rattle.toll_answers.specs.Recall.{recall_line_of, IsRecall}
 use Rattle.toll_answers.specs.declared.genealogy.recall.RecallLine.{RecallLine}
-use Rattle.toll_answers.specs.Texts.{orders_text, stock_text, shown_over, IsStockText, batch_text, trace_text, recall_text}
 use Rattle.toll_answers.proofs.OneReply.{IsOne, one_value, one_list_of_rows}
 
 one_checked_or : (v : Verdict) (shown : PlantAnswer → Type 0) → IsOne shown → IsOne (λ r. IsCheckedOr v (shown r) r)

@@ -1,10 +1,9 @@
 -- Over a list of commands an owner has one reply to a request.
 use Rattle.std.proofs.Common.{◌≡◌, ℕ, Bool, true, false, Option, Some, None, List, MatchBool, sym, ap, ◌∙◌}
-use Rattle.toll_answers.proofs.Common.{IsTotalOrder, nat_list_cmp_total, Ordering, Bytes, bytes_cmp, RequirementKey, requirement_cmp, result_cmp, pair_cmp, Release, Reject, by, History, Verdict, Accepted, Repeated, Refused, grow, LotId, OrderRow, LotRow, BatchRow, pair_cmp_total, result_cmp_total, requirement_cmp_total, trace_unique, AreRowsGiven, line_key, RequirementLine}
+use Rattle.toll_answers.proofs.Common.{IsTotalOrder, nat_list_cmp_total, Ordering, Bytes, bytes_cmp, RequirementKey, requirement_cmp, result_cmp, pair_cmp, Release, Reject, by, History, Verdict, Accepted, Repeated, Refused, grow, LotId, OrderRow, LotRow, BatchRow, pair_cmp_total, result_cmp_total, requirement_cmp_total, trace_unique, AreRowsGiven, line_key, RequirementLine, StockLine}
 use Rattle.toll_base.specs.declared.rows.ResultRow.{ResultRow}
 use Rattle.toll_base.specs.declared.rows.SublotRow.{SublotRow}
 use Rattle.toll_answers.proofs.SameRows.{same_rows}
-use Rattle.toll_answers.specs.declared.views.stock.StockLine.{StockLine}
 use Rattle.toll_base.specs.declared.request.Request.{Request}
 use Rattle.toll_base.specs.declared.request.Request.TheVariants as request
 use Rattle.toll_answers.specs.OwnerReply.{OwnerReply, ReplyOrders, ReplyBatch, ReplyStock, ReplyLot, ReplyTrace}

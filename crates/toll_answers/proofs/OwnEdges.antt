@@ -1,11 +1,10 @@
 -- Whose edges a chain goes over: an owner's lots, and HOUSE's at its start.
-use Rattle.std.proofs.Common.{◌≡◌, ◌⊎◌, ℕ, zero, suc, ◌+◌, true, false, not, ◌||◌, refl, sym, ap, subst, ◌∙◌, inl, inr, arith}
-use Rattle.std.specs.Prelude.{Contains}
-use Rattle.toll_answers.proofs.Common.{Bytes, same_bytes, house_name, Record, History, acts, movements, IsLawful, crosses, LotId, MoveRow, same_bytes-exact, Way, Back, Forward, IsChain, IsActual, member_of_all}
+use Rattle.std.proofs.Common.{◌≡◌, ◌⊎◌, ℕ, zero, suc, ◌+◌, true, false, not, ◌||◌, refl, sym, ap, subst, ◌∙◌, inl, inr, arith, Contains}
+use Rattle.toll_trace.proofs.Unique.{chain_same}
+use Rattle.toll_answers.proofs.Common.{Bytes, same_bytes, house_name, Record, History, acts, movements, IsLawful, crosses, LotId, MoveRow, same_bytes-exact, Way, Back, Forward, IsChain, IsActual, member_of_all, WasDone, IsOwnJoined, IsPlantJoined}
 use Rattle.toll_base.specs.declared.role.Role.{Role}
 use Rattle.toll_base.specs.declared.role.Role.TheVariants.{Consumed, Produced}
 use Rattle.toll_history.proofs.Crossing.{crosses_by, movements_not_crossing, is_the_owner}
-use Rattle.toll_answers.specs.Edges.{WasDone, IsOwnJoined, IsPlantJoined}
 use Rattle.toll_answers.proofs.Standing.{recorded_moved}
 
 -- ---- an accepted movement does not cross
@@ -34,10 +33,6 @@ edge_start H w a b lawful e = own_or_house a.owner w (actual_stays H w e.order e
 
 -- ---- chains
 
-chain_map : (E F : LotId → LotId → Type 0) → ((a b : LotId) → E a b → F a b) → (a : LotId) (n : ℕ) (b : LotId) → IsChain E a n b → IsChain F a n b
-chain_map E F to a zero b chain = chain
-chain_map E F to a (suc n) b chain = (chain.0, chain_map E F to a n chain.0 chain.1, to chain.0 b chain.2)
-
 pub chain_append : (E : LotId → LotId → Type 0) (a : LotId) (n : ℕ) (b : LotId) (m : ℕ) (c : LotId) → IsChain E a n b → IsChain E b m c → IsChain E a (n + m) c
 chain_append E a n b zero c first second = subst (λ k. IsChain E a k c) (omega arith) (subst (IsChain E a n) second first)
 chain_append E a n b (suc m) c first second =
@@ -46,7 +41,7 @@ chain_append E a n b (suc m) c first second =
 
 -- an owner's edges are edges of the plant
 pub own_is_plants : (H : History) (o : Bytes) (way : Way) (a : LotId) (n : ℕ) (b : LotId) → IsChain (IsOwnJoined (acts o H) way) a n b → IsChain (IsPlantJoined H way) a n b
-own_is_plants H o way = chain_map (IsOwnJoined (acts o H) way) (IsPlantJoined H way) (λ a b e. (o, e))
+own_is_plants H o way = chain_same (IsOwnJoined (acts o H) way) (IsPlantJoined H way) (λ a b e. (o, e))
 
 -- a chain, walked from its end
 chain_turned : (E F : LotId → LotId → Type 0) → ((a b : LotId) → E a b → F b a) → (a : LotId) (n : ℕ) (b : LotId) → IsChain E a n b → IsChain F b n a

@@ -1,13 +1,10 @@
 -- An owner's replies come from the owner's part of a history.
-use Rattle.std.proofs.Common.{◌≡◌, ℕ, Bool, true, false, not, ◌&&◌, ◌||◌, cond, Option, Some, None, is_some, ◌∷◌, MatchBool, ◌↔◌, refl, sym, ap, ◌∙◌}
-use Rattle.toll_answers.proofs.Common.{list_any, Bytes, same_bytes, Action, PlaceOrder, CancelOrder, Release, Reject, Command, by, History, part, acts, owner_known, owner_key, adds_owner, measure_of, order_of, batch_of, requirement_of, Verdict, Accepted, Repeated, Refused, Checks, verdict_of_checks, checks, verdict, grow, grown, IsLawful, IsValidAction, order_checks, cancel_checks, release_checks, reject_checks, known_batch_checks, OrderRow, LotRow, BatchRow, same_bytes-refl, Back, Forward, IsOwnJoined, line_of}
-use Rattle.std.specs.Prelude.{IfSome}
-use Rattle.std.specs.Option.{option_map, option_map_or, option_and_then}
+use Rattle.std.proofs.Common.{◌≡◌, ℕ, Bool, true, false, not, ◌&&◌, ◌||◌, cond, Option, Some, None, is_some, ◌∷◌, MatchBool, ◌↔◌, refl, sym, ap, ◌∙◌, IfSome}
+use Rattle.toll_answers.proofs.Common.{list_any, Bytes, same_bytes, Action, PlaceOrder, CancelOrder, Release, Reject, Command, by, History, part, acts, owner_known, owner_key, adds_owner, measure_of, order_of, batch_of, requirement_of, Verdict, Accepted, Repeated, Refused, Checks, verdict_of_checks, checks, verdict, grow, grown, IsLawful, IsValidAction, order_checks, cancel_checks, release_checks, reject_checks, known_batch_checks, OrderRow, LotRow, BatchRow, same_bytes-refl, Back, Forward, IsOwnJoined, line_of, stock_line, results_of_lot, sublots_of_lot, has_consumed, option_map, option_map_or, option_and_then, lot_id}
 use Rattle.toll_answers.specs.PlantAnswers.{IsValidCommand, after_plant, recorded_command}
 use Rattle.toll_answers.specs.declared.plant_cmd.PlantCmd.{PlantCmd}
 use Rattle.toll_base.specs.Values.{house_name}
 use Rattle.toll_base.specs.Words.{where_so, is_some_where}
-use Rattle.toll_base.specs.Lots.{lot_id}
 use Rattle.toll_history.specs.OwnerFacts.{OwnerFacts, facts_given, lot_row}
 use Rattle.toll_base.specs.declared.refusal.Refusal.TheVariants.{UnknownOwner}
 use Rattle.toll_history.proofs.Own.{acts-part, part-own}
@@ -15,7 +12,6 @@ use Rattle.toll_history.proofs.OwnFacts.{lot_row-part, sublot_row-part, tables-p
 use Rattle.toll_base.specs.declared.request.Request.{Request}
 use Rattle.toll_base.specs.declared.request.Request.TheVariants as request
 use Rattle.toll_answers.specs.OwnerReply.{OwnerReply, ReplyForbidden}
-use Rattle.toll_answers.specs.Views.{stock_line, results_of_lot, sublots_of_lot, has_consumed}
 use Rattle.toll_answers.specs.Replies.{has_owner_key, IsOrdersReply, IsStockReply, IsBatchReply, IsLotReply, IsOrderOr, IsLotOr, IsBatchOr, IsTraceOr, IsWritingReply, IsOrderAfter, IsLotAfter, IsOwnerAnswer, IsReply, after_answer, after_reply}
 use Rattle.toll_history.proofs.OwnAmounts.{on_hand-part, actual_amount-part}
 

@@ -1,8 +1,6 @@
 -- Traces and recalls, cut to one owner's lots.
-use Rattle.std.proofs.Common.{◌≡◌, ℕ, zero, suc, ◌+◌, List, refl, sym, ap₂, subst, inl, inr, arith}
-use Rattle.std.specs.Prelude.{Contains}
-use Rattle.toll_answers.proofs.Common.{Bytes, house_name, History, acts, IsLawful, LotId, Way, Forward, Step, IsChain, IsTrace, Contains-from_map}
-use Rattle.toll_answers.specs.Edges.{IsOwnJoined, IsPlantJoined}
+use Rattle.std.proofs.Common.{◌≡◌, ℕ, zero, suc, ◌+◌, List, refl, sym, ap₂, subst, inl, inr, arith, Contains}
+use Rattle.toll_answers.proofs.Common.{Bytes, house_name, History, acts, IsLawful, LotId, Way, Forward, Step, IsChain, IsTrace, Contains-from_map, IsOwnJoined, IsPlantJoined}
 use Rattle.toll_answers.specs.FromHouse.{IsChainFromHouse, AreChainedFromHouse}
 use Rattle.toll_answers.proofs.OwnEdges.{edge_end, edge_start, chain_append, own_is_plants, chain_within}
 

@@ -1,16 +1,9 @@
 -- Two lists of rows in key order that have the same at each key are one.
 use Rattle.std.proofs.Common.{◌≡◌, Some, None, cond, List, [], ◌∷◌, map, refl, sym, ap, subst, ◌∙◌}
-use Rattle.toll_answers.proofs.Common.{IsTotalOrder, AllByRecursion, Ordering, IsInKeyOrder, row_at}
-use Rattle.std.specs.List.Sorted.{IsStrictlySortedBy}
-use Rattle.std.specs.Ordering.{is_eq, ordering_reverse}
-use Rattle.std.specs.declared.cmp.Ordering.TheVariants.{Less, Equal, Greater}
+use Rattle.toll_base.proofs.KeyOrder.{all_above, key_all_alike}
+use Rattle.std.proofs.lemmas.Option.{none-some, same_Some}
+use Rattle.toll_answers.proofs.Common.{IsTotalOrder, AllByRecursion, Ordering, IsInKeyOrder, row_at, IsStrictlySortedBy, is_eq, ordering_reverse, Less, Equal, Greater}
 use Rattle.toll_work.proofs.KeyedRows.{keyed_head_found}
-
-none_is_not : {X : Type 0} {x : X} → None ≡ Some x → ⊥
-none_is_not h = (cc)
-
-same_some_is : {X : Type 0} {x y : X} → Some x ≡ Some y → x ≡ y
-same_some_is h = (cc)
 
 module _ {K R : Type 0} (cmp : K → K → Ordering) (o : IsTotalOrder cmp) (key : R → K) where
   -- a key below every key of a list is not there
@@ -19,25 +12,17 @@ module _ {K R : Type 0} (cmp : K → K → Ordering) (o : IsTotalOrder cmp) (key
   same_none_below [] k all = refl
   same_none_below (x ∷ xs) k all = rw all.0 (same_none_below xs k all.1)
 
-  same_all_alike : (a b : K) (ks : List K) → cmp a b ≡ Equal → AllByRecursion (λ k. cmp b k ≡ Less) ks → AllByRecursion (λ k. cmp a k ≡ Less) ks
-  same_all_alike a b [] e all = tt
-  same_all_alike a b (k ∷ ks) e all = (o.congr a b k e ∙ all.0, same_all_alike a b ks e all.1)
-
-  all_below : (a b : K) (ks : List K) → cmp a b ≡ Less → AllByRecursion (λ k. cmp b k ≡ Less) ks → AllByRecursion (λ k. cmp a k ≡ Less) ks
-  all_below a b [] lt all = tt
-  all_below a b (k ∷ ks) lt all = (o.trans a b k lt all.0, all_below a b ks lt all.1)
-
   -- the heads are one
   same_head : (x y : R) (xs ys : List R) → AllByRecursion (λ k. cmp (key x) k ≡ Less) (map key xs) → AllByRecursion (λ k. cmp (key y) k ≡ Less) (map key ys) →
       ((k : K) → row_at cmp key (x ∷ xs) k ≡ row_at cmp key (y ∷ ys) k) → x ≡ y
   unfolding row_at
   same_head x y xs ys above_x above_y same =
       elim (cmp (key x) (key y)) as (λ r. cmp (key x) (key y) ≡ r → x ≡ y) [
-        | Less ↦ λ lt. absurd (none_is_not (sym (same_none_below (y ∷ ys) (key x) (lt, all_below (key x) (key y) (map key ys) lt above_y)) ∙ sym (same (key x)) ∙ keyed_head_found cmp key o x xs))
-        | Equal ↦ λ e. same_some_is (sym (keyed_head_found cmp key o x xs) ∙ same (key x) ∙ ap (λ r. cond (is_eq r) (Some y) (row_at cmp key ys (key x))) e)
+        | Less ↦ λ lt. absurd (none-some _ (sym (same_none_below (y ∷ ys) (key x) (lt, all_above cmp o key (key x) (key y) (map key ys) lt above_y)) ∙ sym (same (key x)) ∙ keyed_head_found cmp key o x xs))
+        | Equal ↦ λ e. same_Some _ _ (sym (keyed_head_found cmp key o x xs) ∙ same (key x) ∙ ap (λ r. cond (is_eq r) (Some y) (row_at cmp key ys (key x))) e)
         | Greater ↦ λ gt.
             let lt : cmp (key y) (key x) ≡ Less = o.antisymm (key y) (key x) ∙ ap ordering_reverse gt in
-            absurd (none_is_not (sym (same_none_below (x ∷ xs) (key y) (lt, all_below (key y) (key x) (map key xs) lt above_x)) ∙ same (key y) ∙ keyed_head_found cmp key o y ys))
+            absurd (none-some _ (sym (same_none_below (x ∷ xs) (key y) (lt, all_above cmp o key (key y) (key x) (map key xs) lt above_x)) ∙ same (key y) ∙ keyed_head_found cmp key o y ys))
       ] refl
 
   -- beside one head, the tails have the same
@@ -46,7 +31,7 @@ module _ {K R : Type 0} (cmp : K → K → Ordering) (o : IsTotalOrder cmp) (key
   unfolding row_at
   same_tail x xs ys above_xs above_ys same k =
       elim (cmp k (key x)) as (λ r. cmp k (key x) ≡ r → cond (is_eq r) (Some x) (row_at cmp key xs k) ≡ cond (is_eq r) (Some x) (row_at cmp key ys k) → row_at cmp key xs k ≡ row_at cmp key ys k) [
-        | Equal ↦ λ e h. same_none_below xs k (same_all_alike k (key x) (map key xs) e above_xs) ∙ sym (same_none_below ys k (same_all_alike k (key x) (map key ys) e above_ys))
+        | Equal ↦ λ e h. same_none_below xs k (key_all_alike cmp o key k (key x) (map key xs) e above_xs) ∙ sym (same_none_below ys k (key_all_alike cmp o key k (key x) (map key ys) e above_ys))
         | Less ↦ λ e h. h
         | Greater ↦ λ e h. h
       ] refl (same k)
@@ -54,8 +39,8 @@ module _ {K R : Type 0} (cmp : K → K → Ordering) (o : IsTotalOrder cmp) (key
   pub same_rows : (xs ys : List R) → IsInKeyOrder cmp key xs → IsInKeyOrder cmp key ys → ((k : K) → row_at cmp key xs k ≡ row_at cmp key ys k) → xs ≡ ys
   unfolding row_at IsStrictlySortedBy
   same_rows [] [] ordered_xs ordered_ys same = refl
-  same_rows [] (y ∷ ys) ordered_xs ordered_ys same = absurd (none_is_not (same (key y) ∙ keyed_head_found cmp key o y ys))
-  same_rows (x ∷ xs) [] ordered_xs ordered_ys same = absurd (none_is_not (sym (same (key x)) ∙ keyed_head_found cmp key o x xs))
+  same_rows [] (y ∷ ys) ordered_xs ordered_ys same = absurd (none-some _ (same (key y) ∙ keyed_head_found cmp key o y ys))
+  same_rows (x ∷ xs) [] ordered_xs ordered_ys same = absurd (none-some _ (sym (same (key x)) ∙ keyed_head_found cmp key o x xs))
   same_rows (x ∷ xs) (y ∷ ys) ordered_xs ordered_ys same =
       let head = same_head x y xs ys ordered_xs.0 ordered_ys.0 same in
       let above = subst (λ z. AllByRecursion (λ k. cmp (key z) k ≡ Less) (map key ys)) (sym head) ordered_ys.0 in

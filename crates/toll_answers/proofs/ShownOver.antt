@@ -1,10 +1,9 @@
 -- What a slice shows of its sublots is what every lawful history gives of which it has the rows.
 use Rattle.std.proofs.Common.{◌≡◌, true, Option, Some, None, is_some, [], refl, ap, ◌∙◌}
+use Rattle.toll_answers.proofs.Common.{SublotShown, IsStockText, shown_in, shown_over, sublots_in, stock_text, option_map, option_map_or, option_and_then, lot_id}
 use mathlib.Core.Bool.{false≢true}
-use Rattle.std.specs.Option.{option_map, option_map_or, option_and_then}
 use Rattle.toll_base.specs.Bytes.{Bytes}
 use Rattle.toll_base.specs.Keys.{pair_cmp}
-use Rattle.toll_base.specs.Lots.{lot_id}
 use Rattle.toll_base.specs.Slice.{Slice, lot_at, material_at}
 use Rattle.toll_base.specs.Table.{IsInKeyOrder}
 use Rattle.toll_base.specs.declared.rows.LotRow.{LotRow}
@@ -17,7 +16,6 @@ use Rattle.toll_history.specs.OwnerFacts.{OwnerFacts, IsRowsOf, lot_row, sublot_
 use Rattle.toll_history.specs.Verdict.{IsLawful}
 use Rattle.toll_history.specs.Work.{material_of, measure_of}
 use Rattle.toll_history.proofs.LotMaterials.{lot_material}
-use Rattle.toll_answers.specs.Texts.{SublotShown, IsStockText, shown_in, shown_over, sublots_in, stock_text}
 use Rattle.toll_answers.proofs.MadeRows.{made_at, made_ordered}
 
 abbrev shown_sublot : SublotRow → LotRow → Bytes → SublotShown

@@ -1,9 +1,7 @@
 -- What stands in a slice is what its owner did and didn't void, over each history whose rows it has.
-use Rattle.std.proofs.Common.{◌≡◌, ℕ, ◌+◌, ◌≤◌, Bool, true, false, cond, Some, None, is_some, List, [], ◌∷◌, sym, ap, subst, ◌∙◌, inl, inr, arith}
-use Rattle.std.specs.Prelude.{Contains}
-use Rattle.toll_answers.proofs.Common.{Bytes, same_bytes, count, or_else, Action, Record, History, acts, movement_of, OwnerFacts, IsRowsOf, IsLawful, has_this_key, Edge, MoveRow, same_bytes-refl, found_once, Stands, IsEdge, AreEdges, Contains-none, Contains-here, Contains-later, Contains-cases, drawn_same, edges_same}
+use Rattle.std.proofs.Common.{◌≡◌, ℕ, ◌+◌, ◌≤◌, Bool, true, false, cond, Some, None, is_some, List, [], ◌∷◌, sym, ap, subst, ◌∙◌, inl, inr, arith, Contains}
+use Rattle.toll_answers.proofs.Common.{Bytes, same_bytes, count, or_else, Action, Record, History, acts, movement_of, OwnerFacts, IsRowsOf, IsLawful, has_this_key, Edge, MoveRow, same_bytes-refl, found_once, Stands, IsEdge, AreEdges, Contains-none, Contains-here, Contains-later, Contains-cases, drawn_same, edges_same, WasDone, IsOwnEdge}
 use Rattle.toll_base.specs.Slice.{Slice}
-use Rattle.toll_answers.specs.Edges.{WasDone, IsOwnEdge}
 
 -- what a key finds was recorded
 edge_found_recorded : (own : List Action) (key : Bytes) (row : MoveRow) → movement_of own key ≡ Some row → Contains own (Record row)

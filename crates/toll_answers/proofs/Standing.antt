@@ -1,11 +1,9 @@
 -- Which movements stand: those that were recorded, and whose keys aren't voided.
-use Rattle.std.proofs.Common.{◌≡◌, Bool, true, false, not, ◌&&◌, ◌||◌, None, [], ◌∷◌, refl, sym, ap, subst, ◌∙◌, inl, inr}
-use mathlib.Core.Bool.{false≢true}
-use Rattle.std.specs.Prelude.{Contains}
-use Rattle.toll_answers.proofs.Common.{or_parts, Bytes, same_bytes, is_some_where, Action, Record, Void, by, History, acts, Movement, has_move_key, movements, standing, movement_of, voided_in, voids_key, Accepted, IsLawful, is_actual, verdict, MoveRow, same_bytes-exact, same_bytes-refl, void_of_actual, acts-own, acts-other, Contains-none, Contains-here, Contains-later, Contains-cases, Contains-filter, Contains-from_filter}
+use Rattle.std.proofs.Common.{◌≡◌, Bool, true, false, not, ◌&&◌, ◌||◌, None, [], ◌∷◌, refl, sym, ap, subst, ◌∙◌, inl, inr, Contains}
+use mathlib.Core.Bool.{false≢true, and-false}
+use Rattle.toll_answers.proofs.Common.{or_parts, Bytes, same_bytes, is_some_where, Action, Record, Void, by, History, acts, Movement, has_move_key, movements, standing, movement_of, voided_in, voids_key, Accepted, IsLawful, is_actual, verdict, MoveRow, same_bytes-exact, same_bytes-refl, void_of_actual, acts-own, acts-other, Contains-none, Contains-here, Contains-later, Contains-cases, Contains-filter, Contains-from_filter, WasDone}
 use Rattle.toll_history.proofs.Acts.{any_acts}
 use Rattle.toll_history.proofs.Found.{key_is_new}
-use Rattle.toll_answers.specs.Edges.{WasDone}
 
 -- ---- what an owner did, after one command more
 
@@ -63,19 +61,15 @@ voided_more H w a o key misses was = any_acts (voids_key key) o (by w a) H ∙ (
 
 -- ---- what stands was done, and not voided
 
-and_none : (b : Bool) → (b && false) ≡ false
-and_none true = refl
-and_none false = refl
-
 stands_step : (H : History) (w : Bytes) (a : Action) (m : Movement) → IsLawful H → verdict H (by w a) ≡ Accepted → (Contains (standing H) m → WasDone (acts m.0 H) m.1) → Contains (standing (by w a ∷ H)) m → WasDone (acts m.0 (by w a ∷ H)) m.1
 stands_step H w (Record row) m lawful accepted ih there = elim (Contains-cases (w, row) (standing H) m there) [
   | inl is ↦ subst (λ (m : Movement). WasDone (acts m.0 (by w (Record row) ∷ H)) m.1) is (record {
     recorded = done_now H w (Record row);
-    not_voided = voided_more H w (Record row) w row.key (and_none (same_bytes w w)) (unknown_not_voided H w row.key lawful (key_is_new H w row accepted));
+    not_voided = voided_more H w (Record row) w row.key (and-false (same_bytes w w)) (unknown_not_voided H w row.key lawful (key_is_new H w row accepted));
   })
   | inr earlier ↦ let was = ih earlier in record {
     recorded = done_later H w (Record row) m.0 (Record m.1) was.recorded;
-    not_voided = voided_more H w (Record row) m.0 m.1.key (and_none (same_bytes w m.0)) was.not_voided;
+    not_voided = voided_more H w (Record row) m.0 m.1.key (and-false (same_bytes w m.0)) was.not_voided;
   }
 ]
 stands_step H w (Void key) m lawful accepted ih there =
@@ -93,7 +87,7 @@ stands_step H w a m lawful accepted ih there =
     let was = ih there in
     record {
       recorded = done_later H w a m.0 (Record m.1) was.recorded;
-      not_voided = voided_more H w a m.0 m.1.key (and_none (same_bytes w m.0)) was.not_voided;
+      not_voided = voided_more H w a m.0 m.1.key (and-false (same_bytes w m.0)) was.not_voided;
     }
 
 pub standing_done : (H : History) → IsLawful H → (m : Movement) → Contains (standing H) m → WasDone (acts m.0 H) m.1

@@ -1,17 +1,12 @@
 -- The stock that a slice shows is that of every lawful history of which it has the rows.
 use Rattle.std.proofs.Common.{◌≡◌, ℕ, ◌<◌, true, Some, is_some, List, [], ◌∷◌, length, get_or, map, zero, suc, refl, sym, ap, ◌∙◌, arith}
-use Rattle.toll_answers.proofs.Common.{nat_list_cmp_total, AllByRecursion, Bytes, bytes_cmp, pair_cmp, Slice, lot_at, material_at, IsInKeyOrder, AreRowsGiven, none_or, LotRow, same_bytes-exact, History, acts, OwnerFacts, IsRowsOf, IsLawful, on_hand_in, along, each_found, row_at-map, map_ordered}
-use Rattle.std.specs.Option.{option_map, option_map_or}
-use Rattle.toll_base.specs.Lots.{lot_id}
+use Rattle.toll_answers.proofs.Common.{nat_list_cmp_total, AllByRecursion, Bytes, bytes_cmp, pair_cmp, Slice, lot_at, material_at, IsInKeyOrder, AreRowsGiven, none_or, LotRow, same_bytes-exact, History, acts, OwnerFacts, IsRowsOf, IsLawful, on_hand_in, all_weaker, each_found, row_at-map, map_ordered, measure_in, line_in, stock_line, StockLine, option_map, option_map_or, lot_id}
 use Rattle.toll_base.specs.SliceRules.{KeepsRules}
 use Rattle.toll_base.specs.declared.rows.MaterialRow.{MaterialRow}
 use Rattle.toll_history.specs.Amounts.{on_hand}
 use Rattle.toll_history.specs.Work.{measure_of}
 use Rattle.toll_stock.proofs.OnHandTotals.{on_hand_is}
 use Rattle.toll_stock.proofs.Mapped.{mapped_alike}
-use Rattle.toll_answers.specs.InSlice.{measure_in, line_in}
-use Rattle.toll_answers.specs.Views.{stock_line}
-use Rattle.toll_answers.specs.declared.views.stock.StockLine.{StockLine}
 use Rattle.toll_work.proofs.FoundRow.{row_at-key}
 
 -- the measure of a material is the history's
@@ -27,7 +22,7 @@ so_at_place P (x ∷ xs) each (suc i) d lt = so_at_place P xs each.1 i d (omega 
 pub material_there : (s : Slice) → KeepsRules s → IsInKeyOrder bytes_cmp (λ row. row.lot) s.lots → (i : ℕ) (d : LotRow) → i < length s.lots → is_some (material_at s (get_or s.lots i d).material) ≡ true
 material_there s keeps ordered =
     so_at_place (λ row. is_some (material_at s row.material) ≡ true) s.lots
-    (along _ _ (λ row found. ap (none_or (λ (r : LotRow). is_some (material_at s r.material))) (sym found) ∙ keeps.lot_materials row.lot) s.lots
+    (all_weaker _ _ (λ row found. ap (none_or (λ (r : LotRow). is_some (material_at s r.material))) (sym found) ∙ keeps.lot_materials row.lot) s.lots
     (each_found bytes_cmp nat_list_cmp_total (λ row. row.lot) s.lots ordered))
 
 module _ (H : History) (lawful : IsLawful H) (s : Slice) (there : IsRowsOf H s) (lots : IsInKeyOrder bytes_cmp (λ row. row.lot) s.lots) (sublots : IsInKeyOrder pair_cmp (λ row. (row.lot, row.sublot)) s.sublots) where

@@ -1,9 +1,7 @@
 -- Along sublots in the order of their lots: what is passed, and what is left for the lots to come.
 use Rattle.std.proofs.Common.{◌≡◌, ℕ, ◌+◌, ◌<◌, ◌≤◌, false, cond, List, [], ◌∷◌, length, get_or, map, refl, sym, ap, subst, ◌∙◌, zero-add, arith}
-use Rattle.toll_answers.proofs.Common.{false≢true, nat_list_cmp_total, is_eq, is_gt, ordering_reverse, Ordering, Bytes, bytes_cmp, pair_cmp, Slice, IsInKeyOrder, LotRow, SublotRow, held_in, on_hand_in}
+use Rattle.toll_answers.proofs.Common.{false≢true, nat_list_cmp_total, is_eq, is_gt, ordering_reverse, Ordering, Bytes, bytes_cmp, pair_cmp, Slice, IsInKeyOrder, LotRow, SublotRow, held_in, on_hand_in, IsStrictlySortedBy, Less, Equal, Greater}
 use Rattle.std.specs.Cmp.{IsTotalOrder}
-use Rattle.std.specs.List.Sorted.{IsStrictlySortedBy}
-use Rattle.std.specs.declared.cmp.Ordering.TheVariants.{Less, Equal, Greater}
 use Rattle.std.proofs.lemmas.Cmp.{back_total}
 use Rattle.std.proofs.lemmas.List.{get_or-map, length-map}
 use Rattle.std.proofs.lemmas.Map.Keys.{Less-from_sorted}

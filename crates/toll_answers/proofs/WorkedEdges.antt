@@ -1,9 +1,7 @@
 -- The edges of the worked examples, computed.
-use Rattle.std.proofs.Common.{◌≡◌, List, [], ◌∷◌, refl, sym, subst}
-use Rattle.std.specs.Prelude.{Contains, codes}
-use Rattle.toll_answers.proofs.Common.{house_name, part, acts, stock, sublot_known, lot_made, count_lots, count_sublots, material_used, checks, verdicts, accepted_verdicts, acme, one_product, Edge}
+use Rattle.std.proofs.Common.{◌≡◌, List, [], ◌∷◌, refl, sym, subst, Contains, codes}
+use Rattle.toll_answers.proofs.Common.{house_name, part, acts, stock, sublot_known, lot_made, count_lots, count_sublots, material_used, checks, verdicts, accepted_verdicts, acme, one_product, Edge, of_acme, of_house, circle, consumed_in_a_circle, house_material, made_of_house_material}
 use Rattle.toll_history.specs.Holders.{holder}
-use Rattle.toll_answers.specs.Worked.{of_acme, of_house, circle, consumed_in_a_circle, house_material, made_of_house_material}
 use Rattle.toll_answers.proofs.DrawnHere.{drawn_here, edges_swapped}
 
 abbrev pub from_a : Edge

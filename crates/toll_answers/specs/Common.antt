@@ -1,6 +1,7 @@
 -- Words of other crates that several definitions and contracts here are said in.
 pub use Rattle.toll_base.specs.Bytes.{bytes_cmp}
 pub use Rattle.toll_base.specs.Keys.{pair_cmp, result_cmp}
+pub use Rattle.toll_base.specs.Lots.{lot_id, same_lot}
 pub use Rattle.toll_base.specs.Table.{AreRowsGiven, IsInKeyOrder}
 pub use Rattle.toll_base.specs.declared.lot.Edge.{Edge}
 pub use Rattle.toll_base.specs.declared.refusal.Refusal.TheVariants.{UnknownLot, UnknownOrder, UnknownOwner}

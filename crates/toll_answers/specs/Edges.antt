@@ -19,10 +19,6 @@ AreOwnEdges H o edges = AreEdges (IsOwnEdge (acts o H)) edges
 abbrev pub IsPlantEdge : History → Edge → Type 0
 IsPlantEdge H e = (o : Bytes) × IsOwnEdge (acts o H) e
 
--- the edges of all batches, in order, each once
-abbrev pub ArePlantEdges : History → List Edge → Type 0
-ArePlantEdges H edges = AreEdges (IsPlantEdge H) edges
-
 -- the lots joined by an owner's edges, and by all
 abbrev pub IsOwnJoined : List Action → Way → LotId → LotId → Type 0
 IsOwnJoined own way a b = IsOwnEdge own (edge_of way a b)

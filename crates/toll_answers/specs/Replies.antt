@@ -1,10 +1,9 @@
 -- The replies to an owner over a list of commands.
 use Rattle.std.specs.Prelude.{◌≡◌, ◌↔◌, ℕ, Bool, not, ◌&&◌, if◌then◌else◌, Option, Some, None, is_some, List, MatchBool}
-use Rattle.toll_answers.specs.Common.{Bytes, same_bytes, bytes_cmp, RequirementKey, requirement_cmp, result_cmp, pair_cmp, Action, PlaceOrder, CancelOrder, Release, Reject, by, History, acts, owner_key, part, measure_of, order_of, batch_of, facts_given, lot_row, Verdict, Refused, IsValidAction, verdict_of_checks, verdict, grow, known_batch_checks, UnknownOrder, UnknownLot, LotId, OrderRow, BatchRow, LotRow, ResultRow, SublotRow, Step, IsTrace, AreRowsGiven, line_of, line_key, RequirementLine, house_name}
+use Rattle.toll_answers.specs.Common.{Bytes, same_bytes, bytes_cmp, RequirementKey, requirement_cmp, result_cmp, pair_cmp, Action, PlaceOrder, CancelOrder, Release, Reject, by, History, acts, owner_key, part, measure_of, order_of, batch_of, facts_given, lot_row, Verdict, Refused, IsValidAction, verdict_of_checks, verdict, grow, known_batch_checks, UnknownOrder, UnknownLot, LotId, OrderRow, BatchRow, LotRow, ResultRow, SublotRow, Step, IsTrace, AreRowsGiven, line_of, line_key, RequirementLine, house_name, lot_id}
 use Rattle.toll_answers.specs.Edges.{IsOwnJoined}
 use Rattle.toll_answers.specs.declared.views.stock.StockLine.{StockLine}
 use Rattle.toll_base.specs.Words.{is_some_where}
-use Rattle.toll_base.specs.Lots.{lot_id}
 use Rattle.toll_trace.specs.declared.way.Way.TheVariants.{Back, Forward}
 use Rattle.toll_base.specs.declared.request.Request.{Request}
 use Rattle.toll_base.specs.declared.request.Request.TheVariants as request

@@ -1,7 +1,6 @@
 -- An owner's rows as they are shown, over a history.
 use Rattle.std.specs.Prelude.{◌≡◌, ℕ, Bool, false, not, ◌&&◌, if◌then◌else◌, Option, Some, None, List}
-use Rattle.toll_answers.specs.Common.{list_any, option_map, Bytes, bytes_cmp, same_bytes, result_cmp, pair_cmp, AreRowsGiven, History, acts, lot_row, sublot_row, LotId, LotRow}
-use Rattle.toll_base.specs.Lots.{lot_id, same_lot}
+use Rattle.toll_answers.specs.Common.{list_any, option_map, Bytes, bytes_cmp, same_bytes, result_cmp, pair_cmp, AreRowsGiven, History, acts, lot_row, sublot_row, LotId, LotRow, lot_id, same_lot}
 use Rattle.toll_base.specs.Words.{is_some_where}
 use Rattle.toll_history.specs.Amounts.{on_hand}
 use Rattle.toll_history.specs.Command.{Action}

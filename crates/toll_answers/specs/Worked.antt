@@ -1,7 +1,6 @@
 -- Histories that worked examples of genealogy begin with.
 use Rattle.std.specs.Prelude.{List, [], ◌∷◌, codes}
-use Rattle.toll_answers.specs.Common.{Bytes, house_name, AddOwner, AddUnit, AddRecipe, PlaceOrder, OpenBatch, CommandBatch, Release, Command, by, moves, History, Edge, LotId, history_after, acme, material, require, receives}
-use Rattle.toll_base.specs.Lots.{lot_id}
+use Rattle.toll_answers.specs.Common.{Bytes, house_name, AddOwner, AddUnit, AddRecipe, PlaceOrder, OpenBatch, CommandBatch, Release, Command, by, moves, History, Edge, LotId, history_after, acme, material, require, receives, lot_id}
 use Rattle.toll_base.specs.declared.role.Role.TheVariants.{Consumed, Produced}
 use Rattle.toll_base.specs.declared.movement.Move.TheVariants.{Actual}
 use Rattle.toll_base.specs.declared.state_command.StateCommand.TheVariants.{Start}

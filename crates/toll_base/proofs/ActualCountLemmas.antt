@@ -1,12 +1,8 @@
 -- What a row put among the counts of actuals does to the counts.
 use Rattle.std.proofs.Common.{◌≡◌, ℕ, ◌+◌, ◌≤◌, ◌<◌, ◌^◌, length, Bool, true, false, ◌&&◌, ◌==◌, cond, List, Option, Some, None, is_some, refl, sym, ap, ◌∙◌, arith, eq-eqb}
-use Rattle.toll_base.proofs.Common.{nat_list_cmp_total, option_map_or}
-use Rattle.toll_base.specs.Bytes.{Bytes, same_bytes, bytes_cmp}
+use Rattle.toll_base.proofs.Common.{nat_list_cmp_total, option_map_or, Bytes, same_bytes, bytes_cmp, row_at, put_row, is_actual_of, is_some_where}
 use Rattle.toll_base.specs.Keys.{batch_cmp}
-use Rattle.toll_base.specs.Table.{row_at, put_row}
 use Rattle.toll_base.specs.ActualCounts.{actual_count_at, count_of, AreCountsOf, HasKnown}
-use Rattle.toll_base.specs.SliceRules.{is_actual_of}
-use Rattle.toll_base.specs.Words.{is_some_where}
 use Rattle.toll_base.specs.declared.movement.MoveRow.{MoveRow}
 use Rattle.toll_base.specs.declared.actual_count.ActualCount.{ActualCount}
 use Rattle.toll_base.proofs.Bools.{both, and_is}

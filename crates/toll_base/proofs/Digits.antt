@@ -1,12 +1,11 @@
 -- Texts of decimal digits.
 use Rattle.std.proofs.Common.{◌≡◌, ℕ, ◌≤◌, true, length, Result, Ok, nat_le, rules, arith}
-use Rattle.toll_base.proofs.Common.{list_all, nat_tests}
+use Rattle.toll_base.proofs.Common.{list_all, nat_tests, Bytes}
 use Rattle.std.specs.Str.{IsUtf8}
 use Rattle.std.specs.Str.Parse.{ParsesUnsigned, digits_value}
 use Rattle.std.proofs.lemmas.Str.{IsUtf8-from_ascii}
 use Rattle.std.proofs.lemmas.Str.Parse.{IsNumeralModel, IsDigitsTest, numerals_by_value, parse_gives, digits_value_short}
 use Rattle.std.proofs.lemmas.Fmt.{IsAscii-from_digits}
-use Rattle.toll_base.specs.Bytes.{Bytes}
 use Rattle.toll_base.specs.Values.{is_digit, is_text_of}
 use Rattle.toll_base.proofs.Bools.{all_three}
 

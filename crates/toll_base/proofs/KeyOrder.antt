@@ -1,14 +1,13 @@
 -- What a search among rows in key order finds, and what an edit there does.
 use Rattle.std.proofs.Common.{◌≡◌, ℕ, zero, suc, ◌+◌, ◌<◌, ◌≤◌, Bool, true, false, List, [], ◌∷◌, length, get_or, set, map, Option, Some, None, is_some, cond, refl, sym, ap, subst, ◌∙◌, arith}
 use Rattle.std.specs.Prelude.{if◌then◌else◌}
-use Rattle.toll_base.proofs.Common.{false≢true, IsTotalOrder, eq_by_cmp_equiv, AllByRecursion, HoldsAt, insert, IsStrictlySortedBy, IsNonDecreasingBy, IsPartitionPoint, is_eq, is_lt, ordering_index, ordering_reverse, Ordering, Less, Equal, Greater, alike_right, tied_back}
-use Rattle.toll_base.specs.Table.{IsInKeyOrder, row_at, replace_row, insert_row, put_row}
+use Rattle.toll_base.proofs.Common.{false≢true, IsTotalOrder, eq_by_cmp_equiv, AllByRecursion, HoldsAt, insert, IsStrictlySortedBy, IsNonDecreasingBy, IsPartitionPoint, is_eq, is_lt, ordering_index, ordering_reverse, Ordering, Less, Equal, Greater, alike_right, tied_back, IsInKeyOrder, row_at, replace_row, insert_row, put_row}
 
 cond_twice : {X : Type 0} (b : Bool) (new old rest : X) → cond b new rest ≡ cond b new (cond b old rest)
 cond_twice true new old rest = refl
 cond_twice false new old rest = refl
 
-cond_swap : {X : Type 0} (a b : Bool) (x new rest : X) → (a ≡ true → b ≡ true → ⊥) → cond a x (cond b new rest) ≡ cond b new (cond a x rest)
+pub cond_swap : {X : Type 0} (a b : Bool) (x new rest : X) → (a ≡ true → b ≡ true → ⊥) → cond a x (cond b new rest) ≡ cond b new (cond a x rest)
 cond_swap true true x new rest apart = absurd (apart refl refl)
 cond_swap true false x new rest apart = refl
 cond_swap false b x new rest apart = refl
@@ -67,11 +66,11 @@ module _ {K R : Type 0} (cmp : K → K → Ordering) (o : IsTotalOrder cmp) (key
   insert_row_gap (x ∷ xs) new (suc i) le gap = rw (turned (key x) (key new) Less (gap.0 0 x (omega arith) (omega arith))) (ap (λ ys. x ∷ ys) (insert_row_gap xs new i (omega arith) (gap_tail x xs (key new) i gap)))
 
   -- ---- the order is kept
-  all_above : (a b : K) (ks : List K) → cmp a b ≡ Less → AllByRecursion (λ k. cmp b k ≡ Less) ks → AllByRecursion (λ k. cmp a k ≡ Less) ks
+  pub all_above : (a b : K) (ks : List K) → cmp a b ≡ Less → AllByRecursion (λ k. cmp b k ≡ Less) ks → AllByRecursion (λ k. cmp a k ≡ Less) ks
   all_above a b [] lt above = tt
   all_above a b (k ∷ ks) lt above = (o.trans a b k lt above.0, all_above a b ks lt above.1)
 
-  key_all_alike : (a b : K) (ks : List K) → cmp a b ≡ Equal → AllByRecursion (λ k. cmp b k ≡ Less) ks → AllByRecursion (λ k. cmp a k ≡ Less) ks
+  pub key_all_alike : (a b : K) (ks : List K) → cmp a b ≡ Equal → AllByRecursion (λ k. cmp b k ≡ Less) ks → AllByRecursion (λ k. cmp a k ≡ Less) ks
   key_all_alike a b [] e above = tt
   key_all_alike a b (k ∷ ks) e above = (o.congr a b k e ∙ above.0, key_all_alike a b ks e above.1)
 

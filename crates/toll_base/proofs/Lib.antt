@@ -7,7 +7,6 @@ pub mod MovePlaces
 pub mod Texts
 pub mod PutRules
 pub mod ActualCountLemmas
-pub mod PutOrNot
 pub mod SliceFits
 pub mod PutTables
 pub mod RowKinds

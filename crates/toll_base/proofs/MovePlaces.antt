@@ -3,14 +3,10 @@ use Rattle.std.proofs.Common.{◌≡◌, ℕ, ◌-◌, ◌<◌, ◌≤◌, true,
 use Rattle.std.specs.List.Sorted.{IsSearchInRange}
 use Rattle.std.proofs.lemmas.List.{length-set, length-append}
 use Rattle.std.proofs.lemmas.List.Edits.{length-insert}
-use Rattle.std.proofs.lemmas.Option.{slice_get-get_or}
-use Rattle.toll_base.proofs.Common.{false≢true, is_lt, insert, nat_list_cmp_total, option_map_or, ordering_index, IsBinarySearchResult, IsNonDecreasingBy, MatchResult, Ordering, Less, Equal, Greater}
+use Rattle.toll_base.proofs.Common.{false≢true, is_lt, insert, nat_list_cmp_total, option_map_or, ordering_index, IsBinarySearchResult, IsNonDecreasingBy, MatchResult, Ordering, Less, Equal, Greater, slice_get-get_or, Bytes, bytes_cmp, rows_at, ArePlacesOf, key_cmp_at, row_at, put_row}
 use Rattle.toll_base.proofs.KeyOrder.{comparisons_rise, row_at_found, put_at, put_in_gap}
 use Rattle.toll_base.proofs.PlacedRows.{length-rows_at, get_or-rows_at, placed_has_row, have_inserted, inserted, have_set, set_at}
-use Rattle.toll_base.specs.Bytes.{Bytes, bytes_cmp}
-use Rattle.toll_base.specs.MoveRows.{rows_at, ArePlacesOf, key_cmp_at}
 use Rattle.toll_base.specs.Places.{HasKeyAt, IsPlaceFor}
-use Rattle.toll_base.specs.Table.{row_at, put_row}
 use Rattle.toll_base.specs.declared.movement.MoveRow.{MoveRow}
 
 module _ (rows : List MoveRow) (places : List ℕ) (are : ArePlacesOf rows places) where

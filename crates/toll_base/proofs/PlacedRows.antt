@@ -2,11 +2,8 @@
 use Rattle.std.proofs.Common.{◌≡◌, ◌≢◌, ℕ, zero, suc, ◌+◌, ◌<◌, ◌≤◌, List, [], ◌∷◌, ◌++◌, length, get_or, set, map, Some, refl, sym, ap, subst, ◌∙◌, arith}
 use Rattle.std.specs.Prelude.{slice_get}
 use Rattle.std.proofs.lemmas.List.{get_or-map, get_or-set_same, get_or-set_other, get_or_append_left, length-map, length-append, length-set}
-use Rattle.std.proofs.lemmas.Option.{slice_get-get_or}
 use Rattle.std.proofs.Math.Seq.{get_or-append_seam}
-use Rattle.toll_base.proofs.Common.{false≢true, IsTotalOrder, AllByRecursion, insert, IsStrictlySortedBy, is_eq, Ordering, Less, tied_itself}
-use Rattle.toll_base.specs.MoveRows.{rows_at, HaveRows}
-use Rattle.toll_base.specs.Table.{IsInKeyOrder}
+use Rattle.toll_base.proofs.Common.{false≢true, IsTotalOrder, AllByRecursion, insert, IsStrictlySortedBy, is_eq, Ordering, Less, tied_itself, slice_get-get_or, rows_at, HaveRows, IsInKeyOrder}
 
 module _ {R : Type 0} where
   -- each place shows its row

@@ -1,9 +1,7 @@
 -- What a put does to a count of rows, to a test of each row, and to what is there.
 use Rattle.std.proofs.Common.{◌≡◌, ℕ, ◌+◌, ◌≤◌, Bool, true, false, ◌||◌, List, [], ◌∷◌, length, Option, Some, None, is_some, cond, nat_lt, refl, sym, ap, subst, ◌∙◌, arith}
-use Rattle.toll_base.proofs.Common.{false≢true, IsTotalOrder, count_by, is_eq, is_lt, Ordering, tied_itself, nat_tests}
+use Rattle.toll_base.proofs.Common.{false≢true, IsTotalOrder, count_by, is_eq, is_lt, Ordering, tied_itself, nat_tests, none-some, row_at, replace_row, insert_row, put_row, has_room, count, is_some_where, none_or}
 use Rattle.std.proofs.lemmas.List.Recursion.{is_count_by}
-use Rattle.toll_base.specs.Table.{row_at, replace_row, insert_row, put_row, has_room}
-use Rattle.toll_base.specs.Words.{count, is_some_where, none_or}
 use Rattle.toll_base.proofs.KeyOrder.{row_at-put_row, length-put_row, none_of}
 
 room_by : (found : Bool) (n most : ℕ) → n ≤ most → (found || nat_lt n most) ≡ true → cond found 0 1 + n ≤ most
@@ -13,9 +11,6 @@ room_by false n most le h = grind (arith, nat_tests)
 room_by_back : (found : Bool) (n most : ℕ) → cond found 0 1 + n ≤ most → (found || nat_lt n most) ≡ true
 room_by_back true n most le = refl
 room_by_back false n most le = grind (arith, nat_tests)
-
-none≢some : {X : Type 0} {x : X} → None ≡ Some x → ⊥
-none≢some h = false≢true (ap is_some h)
 
 pub none_or_more : {X : Type 0} (p q : X → Bool) (o : Option X) → ((x : X) → p x ≡ true → q x ≡ true) → none_or p o ≡ true → none_or q o ≡ true
 none_or_more p q None more h = refl
@@ -87,7 +82,7 @@ module _ {K R : Type 0} (cmp : K → K → Ordering) (o : IsTotalOrder cmp) (key
   -- ---- what is found is counted
   pub found_counted : (p : R → Bool) (rows : List R) (k : K) (row : R) → row_at cmp key rows k ≡ Some row → p row ≡ true → 1 ≤ count p rows
   unfolding row_at
-  found_counted p [] k row found passes = absurd (none≢some found)
+  found_counted p [] k row found passes = absurd (none-some _ found)
   found_counted p (x ∷ xs) k row found passes =
       elim (is_eq (cmp k (key x))) as (λ b. cond b (Some x) (row_at cmp key xs k) ≡ Some row → 1 ≤ cond (p x) 1 0 + count p xs) [
         | true ↦ λ is. let first : p x ≡ true = ap (is_some_where p) is ∙ passes in rw first (omega arith)

@@ -1,8 +1,6 @@
 -- The tables of a slice after a row was put.
 use Rattle.std.proofs.Common.{◌≡◌, ℕ, suc, ◌+◌, Bool, true, false, ◌||◌, cond, Some, is_some, List, [], ◌∷◌, length, refl, sym, ap, ◌∙◌, arith}
-use Rattle.toll_base.proofs.Common.{false≢true, IsTotalOrder, list_any, is_eq, is_lt, Ordering}
-use Rattle.toll_base.specs.Table.{row_at, replace_row, insert_row, put_row}
-use Rattle.toll_base.specs.Words.{count, is_some_where}
+use Rattle.toll_base.proofs.Common.{false≢true, IsTotalOrder, list_any, is_eq, is_lt, Ordering, row_at, replace_row, insert_row, put_row, count, is_some_where}
 use Rattle.toll_base.proofs.KeyOrder.{length-put_row, none_of}
 use Rattle.toll_base.proofs.PutRules.{count-put_row}
 

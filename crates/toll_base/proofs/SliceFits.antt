@@ -1,13 +1,10 @@
 -- The test of a row is exactly whether the rules hold after it is put.
 use Rattle.std.proofs.Common.{◌≡◌, ℕ, ◌+◌, ◌≤◌, Bool, true, false, ◌||◌, is_some, Some, cond, nat_le, nat_lt, refl, sym, ap, ◌∙◌, arith, IsTrue, ◌↔◌}
-use Rattle.toll_base.proofs.Common.{false≢true, nat_list_cmp_total, nat_tests}
-use Rattle.toll_base.specs.Bytes.{Bytes, bytes_cmp}
+use mathlib.Core.Bool.{or-true}
+use Rattle.toll_base.proofs.Common.{false≢true, nat_list_cmp_total, nat_tests, Bytes, bytes_cmp, row_at, is_some_where, none_or, KeepsRules, row_fits, batch_has_room, is_actual_of, count_actuals}
 use Rattle.toll_base.specs.Keys.{pair_cmp, result_cmp, requirement_cmp}
-use Rattle.toll_base.specs.Table.{row_at}
-use Rattle.toll_base.specs.Words.{is_some_where, none_or}
 use Rattle.toll_base.specs.declared.rows.SublotRow.{SublotRow}
 use Rattle.toll_base.specs.Slice.{Slice, empty_slice, with_row, material_at, lot_at, sublot_at, move_at}
-use Rattle.toll_base.specs.SliceRules.{KeepsRules, row_fits, batch_has_room, is_actual_of, count_actuals}
 use Rattle.toll_base.specs.declared.movement.MoveRow.{MoveRow}
 use Rattle.toll_base.specs.declared.movement.Move.{Move as Moved}
 use Rattle.toll_base.specs.declared.movement.Move.TheVariants.{Actual}
@@ -27,12 +24,8 @@ count_kept old false n after is le h = omega arith
 count_kept true true n after is le h = omega arith
 count_kept false true n after is le h = let full = h refl in grind (arith, nat_tests)
 
-or_with_true : (b : Bool) → (b || true) ≡ true
-or_with_true true = refl
-or_with_true false = refl
-
 had : (old : Bool) (n after : ℕ) → cond old 1 0 + after ≡ 1 + n → after ≤ MOST_ACTUALS → (nat_lt n MOST_ACTUALS || old) ≡ true
-had true n after is le = or_with_true (nat_lt n MOST_ACTUALS)
+had true n after is le = or-true (nat_lt n MOST_ACTUALS)
 had false n after is le = grind (arith, nat_tests)
 
 module _ (s : Slice) where
@@ -123,6 +116,19 @@ empty_keeps o = record {
   amounts = λ k. refl;
   sublot_lots = λ k. refl;
 }
+
+pub owner-with_row : (s : Slice) (row : Row) → (with_row s row).owner ≡ s.owner
+owner-with_row s (Material row) = refl
+owner-with_row s (Test row) = refl
+owner-with_row s (Recipe row) = refl
+owner-with_row s (Requirement row) = refl
+owner-with_row s (Order row) = refl
+owner-with_row s (Batch row) = refl
+owner-with_row s (Lot row) = refl
+owner-with_row s (Sublot row) = refl
+owner-with_row s (Move row) = refl
+owner-with_row s (Result row) = refl
+owner-with_row s (Void row) = refl
 
 pub fits_exact : (s : Slice) (row : Row) → KeepsRules s → IsTrue (row_fits s row) ↔ KeepsRules (with_row s row)
 fits_exact s row keeps = (fits_keeps s keeps row, keeps_fits s row)

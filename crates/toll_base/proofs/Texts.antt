@@ -1,12 +1,11 @@
 -- Texts that compare alike are one, and so are keys made of them.
 use Rattle.std.proofs.Common.{◌≡◌, ℕ, true, ◌&&◌, ◌==◌, refl, ap, ◌∙◌, arith}
-use Rattle.toll_base.proofs.Common.{false≢true, IsTotalOrder, eq_by_cmp_equiv, nat_list_cmp_total, is_eq, ordering_then, nat_cmp, Ordering, Less, Equal, Greater, nat_tests, tied_itself, then_total, on_total, nat_cmp_total}
+use Rattle.toll_base.proofs.Common.{false≢true, IsTotalOrder, eq_by_cmp_equiv, nat_list_cmp_total, is_eq, ordering_then, nat_cmp, Ordering, Less, Equal, Greater, nat_tests, tied_itself, then_total, on_total, nat_cmp_total, Bytes, same_bytes, bytes_cmp}
 use Rattle.std.specs.FinMap.{slice_cmp-IsAntisymmetric, nat_cmp-IsAntisymmetric}
-use Rattle.toll_base.specs.Bytes.{Bytes, same_bytes, bytes_cmp}
 use Rattle.toll_base.specs.Keys.{pair_cmp, batch_cmp, result_cmp, RequirementKey, requirement_cmp}
 use Rattle.toll_base.specs.Roles.{role_number, role_cmp}
 
-equal_of : (r : Ordering) → is_eq r ≡ true → r ≡ Equal
+pub equal_of : (r : Ordering) → is_eq r ≡ true → r ≡ Equal
 equal_of Less h = absurd (false≢true h)
 equal_of Equal h = refl
 equal_of Greater h = absurd (false≢true h)

@@ -1,6 +1,6 @@
 -- What an accepted command says: none of its checks applies.
 use Rattle.std.proofs.Common.{◌≡◌, ℕ, zero, suc, Bool, true, false, Option, Some, None, [], ◌∷◌, ◌++◌, cond, refl, sym, ap, ◌∙◌}
-use Rattle.toll_history.specs.Verdict.{Verdict, Accepted, Repeated, Refused, Checks, verdict_of_checks, verdict_of_check}
+use Rattle.toll_history.proofs.Common.{Verdict, Accepted, Repeated, Refused, Checks, verdict_of_checks, verdict_of_check}
 use Rattle.toll_base.specs.declared.refusal.Refusal.{Refusal}
 
 -- whether the check at this place of the list applies

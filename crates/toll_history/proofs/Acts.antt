@@ -1,9 +1,6 @@
 -- What one command more does to an owner's part of a history.
 use Rattle.std.proofs.Common.{◌≡◌, ◌+◌, Bool, true, false, ◌&&◌, ◌||◌, cond, Option, None, List, [], ◌∷◌, map, refl, sym, ap, subst, ◌∙◌, arith}
-use Rattle.toll_history.proofs.Common.{list_any, Bytes, same_bytes, first_some, or_else, count, same_bytes-exact}
-use Rattle.toll_history.specs.Command.{Action, Command, by}
-use Rattle.toll_history.specs.History.{History, acts}
-use Rattle.toll_history.specs.Verdict.{Accepted, verdict, IsValidAction, IsLawful}
+use Rattle.toll_history.proofs.Common.{list_any, Bytes, same_bytes, first_some, or_else, count, same_bytes-exact, Action, Command, by, History, acts, Accepted, verdict, IsValidAction, IsLawful}
 
 map-cond : {X Y : Type 0} (f : X → Y) (b : Bool) (x : X) (xs : List X) → map f (cond b (x ∷ xs) xs) ≡ cond b (f x ∷ map f xs) (map f xs)
 map-cond f true x xs = refl

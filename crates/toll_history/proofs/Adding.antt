@@ -1,12 +1,6 @@
 -- What the decision owes on a command that adds one row, with a key that isn't known, to the tables of its owner.
 use Rattle.std.proofs.Common.{◌≡◌, Bool, true, false, [], ◌∷◌, refl, sym, ap, ◌∙◌}
-use Rattle.toll_history.proofs.Common.{Bytes, Slice, with_row, KeepsRules, row_fits, house_name, Put, Decision, Row}
-use Rattle.toll_history.specs.Command.{Action, by}
-use Rattle.toll_history.specs.Decision.{IsDecided, Decides, DecidesWith, DecisionKeepsRules}
-use Rattle.toll_history.specs.History.{History}
-use Rattle.toll_history.specs.Laws.{records_or_voids}
-use Rattle.toll_history.specs.OwnerFacts.{OwnerFacts, facts_of, facts_given}
-use Rattle.toll_history.specs.Verdict.{Checks, Accepted, verdict_of_checks, plant_facts_given, action_checks, verdict, IsLawful}
+use Rattle.toll_history.proofs.Common.{Bytes, Slice, with_row, KeepsRules, row_fits, house_name, Put, Decision, Row, Action, by, IsDecided, Decides, DecidesWith, DecisionKeepsRules, History, records_or_voids, OwnerFacts, facts_of, facts_given, Checks, Accepted, verdict_of_checks, plant_facts_given, action_checks, verdict, IsLawful}
 use Rattle.toll_history.proofs.Decided.{verdict_is, Grows, LeavesOthers, decides, decides_with, keeps_rules}
 use Rattle.toll_history.proofs.Grown.{tables-others}
 

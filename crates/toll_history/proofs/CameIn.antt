@@ -1,13 +1,6 @@
 -- What an accepted movement needs of its lot, and the rows that it leaves.
 use Rattle.std.proofs.Common.{◌≡◌, ℕ, ◌+◌, ◌-◌, Bool, true, false, not, ◌||◌, Option, Some, None, is_some, is_none, List, [], ◌∷◌, refl, sym, ap, subst, ◌∙◌}
-use Rattle.toll_history.proofs.Common.{lot_row_of, sublot_row_of, false≢true, list_any, AllByRecursion, option_map, cond_some, Bytes, same_bytes, where_so, is_some_where, lot_id, same_lot, LotId, Disposition, Quarantined, Released, Rejected, Receipts, Batch, Consumed, Produced, MoveRow, Move, Receive, Ship, Actual, both, and_is, same_bytes-exact, same_bytes-refl}
-use Rattle.toll_history.specs.Command.{Action, Record, Void, by}
-use Rattle.toll_history.specs.History.{History, acts}
-use Rattle.toll_history.specs.Movements.{Movement, movement_of, movements, brings_into, stock, sublot_known, voided_in, Made, made_by, lot_made, lot_brought, material_used}
-use Rattle.toll_history.specs.Dispositions.{disposition_of}
-use Rattle.toll_history.specs.OwnerFacts.{OwnerFacts, lot_row, sublot_row, lot_row_made}
-use Rattle.toll_history.specs.Verdict.{Accepted, IsLawful, verdict, is_quarantined, is_released}
-use Rattle.toll_history.specs.Laws.{Agrees, IsCleared, gives_from, coming, going}
+use Rattle.toll_history.proofs.Common.{lot_row_of, sublot_row_of, false≢true, list_any, AllByRecursion, option_map, cond_some, Bytes, same_bytes, where_so, is_some_where, lot_id, same_lot, LotId, Disposition, Quarantined, Released, Rejected, Receipts, Batch, Consumed, Produced, MoveRow, Move, Receive, Ship, Actual, both, and_is, same_bytes-exact, same_bytes-refl, Action, Record, Void, by, History, acts, Movement, movement_of, movements, brings_into, stock, sublot_known, voided_in, Made, made_by, lot_made, lot_brought, material_used, disposition_of, OwnerFacts, lot_row, sublot_row, lot_row_made, Accepted, IsLawful, verdict, is_quarantined, is_released, Agrees, IsCleared, gives_from, coming, going}
 use Rattle.toll_history.proofs.Passed.{MoveFits, move_fits}
 use Rattle.toll_history.proofs.Own.{acts-own}
 use Rattle.toll_history.proofs.Moving.{same_lot-exact, crosses_not, tables_for_are, lot_row_none}

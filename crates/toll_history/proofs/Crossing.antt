@@ -1,12 +1,7 @@
 -- In a lawful history nothing is brought into another owner's lot, and nothing is taken from another owner's lot except HOUSE's.
 use Rattle.std.proofs.Common.{◌≡◌, Bool, true, false, not, ◌&&◌, ◌||◌, cond, Some, None, List, [], ◌∷◌, ◌++◌, filter, refl, sym, ap, subst}
-use Rattle.toll_history.proofs.Common.{false≢true, AllByRecursion, Bytes, same_bytes, house_name, lot_id, same_lot, UnknownOwner, MoveRow, where_so, LotId, Receipts, Batch, Consumed, Produced, Move, Receive, Split, Ship, Scrap, Actual, same_bytes-exact}
-use Rattle.toll_history.specs.Command.{Action, Record, Void, Command}
-use Rattle.toll_history.specs.History.{History, owner_known}
-use Rattle.toll_history.specs.Movements.{Movement, moved_by, movements, standing_after, standing, has_move_key, brings_into, takes_from, made_by}
-use Rattle.toll_history.specs.OwnerFacts.{OwnerFacts}
-use Rattle.toll_history.specs.OwnerFacts.{facts_given}
-use Rattle.toll_history.specs.Verdict.{Accepted, PlantFacts, plant_facts_given, verdict_of_checks, checks, verdict, crosses, action_checks, movement_checks, key_checks, needs_owner, IsLawful}
+use Rattle.std.proofs.lemmas.Bool.{and_left}
+use Rattle.toll_history.proofs.Common.{false≢true, AllByRecursion, Bytes, same_bytes, house_name, lot_id, same_lot, UnknownOwner, MoveRow, where_so, LotId, Receipts, Batch, Consumed, Produced, Move, Receive, Split, Ship, Scrap, Actual, same_bytes-exact, Action, Record, Void, Command, History, owner_known, Movement, moved_by, movements, standing_after, standing, has_move_key, brings_into, takes_from, made_by, OwnerFacts, facts_given, Accepted, PlantFacts, plant_facts_given, verdict_of_checks, checks, verdict, crosses, action_checks, movement_checks, key_checks, needs_owner, IsLawful}
 use Rattle.toll_history.proofs.Accepted.{none_applies, rest_accepts}
 
 -- whether the actual is of a lot that its owner may not use in this role
@@ -81,23 +76,15 @@ is_the_owner a b h = same_bytes-exact a b (not_false (same_bytes a b) h)
     not_false true h = refl
     not_false false h = absurd (false≢true (sym h))
 
-and_false_first : (a b c : Bool) → a ≡ false → (a && b && c) ≡ false
-and_false_first true b c h = absurd (false≢true (sym h))
-and_false_first false b c h = refl
-
-pub and_false_two : (a b : Bool) → a ≡ false → (a && b) ≡ false
-and_false_two true b h = absurd (false≢true (sym h))
-and_false_two false b h = refl
-
 -- A lot of another owner is not the same lot.
 pub not_same_lot : (id : LotId) (o l : Bytes) → same_bytes id.owner o ≡ false → same_lot id (lot_id o l) ≡ false
-not_same_lot id o l other = and_false_two (same_bytes id.owner o) (same_bytes id.lot l) other
+not_same_lot id o l other = and_left (same_bytes id.owner o) (same_bytes id.lot l) other
 
 pub brings_not : (id : LotId) (sub p : Bytes) (what : Move) → crosses_by p what ≡ false → same_bytes id.owner p ≡ false → brings_into id sub p what ≡ false
-brings_not id sub p (Receive material lot sublot) h other = and_false_two _ _ (not_same_lot id p lot other)
-brings_not id sub p (Split lot sublot target) h other = and_false_two _ _ (not_same_lot id p lot other)
+brings_not id sub p (Receive material lot sublot) h other = and_left _ _ (not_same_lot id p lot other)
+brings_not id sub p (Split lot sublot target) h other = and_left _ _ (not_same_lot id p lot other)
 brings_not id sub p (Actual order number segment Produced material lot sublot) h other =
-    and_false_two _ _ (and_false_two (same_bytes id.owner lot.owner) (same_bytes id.lot lot.lot) (subst (λ q. same_bytes id.owner q ≡ false) (sym (is_the_owner lot.owner p h)) other))
+    and_left _ _ (and_left (same_bytes id.owner lot.owner) (same_bytes id.lot lot.lot) (subst (λ q. same_bytes id.owner q ≡ false) (sym (is_the_owner lot.owner p h)) other))
 brings_not id sub p (Actual order number segment Consumed material lot sublot) h other = refl
 brings_not id sub p (Ship lot sublot) h other = refl
 brings_not id sub p (Scrap lot sublot) h other = refl
@@ -115,18 +102,18 @@ neither_name a b c x h not_b not_c =
     is_the_owner_by false x c is h = absurd (false≢true (sym h))
 
 pub takes_none_of : (id : LotId) (sub p : Bytes) (what : Move) → crosses_by p what ≡ false → same_bytes id.owner p ≡ false → same_bytes id.owner house_name ≡ false → takes_from id sub p what ≡ false
-takes_none_of id sub p (Split lot sublot target) h other not_house = and_false_two _ _ (not_same_lot id p lot other)
-takes_none_of id sub p (Ship lot sublot) h other not_house = and_false_two _ _ (not_same_lot id p lot other)
-takes_none_of id sub p (Scrap lot sublot) h other not_house = and_false_two _ _ (not_same_lot id p lot other)
+takes_none_of id sub p (Split lot sublot target) h other not_house = and_left _ _ (not_same_lot id p lot other)
+takes_none_of id sub p (Ship lot sublot) h other not_house = and_left _ _ (not_same_lot id p lot other)
+takes_none_of id sub p (Scrap lot sublot) h other not_house = and_left _ _ (not_same_lot id p lot other)
 takes_none_of id sub p (Actual order number segment Consumed material lot sublot) h other not_house =
-    and_false_two _ _ (and_false_two (same_bytes id.owner lot.owner) (same_bytes id.lot lot.lot) (neither_name id.owner p house_name lot.owner h other not_house))
+    and_left _ _ (and_left (same_bytes id.owner lot.owner) (same_bytes id.lot lot.lot) (neither_name id.owner p house_name lot.owner h other not_house))
 takes_none_of id sub p (Actual order number segment Produced material lot sublot) h other not_house = refl
 takes_none_of id sub p (Receive material lot sublot) h other not_house = refl
 
 pub makes_not : (id : LotId) (p : Bytes) (what : Move) → crosses_by p what ≡ false → same_bytes id.owner p ≡ false → made_by id p what ≡ None
 makes_not id p (Receive material lot sublot) h other = ap (λ b. where_so b (record { material = material; origin = Receipts })) (not_same_lot id p lot other)
 makes_not id p (Actual order number segment Produced material lot sublot) h other =
-    ap (λ b. where_so b (record { material = material; origin = Batch order number })) (and_false_two (same_bytes id.owner lot.owner) (same_bytes id.lot lot.lot) (subst (λ q. same_bytes id.owner q ≡ false) (sym (is_the_owner lot.owner p h)) other))
+    ap (λ b. where_so b (record { material = material; origin = Batch order number })) (and_left (same_bytes id.owner lot.owner) (same_bytes id.lot lot.lot) (subst (λ q. same_bytes id.owner q ≡ false) (sym (is_the_owner lot.owner p h)) other))
 makes_not id p (Actual order number segment Consumed material lot sublot) h other = refl
 makes_not id p (Split lot sublot target) h other = refl
 makes_not id p (Ship lot sublot) h other = refl

@@ -1,13 +1,8 @@
 -- From what a decision is, by its checks, to what it owes to every lawful history and to every slice.
 use Rattle.std.proofs.Common.{◌≡◌, ℕ, Bool, true, false, not, ◌&&◌, nat_le, nat_lt, cond, Some, List, [], ◌∷◌, ◌++◌, map, refl, sym, ap, subst, ◌∙◌, arith}
-use Rattle.toll_history.proofs.Common.{nat_tests, Bytes, same_bytes, house_name, Slice, with_row, KeepsRules, row_fits, after_changes, changes_of, Change, Put, Decision, Refusal, UnknownOwner, Row, same_bytes-exact, same_bytes-refl, fits_exact}
-use Rattle.toll_history.specs.Command.{Action, Command, by}
-use Rattle.toll_history.specs.History.{History, owner_known}
-use Rattle.toll_history.specs.OwnerFacts.{OwnerFacts, facts_of, facts_given, IsRowsOf}
-use Rattle.toll_history.specs.Decision.{verdict_of, changes_if, ChangesKeepRules, IsRightOver, IsDecided, Decides, DecidesWith, DecisionKeepsRules}
-use Rattle.toll_history.specs.Verdict.{Verdict, Accepted, Repeated, Refused, Checks, verdict_of_checks, verdict_of_check, plant_facts_given, action_checks, needs_owner, checks, verdict, grown, grow, IsLawful, IsValidAction}
+use Rattle.toll_history.proofs.Common.{nat_tests, Bytes, same_bytes, house_name, Slice, with_row, KeepsRules, row_fits, after_changes, changes_of, Change, Put, Decision, Refusal, UnknownOwner, Row, same_bytes-exact, same_bytes-refl, fits_exact, Action, Command, by, History, owner_known, OwnerFacts, facts_of, facts_given, IsRowsOf, verdict_of, changes_if, ChangesKeepRules, IsRightOver, IsDecided, Decides, DecidesWith, DecisionKeepsRules, Verdict, Accepted, Repeated, Refused, Checks, verdict_of_checks, verdict_of_check, plant_facts_given, action_checks, needs_owner, checks, verdict, grown, grow, IsLawful, IsValidAction}
 use Rattle.toll_base.specs.declared.decision.Decision.TheVariants.{Refuse}
-use Rattle.toll_base.specs.declared.rows.Row.TheVariants.{Material, Test, Recipe, Requirement, Order, Batch, Lot, Sublot, Move, Result, Void}
+use Rattle.toll_base.proofs.SliceFits.{owner-with_row}
 use Rattle.toll_history.proofs.Accepted.{refused_first}
 
 -- ---- the verdict
@@ -30,29 +25,16 @@ abbrev pub put_rows : List Row → Slice → Slice
 put_rows [] s = s
 put_rows (row ∷ rows) s = put_rows rows (with_row s row)
 
-with_row_owner : (s : Slice) (row : Row) → (with_row s row).owner ≡ s.owner
-with_row_owner s (Material row) = refl
-with_row_owner s (Test row) = refl
-with_row_owner s (Recipe row) = refl
-with_row_owner s (Requirement row) = refl
-with_row_owner s (Order row) = refl
-with_row_owner s (Batch row) = refl
-with_row_owner s (Lot row) = refl
-with_row_owner s (Sublot row) = refl
-with_row_owner s (Move row) = refl
-with_row_owner s (Result row) = refl
-with_row_owner s (Void row) = refl
-
 pub put_rows_owner : (rows : List Row) (s : Slice) → (put_rows rows s).owner ≡ s.owner
 put_rows_owner [] s = refl
-put_rows_owner (row ∷ rows) s = put_rows_owner rows (with_row s row) ∙ with_row_owner s row
+put_rows_owner (row ∷ rows) s = put_rows_owner rows (with_row s row) ∙ owner-with_row s row
 
 -- A slice takes the rows of its owner.
 pub after_put : (o : Bytes) (rows : List Row) (s : Slice) → same_bytes o s.owner ≡ true → after_changes (map (Put o) rows) s ≡ put_rows rows s
 after_put o [] s own = refl
 after_put o (row ∷ rows) s own =
     ap (λ b. after_changes (map (Put o) rows) (cond b (with_row s row) s)) own
-    ∙ after_put o rows (with_row s row) (ap (same_bytes o) (with_row_owner s row) ∙ own)
+    ∙ after_put o rows (with_row s row) (ap (same_bytes o) (owner-with_row s row) ∙ own)
 
 -- A slice doesn't take rows of other owners.
 pub after_put_other : (o : Bytes) (rows : List Row) (s : Slice) → same_bytes o s.owner ≡ false → after_changes (map (Put o) rows) s ≡ s
@@ -71,7 +53,7 @@ rows_keep o [] s own keeps fit = tt
 rows_keep o (row ∷ rows) s own keeps fit =
     let kept : KeepsRules (with_row s row) = (fits_exact s row keeps).0 fit.0 in
     subst (λ b. KeepsRules (cond b (with_row s row) s) × ChangesKeepRules (map (Put o) rows) (cond b (with_row s row) s)) (sym own)
-    (kept, rows_keep o rows (with_row s row) (ap (same_bytes o) (with_row_owner s row) ∙ own) kept fit.1)
+    (kept, rows_keep o rows (with_row s row) (ap (same_bytes o) (owner-with_row s row) ∙ own) kept fit.1)
 
 -- ---- decisions
 
@@ -148,14 +130,6 @@ pub below_limit : (most n : ℕ) → nat_le most n ≡ false → nat_lt n most �
 below_limit most n h = grind (arith, nat_tests)
 
 -- ---- decisions that change rows of two owners
-
--- A change of the slice's owner is put into the slice.
-pub taken_in : (o : Bytes) (row : Row) (rest : List Change) (s : Slice) → same_bytes o s.owner ≡ true → after_changes (Put o row ∷ rest) s ≡ after_changes rest (with_row s row)
-taken_in o row rest s own = ap (λ b. after_changes rest (cond b (with_row s row) s)) own
-
--- A change of another owner isn't put into the slice.
-pub skips_other_owner : (o : Bytes) (row : Row) (rest : List Change) (s : Slice) → same_bytes o s.owner ≡ false → after_changes (Put o row ∷ rest) s ≡ after_changes rest s
-skips_other_owner o row rest s other = ap (λ b. after_changes rest (cond b (with_row s row) s)) other
 
 pub keeps_put : (o : Bytes) (row : Row) (rest : List Change) (s : Slice) → same_bytes o s.owner ≡ true → KeepsRules s → row_fits s row ≡ true → (KeepsRules (with_row s row) → ChangesKeepRules rest (with_row s row)) → ChangesKeepRules (Put o row ∷ rest) s
 keeps_put o row rest s own keeps fits more =

@@ -1,13 +1,9 @@
 -- A fact of each movement of a lawful history, proved for a new movement when it is accepted, and kept for earlier ones.
 use Rattle.std.proofs.Common.{◌≡◌, true, false, cond, Some, List, [], ◌∷◌, refl, sym, subst, ◌∙◌}
-use Rattle.toll_history.proofs.Common.{AllByRecursion, Bytes, same_bytes, MoveRow, both, same_bytes-exact}
-use Rattle.toll_history.specs.Command.{Action, Record, by}
-use Rattle.toll_history.specs.History.{History, acts}
-use Rattle.toll_history.specs.Movements.{Movement, has_move_key, movement_of, movements}
-use Rattle.toll_history.specs.Verdict.{Accepted, IsLawful, IsValidAction, verdict}
+use Rattle.toll_history.proofs.Common.{AllByRecursion, Bytes, same_bytes, MoveRow, both, same_bytes-exact, Action, Record, by, History, acts, Movement, has_move_key, movement_of, movements, Accepted, IsLawful, IsValidAction, verdict}
 use Rattle.toll_history.proofs.Found.{movement_of-recorded, movement_of-kept}
 
-all_weaker : {X : Type 0} (P R : X → Type 0) → ((x : X) → P x → R x) → (xs : List X) → AllByRecursion P xs → AllByRecursion R xs
+pub all_weaker : {X : Type 0} (P R : X → Type 0) → ((x : X) → P x → R x) → (xs : List X) → AllByRecursion P xs → AllByRecursion R xs
 all_weaker P R f [] h = tt
 all_weaker P R f (x ∷ xs) h = (f x h.0, all_weaker P R f xs h.1)
 

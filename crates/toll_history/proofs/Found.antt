@@ -1,10 +1,6 @@
 -- Which movement an owner's key finds, and which keys are voided, after one command more.
 use Rattle.std.proofs.Common.{◌≡◌, true, false, cond, Option, Some, None, List, [], ◌∷◌, refl, sym, ap, ◌∙◌}
-use Rattle.toll_history.proofs.Common.{Bytes, same_bytes, or_else, where_so, MoveRow, same_bytes-symm}
-use Rattle.toll_history.specs.Command.{Action, Record, by}
-use Rattle.toll_history.specs.History.{History, acts}
-use Rattle.toll_history.specs.Movements.{has_move_key, movement_of, movement_recorded}
-use Rattle.toll_history.specs.Verdict.{Accepted, verdict}
+use Rattle.toll_history.proofs.Common.{Bytes, same_bytes, or_else, where_so, MoveRow, same_bytes-symm, Action, Record, by, History, acts, has_move_key, movement_of, movement_recorded, Accepted, verdict}
 use Rattle.toll_history.proofs.Options.{none_of, or_none, or_else_where}
 use Rattle.toll_history.proofs.Passed.{accepted_passes}
 use Rattle.toll_history.proofs.Acts.{first_acts}

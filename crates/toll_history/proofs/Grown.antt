@@ -1,13 +1,6 @@
 -- The tables that a history gives after one action more.
 use Rattle.std.proofs.Common.{◌≡◌, ℕ, suc, ◌+◌, Bool, true, false, cond, Option, Some, is_some, List, ◌∷◌, refl, ap, ◌∙◌, arith}
-use Rattle.toll_history.proofs.Common.{sublot_row_of, list_any, option_map, Bytes, same_bytes, count, or_else, where_so, is_some_where, is_actual_of, lot_id, same_bytes-refl}
-use Rattle.toll_history.specs.Command.{Action, by}
-use Rattle.toll_history.specs.History.{History, acts}
-use Rattle.toll_history.specs.Work.{material_added, material_of, count_materials, test_added, test_of, count_tests, recipe_added, recipe_of, count_recipes, recipe_used, required, requirement_of, count_requirements, order_placed, order_of, count_orders, batch_of, opens, count_opened}
-use Rattle.toll_history.specs.Movements.{lot_made, movement_recorded, movement_of, count_movements, voided_in, count_actuals_of, count_lots, count_sublots, material_used}
-use Rattle.toll_history.specs.Dispositions.{value_recorded, is_result_of, result_of, latest_value, count_results, count_results_of}
-use Rattle.toll_history.specs.OwnerFacts.{OwnerFacts, facts_given, sublot_row, lot_row_made}
-use Rattle.toll_history.specs.Laws.{records_or_voids, IsUnmoved}
+use Rattle.toll_history.proofs.Common.{sublot_row_of, list_any, option_map, Bytes, same_bytes, count, or_else, where_so, is_some_where, is_actual_of, lot_id, same_bytes-refl, Action, by, History, acts, material_added, material_of, count_materials, test_added, test_of, count_tests, recipe_added, recipe_of, count_recipes, recipe_used, required, requirement_of, count_requirements, order_placed, order_of, count_orders, batch_of, opens, count_opened, lot_made, movement_recorded, movement_of, count_movements, voided_in, count_actuals_of, count_lots, count_sublots, material_used, value_recorded, is_result_of, result_of, latest_value, count_results, count_results_of, OwnerFacts, facts_given, sublot_row, lot_row_made, records_or_voids, IsUnmoved}
 use Rattle.toll_history.proofs.Own.{acts-own, acts-other}
 use Rattle.toll_history.proofs.Unmoved.{unmoved}
 

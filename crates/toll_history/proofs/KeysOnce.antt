@@ -1,11 +1,6 @@
 -- A key has one movement, and a voided key an actual.
 use Rattle.std.proofs.Common.{◌≡◌, ◌+◌, Bool, true, false, ◌||◌, cond, Option, Some, None, is_some, List, ◌∷◌, refl, sym, ap, ◌∙◌, arith}
-use Rattle.toll_history.proofs.Common.{false≢true, AllByRecursion, not-false, Bytes, same_bytes, count, or_else, is_some_where, MoveRow, both, and_is, same_bytes-exact, same_bytes-refl}
-use Rattle.toll_history.specs.Command.{Action, Record, Void, by}
-use Rattle.toll_history.specs.History.{History, acts}
-use Rattle.toll_history.specs.Movements.{Movement, has_move_key, movement_of, movements, voided_in}
-use Rattle.toll_history.specs.Verdict.{Accepted, IsLawful, IsValidAction, verdict, is_actual}
-use Rattle.toll_history.specs.Laws.{has_this_key}
+use Rattle.toll_history.proofs.Common.{false≢true, AllByRecursion, not-false, Bytes, same_bytes, count, or_else, is_some_where, MoveRow, both, and_is, same_bytes-exact, same_bytes-refl, Action, Record, Void, by, History, acts, Movement, has_move_key, movement_of, movements, voided_in, Accepted, IsLawful, IsValidAction, verdict, is_actual, has_this_key}
 use Rattle.toll_history.proofs.Options.{not_both}
 use Rattle.toll_history.proofs.Passed.{accepted_passes}
 use Rattle.toll_history.proofs.Acts.{along_acts}

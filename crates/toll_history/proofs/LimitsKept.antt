@@ -1,14 +1,6 @@
 -- Every lawful history is within the limits of each kind of rows.
 use Rattle.std.proofs.Common.{◌≡◌, ℕ, ◌+◌, ◌≤◌, Bool, true, false, ◌&&◌, ◌||◌, ◌==◌, cond, nat_le, is_some, is_none, [], ◌∷◌, refl, sym, ap, subst, ◌∙◌, arith}
-use Rattle.toll_history.proofs.Common.{false≢true, not-false, or_parts, nat_tests, Bytes, same_bytes, count, is_some_where, is_actual_of, lot_id, Consumed, Produced, Move, Receive, Split, Ship, Scrap, Actual, both, same_bytes-exact, nat_eq-exact, same_bytes-symm}
-use Rattle.toll_history.specs.Command.{Action, AddOwner, AddUnit, AddMaterial, AddTest, AddRecipe, Require, PlaceOrder, Record, RecordResult, by}
-use Rattle.toll_history.specs.History.{History, acts, adds_owner, count_owners, adds_some_unit, count_units}
-use Rattle.toll_history.specs.Work.{material_added, test_added, recipe_added, required, order_placed}
-use Rattle.toll_history.specs.Movements.{movement_recorded, movements, count_movements, count_actuals_of, first_made, lot_made, makes_lot, makes_sublot, count_lots, count_sublots}
-use Rattle.toll_history.specs.Dispositions.{value_recorded}
-use Rattle.toll_history.specs.OwnerFacts.{lot_row}
-use Rattle.toll_history.specs.Verdict.{Accepted, IsLawful, verdict}
-use Rattle.toll_history.specs.Laws.{IsWithinLimits}
+use Rattle.toll_history.proofs.Common.{false≢true, not-false, or_parts, nat_tests, Bytes, same_bytes, count, is_some_where, is_actual_of, lot_id, Consumed, Produced, Move, Receive, Split, Ship, Scrap, Actual, both, same_bytes-exact, nat_eq-exact, same_bytes-symm, Action, AddOwner, AddUnit, AddMaterial, AddTest, AddRecipe, Require, PlaceOrder, Record, RecordResult, by, History, acts, adds_owner, count_owners, adds_some_unit, count_units, material_added, test_added, recipe_added, required, order_placed, movement_recorded, movements, count_movements, count_actuals_of, first_made, lot_made, makes_lot, makes_sublot, count_lots, count_sublots, value_recorded, lot_row, Accepted, IsLawful, verdict, IsWithinLimits}
 use Rattle.toll_history.proofs.Passed.{accepted_passes, MoveFits, move_fits}
 use Rattle.toll_history.proofs.Acts.{along_acts, count_acts}
 use Rattle.toll_history.proofs.Moving.{crosses_not, lot_row_none}

@@ -1,12 +1,6 @@
 -- A requirement names a material of its source, and a lot is of a material of its owner.
 use Rattle.std.proofs.Common.{◌≡◌, ℕ, Bool, true, false, not, ◌||◌, cond, Option, Some, None, is_some, is_none, [], ◌∷◌, refl, sym, ap, ◌∙◌}
-use Rattle.toll_history.proofs.Common.{false≢true, is_eq, ordering_then, nat_cmp, cond_some, Bytes, same_bytes, bytes_cmp, or_else, where_so, RequirementKey, role_cmp, lot_id, same_lot, LotId, Role, Consumed, Produced, RequirementRow, MoveRow, Move, Receive, Actual, both, same_bytes-exact, is_eq-then}
-use Rattle.toll_history.specs.Command.{Action, Require, Record, Command, by}
-use Rattle.toll_history.specs.History.{History, acts}
-use Rattle.toll_history.specs.Work.{material_of, requirement_of, required, same_requirement}
-use Rattle.toll_history.specs.Movements.{Made, made_by, lot_made}
-use Rattle.toll_history.specs.OwnerFacts.{OwnerFacts, facts_given}
-use Rattle.toll_history.specs.Verdict.{Accepted, IsLawful, verdict, crosses, recipe_of_order, requirement_key}
+use Rattle.toll_history.proofs.Common.{false≢true, is_eq, ordering_then, nat_cmp, cond_some, Bytes, same_bytes, bytes_cmp, or_else, where_so, RequirementKey, role_cmp, lot_id, same_lot, LotId, Role, Consumed, Produced, RequirementRow, MoveRow, Move, Receive, Actual, both, same_bytes-exact, is_eq-then, Action, Require, Record, Command, by, History, acts, material_of, requirement_of, required, same_requirement, Made, made_by, lot_made, OwnerFacts, facts_given, Accepted, IsLawful, verdict, crosses, recipe_of_order, requirement_key}
 use Rattle.toll_history.proofs.Options.{some_if_not_none, some_second, or_none}
 use Rattle.toll_history.proofs.Passed.{accepted_passes, MoveFits, move_fits}
 use Rattle.toll_history.proofs.Acts.{first_acts}

@@ -1,11 +1,6 @@
 -- Which sublots and lots are known along a history, and of which materials.
 use Rattle.std.proofs.Common.{◌≡◌, ℕ, true, false, Option, Some, None, is_some, is_none, [], ◌∷◌, inl, inr, refl, sym, ap, ◌∙◌}
-use Rattle.toll_history.proofs.Common.{false≢true, or_cases, or_right, Bytes, or_else, lot_id, same_lot, LotId, Consumed, Produced, Move, Receive, Split, Ship, Scrap, Actual, both}
-use Rattle.toll_history.specs.Command.{Action, Record, by}
-use Rattle.toll_history.specs.History.{History}
-use Rattle.toll_history.specs.Movements.{movement_recorded, brings_into, sublot_known, Made, made_by, lot_made}
-use Rattle.toll_history.specs.OwnerFacts.{lot_row}
-use Rattle.toll_history.specs.Verdict.{Accepted, IsLawful, verdict}
+use Rattle.toll_history.proofs.Common.{false≢true, or_cases, or_right, Bytes, or_else, lot_id, same_lot, LotId, Consumed, Produced, Move, Receive, Split, Ship, Scrap, Actual, both, Action, Record, by, History, movement_recorded, brings_into, sublot_known, Made, made_by, lot_made, lot_row, Accepted, IsLawful, verdict}
 use Rattle.toll_history.proofs.Options.{some_if_not_none, some_first, some_second, some_where, or_else_none}
 use Rattle.toll_history.proofs.Passed.{MoveFits, move_fits}
 use Rattle.toll_history.proofs.Moving.{same_lot-exact, lot_row_none}

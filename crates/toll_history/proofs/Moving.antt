@@ -1,11 +1,7 @@
 -- What an accepted movement brings, and what it takes.
 use Rattle.std.proofs.Common.{◌≡◌, ℕ, ◌+◌, ◌≤◌, Bool, true, false, not, ◌&&◌, ◌||◌, cond, nat_lt, Option, Some, None, is_none, [], ◌∷◌, refl, sym, ap, subst, ◌∙◌, arith}
-use Rattle.toll_history.proofs.Common.{sublot_row_of, false≢true, option_map_or, not-false, or_left, nat_tests, Bytes, same_bytes, house_name, where_so, is_some_where, lot_id, same_lot, LotId, Role, Consumed, Produced, MoveRow, SublotRow, Move, Receive, Split, Ship, Scrap, Actual, both, same_bytes-exact}
-use Rattle.toll_history.specs.Command.{Action, Record, Void, by}
-use Rattle.toll_history.specs.History.{History, acts}
-use Rattle.toll_history.specs.Movements.{has_move_key, movement_of, standing, brings_into, takes_from, brought, stock, sublot_known, lot_made, voided_in}
-use Rattle.toll_history.specs.OwnerFacts.{OwnerFacts, facts_given, lot_row, sublot_row}
-use Rattle.toll_history.specs.Verdict.{Accepted, verdict, amount_in, crosses, tables_for, is_actual, takes_too_much}
+use Rattle.std.proofs.lemmas.Bool.{ltb-false}
+use Rattle.toll_history.proofs.Common.{sublot_row_of, false≢true, option_map_or, not-false, or_left, Bytes, same_bytes, house_name, where_so, is_some_where, lot_id, same_lot, LotId, Role, Consumed, Produced, MoveRow, SublotRow, Move, Receive, Split, Ship, Scrap, Actual, both, same_bytes-exact, Action, Record, Void, by, History, acts, has_move_key, movement_of, standing, brings_into, takes_from, brought, stock, sublot_known, lot_made, voided_in, OwnerFacts, facts_given, lot_row, sublot_row, Accepted, verdict, amount_in, crosses, tables_for, is_actual, takes_too_much}
 use Rattle.toll_history.proofs.Options.{is_none_map, true_where}
 use Rattle.toll_history.proofs.Passed.{MoveFits, accepted_passes}
 use Rattle.toll_history.proofs.Sums.{total-filter_le}
@@ -77,16 +73,13 @@ held_is H o lot sub = held_by (sublot_known H (lot_id o lot) sub) lot sub (stock
 pub lot_row_none : (H : History) (o l : Bytes) → is_none (lot_row H o l) ≡ is_none (lot_made H (lot_id o l))
 lot_row_none H o l = is_none_map _ (lot_made H (lot_id o l))
 
-at_most_if_enough : (held amount : ℕ) → nat_lt held amount ≡ false → amount ≤ held
-at_most_if_enough held amount h = grind (arith, nat_tests)
-
 -- The amount in the sublot is enough for what is taken from it.
 enough_at : (H : History) (o lot sublot : Bytes) (amount : ℕ) → nat_lt (amount_in (facts_given H o) lot sublot) amount ≡ false → (id : LotId) (sub : Bytes) → (same_lot id (lot_id o lot) && same_bytes sub sublot) ≡ true → amount ≤ stock H id sub
 enough_at H o lot sublot amount enough id sub same =
     let parts = both (same_lot id (lot_id o lot)) (same_bytes sub sublot) same in
     let e = same_lot-exact id (lot_id o lot) parts.0 in
     let s = same_bytes-exact sub sublot parts.1 in
-    let here : amount ≤ stock H (lot_id o lot) sublot = at_most_if_enough _ amount (ap (λ n. nat_lt n amount) (sym (held_is H o lot sublot)) ∙ enough) in
+    let here : amount ≤ stock H (lot_id o lot) sublot = ltb-false _ amount (ap (λ n. nat_lt n amount) (sym (held_is H o lot sublot)) ∙ enough) in
     subst (λ (x : LotId × Bytes). amount ≤ stock H x.0 x.1) (λ i. (sym e i, sym s i)) here
 
 -- A movement that fits takes no more than is there.

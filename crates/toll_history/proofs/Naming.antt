@@ -1,12 +1,6 @@
 -- What a command owes that adds one row, known by its name, of which an owner has so many at most.
 use Rattle.std.proofs.Common.{◌≡◌, ℕ, suc, cond, true, false, Option, Some, is_some, List, [], ◌∷◌, length, sym, ap, ◌∙◌}
-use Rattle.toll_history.proofs.Common.{nat_list_cmp_total, Bytes, same_bytes, bytes_cmp, Slice, with_row, KeepsRules, row_fits, row_at, put_row, house_name, or_else, where_so, Put, Decision, Row, row_at-put_row, length-new}
-use Rattle.toll_history.specs.Command.{Action, by}
-use Rattle.toll_history.specs.Decision.{IsDecided, Decides, DecisionKeepsRules}
-use Rattle.toll_history.specs.History.{History}
-use Rattle.toll_history.specs.Laws.{records_or_voids}
-use Rattle.toll_history.specs.OwnerFacts.{OwnerFacts, facts_of, facts_given}
-use Rattle.toll_history.specs.Verdict.{Checks, Accepted, verdict_of_checks, plant_facts_given, action_checks, verdict}
+use Rattle.toll_history.proofs.Common.{nat_list_cmp_total, Bytes, same_bytes, bytes_cmp, Slice, with_row, KeepsRules, row_fits, row_at, put_row, house_name, or_else, where_so, Put, Decision, Row, row_at-put_row, length-new, Action, by, IsDecided, Decides, DecisionKeepsRules, History, records_or_voids, OwnerFacts, facts_of, facts_given, Checks, Accepted, verdict_of_checks, plant_facts_given, action_checks, verdict}
 use Rattle.toll_history.proofs.Adding.{adding_decided, adding_keeps}
 use Rattle.toll_history.proofs.Grown.{put_first}
 

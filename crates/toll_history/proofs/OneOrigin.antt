@@ -1,12 +1,6 @@
 -- Each movement into a lot makes it what its first movement made it.
 use Rattle.std.proofs.Common.{◌≡◌, ℕ, Bool, true, false, not, ◌==◌, Some, None, ◌∷◌, refl, sym, ap, ◌∙◌}
-use Rattle.toll_history.proofs.Common.{false≢true, AllByRecursion, option_map, not-false, cond_some, Bytes, same_bytes, or_else, is_some_where, lot_id, same_lot, LotId, Origin, Receipts, Batch, Produced, LotRow, MoveRow, Move, Receive, Actual, both, same_bytes-exact, nat_eq-exact}
-use Rattle.toll_history.specs.Command.{Record, by}
-use Rattle.toll_history.specs.History.{History, acts}
-use Rattle.toll_history.specs.Movements.{movements, Made, made_by, lot_made}
-use Rattle.toll_history.specs.OwnerFacts.{lot_row, lot_row_made}
-use Rattle.toll_history.specs.Verdict.{Accepted, IsLawful, verdict, is_receipts, is_made_by}
-use Rattle.toll_history.specs.Laws.{Agrees}
+use Rattle.toll_history.proofs.Common.{false≢true, AllByRecursion, option_map, not-false, cond_some, Bytes, same_bytes, or_else, is_some_where, lot_id, same_lot, LotId, Origin, Receipts, Batch, Produced, LotRow, MoveRow, Move, Receive, Actual, both, same_bytes-exact, nat_eq-exact, Record, by, History, acts, movements, Made, made_by, lot_made, lot_row, lot_row_made, Accepted, IsLawful, verdict, is_receipts, is_made_by, Agrees}
 use Rattle.toll_history.proofs.Passed.{MoveFits, move_fits}
 use Rattle.toll_history.proofs.EachMove.{each_move}
 use Rattle.toll_history.proofs.Moving.{same_lot-exact, crosses_not}

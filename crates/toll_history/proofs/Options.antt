@@ -25,10 +25,6 @@ pub true_where : {X : Type 0} (b : Bool) (x : X) → is_none (where_so b x) ≡ 
 true_where true x h = refl
 true_where false x h = absurd (false≢true (sym h))
 
-pub none_where : {X : Type 0} (b : Bool) (x : X) → b ≡ false → where_so b x ≡ None
-none_where true x h = absurd (false≢true (sym h))
-none_where false x h = refl
-
 -- ---- the first of two
 
 pub first_none : {X : Type 0} (x y : Option X) → or_else x y ≡ None → x ≡ None

@@ -1,12 +1,6 @@
 -- An accepted command leaves the sublots of other owners unchanged, except those that it takes from.
 use Rattle.std.proofs.Common.{◌≡◌, ℕ, ◌+◌, ◌-◌, Bool, true, false, ◌||◌, cond, ◌∷◌, refl, sym, ap, ◌∙◌, arith}
-use Rattle.toll_history.proofs.Common.{sublot_row_of, false≢true, false_from_ne_true, Bytes, same_bytes, where_so, is_some_where, lot_id, MoveRow, Move, same_bytes-refl}
-use Rattle.toll_history.specs.Command.{Action, Record, Void, by}
-use Rattle.toll_history.specs.History.{History}
-use Rattle.toll_history.specs.Movements.{brings_into, takes_from, stock, sublot_known}
-use Rattle.toll_history.specs.OwnerFacts.{sublot_row}
-use Rattle.toll_history.specs.Verdict.{Accepted, IsLawful, verdict}
-use Rattle.toll_history.specs.Laws.{is_taken_in}
+use Rattle.toll_history.proofs.Common.{sublot_row_of, false≢true, false_from_ne_true, Bytes, same_bytes, where_so, is_some_where, lot_id, MoveRow, Move, same_bytes-refl, Action, Record, Void, by, History, brings_into, takes_from, stock, sublot_known, sublot_row, Accepted, IsLawful, verdict, is_taken_in}
 use Rattle.toll_history.proofs.Passed.{MoveFits, move_fits}
 use Rattle.toll_history.proofs.Moving.{brings_own, Voidable, void_passes}
 use Rattle.toll_history.proofs.Owned.{found_brings_own}

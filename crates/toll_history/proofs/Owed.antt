@@ -1,11 +1,8 @@
 -- What the answer owes of a call whose plan is decided over the rows of one owner.
 use Rattle.std.specs.Prelude.{List, Result, IfOk}
 use Rattle.std.proofs.lemmas.Result.{IfOk-weaker}
-use Rattle.toll_history.proofs.Common.{changes_of, Slice, KeepsRules, Change, Decision}
-use Rattle.toll_history.specs.Command.{Command}
-use Rattle.toll_history.specs.Decision.{IsDecided, Decides, DecisionKeepsRules}
+use Rattle.toll_history.proofs.Common.{changes_of, Slice, KeepsRules, Change, Decision, Command, IsDecided, Decides, DecisionKeepsRules, Checks}
 use Rattle.toll_history.specs.OwnChanges.{PutsOnly}
-use Rattle.toll_history.specs.Verdict.{Checks}
 use Rattle.toll_history.proofs.PutsOwn.{each_decided}
 
 -- If there is a decision, it is right, keeps the rules and puts only rows of this owner.

@@ -1,9 +1,6 @@
 -- An owner's own commands and movements, among those of all.
 use Rattle.std.proofs.Common.{◌≡◌, Bool, true, false, not, ◌&&◌, cond, List, [], ◌∷◌, ◌++◌, map, filter, refl, sym, ap, subst, ◌∙◌}
-use Rattle.toll_history.proofs.Common.{false≢true, Bytes, same_bytes, same_bytes-exact}
-use Rattle.toll_history.specs.Command.{Action, Record, Void, Command}
-use Rattle.toll_history.specs.History.{History, part, acts}
-use Rattle.toll_history.specs.Movements.{Movement, moved_by, movements, standing_after, standing, has_move_key}
+use Rattle.toll_history.proofs.Common.{false≢true, Bytes, same_bytes, same_bytes-exact, Action, Record, Void, Command, History, part, acts, Movement, moved_by, movements, standing_after, standing, has_move_key}
 
 -- Filtering by a weaker test first gives the same items.
 filter_idle : {X : Type 0} (p q : X → Bool) → ((x : X) → p x ≡ true → q x ≡ true) → (xs : List X) → filter p (filter q xs) ≡ filter p xs

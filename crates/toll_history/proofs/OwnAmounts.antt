@@ -1,11 +1,9 @@
 -- What is on hand of an owner's lots, and what its batches did, follows from the owner's part of a history.
 use Rattle.std.proofs.Common.{◌≡◌, ℕ, ◌-◌, Bool, false, ◌&&◌, cond, refl, sym, ap, subst, ◌∙◌}
-use Rattle.toll_history.proofs.Common.{Bytes, same_bytes, house_name, total, lot_id, Consumed, Produced, RequirementRow, Move, Receive, Split, Ship, Scrap, Actual, same_bytes-symm, is_actual_of}
-use Rattle.toll_history.specs.History.{History, part}
-use Rattle.toll_history.specs.Movements.{standing}
-use Rattle.toll_history.specs.Verdict.{IsLawful}
+use Rattle.std.proofs.lemmas.Bool.{and_left}
+use Rattle.toll_history.proofs.Common.{Bytes, same_bytes, house_name, total, lot_id, Consumed, Produced, RequirementRow, Move, Receive, Split, Ship, Scrap, Actual, same_bytes-symm, is_actual_of, History, part, standing, IsLawful}
 use Rattle.toll_history.proofs.Own.{standing-part}
-use Rattle.toll_history.proofs.Crossing.{crosses_by, standing_not_crossing, not_same_lot, and_false_two, is_the_owner, neither_name}
+use Rattle.toll_history.proofs.Crossing.{crosses_by, standing_not_crossing, not_same_lot, is_the_owner, neither_name}
 use Rattle.toll_history.proofs.OwnFacts.{total-own}
 use Rattle.toll_history.specs.Amounts.{adds_to, ships_from, uses_up, amounts, on_hand, shipped, meets_requirement, serves, actual_amount}
 
@@ -25,7 +23,7 @@ module _ (o : Bytes) where
     adds_to_not : (l : Bytes) → OthersFail (adds_to (lot_id o l))
     adds_to_not l p (Receive material lot sublot) other h = not_same_lot (lot_id o l) p lot other
     adds_to_not l p (Actual order number segment Produced material lot sublot) other h =
-        and_false_two (same_bytes o lot.owner) _ (subst (λ q. same_bytes o q ≡ false) (sym (is_the_owner lot.owner p h)) other)
+        and_left (same_bytes o lot.owner) _ (subst (λ q. same_bytes o q ≡ false) (sym (is_the_owner lot.owner p h)) other)
     adds_to_not l p (Actual order number segment Consumed material lot sublot) other h = refl
     adds_to_not l p (Split lot sublot target) other h = refl
     adds_to_not l p (Ship lot sublot) other h = refl
@@ -35,7 +33,7 @@ module _ (o : Bytes) where
     uses_up_not not_house l p (Ship lot sublot) other h = not_same_lot (lot_id o l) p lot other
     uses_up_not not_house l p (Scrap lot sublot) other h = not_same_lot (lot_id o l) p lot other
     uses_up_not not_house l p (Actual order number segment Consumed material lot sublot) other h =
-        and_false_two (same_bytes o lot.owner) _ (neither_name o p house_name lot.owner h other not_house)
+        and_left (same_bytes o lot.owner) _ (neither_name o p house_name lot.owner h other not_house)
     uses_up_not not_house l p (Actual order number segment Produced material lot sublot) other h = refl
     uses_up_not not_house l p (Receive material lot sublot) other h = refl
     uses_up_not not_house l p (Split lot sublot target) other h = refl

@@ -1,14 +1,7 @@
 -- What belongs to an owner is the same over the whole history as over the owner's part of it.
-use Rattle.std.proofs.Common.{◌≡◌, ℕ, ◌+◌, ◌-◌, Bool, true, false, not, ◌&&◌, ◌||◌, cond, Option, Some, None, is_none, List, [], ◌∷◌, filter, refl, sym, ap, subst, ◌∙◌, zero-add}
-use Rattle.toll_history.proofs.Common.{sublot_row_of, list_any, option_map, Bytes, same_bytes, house_name, total, or_else, where_so, is_some_where, lot_id, SublotRow, same_role, LotId, Move, Receive, Split, Ship, Scrap, Actual, Consumed, Produced, same_bytes-symm, same_bytes-refl}
-use Rattle.toll_history.specs.Command.{Command}
-use Rattle.toll_history.specs.History.{History, part}
-use Rattle.toll_history.specs.Movements.{Movement, movements, standing, brings_into, takes_from, made_by, first_made, lot_made, sublot_known, stock, brought, taken, makes_lot, makes_sublot, sublot_in, count_making, count_lots, count_sublots, lot_brought, material_used}
-use Rattle.toll_history.specs.Movements.{movement_of, count_movements, voided_in, count_actuals_of}
-use Rattle.toll_history.specs.Work.{material_of, count_materials, test_added, test_of, count_tests, recipe_of, count_recipes, recipe_used, requirement_of, count_requirements, order_of, count_orders, batch_of, count_opened}
-use Rattle.toll_history.specs.Dispositions.{result_of, latest_value, count_results, count_results_of}
-use Rattle.toll_history.specs.OwnerFacts.{facts_given, lot_row, sublot_row, without_amount, without_amounts, lot_row_made}
-use Rattle.toll_history.specs.Verdict.{IsLawful}
+use Rattle.std.proofs.Common.{◌≡◌, ℕ, ◌+◌, ◌-◌, Bool, true, false, not, ◌&&◌, ◌||◌, cond, Option, None, is_none, List, [], ◌∷◌, filter, refl, sym, ap, subst, ◌∙◌, zero-add}
+use Rattle.toll_history.proofs.Options.{or_else_none}
+use Rattle.toll_history.proofs.Common.{sublot_row_of, list_any, option_map, Bytes, same_bytes, house_name, total, or_else, where_so, is_some_where, lot_id, SublotRow, same_role, LotId, Move, Receive, Split, Ship, Scrap, Actual, Consumed, Produced, same_bytes-symm, same_bytes-refl, Command, History, part, Movement, movements, standing, brings_into, takes_from, made_by, first_made, lot_made, sublot_known, stock, brought, taken, makes_lot, makes_sublot, sublot_in, count_making, count_lots, count_sublots, lot_brought, material_used, movement_of, count_movements, voided_in, count_actuals_of, material_of, count_materials, test_added, test_of, count_tests, recipe_of, count_recipes, recipe_used, requirement_of, count_requirements, order_of, count_orders, batch_of, count_opened, result_of, latest_value, count_results, count_results_of, facts_given, lot_row, sublot_row, without_amount, without_amounts, lot_row_made, IsLawful}
 use Rattle.toll_history.proofs.Own.{is_own_movement, other_than, acts-part, part-other, movements-part, standing-part}
 use Rattle.toll_history.proofs.Crossing.{crosses_by, NoneCrosses, movements_not_crossing, standing_not_crossing, brings_not, takes_none_of, makes_not, produced_by, is_the_owner}
 
@@ -42,16 +35,12 @@ module _ (o : Bytes) where
     not_by : (m : Movement) → is_own_movement o m ≡ false → same_bytes id.owner m.0 ≡ false
     not_by m other = same_bytes-symm id.owner m.0 ∙ other_than m.0 o id.owner other mine
 
-    own_or_none : {X : Type 0} (x : Option X) → or_else x None ≡ x
-    own_or_none None = refl
-    own_or_none (Some x) = refl
-
     pub first_made-own : (ms : List Movement) → NoneCrosses ms → first_made id ms ≡ first_made id (filter (is_own_movement o) ms)
     first_made-own [] all = refl
     first_made-own (m ∷ ms) all =
         elim (is_own_movement o m) as (λ b. is_own_movement o m ≡ b → or_else (first_made id ms) (made_by id m.0 m.1.what) ≡ first_made id (cond b (m ∷ filter (is_own_movement o) ms) (filter (is_own_movement o) ms))) [
           | true ↦ λ own. ap (λ made. or_else made (made_by id m.0 m.1.what)) (first_made-own ms all.1)
-          | false ↦ λ other. ap (or_else (first_made id ms)) (makes_not id m.0 m.1.what all.0 (not_by m other)) ∙ own_or_none (first_made id ms) ∙ first_made-own ms all.1
+          | false ↦ λ other. ap (or_else (first_made id ms)) (makes_not id m.0 m.1.what all.0 (not_by m other)) ∙ or_else_none (first_made id ms) ∙ first_made-own ms all.1
         ] refl
 
     pub sublot_in-own : (sub : Bytes) (ms : List Movement) → NoneCrosses ms → sublot_in id sub ms ≡ sublot_in id sub (filter (is_own_movement o) ms)

@@ -1,15 +1,10 @@
 -- The owners of the sublots that a movement of a lawful history brings into and takes from; and that these sublots are known.
 use Rattle.std.proofs.Common.{◌≡◌, true, Some, ◌∷◌}
-use Rattle.toll_history.proofs.Common.{AllByRecursion, or_left, Bytes, LotId, MoveRow}
-use Rattle.toll_history.specs.Command.{Action, Record, by}
-use Rattle.toll_history.specs.History.{History, acts}
-use Rattle.toll_history.specs.Movements.{Movement, movement_of, movements, brings_into, sublot_known}
-use Rattle.toll_history.specs.Verdict.{Accepted, IsLawful, verdict}
+use Rattle.toll_history.proofs.Common.{AllByRecursion, or_left, Bytes, LotId, MoveRow, Action, Record, by, History, acts, Movement, movement_of, movements, brings_into, sublot_known, Accepted, IsLawful, verdict, BringsOwn, TakesKnown}
 use Rattle.toll_history.proofs.Passed.{move_fits}
 use Rattle.toll_history.proofs.EachMove.{each_move, of_found}
 use Rattle.toll_history.proofs.Moving.{brings_own, takes_known, takes_own}
 use Rattle.toll_history.proofs.Lots.{sublot_stays}
-use Rattle.toll_history.specs.Laws.{BringsOwn, TakesKnown}
 
 brings_now : (H : History) (o : Bytes) (row : MoveRow) → verdict H (by o (Record row)) ≡ Accepted → BringsOwn (by o (Record row) ∷ H) (o, row)
 unfolding sublot_known

@@ -1,10 +1,6 @@
 -- What an accepted action of an owner shows: none of its checks applies.
 use Rattle.std.proofs.Common.{◌≡◌, ℕ, suc, false, not, ◌&&◌, Some, ◌∷◌}
-use Rattle.toll_history.proofs.Common.{Bytes, house_name, UnknownOwner, MoveRow, Move}
-use Rattle.toll_history.specs.Command.{Action, Record, by}
-use Rattle.toll_history.specs.History.{History, owner_known}
-use Rattle.toll_history.specs.OwnerFacts.{facts_given}
-use Rattle.toll_history.specs.Verdict.{Accepted, verdict_of_checks, verdict, checks, plant_facts_given, action_checks, key_checks, movement_checks, needs_owner}
+use Rattle.toll_history.proofs.Common.{Bytes, house_name, UnknownOwner, MoveRow, Move, Action, Record, by, History, owner_known, facts_given, Accepted, verdict_of_checks, verdict, checks, plant_facts_given, action_checks, key_checks, movement_checks, needs_owner}
 use Rattle.toll_history.proofs.Accepted.{applies, none_applies, rest_accept}
 
 -- None of an accepted action's checks applies.

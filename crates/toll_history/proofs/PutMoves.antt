@@ -1,9 +1,8 @@
 -- The tables of a slice after a movement, a lot, a sublot or a void was put.
 use Rattle.std.proofs.Common.{◌≡◌, ℕ, suc, ◌+◌, Bool, true, false, ◌&&◌, ◌||◌, cond, Option, Some, None, is_some, is_none, List, [], ◌∷◌, length, refl, ap, ◌∙◌, arith}
-use Rattle.toll_history.proofs.Common.{nat_list_cmp_total, list_any, is_eq, or_left, or_right, Bytes, same_bytes, bytes_cmp, pair_cmp, row_at, put_row, Slice, with_row, lot_at, move_at, is_actual_of, LotRow, MoveRow, SublotRow, row_at-put_row, length-put_row, length-new, count-new, any-new, any-known, pair_cmp_total, is_eq-then, same_bytes-symm}
+use Rattle.toll_history.proofs.Common.{nat_list_cmp_total, list_any, is_eq, or_left, or_right, Bytes, same_bytes, bytes_cmp, pair_cmp, row_at, put_row, Slice, with_row, lot_at, move_at, is_actual_of, LotRow, MoveRow, SublotRow, row_at-put_row, length-put_row, length-new, count-new, any-new, any-known, pair_cmp_total, is_eq-then, same_bytes-symm, OwnerFacts, facts_of}
 use Rattle.std.specs.Cmp.{IsTotalOrder}
 use Rattle.std.specs.declared.cmp.Ordering.{Ordering}
-use Rattle.toll_history.specs.OwnerFacts.{OwnerFacts, facts_of}
 use Rattle.toll_base.specs.declared.rows.VoidRow.{VoidRow}
 use Rattle.toll_base.specs.declared.rows.Row.TheVariants.{Lot, Sublot, Move, Void}
 use Rattle.toll_history.proofs.Decided.{put_rows}

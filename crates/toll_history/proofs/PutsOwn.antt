@@ -1,8 +1,6 @@
 -- A decision's changes put rows of one owner alone, if those of its verdict do.
 use Rattle.std.proofs.Common.{Bool, List, [], ◌∷◌, map, sym, subst}
-use Rattle.toll_history.proofs.Common.{Bytes, changes_of, Change, Put, Decision, Row, same_bytes-refl}
-use Rattle.toll_history.specs.Verdict.{Verdict, Checks, Accepted, Repeated, Refused, verdict_of_checks}
-use Rattle.toll_history.specs.Decision.{IsDecided, changes_if}
+use Rattle.toll_history.proofs.Common.{Bytes, changes_of, Change, Put, Decision, Row, same_bytes-refl, Verdict, Checks, Accepted, Repeated, Refused, verdict_of_checks, IsDecided, changes_if}
 use Rattle.toll_history.specs.OwnChanges.{EachChange, PutsOnly}
 
 each_change_if : (such : Change → Bool) (v : Verdict) (changes : List Change) → EachChange such changes → EachChange such (changes_if v changes)

@@ -1,11 +1,6 @@
 -- The tables of a history after one more movement.
 use Rattle.std.proofs.Common.{◌≡◌, ℕ, ◌+◌, ◌-◌, Bool, true, false, not, ◌&&◌, ◌||◌, cond, Option, Some, None, is_none, ◌∷◌, refl, sym, ap, ◌∙◌, arith}
-use Rattle.toll_history.proofs.Common.{lot_row_of, sublot_row_of, false≢true, option_map, and_right, Bytes, same_bytes, or_else, where_so, is_some_where, lot_id, Quarantined, Origin, LotRow, MoveRow, SublotRow, both, same_bytes-exact, same_bytes-refl, same_bytes-symm}
-use Rattle.toll_history.specs.Command.{Record, by}
-use Rattle.toll_history.specs.History.{History, acts}
-use Rattle.toll_history.specs.Movements.{Made, made_by, first_made, lot_made, lot_brought, movements, movement_of, sublot_known, sublot_in, stock, brings_into, takes_from, makes_lot, makes_sublot, count_lots, count_sublots, material_used}
-use Rattle.toll_history.specs.OwnerFacts.{facts_given, lot_row, sublot_row, lot_row_made}
-use Rattle.toll_history.specs.Verdict.{Accepted, IsLawful, IsValidAction, verdict, amount_in}
+use Rattle.toll_history.proofs.Common.{lot_row_of, sublot_row_of, false≢true, option_map, and_right, Bytes, same_bytes, or_else, where_so, is_some_where, lot_id, Quarantined, Origin, LotRow, MoveRow, SublotRow, both, same_bytes-exact, same_bytes-refl, same_bytes-symm, Record, by, History, acts, Made, made_by, first_made, lot_made, lot_brought, movements, movement_of, sublot_known, sublot_in, stock, brings_into, takes_from, makes_lot, makes_sublot, count_lots, count_sublots, material_used, facts_given, lot_row, sublot_row, lot_row_made, Accepted, IsLawful, IsValidAction, verdict, amount_in}
 use Rattle.toll_history.proofs.Options.{or_else_none, true_where}
 use Rattle.toll_history.proofs.Own.{acts-own}
 use Rattle.toll_history.proofs.OwnFacts.{tables_but_amounts-other}

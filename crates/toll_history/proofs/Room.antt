@@ -1,12 +1,7 @@
 -- A slice has room for what is put, and no lawful history leads to a slice without room.
 use Rattle.std.proofs.Common.{◌≡◌, ℕ, ◌+◌, ◌-◌, ◌≤◌, Bool, true, false, ◌&&◌, ◌||◌, cond, nat_le, nat_lt, length, Option, Some, None, is_some, is_none, [], ◌∷◌, ◌++◌, refl, ap, ◌∙◌, arith}
-use Rattle.toll_history.proofs.Common.{sublot_row_of, nat_list_cmp_total, or_left, or_right, option_map_or, nat_tests, Bytes, bytes_cmp, pair_cmp, lot_id, Slice, with_row, material_at, lot_at, sublot_at, move_at, KeepsRules, row_fits, batch_has_room, Refusal, LimitReached, LotRow, MoveRow, SublotRow, and_is, amount_bound, pair_cmp_total}
+use Rattle.toll_history.proofs.Common.{sublot_row_of, nat_list_cmp_total, or_left, or_right, option_map_or, nat_tests, Bytes, bytes_cmp, pair_cmp, lot_id, Slice, with_row, material_at, lot_at, sublot_at, move_at, KeepsRules, row_fits, batch_has_room, Refusal, LimitReached, LotRow, MoveRow, SublotRow, and_is, amount_bound, pair_cmp_total, Record, by, History, acts, count_movements, count_sublots, stock, brings_into, takes_from, facts_of, facts_given, sublot_row, Accepted, Checks, verdict_of_checks, verdict_of_check, amount_in, verdict, IsLawful, IsValidAction}
 use Rattle.toll_history.specs.Bounds.{sublot_bounds}
-use Rattle.toll_history.specs.Command.{Record, by}
-use Rattle.toll_history.specs.History.{History, acts}
-use Rattle.toll_history.specs.Movements.{count_movements, count_sublots, stock, brings_into, takes_from}
-use Rattle.toll_history.specs.OwnerFacts.{facts_of, facts_given, sublot_row}
-use Rattle.toll_history.specs.Verdict.{Accepted, Checks, verdict_of_checks, verdict_of_check, amount_in, verdict, IsLawful, IsValidAction}
 use Rattle.toll_base.specs.declared.rows.Row.TheVariants.{Lot, Sublot, Move}
 use Rattle.toll_history.proofs.Options.{some_if_not_none}
 use Rattle.toll_history.proofs.Decided.{below_limit, RowsFit}
@@ -67,9 +62,6 @@ at_most_if_not_less n most h = grind (arith, nat_tests)
 module _ (s : Slice) where
   pub move_room : (row : MoveRow) → nat_le MOST_MOVEMENTS (length s.moves) ≡ false → batch_has_room s row.key row.what ≡ true → row_fits s (Move row) ≡ true
   move_room row room batch = and_is _ _ (or_right (is_some (move_at s row.key)) _ (below_limit MOST_MOVEMENTS (length s.moves) room)) batch
-
-  pub lot_room : (row : LotRow) → (is_none (lot_at s row.lot) && nat_le MOST_LOTS (length s.lots)) ≡ false → is_none (material_at s row.material) ≡ false → row_fits s (Lot row) ≡ true
-  lot_room row room material = and_is _ _ (room_of (lot_at s row.lot) MOST_LOTS (length s.lots) room) (some_if_not_none (material_at s row.material) material)
 
   pub sublot_room_in : (row : SublotRow) → (is_none (sublot_at s (row.lot, row.sublot)) && nat_le MOST_SUBLOTS (length s.sublots)) ≡ false → nat_lt MOST_STOCK row.amount ≡ false → is_some (lot_at s row.lot) ≡ true → row_fits s (Sublot row) ≡ true
   sublot_room_in row room amount lot = and_is _ _ (and_is _ _ (room_of (sublot_at s (row.lot, row.sublot)) MOST_SUBLOTS (length s.sublots) room) (at_most_if_not_less row.amount MOST_STOCK amount)) lot

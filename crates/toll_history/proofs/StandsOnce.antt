@@ -1,10 +1,6 @@
 -- In a lawful history, at most one standing movement has a given key, and a void removes exactly that one.
 use Rattle.std.proofs.Common.{◌≡◌, ℕ, ◌+◌, Bool, true, false, not, ◌&&◌, cond, Some, None, List, [], ◌∷◌, filter, refl, sym, ap, subst, ◌∙◌, arith}
-use Rattle.toll_history.proofs.Common.{or_parts, Bytes, same_bytes, total, MoveRow, both, same_bytes-exact}
-use Rattle.toll_history.specs.Command.{Action, Record, Void, by}
-use Rattle.toll_history.specs.History.{History, acts}
-use Rattle.toll_history.specs.Movements.{Movement, has_move_key, movement_of, movement_recorded, standing, voided_in, voids_key}
-use Rattle.toll_history.specs.Verdict.{Accepted, IsLawful, verdict}
+use Rattle.toll_history.proofs.Common.{or_parts, Bytes, same_bytes, total, MoveRow, both, same_bytes-exact, Action, Record, Void, by, History, acts, Movement, has_move_key, movement_of, movement_recorded, standing, voided_in, voids_key, Accepted, IsLawful, verdict}
 use Rattle.toll_history.proofs.Acts.{any_acts}
 use Rattle.toll_history.proofs.Found.{movement_of-recorded, movement_of-kept, key_found, key_is_new}
 use Rattle.toll_history.proofs.Sums.{total-alike, total-filtered}

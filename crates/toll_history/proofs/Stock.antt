@@ -1,10 +1,6 @@
 -- No more is taken from a sublot than was brought into it, and what was brought is bounded.
 use Rattle.std.proofs.Common.{◌≡◌, ℕ, ◌+◌, ◌-◌, ◌*◌, ◌≤◌, Bool, true, false, ◌&&◌, cond, is_some, [], ◌∷◌, refl, sym, ap, subst, ◌∙◌, arith}
-use Rattle.toll_history.proofs.Common.{false≢true, and_from, Bytes, same_bytes, LotId, MoveRow, same_bytes-refl}
-use Rattle.toll_history.specs.Command.{Action, Record, Void, by}
-use Rattle.toll_history.specs.History.{History, acts}
-use Rattle.toll_history.specs.Movements.{movement_recorded, count_movements, brings_into, takes_from, brought, taken, stock}
-use Rattle.toll_history.specs.Verdict.{Accepted, IsLawful, IsValidAction, verdict}
+use Rattle.toll_history.proofs.Common.{false≢true, and_from, Bytes, same_bytes, LotId, MoveRow, same_bytes-refl, Action, Record, Void, by, History, acts, movement_recorded, count_movements, brings_into, takes_from, brought, taken, stock, Accepted, IsLawful, IsValidAction, verdict}
 use Rattle.toll_history.proofs.Passed.{move_fits}
 use Rattle.toll_history.proofs.Acts.{count_acts}
 use Rattle.toll_history.proofs.LimitsKept.{movements_kept}

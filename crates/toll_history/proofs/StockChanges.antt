@@ -1,11 +1,6 @@
 -- What a sublot holds after a movement is recorded or voided.
 use Rattle.std.proofs.Common.{◌≡◌, ℕ, ◌+◌, ◌-◌, ◌≤◌, false, cond, Some, ◌∷◌, arith}
-use Rattle.toll_history.proofs.Common.{Bytes, LotId, MoveRow}
-use Rattle.toll_history.specs.Command.{Record, Void, by}
-use Rattle.toll_history.specs.History.{History, acts}
-use Rattle.toll_history.specs.Movements.{movement_of, voided_in, brings_into, takes_from, brought, taken, stock}
-use Rattle.toll_history.specs.Verdict.{IsLawful}
-use Rattle.toll_history.specs.Laws.{coming, going}
+use Rattle.toll_history.proofs.Common.{Bytes, LotId, MoveRow, Record, Void, by, History, acts, movement_of, voided_in, brings_into, takes_from, brought, taken, stock, IsLawful, coming, going}
 use Rattle.toll_history.proofs.StandsOnce.{total_voided}
 use Rattle.toll_history.proofs.Stock.{covered}
 

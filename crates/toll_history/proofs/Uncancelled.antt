@@ -1,10 +1,6 @@
 -- An order that isn't known was never cancelled.
 use Rattle.std.proofs.Common.{◌≡◌, true, false, ◌||◌, Option, Some, None, is_none, List, ◌∷◌, refl, sym, ap, ◌∙◌}
-use Rattle.toll_history.proofs.Common.{list_any, false≢true, Bytes, same_bytes, or_else, where_so, same_bytes-exact}
-use Rattle.toll_history.specs.Command.{Action, PlaceOrder, CancelOrder, by}
-use Rattle.toll_history.specs.History.{History, acts}
-use Rattle.toll_history.specs.Work.{order_of, cancels}
-use Rattle.toll_history.specs.Verdict.{Accepted, verdict, IsLawful, IsValidAction}
+use Rattle.toll_history.proofs.Common.{list_any, false≢true, Bytes, same_bytes, or_else, where_so, same_bytes-exact, Action, PlaceOrder, CancelOrder, by, History, acts, order_of, cancels, Accepted, verdict, IsLawful, IsValidAction}
 use Rattle.toll_history.proofs.Acts.{along_acts}
 use Rattle.toll_history.proofs.Options.{is_none_map}
 use Rattle.toll_history.proofs.Passed.{accepted_passes}

@@ -1,10 +1,6 @@
 -- An action that records and voids nothing leaves the movements, the lots and the stock as they are.
 use Rattle.std.proofs.Common.{◌≡◌, false, refl, sym}
-use Rattle.toll_history.proofs.Common.{false≢true, Bytes}
-use Rattle.toll_history.specs.Command.{Action, Record, Void, by}
-use Rattle.toll_history.specs.History.{History}
-use Rattle.toll_history.specs.Movements.{stock, sublot_known, lot_made, count_lots, count_sublots, material_used}
-use Rattle.toll_history.specs.Laws.{records_or_voids, IsUnmoved}
+use Rattle.toll_history.proofs.Common.{false≢true, Bytes, Action, Record, Void, by, History, stock, sublot_known, lot_made, count_lots, count_sublots, material_used, records_or_voids, IsUnmoved}
 
 pub unmoved : (H : History) (o : Bytes) (a : Action) → records_or_voids a ≡ false → IsUnmoved H (by o a)
 unfolding stock sublot_known lot_made count_lots count_sublots material_used

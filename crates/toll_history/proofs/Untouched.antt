@@ -1,13 +1,6 @@
 -- A lot that is not known has no results, and was neither released nor rejected.
 use Rattle.std.proofs.Common.{◌≡◌, ℤ, Bool, true, false, None, is_none, List, [], ◌∷◌, refl, sym, ap, ◌∙◌, arith}
-use Rattle.toll_history.proofs.Common.{false≢true, list_any, or_parts, or_from, and_right, false_from_ne_true, Bytes, same_bytes, count, lot_id, Quarantined, both, same_bytes-exact}
-use Rattle.toll_history.specs.Command.{Action, RecordResult, Release, Reject, by}
-use Rattle.toll_history.specs.History.{History, acts}
-use Rattle.toll_history.specs.Movements.{lot_made}
-use Rattle.toll_history.specs.OwnerFacts.{lot_row}
-use Rattle.toll_history.specs.Dispositions.{releases, rejects, is_result_of, is_out_of_limits, stays_released, disposition_of}
-use Rattle.toll_history.specs.Laws.{IsLotUndisposed}
-use Rattle.toll_history.specs.Verdict.{Accepted, IsLawful, verdict}
+use Rattle.toll_history.proofs.Common.{false≢true, list_any, or_parts, or_from, and_right, false_from_ne_true, Bytes, same_bytes, count, lot_id, Quarantined, both, same_bytes-exact, Action, RecordResult, Release, Reject, by, History, acts, lot_made, lot_row, releases, rejects, is_result_of, is_out_of_limits, stays_released, disposition_of, IsLotUndisposed, Accepted, IsLawful, verdict}
 use Rattle.toll_history.proofs.Options.{first_none}
 use Rattle.toll_history.proofs.Passed.{accepted_passes}
 use Rattle.toll_history.proofs.Acts.{any_acts}

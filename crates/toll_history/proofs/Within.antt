@@ -1,11 +1,6 @@
 -- Checks that give the verdict still give it with bounds after them that no lawful history meets.
 use Rattle.std.proofs.Common.{◌≡◌, List, ◌++◌, map, refl, sym, ap, ◌∙◌}
-use Rattle.toll_history.proofs.Common.{Bytes, Slice, KeepsRules, house_name, Put, Decision, Row}
-use Rattle.toll_history.specs.Command.{Action, by}
-use Rattle.toll_history.specs.Decision.{IsDecided, Decides, DecisionKeepsRules}
-use Rattle.toll_history.specs.History.{History}
-use Rattle.toll_history.specs.OwnerFacts.{OwnerFacts, facts_of, facts_given, IsRowsOf}
-use Rattle.toll_history.specs.Verdict.{Checks, Accepted, verdict_of_checks, plant_facts_given, action_checks, verdict, IsLawful, IsValidAction}
+use Rattle.toll_history.proofs.Common.{Bytes, Slice, KeepsRules, house_name, Put, Decision, Row, Action, by, IsDecided, Decides, DecisionKeepsRules, History, OwnerFacts, facts_of, facts_given, IsRowsOf, Checks, Accepted, verdict_of_checks, plant_facts_given, action_checks, verdict, IsLawful, IsValidAction}
 use Rattle.toll_history.proofs.Decided.{verdict_is, Grows, LeavesOthers, RowsFit, decides, keeps_rules}
 use Rattle.toll_history.proofs.Room.{unbounded}
 

@@ -1,10 +1,7 @@
 -- A fact of all slices in a list, of which no owner has two, is a fact of the content, and the other way round.
-use Rattle.std.proofs.Common.{◌≡◌, ◌⊎◌, ℕ, ◌+◌, ◌<◌, true, false, cond, Option, Some, None, is_some, List, [], ◌∷◌, ◌++◌, length, get_or, take, refl, sym, ap, subst, ◌∙◌, inl, inr}
-use Rattle.toll_keep.proofs.Common.{false≢true, take_more, All-contains, Contains-append_left, Contains-append_right, Contains-append_cases, Contains-push, Contains-push_cases, Bytes, is_some_where, row_at, Slice, empty_slice, batch_at, Edge, same_bytes-refl, same_bytes-symm, IsInOrder, edge_cmp, IsEdge, AreEdges, Contains-none, Contains-here, Contains-later, Contains-cases, member_of_all, kept_in_order, edges_exact}
-use Rattle.std.specs.Prelude.{Contains, Any}
+use Rattle.std.proofs.Common.{◌≡◌, ◌⊎◌, ℕ, ◌+◌, ◌<◌, true, false, cond, Option, Some, None, is_some, List, [], ◌∷◌, ◌++◌, length, get_or, take, refl, sym, ap, subst, ◌∙◌, inl, inr, Contains, Any}
+use Rattle.toll_keep.proofs.Common.{false≢true, take_more, All-contains, Contains-append_left, Contains-append_right, Contains-append_cases, Contains-push, Contains-push_cases, Bytes, is_some_where, row_at, Slice, empty_slice, batch_at, Edge, same_bytes-refl, same_bytes-symm, IsInOrder, edge_cmp, IsEdge, AreEdges, Contains-none, Contains-here, Contains-later, Contains-cases, member_of_all, kept_in_order, edges_exact, is_on, IsHolder, IsHolderIn, IsHolderAmong, IsEdgeOfSome, AreGathered, is_slice_of, rows_in, IsOneEach, Kept, content_of}
 use Rattle.toll_keep.specs.declared.holder.Holder.{Holder}
-use Rattle.toll_keep.specs.Holding.{is_on, IsHolder, IsHolderIn, IsHolderAmong, IsEdgeOfSome, AreGathered}
-use Rattle.toll_keep.specs.Slices.{is_slice_of, rows_in, IsOneEach, Kept, content_of}
 
 -- ---- a slice of the list has its owner's rows
 
@@ -65,9 +62,6 @@ edges_of_some k edges sorted one gathered in_order = record {
 
 any_of_member : {X : Type 0} (P : X → Type 0) (xs : List X) (x : X) → Contains xs x → P x → Any P xs
 any_of_member P xs x (i, lt, at) h = (i, x, lt, at, h)
-
-pub gathered_none : AreGathered [] []
-gathered_none = record { only = λ e i. absurd (Contains-none e i); every = λ s e i edge. absurd (Contains-none s i) }
 
 pub gathered_more : (slices : List Slice) (s : Slice) (edges more : List Edge) → AreGathered slices edges → AreEdges (IsEdge s) more → AreGathered (slices ++ s ∷ []) (edges ++ more)
 gathered_more slices s edges more so_far own = record {

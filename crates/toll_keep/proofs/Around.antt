@@ -1,14 +1,7 @@
 -- A keep with a cache around another keep: facts of it that follow from facts of the one inside.
-use Rattle.std.proofs.Common.{◌≡◌, ◌≢◌, false, Some, Result, Ok, Err, OnOk, OnErr, sym, subst}
-use Rattle.std.specs.Prelude.{IsSome, Contains}
-use Rattle.toll_keep.proofs.Common.{false≢true, All-nil, Contains-none}
+use Rattle.std.proofs.Common.{IsSome, Contains, ◌≡◌, ◌≢◌, false, Some, Result, Ok, Err, OnOk, OnErr, sym, subst}
+use Rattle.toll_keep.proofs.Common.{false≢true, All-nil, Contains-none, Content, ContentKeepsRules, slice_of, CallEffect, IsReading, AreOf, AreCachedRows, IsNothing, IsCacheOf, OnlyKnownHaveRows, Meaning, meaning_of, HaveRead, KeepFault}
 use Rattle.std.proofs.Math.Logic.{∥∥₁_elim}
-use Rattle.toll_keep.specs.Content.{Content, ContentKeepsRules, slice_of}
-use Rattle.toll_keep.specs.CallEffects.{CallEffect, IsReading}
-use Rattle.toll_keep.specs.Meaning.{Meaning, meaning_of}
-use Rattle.toll_keep.specs.Reads.{HaveRead}
-use Rattle.toll_keep.specs.Remembered.{AreOf, AreCachedRows, IsNothing, IsCacheOf, OnlyKnownHaveRows}
-use Rattle.toll_keep.specs.declared.fault.KeepFault.{KeepFault}
 use Rattle.toll_keep.specs.declared.fault.KeepFault.TheVariants.{Damaged}
 use Rattle.toll_keep.specs.declared.keep.Keep.{Ghosts}
 use Rattle.toll_keep.specs.declared.cache.Cache.{Cache}

@@ -1,11 +1,7 @@
 -- One call of a keep after another, and a call under another answer.
-use Rattle.std.proofs.Common.{◌≡◌, false, [], ◌∷◌, Result, Ok, Err, inl, inr, refl, sym, subst, ◌∙◌}
-use Rattle.std.specs.Prelude.{◌≢◌, ◌↔◌, ◌⊎◌, IsTrue, OnErr, OnOk}
+use Rattle.std.proofs.Common.{◌≡◌, false, [], ◌∷◌, Result, Ok, Err, inl, inr, refl, sym, subst, ◌∙◌, ◌≢◌, ◌↔◌, ◌⊎◌, IsTrue, OnErr, OnOk}
+use Rattle.toll_keep.proofs.Common.{Content, ContentKeepsRules, CallEffect, Keeps, IsReading, IsSpared, Settles, closes_keep, Meaning, OverContent, KeepFault}
 use mathlib.Core.Bool.{false≢true}
-use Rattle.toll_keep.specs.Meaning.{Meaning, OverContent}
-use Rattle.toll_keep.specs.Content.{Content, ContentKeepsRules}
-use Rattle.toll_keep.specs.CallEffects.{CallEffect, Keeps, IsReading, IsSpared, Settles, closes_keep}
-use Rattle.toll_keep.specs.declared.fault.KeepFault.{KeepFault}
 use Rattle.toll_keep.specs.declared.fault.KeepFault.TheVariants.{Memory, Disk, Damaged, Closed}
 
 -- the result of a call that was answered, and of one that failed

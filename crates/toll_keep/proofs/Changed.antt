@@ -1,9 +1,8 @@
 -- Changes, one after another, keep the owner of each slice and all known owners.
 use Rattle.std.proofs.Common.{◌≡◌, ℕ, suc, ◌+◌, ◌<◌, Bool, true, false, ◌||◌, List, [], ◌∷◌, length, get_or, drop, drop-cons, add-one, cond, refl, sym, ap}
 use Rattle.std.specs.Cmp.Lexicographic.{nat_list_cmp_total}
-use Rattle.toll_keep.proofs.Common.{Bytes, bytes_cmp, same_bytes, house_name, Slice, with_row, after_change, Change, Owner, Unit as UnitAdded, Put}
+use Rattle.toll_keep.proofs.Common.{Bytes, bytes_cmp, same_bytes, house_name, Slice, with_row, after_change, Change, Owner, Unit as UnitAdded, Put, Content, knows, content_after}
 use Rattle.toll_base.proofs.PutRules.{still_there}
-use Rattle.toll_keep.specs.Content.{Content, knows, content_after}
 use Rattle.toll_keep.proofs.Slicing.{owner-with_row}
 
 -- ---- the next change

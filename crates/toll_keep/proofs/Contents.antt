@@ -1,10 +1,6 @@
 -- Contents with the same rows are equal, and a content of a list is one of its items.
-use Rattle.std.proofs.Common.{◌≡◌, true, Some, None, cond, List, [], ◌∷◌, Vec, Global, length, sym, ap, ◌∙◌, inl, inr, subst}
-use Rattle.std.specs.Prelude.{Contains}
-use Rattle.toll_keep.proofs.Common.{with_items, with_items_is, Bytes, Slice, OwnerRow, UnitRow, Contains-none, Contains-here, Contains-later, Contains-cases}
-use Rattle.toll_keep.specs.Content.{Content, knows, slice_of}
-use Rattle.toll_keep.specs.CallEffects.{IsAmong}
-use Rattle.toll_keep.specs.Slices.{Kept}
+use Rattle.std.proofs.Common.{◌≡◌, true, Some, None, cond, List, [], ◌∷◌, Vec, Global, length, sym, ap, ◌∙◌, inl, inr, subst, Contains}
+use Rattle.toll_keep.proofs.Common.{with_items, with_items_is, Bytes, Slice, OwnerRow, UnitRow, Contains-none, Contains-here, Contains-later, Contains-cases, Content, knows, slice_of, IsAmong, Kept}
 
 pub same_content : (a b : Content) → a.owners ≡ b.owners → a.units ≡ b.units → ((o : Bytes) → a.rows o ≡ b.rows o) → a ≡ b
 same_content a b owners units rows = λ i. record { owners = owners i; units = units i; rows = λ o. rows o i }

@@ -1,7 +1,5 @@
 -- Edges stay through changes that add none and remove none.
-use Rattle.std.proofs.Common.{◌≡◌, Bool, true, false, not, ◌&&◌, ◌||◌, cond, Option, Some, None, is_some, List, [], ◌∷◌, refl, sym, ap, ◌∙◌}
-use Rattle.std.specs.Prelude.{Contains, filter}
-use Rattle.std.proofs.lemmas.Bool.{and_parts, not-true}
+use Rattle.std.proofs.Common.{◌≡◌, Bool, true, false, not, ◌&&◌, ◌||◌, cond, Option, Some, None, is_some, List, [], ◌∷◌, refl, sym, ap, ◌∙◌, Contains, filter}
 use Rattle.std.proofs.lemmas.Cmp.{nat_list_cmp_total}
 use Rattle.std.proofs.lemmas.Map.Lookups.{exact_bytes}
 use Rattle.std.proofs.lemmas.Map.Views.{tells_apart}
@@ -10,14 +8,9 @@ use Rattle.toll_base.specs.Slice.{move_at, void_at}
 use Rattle.toll_base.specs.declared.movement.MoveRow.{MoveRow}
 use Rattle.toll_base.specs.declared.rows.Row.{Row}
 use Rattle.toll_base.specs.declared.rows.Row.TheVariants as row
-use Rattle.toll_trace.specs.Edges.{Stands}
 use Rattle.toll_trace.proofs.Members.{Contains-from_filter}
 use Rattle.toll_trace.proofs.Recording.{graph_same}
-use Rattle.toll_keep.proofs.Common.{false≢true, list_any, is_eq, All-contains, Bytes, bytes_cmp, same_bytes, same_bytes-exact, Slice, with_row, after_change, after_changes, Change, Owner, Unit as UnitAdded, Put, Edge, IsEdge, Contains-here, Contains-later}
-use Rattle.toll_keep.specs.Content.{Content, slice_of, knows, content_after}
-use Rattle.toll_keep.specs.Graphs.{AreGraphsOf, is_actual, may_change_graph, lacks_key, may_draw}
-use Rattle.toll_keep.specs.Remembered.{AreOf}
-use Rattle.toll_keep.specs.Slices.{is_slice_of}
+use Rattle.toll_keep.proofs.Common.{false≢true, list_any, is_eq, All-contains, Bytes, bytes_cmp, same_bytes, same_bytes-exact, Slice, with_row, after_change, after_changes, Change, Owner, Unit as UnitAdded, Put, Edge, IsEdge, Contains-here, Contains-later, Stands, Content, slice_of, knows, content_after, AreGraphsOf, is_actual, may_change_graph, lacks_key, may_draw, AreOf, is_slice_of, and_parts, not-true}
 use Rattle.toll_keep.specs.declared.known_graph.KnownGraph.{KnownGraph}
 use Rattle.toll_keep.proofs.Changed.{own_after}
 use Rattle.toll_keep.proofs.RememberedLemmas.{cached_known_slice}

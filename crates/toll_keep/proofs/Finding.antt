@@ -1,7 +1,6 @@
 -- The result of a search through rows, as a fact of their keys.
-use Rattle.std.proofs.Common.{◌≡◌, Bool, true, false, not, cond, Option, Some, None, is_some, List, [], ◌∷◌, refl, sym, ap, subst, ◌∙◌, inl, inr}
+use Rattle.std.proofs.Common.{◌≡◌, Bool, true, false, not, cond, Option, Some, None, is_some, List, [], ◌∷◌, refl, sym, ap, subst, ◌∙◌, inl, inr, find, Contains}
 use Rattle.toll_keep.proofs.Common.{false≢true, IsTotalOrder, is_eq, ordering_reverse, Ordering, row_at, IsInKeyOrder, is_some_where, none_or, Contains-none, Contains-here, Contains-later, Contains-cases}
-use Rattle.std.specs.Prelude.{find, Contains}
 use Rattle.std.proofs.lemmas.Cmp.{tied_itself}
 use Rattle.toll_trace.proofs.Drawn.{row_of_member}
 

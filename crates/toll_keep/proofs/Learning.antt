@@ -1,7 +1,5 @@
 -- Graphs of owners, and the edges that they have together.
-use Rattle.std.proofs.Common.{Bor, ◌≡◌, ◌↔◌, ◌⊎◌, ℕ, ◌+◌, ◌<◌, cond, length, get_or, take, drop, Bool, true, false, Some, None, List, [], ◌∷◌, ◌++◌, map, Result, Ok, Err, IfOk, Vec, Global, refl, sym, ap, subst, ◌∙◌, inl, inr}
-use Rattle.std.specs.Prelude.{Contains, filter, ◌||◌}
-use Rattle.std.proofs.lemmas.List.{take-append-drop}
+use Rattle.std.proofs.Common.{Bor, ◌≡◌, ◌↔◌, ◌⊎◌, ℕ, ◌+◌, ◌<◌, cond, length, get_or, take, drop, Bool, true, false, Some, None, List, [], ◌∷◌, ◌++◌, map, Result, Ok, Err, IfOk, Vec, Global, refl, sym, ap, subst, ◌∙◌, inl, inr, append-nil, Contains, filter, ◌||◌}
 use Rattle.toll_trace.specs.Chain.{edge_of}
 use Rattle.toll_trace.specs.Graph.{IsGraph, LeadAmong, Leads}
 use Rattle.toll_trace.specs.Trace.{IsTrace}
@@ -11,11 +9,7 @@ use Rattle.toll_trace.specs.declared.way.Way.{Way}
 use Rattle.toll_trace.proofs.Members.{Contains-filter, Contains-from_filter, Contains-map, Contains-from_map}
 use Rattle.toll_trace.proofs.Unique.{trace_same}
 use Rattle.toll_base.specs.declared.lot.LotId.{LotId}
-use Rattle.toll_keep.proofs.Common.{list_any, Bytes, same_bytes, same_bytes-exact, same_bytes-refl, Slice, empty_slice, IsEdge, Contains-none, Contains-cases, Contains-append_left, Contains-append_cases, Contains-push, Contains-push_cases, take_more, Edge}
-use Rattle.toll_keep.specs.Content.{Content, slice_of, knows}
-use Rattle.toll_keep.specs.Graphs.{AreGraphsOf, HasGraph, IsKnownGraph}
-use Rattle.toll_keep.specs.Holding.{IsEdgeOfOne, GivesTrace}
-use Rattle.toll_keep.specs.Remembered.{OnlyKnownHaveRows}
+use Rattle.toll_keep.proofs.Common.{list_any, Bytes, same_bytes, same_bytes-exact, same_bytes-refl, Slice, empty_slice, IsEdge, Contains-none, Contains-cases, Contains-append_left, Contains-append_cases, Contains-push, Contains-push_cases, take_more, Edge, take-append-drop, Content, slice_of, knows, AreGraphsOf, HasGraph, IsKnownGraph, IsEdgeOfOne, GivesTrace, OnlyKnownHaveRows, map-append, or_right}
 use Rattle.toll_keep.specs.declared.known_graph.KnownGraph.{KnownGraph}
 use Rattle.toll_keep.proofs.DrawnStay.{drawn_any_member}
 use Rattle.toll_keep.proofs.RememberedLemmas.{cached_known_slice, unknown_if_none}
@@ -54,15 +48,11 @@ graphs_pushed c graphs known are is k i = elim (Contains-append_cases graphs (kn
 
 -- ---- the graphs of some owners
 
-or_one : (a b : Bool) → b ≡ true → (a || b) ≡ true
-or_one true b h = refl
-or_one false b h = h
-
 learnt_any_of : {X : Type 0} (p : X → Bool) (xs : List X) (x : X) → Contains xs x → p x ≡ true → list_any p xs ≡ true
 learnt_any_of p [] x i h = absurd (Contains-none x i)
 learnt_any_of p (y ∷ xs) x i h = elim (Contains-cases y xs x i) [
   | inl same ↦ subst (λ b. (b || list_any p xs) ≡ true) (sym (ap p same ∙ h)) refl
-  | inr later ↦ or_one (p y) (list_any p xs) (learnt_any_of p xs x later h)
+  | inr later ↦ or_right (p y) (list_any p xs) (learnt_any_of p xs x later h)
 ]
 
 -- the graphs of these owners
@@ -106,16 +96,12 @@ filter_push p (y ∷ xs) x b e = elim (p y) as (λ t. cond t (y ∷ filter p (xs
   | false ↦ filter_push p xs x b e
 ]
 
-pub map_both : {X Y : Type 0} (f : X → Y) (xs ys : List X) → map f (xs ++ ys) ≡ map f xs ++ map f ys
-map_both f [] ys = refl
-map_both f (x ∷ xs) ys = ap (λ zs. f x ∷ zs) (map_both f xs ys)
-
 pub graphs_more : (owners : List Bytes) (graphs : List KnownGraph) (i : ℕ) (known : KnownGraph) (b : Bool) → i < length graphs → known ≡ get_or graphs i known → list_any (same_bytes known.owner) owners ≡ b → graphs_of owners (take (i + 1) graphs) ≡ graphs_of owners (take i graphs) ++ cond b (known.graph ∷ []) []
 graphs_more owners graphs i known b lt is e =
     let test = λ (k : KnownGraph). list_any (same_bytes k.owner) owners in
     ap (graphs_of owners) (take_more graphs i known lt ∙ ap (λ k. take i graphs ++ k ∷ []) (sym is))
     ∙ ap (map (λ (k : KnownGraph). k.graph)) (filter_push test (take i graphs) known b e)
-    ∙ map_both (λ (k : KnownGraph). k.graph) (filter test (take i graphs)) (cond b (known ∷ []) [])
+    ∙ map-append (λ (k : KnownGraph). k.graph) (filter test (take i graphs)) (cond b (known ∷ []) [])
     ∙ ap (λ gs. graphs_of owners (take i graphs) ++ gs) (last b)
   where
     last : (b : Bool) → map (λ (k : KnownGraph). k.graph) (cond b (known ∷ []) []) ≡ cond b (known.graph ∷ []) []
@@ -125,16 +111,12 @@ graphs_more owners graphs i known b lt is e =
 pub graphs_taken : (c : Content) (graphs : List KnownGraph) (n : ℕ) → AreGraphsOf c graphs → AreGraphsOf c (take n graphs)
 graphs_taken c graphs n are known i = are known (subst (λ gs. Contains gs known) (take-append-drop n graphs) (Contains-append_left (take n graphs) (drop n graphs) known i))
 
-append_none : {X : Type 0} (xs : List X) → xs ++ [] ≡ xs
-append_none [] = refl
-append_none (x ∷ xs) = ap (λ ys. x ∷ ys) (append_none xs)
-
 pub chosen_more : (owners : List Bytes) (graphs : List KnownGraph) (i : ℕ) (known : KnownGraph) (refs : List (Bor Graph)) (ref : Bor Graph) → i < length graphs → known ≡ get_or graphs i known → list_any (same_bytes known.owner) owners ≡ true → ref.now ≡ known.graph → map (λ graph. graph.now) refs ≡ graphs_of owners (take i graphs) → map (λ graph. graph.now) (refs ++ ref ∷ []) ≡ graphs_of owners (take (i + 1) graphs)
 chosen_more owners graphs i known refs ref lt is e shown before =
-    map_both (λ (graph : Bor Graph). graph.now) refs (ref ∷ []) ∙ ap (λ g. map (λ (graph : Bor Graph). graph.now) refs ++ g ∷ []) shown ∙ ap (λ gs. gs ++ known.graph ∷ []) before ∙ sym (graphs_more owners graphs i known true lt is e)
+    map-append (λ (graph : Bor Graph). graph.now) refs (ref ∷ []) ∙ ap (λ g. map (λ (graph : Bor Graph). graph.now) refs ++ g ∷ []) shown ∙ ap (λ gs. gs ++ known.graph ∷ []) before ∙ sym (graphs_more owners graphs i known true lt is e)
 
 pub chosen_same : (owners : List Bytes) (graphs : List KnownGraph) (i : ℕ) (known : KnownGraph) (refs : List (Bor Graph)) → i < length graphs → known ≡ get_or graphs i known → list_any (same_bytes known.owner) owners ≡ false → map (λ graph. graph.now) refs ≡ graphs_of owners (take i graphs) → map (λ graph. graph.now) refs ≡ graphs_of owners (take (i + 1) graphs)
-chosen_same owners graphs i known refs lt is e before = before ∙ sym (graphs_more owners graphs i known false lt is e ∙ append_none (graphs_of owners (take i graphs)))
+chosen_same owners graphs i known refs lt is e before = before ∙ sym (graphs_more owners graphs i known false lt is e ∙ append-nil (graphs_of owners (take i graphs)))
 
 -- ---- the records of some owners
 

@@ -1,10 +1,6 @@
 -- The cache: looked up, added to, and after changes.
-use Rattle.std.proofs.Common.{◌≡◌, ℕ, Bool, true, false, ◌||◌, cond, map, Some, None, List, [], ◌∷◌, ◌++◌, get_or, refl, sym, ap, subst, ◌∙◌}
-use Rattle.std.specs.Prelude.{position}
-use Rattle.toll_keep.proofs.Common.{list_any, All-get_or, All-push, All-weaker, All-map, position-Some, false≢true, Bytes, same_bytes, Slice, empty_slice, with_row, after_change, after_changes, Change, Owner, Unit as UnitAdded, Put, OwnerRow, UnitRow, same_bytes-exact}
-use Rattle.toll_keep.specs.Content.{Content, knows, slice_of, content_after, after_owners, after_units, ChangeFits, AllChangesFit}
-use Rattle.toll_keep.specs.Remembered.{AreOf, OnlyKnownHaveRows, is_addition, is_put_for}
-use Rattle.toll_keep.specs.Slices.{is_slice_of}
+use Rattle.std.proofs.Common.{◌≡◌, ℕ, Bool, true, false, ◌||◌, cond, map, Some, None, List, [], ◌∷◌, ◌++◌, get_or, refl, sym, ap, subst, ◌∙◌, position}
+use Rattle.toll_keep.proofs.Common.{list_any, All-get_or, All-push, All-weaker, All-map, position-Some, false≢true, Bytes, same_bytes, Slice, empty_slice, with_row, after_change, after_changes, Change, Owner, Unit as UnitAdded, Put, OwnerRow, UnitRow, same_bytes-exact, Content, knows, slice_of, content_after, after_owners, after_units, ChangeFits, AllChangesFit, AreOf, OnlyKnownHaveRows, is_addition, is_put_for, is_slice_of}
 use Rattle.toll_keep.proofs.Changed.{own_after, known_after}
 
 -- ---- looked up

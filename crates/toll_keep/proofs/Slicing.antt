@@ -1,11 +1,10 @@
 -- The rows that slices in a list have of each owner, and the effect of a put.
-use Rattle.std.proofs.Common.{◌≡◌, ℕ, zero, suc, ◌+◌, ◌<◌, Bool, true, false, not, cond, nat_lt, Option, Some, None, is_some, List, [], ◌∷◌, ◌++◌, length, get_or, set, refl, sym, ap, subst, ◌∙◌, arith}
-use Rattle.toll_keep.proofs.Common.{false≢true, AllByRecursion, position_or_len, or_left, or_right, list_any-append, list_any_at, position-Some, Bytes, same_bytes, Slice, empty_slice, with_row, after_change, Put, same_bytes-exact, same_bytes-refl, same_bytes-symm}
-use Rattle.std.specs.Prelude.{position}
+use Rattle.std.proofs.Common.{◌≡◌, ℕ, zero, suc, ◌+◌, ◌<◌, Bool, true, false, not, cond, nat_lt, Option, Some, None, is_some, List, [], ◌∷◌, ◌++◌, length, get_or, set, refl, sym, ap, subst, ◌∙◌, arith, position}
+use Rattle.toll_base.proofs.KeyOrder.{cond_swap}
+pub use Rattle.toll_base.proofs.SliceFits.{owner-with_row}
+use Rattle.toll_keep.proofs.Common.{false≢true, AllByRecursion, position_or_len, or_left, or_right, list_any-append, list_any_at, position-Some, Bytes, same_bytes, Slice, empty_slice, with_row, after_change, Put, same_bytes-exact, same_bytes-refl, same_bytes-symm, is_slice_of, rows_in, put_slice, IsOneEach, has_slice}
 use Rattle.std.proofs.lemmas.Bool.Decides.{nat_tests}
 use Rattle.toll_base.specs.declared.rows.Row.{Row}
-use Rattle.toll_base.specs.declared.rows.Row.TheVariants.{Material, Test, Recipe, Requirement, Order, Batch, Lot, Sublot, Move, Result, Void}
-use Rattle.toll_keep.specs.Slices.{is_slice_of, rows_in, put_slice, IsOneEach, has_slice}
 
 -- ---- the rows of an owner are its own
 
@@ -17,29 +16,11 @@ owner-rows_in (s ∷ slices) o =
       | false ↦ λ e. owner-rows_in slices o
     ] refl
 
-pub owner-with_row : (s : Slice) (row : Row) → (with_row s row).owner ≡ s.owner
-owner-with_row s (Material row) = refl
-owner-with_row s (Test row) = refl
-owner-with_row s (Recipe row) = refl
-owner-with_row s (Requirement row) = refl
-owner-with_row s (Order row) = refl
-owner-with_row s (Batch row) = refl
-owner-with_row s (Lot row) = refl
-owner-with_row s (Sublot row) = refl
-owner-with_row s (Move row) = refl
-owner-with_row s (Result row) = refl
-owner-with_row s (Void row) = refl
-
 -- ---- after a put
 
 sliced_twice : {X : Type 0} (a b : Bool) (new old rest : X) → b ≡ a → cond a new rest ≡ cond a new (cond b old rest)
 sliced_twice true b new old rest same = refl
 sliced_twice false b new old rest same = rw same refl
-
-swap : {X : Type 0} (a b : Bool) (x new rest : X) → (a ≡ true → b ≡ true → ⊥) → cond a x (cond b new rest) ≡ cond b new (cond a x rest)
-swap true true x new rest apart = absurd (apart refl refl)
-swap true false x new rest apart = refl
-swap false b x new rest apart = refl
 
 -- The owner of the put slice has its rows, and each other keeps those that it had.
 pub rows_in-put : (slices : List Slice) (new : Slice) (o : Bytes) → rows_in (put_slice slices new) o ≡ cond (is_slice_of o new) new (rows_in slices o)
@@ -48,7 +29,7 @@ rows_in-put (s ∷ slices) new o =
     elim (is_slice_of new.owner s) as (λ b. is_slice_of new.owner s ≡ b → rows_in (cond b (new ∷ slices) (s ∷ put_slice slices new)) o ≡ cond (is_slice_of o new) new (cond (is_slice_of o s) s (rows_in slices o))) [
       | true ↦ λ e. sliced_twice (is_slice_of o new) (is_slice_of o s) new s (rows_in slices o) (ap (λ owner. same_bytes owner o) (same_bytes-exact s.owner new.owner e))
       | false ↦ λ e. ap (cond (is_slice_of o s) s) (rows_in-put slices new o)
-          ∙ swap (is_slice_of o s) (is_slice_of o new) s new (rows_in slices o)
+          ∙ cond_swap (is_slice_of o s) (is_slice_of o new) s new (rows_in slices o)
           (λ of_s of_new. let same : s.owner ≡ new.owner = same_bytes-exact s.owner o of_s ∙ sym (same_bytes-exact new.owner o of_new) in
           false≢true (sym e ∙ ap (λ owner. same_bytes owner new.owner) same ∙ same_bytes-refl new.owner))
     ] refl

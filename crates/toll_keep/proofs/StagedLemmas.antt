@@ -1,14 +1,7 @@
 -- Staged changes, and what was read of the keep with them.
-use Rattle.std.proofs.Common.{◌≡◌, Bool, true, false, ◌||◌, cond, Some, None, List, [], ◌∷◌, ◌++◌, Result, Ok, Err, OnOk, inl, inr, refl, sym, ap, subst, ◌∙◌}
-use Rattle.std.specs.Prelude.{◌≢◌, is_some, map}
-use Rattle.toll_keep.proofs.Common.{list_any, list_any-append, Bytes, bytes_cmp, same_bytes, after_changes, Slice, row_at, house_name, Change, Owner, Unit as UnitAdded, Put, OwnerRow, UnitRow}
-use Rattle.toll_keep.specs.Content.{Content, AllChangesFit, slice_of, content_after, after_owners, after_units}
-use Rattle.toll_keep.specs.CallEffects.{IsReading}
-use Rattle.toll_keep.specs.Meaning.{Meaning}
+use Rattle.std.proofs.Common.{◌≡◌, Bool, true, false, ◌||◌, cond, Some, None, List, [], ◌∷◌, ◌++◌, Result, Ok, Err, OnOk, inl, inr, refl, sym, ap, subst, ◌∙◌, ◌≢◌, is_some, map}
+use Rattle.toll_keep.proofs.Common.{list_any, list_any-append, Bytes, bytes_cmp, same_bytes, after_changes, Slice, row_at, house_name, Change, Owner, Unit as UnitAdded, Put, OwnerRow, UnitRow, Content, AllChangesFit, slice_of, content_after, after_owners, after_units, IsReading, AreOf, is_addition, or_from, Meaning, HaveRead, IsContentKept, KeepFault}
 use Rattle.toll_keep.specs.StagedChanges.{IsReadThrough, ReadsThrough}
-use Rattle.toll_keep.specs.Reads.{HaveRead, IsContentKept}
-use Rattle.toll_keep.specs.Remembered.{AreOf, is_addition}
-use Rattle.toll_keep.specs.declared.fault.KeepFault.{KeepFault}
 use Rattle.toll_keep.specs.declared.staged_changes.StagedChanges.{StagedChanges}
 use Rattle.toll_keep.proofs.Calls.{Rests, rests, reads_then, read_ok}
 use Rattle.toll_keep.proofs.Contents.{same_content}
@@ -43,12 +36,8 @@ fits_behind (Owner row ∷ first) more c fits then = (fits.0, fits_behind first 
 fits_behind (UnitAdded row ∷ first) more c fits then = (fits.0, fits_behind first more (content_after (UnitAdded row ∷ []) c) fits.1 then)
 fits_behind (Put o row ∷ first) more c fits then = (fits.0, fits_behind first more (content_after (Put o row ∷ []) c) fits.1 then)
 
-or_false_both : (a b : Bool) → a ≡ false → b ≡ false → (a || b) ≡ false
-or_false_both true b first more = absurd (cc first)
-or_false_both false b first more = more
-
 pub none_added : (first more : List Change) → list_any is_addition first ≡ false → list_any is_addition more ≡ false → list_any is_addition (first ++ more) ≡ false
-none_added first more none none_more = list_any-append is_addition first more ∙ or_false_both (list_any is_addition first) (list_any is_addition more) none none_more
+none_added first more none none_more = list_any-append is_addition first more ∙ or_from (list_any is_addition first) (list_any is_addition more) none none_more
 
 -- Slices that follow more changes are slices of the content after them.
 pub slices_behind : (first more : List Change) (c : Content) (slices : List Slice) → AreOf (content_after first c) slices → AreOf (content_after (first ++ more) c) (map (after_changes more) slices)

@@ -1,5 +1,5 @@
 -- Definitions of other crates that several definitions and contracts here use.
-pub use Rattle.std.specs.Global.{Global, Vec}
+pub use Rattle.std.specs.Global.{Global}
 pub use Rattle.std.specs.List.{AllByRecursion, list_any}
 pub use Rattle.toll_base.specs.Bytes.{Bytes, bytes_cmp, same_bytes}
 pub use Rattle.toll_base.specs.Changes.{after_change, after_changes}

@@ -1,9 +1,7 @@
 -- A text is parsed in only one way.
 use Rattle.std.proofs.Common.{◌≡◌, ◌∙◌, ℕ, List, drop, map, sym, ap, subst, inl, inr}
+use Rattle.toll_protocol.proofs.Common.{name_and_value, IsHeadOf, ParseResult, IsParsedAs, checked}
 use Rattle.httparse.specs.Grammar.{RequestHead}
-use Rattle.httparse.specs.Spans.{name_and_value}
-use Rattle.toll_protocol.specs.Head.{IsHeadOf}
-use Rattle.toll_protocol.specs.Parsing.{ParseResult, IsParsedAs, checked}
 use Rattle.toll_protocol.proofs.Fronts.{one_head, one_len}
 
 pub arrives_once : (text : List ℕ) (a b : ParseResult) → IsParsedAs text a → IsParsedAs text b → a ≡ b

@@ -1,10 +1,10 @@
 -- A search among fields, one more field at a time.
 use Rattle.std.proofs.Common.{◌≡◌, ◌≢◌, ℕ, ◌+◌, ◌<◌, true, false, List, [], ◌∷◌, length, get_or, drop, map, refl, sym, ap, ◌∙◌, add-one}
+use Rattle.toll_protocol.proofs.Common.{Pair, Seen, absent, once, several, found_among, values_of, is_named}
 use Rattle.std.proofs.Math.Seq.{drop-cons}
 use Rattle.toll_protocol.specs.Found.{seen_match}
 use Rattle.toll_protocol.specs.declared.http_messages.field.FieldMatch.{FieldMatch}
 use Rattle.toll_protocol.specs.declared.http_messages.field.FieldMatch.TheVariants.{Absent, Once, Several}
-use Rattle.toll_protocol.specs.Fields.{Pair, Seen, absent, once, several, found_among, values_of, is_named}
 
 -- the result so far, together with the values that are left
 abbrev pub seen_with : Seen → List (List ℕ) → Seen
@@ -12,11 +12,6 @@ seen_with absent vs = found_among vs
 seen_with (once v) [] = once v
 seen_with (once v) (w ∷ rest) = several
 seen_with several vs = several
-
-pub joined_none : (s : Seen) → seen_with s [] ≡ s
-joined_none absent = refl
-joined_none (once v) = refl
-joined_none several = refl
 
 pub joined_once : (v : List ℕ) (rest : List (List ℕ)) → seen_with absent (v ∷ rest) ≡ seen_with (once v) rest
 joined_once v [] = refl

@@ -1,8 +1,8 @@
 -- The frame that a text begins with.
 use Rattle.std.proofs.Common.{◌≡◌, ◌∙◌, ℕ, ◌<◌, ◌≤◌, ◌^◌, Bool, true, false, cond, ltb, List, ◌++◌, length, get_or, take, drop, None, Some, sym, ap, refl, arith, inl, inr}
+use Rattle.toll_protocol.proofs.Common.{get_or-take, get_or_past, length-take, length-take-le, take-append-drop}
 use Rattle.std.specs.Int.{from_be_bytes, to_be_bytes, w32}
 use Rattle.std.proofs.lemmas.Bool.{cases_lt, ltb-false}
-use Rattle.std.proofs.lemmas.List.{get_or-take, get_or_past, length-take, length-take-le, take-append-drop}
 use Rattle.std.proofs.lemmas.Nat.{be_bytes_4, from_be_bytes-to_be_bytes_4}
 use Rattle.std.proofs.Math.Seq.{drop-append_seam, take-append_seam}
 use Rattle.toll_protocol.specs.Frames.{HasFrame, claimed_length, frame}

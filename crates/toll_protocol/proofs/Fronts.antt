@@ -1,17 +1,12 @@
 -- A prefix of a stream that settles it.
-use Rattle.std.proofs.Common.{◌≡◌, ◌∙◌, ℕ, ◌+◌, ◌≤◌, Bool, true, false, cond, List, [], ◌++◌, length, take, drop, map, refl, sym, ap, subst, arith, inl, inr, Option, Some, None, length-append, take-add}
-use Rattle.std.specs.Prelude.{◌↔◌, codes, nat_lt}
-use Rattle.std.proofs.lemmas.List.{take-append-le, drop-append-le}
+use Rattle.std.proofs.Common.{◌≡◌, ◌∙◌, ℕ, ◌+◌, ◌≤◌, Bool, true, false, cond, List, [], ◌++◌, length, take, drop, map, refl, sym, ap, subst, arith, inl, inr, Option, Some, None, length-append, take-add, ◌↔◌, codes, nat_lt}
+use Rattle.toll_protocol.proofs.Common.{take-append-le, drop-append-le, name_and_value, Pair, fields_named, is_present, length_claimed, EndsHead, IsHeadLen, IsHeadOf, IsSearched, ParseResult, refused, IsParsedAs, IsSettled, HasBody, checked, by_length, host_fails}
 use Rattle.std.proofs.lemmas.Bool.Decides.{nat_tests}
 use Rattle.std.proofs.lemmas.Bool.{cases_lt}
 use Rattle.httparse.specs.Grammar.{RequestHead}
-use Rattle.httparse.specs.Spans.{name_and_value}
 use Rattle.httparse.proofs.GrammarLemmas.{request_unique}
 use Rattle.toll_protocol.specs.declared.http_messages.failure.Failure.TheVariants.{BadRequest, NotImplemented}
 use Rattle.toll_protocol.specs.Limits.{body_limit}
-use Rattle.toll_protocol.specs.Fields.{Pair, fields_named, is_present, length_claimed}
-use Rattle.toll_protocol.specs.Head.{EndsHead, IsHeadLen, IsHeadOf, IsSearched}
-use Rattle.toll_protocol.specs.Parsing.{ParseResult, refused, IsParsedAs, IsSettled, HasBody, checked, by_length, host_fails}
 
 take_front : (text more : List ℕ) (n : ℕ) → n ≤ length text → take n (text ++ more) ≡ take n text
 take_front text more n le = take-append-le n text more le

@@ -1,6 +1,6 @@
 -- What the parser of heads returns for a text.
 use Rattle.std.proofs.Common.{◌≡◌, ◌≤◌, ◌∙◌, ℕ, List, [], length, take, drop, sym, ap, subst, arith, append-nil, Result, Ok, Err}
-use Rattle.std.proofs.lemmas.List.{drop_all, length-map, length-take-le}
+use Rattle.toll_protocol.proofs.Common.{drop_all, length-map, length-take-le, FindsRequest, IsRequestAt, IsRequestOf, IsRequestWithin, header_bytes, name_and_value, IsHeadLen, IsHeadOf}
 use Rattle.httparse.specs.declared.Error.{Error}
 use Rattle.httparse.specs.declared.Status.{Status}
 use Rattle.httparse.specs.declared.Status.TheVariants.{Complete, Partial}
@@ -8,9 +8,7 @@ use Rattle.httparse.specs.declared.spans.HeaderSpan.{HeaderSpan}
 use Rattle.httparse.specs.declared.spans.RequestSpans.{RequestSpans}
 use Rattle.httparse.specs.Grammar.{RequestHead, ReadsRequest, print_request}
 use Rattle.httparse.specs.Outcome.{IfComplete, IsCompleteAnd}
-use Rattle.httparse.specs.Spans.{FindsRequest, IsRequestAt, IsRequestOf, IsRequestWithin, header_bytes, name_and_value}
 use Rattle.toll_protocol.specs.Limits.{head_limit, field_limit}
-use Rattle.toll_protocol.specs.Head.{IsHeadLen, IsHeadOf}
 
 module _ (text : List ℕ) (n : ℕ) (fields : List HeaderSpan) where
   -- A head that takes up a prefix is the head of the text.

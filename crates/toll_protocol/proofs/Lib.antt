@@ -1,3 +1,4 @@
+pub mod Common
 pub mod StreamLemmas
 pub mod ReadLemmas
 pub mod Onward

@@ -1,8 +1,7 @@
 -- Messages are read in only one way.
 use Rattle.std.proofs.Common.{◌≡◌, ◌∙◌, ℕ, ◌<◌, ◌≤◌, ◌^◌, List, [], ◌++◌, length, Option, None, Some, sym, ap, refl, arith, length-append}
-use Rattle.toll_protocol.specs.PlantMessages.{IsCall, IsResponse, call_text, file_text, response_text}
+use Rattle.toll_protocol.proofs.Common.{IsCall, IsResponse, call_text, file_text, response_text, words_text}
 use Rattle.toll_protocol.specs.Frames.{HasFrame, IsFrameOf, frame}
-use Rattle.toll_protocol.specs.Words.{words_text}
 use Rattle.toll_protocol.specs.declared.frames.call.TheConstants.{MOST_CALL_BYTES}
 use Rattle.toll_protocol.proofs.FrameLemmas.{one_held, one_parcel}
 use Rattle.toll_protocol.proofs.WordLemmas.{one_list_of_words}

@@ -1,9 +1,7 @@
 -- Reading and writing after what was read and written before.
 use Rattle.std.proofs.Common.{◌≡◌, ◌≢◌, ◌∙◌, ℕ, ◌+◌, ◌-◌, ◌<◌, ◌≤◌, List, [], ◌++◌, length, take, drop, sym, ap, subst, arith, Option, take-add}
-use Rattle.std.specs.Io.KnownBytes.{Appends, Consumes}
+use Rattle.toll_protocol.proofs.Common.{Appends, Consumes, drop-append-le, drop-drop, take-take, take-append-drop, take_rest, length-drop, length-take-le, OneMoreRead, ReadsWhile}
 use Rattle.std.proofs.KnownBytes.{Appends-trans, Consumes-trans}
-use Rattle.std.proofs.lemmas.List.{drop-append-le, drop-drop, take-take, take-append-drop, take_rest, length-drop, length-take-le}
-use Rattle.toll_protocol.specs.Streams.{OneMoreRead, ReadsWhile}
 use Rattle.toll_protocol.proofs.ReadLemmas.{GaveWhile, gave_more}
 
 -- what was read after the first bytes, and then more

@@ -1,11 +1,10 @@
 -- Streams whose chunks are known, one for each read.
 use Rattle.std.proofs.Common.{◌≡◌, ◌≢◌, ◌∙◌, ℕ, List, [], ◌∷◌, ◌++◌, length, take, sym, ap, subst, refl, arith, Option, None, Some, append_assoc, append-nil, below_more, length-append}
+use Rattle.toll_protocol.proofs.Common.{take-append-le, AllNonEmpty, IsEachReadWhile, OneMoreRead, ReadsWhile}
 use Rattle.std.specs.List.{concat}
-use Rattle.std.proofs.lemmas.List.{take-append-le}
 use Rattle.std.proofs.lemmas.List.Elements.{All-append, All-cons, All-nil}
 use Rattle.std.proofs.lemmas.List.Folds.{concat-append}
 use Rattle.std.proofs.Math.Seq.{take-append_seam}
-use Rattle.toll_protocol.specs.Streams.{AllNonEmpty, IsEachReadWhile, OneMoreRead, ReadsWhile}
 
 -- The stream was read only while P held of the bytes that it had given since, which are these. Each read gave something.
 pub record GaveWhile (P : List ℕ → Type 0) (old new : Option (List (List ℕ))) (given : List ℕ) : Type 0 where
@@ -41,10 +40,6 @@ module _ (P : List ℕ → Type 0) where
           each_more chunks bytes each full (subst P (sym whole) so),
         );
   }
-
-  pub reads_while : (a b : Option (List (List ℕ))) (given : List ℕ) → GaveWhile P a b given → ReadsWhile P a b
-  reads_while None b given p = tt
-  reads_while (Some before) b given p = let (chunks, reported, whole, full, each) = p.chunks_after before refl in (chunks, reported, each)
 
   -- one more read, whatever it gave
   pub reads_once_more : (a b c : Option (List (List ℕ))) (given bytes : List ℕ) → GaveWhile P a b given → P given → OneMoreRead b c bytes → ReadsWhile P a c

@@ -1,8 +1,6 @@
 -- A prefix of a stream, and the bytes after it.
-use Rattle.std.proofs.Common.{◌∙◌, ℕ, List, ◌++◌, sym, ap, subst, Option, None, Some, append-nil, inl, inr}
-use Rattle.std.specs.Prelude.{◌⊎◌, ◌↔◌, IfSome}
-use Rattle.std.specs.Io.KnownBytes.{Consumes, IsAtEnd}
-use Rattle.toll_protocol.specs.Parsing.{IsParsedAs, IsSettled, ParseResult}
+use Rattle.std.proofs.Common.{◌∙◌, ℕ, List, ◌++◌, sym, ap, subst, Option, None, Some, append-nil, inl, inr, ◌⊎◌, ◌↔◌, IfSome}
+use Rattle.toll_protocol.proofs.Common.{Consumes, IsAtEnd, IsParsedAs, IsSettled, ParseResult}
 use Rattle.toll_protocol.proofs.Fronts.{settled}
 
 -- The bytes that were read are parsed as the whole stream is.

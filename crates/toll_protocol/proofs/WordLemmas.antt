@@ -1,6 +1,6 @@
 -- Words in one text.
-use Rattle.std.proofs.Common.{◌≡◌, ◌∙◌, ◌≢◌, ◌<◌, ◌+◌, ℕ, zero, suc, List, [], ◌∷◌, ◌++◌, length, get_or, take, drop, sym, ap, refl, subst, arith, add-one, append_assoc}
-use Rattle.toll_protocol.specs.Words.{AreWords, HasNoZero, IsWord, words_text}
+use Rattle.std.proofs.Common.{◌≡◌, ◌∙◌, ◌≢◌, ◌+◌, ℕ, List, [], ◌∷◌, ◌++◌, sym, ap, refl, subst, append_assoc}
+use Rattle.toll_protocol.proofs.Common.{AreWords, HasNoZero, IsWord, words_text}
 
 -- A text has only one first zero.
 pub one_zero : (a b x y : List ℕ) → HasNoZero a → HasNoZero b → a ++ 0 ∷ x ≡ b ++ 0 ∷ y → (a ≡ b) × (x ≡ y)
@@ -26,24 +26,6 @@ pub words_text-append : (words more : List (List ℕ)) → words_text (words ++ 
 words_text-append [] more = refl
 words_text-append (word ∷ words) more =
     ap (λ t. word ++ 0 ∷ t) (words_text-append words more) ∙ sym (append_assoc word (0 ∷ words_text words) (words_text more))
-
-free_suc : (text : List ℕ) (n : ℕ) → n < length text → get_or text n 0 ≢ 0 → HasNoZero (take n text) → HasNoZero (take (suc n) text)
-free_suc [] n lt here before = absurd (omega arith)
-free_suc (b ∷ text) zero lt here before = (here, tt)
-free_suc (b ∷ text) (suc n) lt here before = (before.0, free_suc text n (omega arith) here before.1)
-
--- One more byte isn't zero.
-pub free_more : (text : List ℕ) (n : ℕ) → n < length text → get_or text n 0 ≢ 0 → HasNoZero (take n text) → HasNoZero (take (n + 1) text)
-free_more text n lt here before = rw add-one (free_suc text n lt here before)
-
-at_suc : (text : List ℕ) (n : ℕ) → n < length text → get_or text n 0 ≡ 0 → text ≡ take n text ++ 0 ∷ drop (suc n) text
-at_suc [] n lt here = absurd (omega arith)
-at_suc (b ∷ text) zero lt here = ap (λ x. x ∷ text) here
-at_suc (b ∷ text) (suc n) lt here = ap (λ t. b ∷ t) (at_suc text n (omega arith) here)
-
--- a text that is split at a zero
-pub at_zero : (text : List ℕ) (n : ℕ) → n < length text → get_or text n 0 ≡ 0 → text ≡ take n text ++ 0 ∷ drop (n + 1) text
-at_zero text n lt here = rw add-one (at_suc text n lt here)
 
 -- A text without a zero has no word.
 pub no_word : (text word rest : List ℕ) → HasNoZero text → text ≡ word ++ 0 ∷ rest → ⊥

@@ -1,15 +1,8 @@
 -- What holds while connections are accepted.
 use Rattle.std.proofs.Common.{◌≡◌, ◌∙◌, ◌+◌, ◌≤◌, ◌⊎◌, ℕ, inl, inr, List, [], ◌∷◌, ◌++◌, length, ap, refl, sym, subst, arith}
+use Rattle.toll_server.proofs.Common.{Slab, HasAccepted, StandsStill, AddsConnection, AddsAll, AddsNext, MakesRoom, Accepts, Arrival, IsPausedAt, Lacks, NoneWaits, Tallies, Tally, after_accept, owners_at, Connection, Open, Backlogged, Connections, Listener}
 use Rattle.std.specs.Prelude.{None, Ok, OnOk, Option, Result, option_map, slice_index_or}
-use Rattle.slab.specs.Slab.{Slab}
-use Rattle.toll_server.specs.Accepting.{HasAccepted, StandsStill}
-use Rattle.toll_server.specs.Connections.{AddsConnection, AddsAll, AddsNext, MakesRoom}
-use Rattle.toll_server.specs.Networks.{Accepts, Arrival, IsPausedAt, Lacks, NoneWaits, Tallies, Tally, after_accept, owners_at}
-use Rattle.toll_server.specs.declared.connection.Connection.{Connection}
-use Rattle.toll_server.specs.declared.connections.AcceptState.TheVariants.{Open, Backlogged}
-use Rattle.toll_server.specs.declared.connections.Connections.{Connections}
 use Rattle.toll_server.specs.declared.connections.TheConstants.{MOST_ACCEPTS}
-use Rattle.toll_server.specs.declared.listener.Listener.{Listener}
 use Rattle.toll_server.specs.declared.network.Accepted.{Accepted}
 use Rattle.toll_server.specs.declared.network.Accepted.TheVariants.{Connected, Aborted, NoResources}
 use Rattle.toll_server.specs.declared.network.NetworkFault.{NetworkFault}

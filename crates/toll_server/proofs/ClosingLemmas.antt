@@ -1,21 +1,12 @@
 -- What happens to the open connections, step by step.
-use Rattle.std.proofs.Common.{◌≡◌, ◌∙◌, ◌+◌, ◌≤◌, ◌<◌, ◌⊎◌, ℕ, arith, inl, inr, List, [], ◌∷◌, ◌++◌, map, Bool, Option, None, Some, ap, refl, subst, sym, append_assoc}
-use Rattle.std.specs.Prelude.{IfSome, Result, ⊤}
+use Rattle.std.proofs.Common.{◌≡◌, ◌∙◌, ◌+◌, ◌≤◌, ◌<◌, ◌⊎◌, ℕ, arith, inl, inr, List, [], ◌∷◌, ◌++◌, map, Bool, Option, None, ap, refl, subst, sym, append_assoc, IfSome, Result}
+use Rattle.toll_server.proofs.Common.{Slab, get, HasAccepted, AddsAll, HearsAll, MakesRoom, WindsDown, Accepts, Arrival, BreaksDown, IsPaused, Tallies, Tally, Wake, HasWaited, Connection, Open, Connections, Listener}
 use Rattle.std.proofs.lemmas.Bool.{cases_lt}
-use Rattle.slab.specs.Slab.{Slab, get}
 use Rattle.toll_protocol.specs.declared.streams.sink.Sink as sink
 use Rattle.toll_protocol.specs.declared.streams.source.Source as source
 use Rattle.toll_server.proofs.TallyLemmas.{OnlyClock, OnlyListening, tallies_begin, tallies_both, tallies_then, tallies_weaker}
-use Rattle.toll_server.specs.Accepting.{HasAccepted}
 use Rattle.toll_server.specs.Closings.{Advances, AreClosedForCause, AreEvents, Comes, ConnectionEvent, Ends, Evicts, Expires, GivesTurn, HasEnded, IsLost, Turns, accepted_in, advanced_in, expired_in, onto, ready_at}
-use Rattle.toll_server.specs.Connections.{AddsAll, ClosesExpired, HearsAll, MakesRoom, WindsDown}
-use Rattle.toll_server.specs.Networks.{Accepts, Arrival, BreaksDown, IsPaused, Tallies, Tally, Wake}
-use Rattle.toll_server.specs.Rounds.{HasWaited}
-use Rattle.toll_server.specs.declared.connection.Connection.{Connection}
 use Rattle.toll_server.specs.declared.connections.AcceptState.{AcceptState}
-use Rattle.toll_server.specs.declared.connections.AcceptState.TheVariants.{Open}
-use Rattle.toll_server.specs.declared.connections.Connections.{Connections}
-use Rattle.toll_server.specs.declared.listener.Listener.{Listener}
 
 module _ {S : Type 0} where
   -- these events, with the connections that came then

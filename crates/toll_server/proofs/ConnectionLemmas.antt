@@ -1,23 +1,12 @@
 -- One connection takes a step, and all others stay unchanged.
-use Rattle.std.proofs.Common.{◌≡◌, ◌+◌, ◌∙◌, ◌||◌, ℕ, zero, suc, arith, inl, inr, List, [], ◌∷◌, Bool, true, false, Option, None, Some, ap, refl, subst, sym}
-use Rattle.std.specs.Prelude.{IfSome, IsSome, cond, count_by, is_some, option_and_then, option_map, slice_index_or, if◌then◌else◌}
-use Rattle.std.proofs.lemmas.Bool.Decides.{eqb_tells}
+use Rattle.std.proofs.Common.{◌≡◌, ◌+◌, ◌∙◌, ◌||◌, ℕ, zero, suc, arith, inl, inr, List, [], ◌∷◌, Bool, true, false, Option, None, Some, ap, refl, subst, sym, IfSome, IsSome, cond, count_by, is_some, option_and_then, option_map, slice_index_or, if◌then◌else◌}
+use Rattle.toll_server.proofs.Common.{eqb_tells, Slab, Updates, get, slab_len, ClosesExpired, JoinsAt, KeepsQueue, KeepsTasks, TakesTurn, connection_behind, queue_in, stays_after, tasks_in, unless_expired, IsNext, IsWhatWaits, Waiting, queued_behind, newly, queue_with, waits_on, Input, Request, Task, Yields, last_poll, pending_task, state_behind, task_of, ticket_after, ticket_behind, ticket_of, AnswersOrResumes, JoinsAs, event_count_after, waiting_of, waiting_with, Listener, Connection, Poll, Reading, Queued, Working, Writing}
 use Rattle.std.proofs.lemmas.List.Sums.{sum_by_from}
-use Rattle.slab.specs.Slab.{Slab, Updates, get, slab_len}
 use Rattle.toll_server.proofs.RunLemmas.{all_but}
 use Rattle.toll_server.specs.RequestBuffers.{bytes_received, listener_of}
-use Rattle.toll_server.specs.Connections.{ClosesExpired, JoinsAt, KeepsQueue, KeepsTasks, OnlyAt, TakesTurn, connection_behind, queue_in, stays_after, tasks_in, unless_expired}
-use Rattle.toll_server.specs.Queues.{IsNext, IsWhatWaits, Waiting, queued_behind, newly, queue_with, waits_on}
-use Rattle.toll_server.specs.Runs.{Input, Request, Task, Yields}
-use Rattle.toll_server.specs.ConnectionStates.{last_poll, pending_task, state_behind, task_of, ticket_after, ticket_behind, ticket_of}
-use Rattle.toll_server.specs.Steps.{AnswersOrResumes, JoinsAs, event_count_after, waiting_of, waiting_with}
 use Rattle.toll_server.specs.declared.request_buffer.RequestBuffer.{RequestBuffer}
-use Rattle.toll_server.specs.declared.listener.Listener.{Listener}
-use Rattle.toll_server.specs.declared.connection.Connection.{Connection}
-use Rattle.toll_server.specs.declared.poll.Poll.{Poll}
 use Rattle.toll_server.specs.declared.poll.Poll.TheVariants.{Ready, Pending}
 use Rattle.toll_server.specs.declared.connection_state.ConnectionState.{ConnectionState}
-use Rattle.toll_server.specs.declared.connection_state.ConnectionState.TheVariants.{Reading, Queued, Working, Writing}
 use Rattle.toll_server.specs.declared.step_result.StepResult.{StepResult}
 use Rattle.toll_server.specs.declared.step_result.StepResult.TheVariants.{Waits, Joins, Answered, Failed}
 use Rattle.toll_server.specs.declared.ticket.Ticket.{Ticket}
@@ -95,22 +84,6 @@ module _ {S T P : Type 0} where
 
   abbrev pub wait_at : Option (Connection S T P) → Option (Waiting P)
   wait_at o = option_and_then waiting_of o
-
-  -- A connection that is reading has no task and no place in the queue.
-  pub no_task_in : (o : Option (Connection S T P)) → IfSome o (λ connection. connection.state ≡ Reading) → task_in o ≡ None
-  no_task_in None p = refl
-  no_task_in (Some connection) p = ap task_of p
-
-  pub no_wait_in : (o : Option (Connection S T P)) → IfSome o (λ connection. connection.state ≡ Reading) → wait_at o ≡ None
-  no_wait_in None p = refl
-  no_wait_in (Some connection) p = ap (λ state. option_map (waiting_with connection.request) (ticket_of state)) p
-
-  -- Only this connection changes. It had no task and has none.
-  pub keeps_tasks : (key : ℕ) (old new : Slab (Connection S T P)) → OnlyAt key old new → tasks_in old key ≡ None → tasks_in new key ≡ None → KeepsTasks old new
-  keeps_tasks key old new only was is = all_but key (tasks_in new) (tasks_in old) (is ∙ sym was) (λ other isnt. ap task_in (only other isnt))
-
-  pub keeps_queue : (key : ℕ) (old new : Slab (Connection S T P)) → OnlyAt key old new → queue_in old key ≡ None → queue_in new key ≡ None → KeepsQueue old new
-  keeps_queue key old new only was is = all_but key (queue_in new) (queue_in old) (is ∙ sym was) (λ other isnt. ap wait_at (only other isnt))
 
   stays_or_goes : (connection : Connection S T P) (ticket : Option (Ticket P)) (b : Bool) → ticket_of connection.state ≡ ticket
       → (task_in (if is_some ticket || b then Some connection else None) ≡ task_of connection.state) × (wait_at (if is_some ticket || b then Some connection else None) ≡ waiting_of connection)

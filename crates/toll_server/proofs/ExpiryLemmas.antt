@@ -1,16 +1,11 @@
 -- The loops that pass all connections by their keys.
-use Rattle.std.proofs.Common.{◌≡◌, ◌<◌, ◌≤◌, ℕ, ◌+◌, ◌∙◌, Option, None, Some, ap, length, refl, sym, subst, arith, below_more, inl, inr}
-use Rattle.std.specs.Prelude.{IfSome, OnSome}
+use Rattle.std.proofs.Common.{◌≡◌, ◌<◌, ◌≤◌, ℕ, ◌+◌, ◌∙◌, Option, None, Some, ap, length, refl, sym, subst, arith, below_more, inl, inr, IfSome, OnSome}
+use Rattle.toll_server.proofs.Common.{Slab, Updates, get, slab_len, EvictsReader, IsBefore, IsEarliest, IsEvicted, IsIncluded, IsLonger, NobodyWaits, OnlyAt, connection_behind, queue_in, unless_expired, wait_in, HasWaitedLonger, IsNext, Waiting, waiting_of, Connection}
 use Rattle.std.proofs.lemmas.Bool.{cases_lt}
 use Rattle.std.proofs.lemmas.List.{get_or_past}
 use Rattle.std.proofs.lemmas.Option.{same_Some}
-use Rattle.slab.specs.Slab.{Slab, Updates, get, slab_len}
 use Rattle.std.specs.Prelude.{Bool, option_and_then, option_map}
-use Rattle.toll_server.specs.Connections.{EvictsReader, IsBefore, IsEarliest, IsEvicted, IsIncluded, IsLonger, NobodyWaits, NoneIncluded, OnlyAt, connection_behind, queue_in, unless_expired, wait_in}
-use Rattle.toll_server.specs.Queues.{HasWaitedLonger, IsNext, Waiting}
-use Rattle.toll_server.specs.Steps.{waiting_of}
 use Rattle.toll_server.specs.declared.filter.Filter.{Filter}
-use Rattle.toll_server.specs.declared.connection.Connection.{Connection}
 use Rattle.toll_server.specs.declared.expiry.Earliest.{Earliest}
 use Rattle.toll_server.specs.declared.expiry.Next.{Next}
 use Rattle.toll_server.specs.declared.expiry.Wait.{Wait}
@@ -104,12 +99,6 @@ module _ {S T P : Type 0} (filter : Filter) (connections : Slab (Connection S T 
       | inr past ↦ subst (λ (o : Option (Connection S T P)). IfSome o (λ connection. IsIncluded filter connection → deadline ≤ connection.deadline)) (sym (none_past limit other le past)) tt
     ];
   }
-
-  pub none_all : (limit : ℕ) → length connections.slots ≤ limit → NoneBelow limit → NoneIncluded filter connections
-  none_all limit le p key = elim (cases_lt key limit) [
-    | inl lt ↦ p key lt
-    | inr past ↦ subst (λ (o : Option (Connection S T P)). IfSome o (λ connection. ¬ (IsIncluded filter connection))) (sym (none_past limit key le past)) tt
-  ]
 
 -- The connection that goes first was closed.
 pub evicted_so : {S T P : Type 0} (old new : Slab (Connection S T P)) (key deadline : ℕ) (taken : Option (Connection S T P)) → taken ≡ get old key → IsEvicted old key deadline → Updates old new key None

@@ -1,3 +1,4 @@
+pub mod Common
 pub mod ConnectionLemmas
 pub mod ExpiryLemmas
 pub mod RunLemmas

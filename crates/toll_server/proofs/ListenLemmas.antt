@@ -1,15 +1,11 @@
 -- How long a network listens.
-use Rattle.std.proofs.Common.{◌≡◌, ◌∙◌, ◌+◌, ◌≤◌, ◌<◌, ℕ, arith, List, [], ◌∷◌, ◌++◌, Bool, false, Option, ap, refl, subst, sym}
-use Rattle.std.specs.Prelude.{◌-◌, All, Result}
+use Rattle.std.proofs.Common.{◌≡◌, ◌∙◌, ◌+◌, ◌≤◌, ◌<◌, ℕ, arith, List, [], ◌∷◌, ◌++◌, Bool, false, Option, ap, refl, subst, sym, ◌-◌, All, Result}
+use Rattle.toll_server.proofs.Common.{Accepts, BreaksDown, ListensFor, Tallies, Tally, Wake, HasWaited, ListensTill, Connections, Listener}
 use Rattle.std.proofs.lemmas.List.Elements.{All-cons, All-nil}
 use Rattle.toll_protocol.specs.declared.streams.sink.Sink as sink
 use Rattle.toll_protocol.specs.declared.streams.source.Source as source
 use Rattle.toll_server.proofs.TallyLemmas.{OnlyClock, OnlyListening, tallies_begin, tallies_both, tallies_then, tallies_weaker}
-use Rattle.toll_server.specs.Networks.{Accepts, BreaksDown, ListensFor, Tallies, Tally, Wake}
-use Rattle.toll_server.specs.Rounds.{HasWaited, ListensTill}
 use Rattle.toll_server.specs.declared.connections.AcceptState.{AcceptState}
-use Rattle.toll_server.specs.declared.connections.Connections.{Connections}
-use Rattle.toll_server.specs.declared.listener.Listener.{Listener}
 
 module _ {S : Type 0} where
   -- At each wait so far the network listened while owners were still to be accepted. After this many calls to accept, the same holds now.

@@ -1,15 +1,7 @@
 -- The queue, event after event. No party has two turns while another one is queued.
-use Rattle.std.proofs.Common.{◌≡◌, ◌∙◌, ◌+◌, ◌<◌, ◌==◌, ℕ, arith, inl, inr, List, [], ◌∷◌, length, Bool, true, false, Option, None, Some, ap, refl, subst, sym}
-use Rattle.std.specs.Prelude.{IfSome, option_and_then, option_map, if◌then◌else◌}
-use Rattle.std.proofs.lemmas.Bool.Decides.{eqb_tells}
+use Rattle.std.proofs.Common.{◌≡◌, ◌∙◌, ◌+◌, ◌<◌, ◌==◌, ℕ, arith, inl, inr, List, [], ◌∷◌, length, Bool, true, false, Option, None, Some, ap, refl, subst, sym, IfSome, option_and_then, option_map, if◌then◌else◌}
+use Rattle.toll_server.proofs.Common.{eqb_tells, Slab, KeepsQueue, KeepsTasks, queue_in, tasks_in, AreInTurn, HasWaitedLonger, QueueEvent, IsHistory, IsNext, IsPassedOver, IsWhatWaits, Joins, NoneTwice, Queue, Takes, Waiting, queued_behind, is_of, newly, queue_after, queue_of, waits_on, Input, IsOwnInput, Turn, Listener, Connection, Poll}
 use Rattle.std.specs.Cmp.{IsEquivalence}
-use Rattle.slab.specs.Slab.{Slab}
-use Rattle.toll_server.specs.Connections.{KeepsQueue, KeepsTasks, queue_in, tasks_in}
-use Rattle.toll_server.specs.Queues.{AreInTurn, HasWaitedLonger, QueueEvent, IsHistory, IsNext, IsPassedOver, IsWhatWaits, Joins, NoneTwice, Queue, Takes, Waiting, queued_behind, is_of, newly, queue_after, queue_of, waits_on}
-use Rattle.toll_server.specs.Runs.{Input, IsOwnInput, Turn}
-use Rattle.toll_server.specs.declared.listener.Listener.{Listener}
-use Rattle.toll_server.specs.declared.connection.Connection.{Connection}
-use Rattle.toll_server.specs.declared.poll.Poll.{Poll}
 use Rattle.toll_server.specs.declared.poll.Poll.TheVariants.{Ready, Pending}
 
 some_more : {A : Type 0} (o : Option A) (B C : A → Type 0) → ((x : A) → B x → C x) → IfSome o B → IfSome o C

@@ -1,11 +1,10 @@
 -- Rounds, one after another.
 use Rattle.std.proofs.Common.{◌≡◌, ◌∙◌, ◌+◌, ◌≤◌, ◌==◌, ℕ, arith, inl, inr, List, [], ◌∷◌, ◌++◌, length, map, Bool, false, Option, None, Some, ap, refl, subst, sym, append-nil, append_assoc, length-append}
+use Rattle.toll_server.proofs.Common.{eqb_tells, Slab, get, StandsStill, ClosesExpired, Hears, HearsAll, IsDueAt, IsDueTo, IsInTime, JoinsAt, KeepsQueue, KeepsRequests, KeepsTasks, NoneNew, StandsByKey, TakesNext, TakesTurn, queue_in, tasks_in, pending_task, Arrival, BreaksDown, HandsOut, ShowsTime, Tallies, Tally, WaitsOnce, HasWaitedLonger, QueueEvent, IsNext, IsServedInTurn, IsWhatWaits, Waiting, queued_behind, newly, queue_after, queue_of, queue_with, waits_on, tasks_of, turns_taken, AreSentBySome, AreRounds, HasGrown, HasHeard, HasWaited, IsSentBySome, IsServedInRounds, Joining, Round, happenings_of, with_joined, IsServiceRun, Turn, no_tasks, Connection, Connections, Listener, Poll}
 use Rattle.std.specs.Prelude.{◌⊎◌, All, IfSome, Ok, option_and_then, option_map, if◌then◌else◌}
 use Rattle.std.specs.Cmp.{IsEquivalence}
 use Rattle.std.specs.List.{Contains}
-use Rattle.std.proofs.lemmas.Bool.Decides.{eqb_tells}
 use Rattle.std.proofs.lemmas.List.Elements.{All-cons, All-nil, All-weaker, Contains-append_left, Contains-append_right, Contains-push}
-use Rattle.slab.specs.Slab.{Slab, get}
 use Rattle.toll_protocol.specs.declared.streams.sink.Sink as sink
 use Rattle.toll_protocol.specs.declared.streams.source.Source as source
 use Rattle.toll_server.proofs.ConnectionLemmas.{expired_closed, expired_queue}
@@ -13,19 +12,8 @@ use Rattle.toll_server.proofs.QueueLemmas.{IsHistoryIn, none_twice, own_of, same
 use Rattle.toll_server.proofs.RunLemmas.{run_kept, run_more}
 use Rattle.toll_server.proofs.StandLemmas.{asked_at, closed_new, each_some, heard_more, stands_fewer, stands_heard, stands_kept}
 use Rattle.toll_server.proofs.TallyLemmas.{OnlyClock, OnlyListening, tallies_begin, tallies_then, tallies_weaker}
-use Rattle.toll_server.specs.Accepting.{StandsStill}
-use Rattle.toll_server.specs.Connections.{ClosesExpired, Hears, HearsAll, IsDueAt, IsDueTo, IsInTime, JoinsAt, KeepsQueue, KeepsRequests, KeepsTasks, NoneNew, StandsByKey, TakesNext, TakesTurn, queue_in, tasks_in}
-use Rattle.toll_server.specs.ConnectionStates.{pending_task}
-use Rattle.toll_server.specs.Networks.{Arrival, BreaksDown, HandsOut, ShowsTime, Tallies, Tally, WaitsOnce}
-use Rattle.toll_server.specs.Queues.{HasWaitedLonger, QueueEvent, IsNext, IsServedInTurn, IsWhatWaits, Waiting, queued_behind, newly, queue_after, queue_of, queue_with, waits_on, tasks_of, turns_taken}
-use Rattle.toll_server.specs.Rounds.{AreSentBySome, AreRounds, HasGrown, HasHeard, HasWaited, IsSentBySome, IsServedInRounds, Joining, Round, happenings_of, with_joined}
-use Rattle.toll_server.specs.Runs.{IsServiceRun, Turn, no_tasks}
-use Rattle.toll_server.specs.declared.connection.Connection.{Connection}
-use Rattle.toll_server.specs.declared.connections.Connections.{Connections}
-use Rattle.toll_server.specs.declared.listener.Listener.{Listener}
 use Rattle.toll_server.specs.declared.network.NetworkFault.{NetworkFault}
 use Rattle.toll_server.specs.declared.network.TheConstants.{MOST_READY}
-use Rattle.toll_server.specs.declared.poll.Poll.{Poll}
 
 empty_if_no_longer : {A : Type 0} (xs : List A) → length xs ≤ 0 → xs ≡ []
 empty_if_no_longer [] le = refl

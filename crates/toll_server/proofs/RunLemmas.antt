@@ -1,11 +1,6 @@
 -- Service runs, one after another.
-use Rattle.std.proofs.Common.{◌≡◌, ◌≢◌, ◌==◌, ◌∙◌, ℕ, List, [], ◌∷◌, ◌++◌, ap, refl, subst, sym, Option, inl, inr}
-use Rattle.std.proofs.lemmas.Bool.Decides.{eqb_tells}
-use Rattle.std.specs.Prelude.{if◌then◌else◌}
-use Rattle.toll_server.specs.Runs.{AreOwn, Yields, Input, IsOwnInput, IsServiceRun, TakesTurns, Tasks, Turn, after_turn, after_turns}
-use Rattle.toll_server.specs.ConnectionStates.{pending_task}
-use Rattle.toll_server.specs.declared.listener.Listener.{Listener}
-use Rattle.toll_server.specs.declared.poll.Poll.{Poll}
+use Rattle.std.proofs.Common.{◌≡◌, ◌≢◌, ◌==◌, ◌∙◌, ℕ, List, [], ◌∷◌, ◌++◌, ap, refl, subst, sym, Option, inl, inr, if◌then◌else◌}
+use Rattle.toll_server.proofs.Common.{eqb_tells, AreOwn, IsOwnInput, IsServiceRun, TakesTurns, Tasks, Turn, after_turn, after_turns, pending_task, Listener, Poll}
 
 -- Two functions are equal if they agree at one key and at all others.
 pub all_but : {A : Type 0} (key : ℕ) (p q : ℕ → A) → p key ≡ q key → ((other : ℕ) → other ≢ key → p other ≡ q other) → (whose : ℕ) → p whose ≡ q whose
@@ -39,36 +34,14 @@ module _ {T : Type 0} where
   own_append left [] us own more = more
   own_append left (t ∷ ts) us own more = (own.0, own_append (after_turn left t) ts us own.1 more)
 
-  after_one : (key : ℕ) (left now_left : Tasks T) (input : Input T) (poll : Poll T) → now_left key ≡ pending_task poll
-      → ((other : ℕ) → other ≢ key → now_left other ≡ left other) → Agree (after_turn left (record { whose = key; input = input; poll = poll })) now_left
-  after_one key left now_left input poll at others whose = elim (eqb_tells whose key) [
-    | inl (same, is) ↦ ap (λ b. if b then pending_task poll else left whose) same ∙ (sym at ∙ ap now_left (sym is))
-    | inr (differ, isnt) ↦ ap (λ b. if b then pending_task poll else left whose) differ ∙ sym (others whose isnt)
-  ]
-
 module _ {O T : Type 0} (answers : O → Listener → List ℕ → Poll T → O → Type 0) (resumes : O → T → Poll T → O → Type 0) where
   pub TakesTurns-append : (a b c : O) (ts us : List (Turn T)) → TakesTurns answers resumes a ts b → TakesTurns answers resumes b us c → TakesTurns answers resumes a (ts ++ us) c
   TakesTurns-append a b c [] us p q = subst (λ o. TakesTurns answers resumes o us c) p q
   TakesTurns-append a b c (t ∷ ts) us p q = let (middle, one, rest) = p in (middle, one, TakesTurns-append middle b c ts us rest q)
 
-  -- The service took no turn.
-  pub run_none : (a b : O) (left now_left : Tasks T) → b ≡ a → Agree now_left left → IsServiceRun answers resumes a b left now_left
-  run_none a b left now_left same agree = record { turns = []; runs = same; own = tt; rest = λ whose. sym (agree whose) }
-
   -- The run stays when the same tasks are left.
   abbrev pub run_kept : (a b : O) (left middle now_left : Tasks T) → IsServiceRun answers resumes a b left middle → Agree now_left middle → IsServiceRun answers resumes a b left now_left
   run_kept a b left middle now_left p agree = record { turns = p.turns; runs = p.runs; own = p.own; rest = λ whose. p.rest whose ∙ sym (agree whose) }
-
-  -- The service took one turn.
-  pub run_one : (key : ℕ) (a b : O) (left now_left : Tasks T) (input : Input T) (poll : Poll T) → IsOwnInput (left key) input
-      → Yields answers resumes a input poll b → now_left key ≡ pending_task poll → ((other : ℕ) → other ≢ key → now_left other ≡ left other)
-      → IsServiceRun answers resumes a b left now_left
-  run_one key a b left now_left input poll own comes at others = record {
-    turns = record { whose = key; input = input; poll = poll } ∷ [];
-    runs = (b, comes, refl);
-    own = (own, tt);
-    rest = after_one key left now_left input poll at others;
-  }
 
   -- Two runs in a row are a run.
   abbrev pub run_more : (a b c : O) (left middle now_left : Tasks T) → IsServiceRun answers resumes a b left middle → IsServiceRun answers resumes b c middle now_left

@@ -1,30 +1,17 @@
 -- Each connection stands under the key of its arrival.
 use Rattle.std.proofs.Common.{◌≡◌, ◌≢◌, ◌∙◌, ◌++◌, ℕ, inl, inr, List, [], ◌∷◌, Option, None, Some, ap, refl, subst, sym}
+use Rattle.toll_server.proofs.Common.{eqb_tells, SameValues, Slab, Updates, get, state_behind, ticket_of, AddsConnection, EvictsOldest, Hears, HearsAll, IsConnectionOf, StaysOrGoes, KeepsRequests, MakesRoom, NoneNew, StandsByKey, connection_behind, queue_in, stays_after, unless_expired, ClosesExpired, Arrival, Waiting, newly, IsSentBySome, Advances, waiting_of, waiting_with, Connection, Reading, Queued, Working, Writing, Listener}
 use Rattle.std.specs.Prelude.{Bool, true, false, if◌then◌else◌, IfSome, IsSome, option_and_then, option_map, slice_set}
 use Rattle.std.specs.List.{Contains}
 use Rattle.std.specs.Io.KnownBytes.{Consumes}
 use Rattle.std.proofs.KnownBytes.{Consumes-trans}
-use Rattle.std.proofs.lemmas.Bool.Decides.{eqb_tells}
 use Rattle.std.proofs.lemmas.List.Elements.{Contains-append_left, Contains-append_right, Contains-push}
 use Rattle.std.proofs.lemmas.Option.{same_Some}
-use Rattle.slab.specs.Slab.{SameValues, Slab, Updates, get}
 use Rattle.toll_protocol.specs.declared.streams.sink.Sink as sink
 use Rattle.toll_protocol.specs.declared.streams.source.Source as source
-use Rattle.toll_server.proofs.TallyLemmas.{keeps_more}
-use Rattle.toll_server.specs.ConnectionStates.{state_behind, task_of, ticket_of}
-use Rattle.toll_server.specs.Connections.{AddsConnection, ClosesReaders, EvictsOldest, GoesFirst, Hears, HearsAll, IsConnectionOf, IsIncluded, IsShed, StaysOrGoes, KeepsQueue, KeepsRequests, KeepsSubmitted, KeepsTasks, MakesRoom, NoneNew, StandsByKey, connection_behind, queue_in, stays_after, unless_expired, ClosesExpired}
-use Rattle.toll_server.specs.Networks.{Arrival}
-use Rattle.toll_server.specs.Queues.{Waiting, newly}
 use Rattle.toll_server.specs.RequestBuffers.{bytes_received, listener_of}
-use Rattle.toll_server.specs.Rounds.{IsSentBySome}
-use Rattle.toll_server.specs.Steps.{Advances, waiting_of, waiting_with}
-use Rattle.toll_server.specs.declared.connection.Connection.{Connection}
 use Rattle.toll_server.specs.declared.connection_state.ConnectionState.{ConnectionState}
-use Rattle.toll_server.specs.declared.connection_state.ConnectionState.TheVariants.{Reading, Queued, Working, Writing}
 use Rattle.toll_server.specs.declared.connections.AcceptState.{AcceptState}
-use Rattle.toll_server.specs.declared.filter.Filter.{Filter}
-use Rattle.toll_server.specs.declared.listener.Listener.{Listener}
-use Rattle.toll_server.specs.declared.request_buffer.RequestBuffer.{RequestBuffer}
 use Rattle.toll_server.specs.declared.step_result.StepResult.{StepResult}
 use Rattle.toll_server.specs.declared.step_result.StepResult.TheVariants.{Waits, Joins, Answered, Failed}
 
@@ -99,54 +86,6 @@ module _ {S T P : Type 0} where
     | inr (_, isnt) ↦ let (c, was, e) = network_mapped (connection_behind same party event_count) (get old k) x (sym (others k isnt) ∙ is) in
         (c, was, ap (λ c. c.request) e, λ reads. e ∙ reading_behind same party event_count c (sym (ap (λ c. c.state) e) ∙ reads))
   ])
-
-module _ {S T P : Type 0} where
-  -- The connection that is closed was reading.
-  goes_reading : (connections : Slab (Connection S T P)) (filter : Filter) (connection : Connection S T P) → GoesFirst connections filter → IsIncluded filter connection → connection.state ≡ Reading
-  goes_reading connections filter connection (inl first) included = let p = subst (λ f. IsIncluded f connection) first included in p.0
-  goes_reading connections filter connection (inr rest) included = let p = subst (λ f. IsIncluded f connection) rest.1 included in p
-
-  evicted_submitted : (old new : Slab (Connection S T P)) → EvictsOldest old new → KeepsSubmitted old new
-  evicted_submitted old new (inl none) key = each_some (get old key) _ (λ connection there reads. none.1 key ∙ there)
-  evicted_submitted old new (inr one) key = let (filter, first, oldest) = one.goes in each_some (get old key) _ (λ connection there isnt. elim (eqb_tells key one.key) [
-    | inl (_, at) ↦ absurd (isnt (ap (λ c. c.state) (same_Some _ _ (sym there ∙ (ap (get old) at ∙ oldest.there))) ∙ goes_reading old filter oldest.connection first oldest.among_them))
-    | inr (_, other) ↦ one.out.others key other ∙ there
-  ])
-
-  pub closes_one : (old middle new : Slab (Connection S T P)) → KeepsSubmitted old middle × NoneNew old middle → EvictsOldest middle new → KeepsSubmitted old new × NoneNew old new
-  closes_one old middle new p evicts = (
-    keeps_more old middle new p.0 (evicted_submitted middle new evicts),
-    λ key. each_some (get new key) _ (λ connection is. the_some (get middle key) _ connection (the_some (get new key) _ connection is (evicted_new middle new evicts key)) (p.1 key)),
-  )
-
-  -- A connection that was reading had no place in the queue and no task.
-  left_alone : {A : Type 0} (f : ConnectionState T P → RequestBuffer → Option A) → ((request : RequestBuffer) → f Reading request ≡ None) → (old new : Slab (Connection S T P)) → KeepsSubmitted old new → NoneNew old new
-      → (key : ℕ) → option_and_then (λ connection. f connection.state connection.request) (get new key) ≡ option_and_then (λ connection. f connection.state connection.request) (get old key)
-  left_alone f none old new submitted fewer key = each (get old key) (get new key) refl refl where
-    differs : (connection : Connection S T P) (now : Option (Connection S T P)) (state : ConnectionState T P) → get old key ≡ Some connection → get new key ≡ now → connection.state ≡ state
-        → option_and_then (λ connection. f connection.state connection.request) now ≡ f connection.state connection.request
-    differs connection now Reading was is at = gone now is where
-      gone : (now : Option (Connection S T P)) → get new key ≡ now → option_and_then (λ connection. f connection.state connection.request) now ≡ f connection.state connection.request
-      gone None is = sym (ap (λ s. f s connection.request) at ∙ none connection.request)
-      gone (Some later) is = ap (λ c. f c.state c.request) (same_Some _ _ (sym (the_some (get new key) _ later is (fewer key)) ∙ was))
-    differs connection now (Queued ticket) was is at = ap (option_and_then (λ connection. f connection.state connection.request))
-        (sym is ∙ the_some (get old key) _ connection was (submitted key) (λ reads. let e = sym at ∙ reads in absurd (cc)))
-    differs connection now (Working ticket task) was is at = ap (option_and_then (λ connection. f connection.state connection.request))
-        (sym is ∙ the_some (get old key) _ connection was (submitted key) (λ reads. let e = sym at ∙ reads in absurd (cc)))
-    differs connection now (Writing reply) was is at = ap (option_and_then (λ connection. f connection.state connection.request))
-        (sym is ∙ the_some (get old key) _ connection was (submitted key) (λ reads. let e = sym at ∙ reads in absurd (cc)))
-
-    each : (was now : Option (Connection S T P)) → get old key ≡ was → get new key ≡ now
-        → option_and_then (λ connection. f connection.state connection.request) now ≡ option_and_then (λ connection. f connection.state connection.request) was
-    each None None was is = refl
-    each None (Some later) was is = let e : None ≡ Some later = sym was ∙ the_some (get new key) _ later is (fewer key) in absurd (cc)
-    each (Some connection) now was is = differs connection now connection.state was is refl
-
-  pub readers_tasks : (old new : Slab (Connection S T P)) → ClosesReaders old new → KeepsTasks old new
-  readers_tasks old new p = left_alone (λ state request. task_of state) (λ request. refl) old new p.1 p.2
-
-  pub readers_queue : (old new : Slab (Connection S T P)) → ClosesReaders old new → KeepsQueue old new
-  readers_queue old new p = left_alone (λ state request. option_map (waiting_with request) (ticket_of state)) (λ request. refl) old new p.1 p.2
 
 module _ {S T P : Type 0} (unread : S → Option (List ℕ)) where
   pub stands_fewer : (arrivals : List (Arrival S)) (old new : Slab (Connection S T P)) → NoneNew old new → StandsByKey unread arrivals old → StandsByKey unread arrivals new

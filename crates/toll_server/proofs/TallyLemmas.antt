@@ -1,14 +1,6 @@
 -- The tally, step by step; and which connections stay meanwhile.
-use Rattle.std.proofs.Common.{◌≡◌, ◌∙◌, ◌≢◌, ◌||◌, ℕ, inl, inr, ap, Bool, true, false, Option, None, Some, refl, sym, subst}
-use Rattle.std.specs.Prelude.{Err, IfSome, Ok, OnErr, OnOk, Result, is_err, option_map}
-use Rattle.slab.specs.Slab.{Slab, get}
-use Rattle.toll_server.specs.Connections.{KeepsSubmitted, TimesReply}
-use Rattle.toll_server.specs.Networks.{ShowsTime, Tallies, Tally}
-use Rattle.toll_server.specs.declared.connection.Connection.{Connection}
-use Rattle.toll_server.specs.declared.connection_state.ConnectionState.TheVariants.{Reading}
-
-pub tallies_same : {S : Type 0} (P : Tally S → Tally S → Type 0) (a b c : Option (Tally S)) → c ≡ b → Tallies P a b → Tallies P a c
-tallies_same P a b c is p = subst (Tallies P a) (sym is) p
+use Rattle.std.proofs.Common.{◌≡◌, ◌∙◌, ◌≢◌, ℕ, inl, inr, ap, true, false, Option, None, Some, refl, sym, subst, Err, IfSome, Ok, OnErr, OnOk, Result, is_err, option_map}
+use Rattle.toll_server.proofs.Common.{Slab, get, KeepsSubmitted, TimesReply, ShowsTime, Tallies, Tally, Connection, Reading}
 
 pub tallies_begin : {S : Type 0} (P : Tally S → Tally S → Type 0) (a b : Option (Tally S)) → b ≡ a → ((t : Tally S) → P t t) → Tallies P a b
 tallies_begin P None b is p = tt
@@ -56,10 +48,6 @@ on_err (Err e) is p = p
 pub on_ok_holds : {A E X : Type 0} (r : Result A E) → is_err r ≡ false → OnOk r X → X
 on_ok_holds (Ok x) is p = p
 on_ok_holds (Err e) is p = absurd (cc)
-
-pub or_true_second : (a b : Bool) → b ≡ true → (a || b) ≡ true
-or_true_second true b is = refl
-or_true_second false b is = is
 
 module _ {S T P : Type 0} where
   keep_more : (key : ℕ) (old middle new : Option (Connection S T P)) → IfSome old (λ connection. connection.state ≢ Reading → middle ≡ Some connection)

@@ -1,14 +1,8 @@
 -- When a reply's deadline begins, after a turn of the service.
 use Rattle.std.proofs.Common.{◌≡◌, ℕ, inl, inr, Bool, Option, None, Some, refl, subst, sym}
+use Rattle.toll_server.proofs.Common.{eqb_tells, Slab, get, IfStays, KeepsTime, connection_behind, stays_after, reply_in_state, state_behind, ticket_of, deadline_after, Connection, Reading, Queued, Working, Writing}
 use Rattle.std.specs.Prelude.{◌≢◌, IfSome, option_map}
-use Rattle.std.proofs.lemmas.Bool.Decides.{eqb_tells}
-use Rattle.slab.specs.Slab.{Slab, get}
-use Rattle.toll_server.specs.Connections.{IfStays, KeepsTime, connection_behind, stays_after}
-use Rattle.toll_server.specs.ConnectionStates.{reply_in_state, state_behind, ticket_of}
-use Rattle.toll_server.specs.Steps.{deadline_after}
-use Rattle.toll_server.specs.declared.connection.Connection.{Connection}
 use Rattle.toll_server.specs.declared.connection_state.ConnectionState.{ConnectionState}
-use Rattle.toll_server.specs.declared.connection_state.ConnectionState.TheVariants.{Reading, Queued, Working, Writing}
 use Rattle.toll_server.specs.declared.step_result.StepResult.{StepResult}
 use Rattle.toll_server.specs.declared.step_result.StepResult.TheVariants.{Waits, Joins, Answered, Failed}
 use Rattle.toll_server.specs.declared.ticket.Ticket.{Ticket}

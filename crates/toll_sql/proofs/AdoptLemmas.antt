@@ -1,16 +1,7 @@
 -- Tables that are ours already, and the version that is read.
 use Rattle.std.proofs.Common.{◌≡◌, ◌≢◌, ◌⊎◌, inl, inr, ℕ, false, List, ◌++◌, slice_get, None, Some, Ok, Result, Option, IfOk, IfSome, OnOk, IsTrue, sym, ap, subst, ◌∙◌}
-use Rattle.toll_sql.proofs.Common.{survives_weaker, Database, Schema, Table, State, HasCleanDisk, Survives, Trees, Error, Content}
-use Rattle.toll_sql.specs.Asking.{IsQuerying}
-use Rattle.toll_sql.specs.First.{AreFirst, HasVersion, HasVersionRow, first_version, meta_rows}
-use Rattle.toll_sql.specs.Holds.{Holds, version}
-use Rattle.toll_sql.specs.Opening.{Adopts, FindsVersion, HoldsEither, IsForeign, IsUnlike, LeavesRaised, TakesOver, without_limit}
-use Rattle.toll_sql.specs.Others.{HasOurs}
-use Rattle.toll_sql.specs.Schema.{made_all, table_of}
-use Rattle.toll_sql.specs.declared.table_kind.TableKind.TheVariants.{Voids}
-use Rattle.toll_sql.specs.declared.open_fault.OpenFault.{OpenFault}
+use Rattle.toll_sql.proofs.Common.{survives_weaker, Database, Schema, Table, State, HasCleanDisk, Survives, Trees, Error, Content, IsQuerying, AreFirst, HasVersion, HasVersionRow, first_version, meta_rows, Holds, version, Adopts, FindsVersion, HoldsEither, IsForeign, IsUnlike, LeavesRaised, TakesOver, without_limit, HasOurs, made_all, table_of, Voids, OpenFault, IsOurs}
 use Rattle.toll_sql.specs.declared.open_fault.OpenFault.TheVariants.{Disk, Damaged, NotOurs}
-use Rattle.toll_sql.specs.Stores.{IsOurs}
 use Rattle.toll_sql.proofs.MetaLemmas.{shows_it, shows_neither}
 use Rattle.toll_sql.proofs.OverLemmas.{opened_ok, open_refused}
 

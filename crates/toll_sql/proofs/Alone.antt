@@ -1,11 +1,6 @@
 -- What is reported of one owner, by the table of owners and by this owner's rows.
 use Rattle.std.proofs.Common.{◌≡◌, ◌≢◌, Option, Some, None, List, Ok, Err, Result, IfOk, if◌then◌else◌, inl, inr, refl, sym, ap, subst, ◌∙◌}
-use Rattle.toll_sql.proofs.Common.{cases_Bool, State, Bytes, Slice, KeepsRules, OwnerRow, ContentKeepsRules, knows, slice_of, KeepFault, Damaged}
-use Rattle.toll_sql.specs.Asking.{ForContent, ForSlice, IsLooking}
-use Rattle.toll_sql.specs.PlantRows.{ForOwners}
-use Rattle.toll_sql.specs.Reading.{ReportsOwnerAlone}
-use Rattle.toll_sql.specs.Shown.{IsUnknownOwner}
-use Rattle.toll_sql.specs.Schema.{is_owned}
+use Rattle.toll_sql.proofs.Common.{cases_Bool, State, Bytes, Slice, KeepsRules, OwnerRow, ContentKeepsRules, knows, slice_of, KeepFault, Damaged, ForContent, ForSlice, IsLooking, ReportsOwnerAlone, IsUnknownOwner, is_owned, ForOwners}
 use Rattle.toll_sql.proofs.LookLemmas.{held_on, slice_part}
 use Rattle.toll_sql.proofs.ReadOn.{clean_before}
 

@@ -1,8 +1,6 @@
 -- Changes put in one transaction.
 use Rattle.std.proofs.Common.{◌≡◌, List, Ok, Err, Result, None, OnOk, IsTrue, refl, sym, subst}
-use Rattle.toll_sql.proofs.Common.{survives_weaker, State, Survives, Error, Change}
-use Rattle.toll_sql.specs.Create.{IsWholeOrNothing, begin}
-use Rattle.toll_sql.specs.Stores.{Applies, HasApplied, IsApplied, IsOurs, IsReady, LeavesPut, MakesAll, PutsAll}
+use Rattle.toll_sql.proofs.Common.{survives_weaker, State, Survives, Error, Change, IsWholeOrNothing, begin, Applies, HasApplied, IsApplied, IsOurs, IsReady, LeavesPut, MakesAll, PutsAll}
 
 pub applied_all : (changes : List Change) (old new : State) → MakesAll changes old new → IsApplied changes old.now new.now
 applied_all changes old new h = record { put = h.put; ours = h.ready.ours; schema = h.schema }

@@ -1,12 +1,6 @@
 -- A query within a transaction, on any schema; and its result if the tables are those of version 1.
 use Rattle.std.proofs.Common.{◌≡◌, ◌⊎◌, inl, inr, ℕ, true, false, cond, List, [], Option, None, Some, Ok, Err, Result, IsTrue, IfOk, IfErr, OnOk, refl, sym, ap, subst, ◌∙◌}
-use Rattle.toll_sql.proofs.Common.{IsPlain, command_of, never_commits, survives_weaker, understood, reads_listing, Row, State, CommitsShowing, FailsToQuery, IsUnchanged, HasCleanDisk, IsTooLate, KeepsCommit, Shown, ShowsRows, Survives, Error, Compiled, Returning, everything}
-use Rattle.toll_sql.specs.Causes.{IsErrorCaused}
-use Rattle.toll_sql.specs.First.{first_ours}
-use Rattle.toll_sql.specs.Opening.{IsQueryInside, LeavesTables}
-use Rattle.toll_sql.specs.Rows.{AreAll}
-use Rattle.toll_sql.specs.Schema.{select_text}
-use Rattle.toll_sql.specs.declared.table_kind.TableKind.TheVariants.{Meta}
+use Rattle.toll_sql.proofs.Common.{IsPlain, command_of, never_commits, survives_weaker, understood, reads_listing, Row, State, CommitsShowing, FailsToQuery, IsUnchanged, HasCleanDisk, IsTooLate, KeepsCommit, Shown, ShowsRows, Survives, Error, Compiled, Returning, everything, IsErrorCaused, first_ours, IsQueryInside, LeavesTables, AreAll, select_text, Meta}
 use Rattle.toll_sql.proofs.AskLemmas.{all_selected_in}
 use Rattle.toll_sql.proofs.Calls.{shown_same}
 use Rattle.toll_sql.proofs.QueryLemmas.{query_fails}

@@ -1,17 +1,7 @@
 -- The answer to a text that reads rows.
-use Rattle.std.proofs.Common.{◌≡◌, ℕ, zero, suc, Bool, true, false, cond, List, [], ◌∷◌, map, length, Result, IfOk, IfErr, refl, sym, ap, ap₂, subst, subst₂, ◌∙◌, Ordering}
-use Rattle.toll_sql.proofs.Common.{on, ordering_then, list_all, filter_agree, IfErr-weaker, IsPlain, command_of, reads_as, never_commits, survives_weaker, understood, reads_listing, Row, column, row_cmp, overlay, IsAnswer, key_cmp, Schema, State, HasCleanDisk, Survives, Shown, FailsToQuery, CommitsShowing, Env, eval_all, holds, Trees, Error, Null, Text, Bytes}
-use Rattle.std.specs.Prelude.{filter, IsPermutation, IsSorted}
-use Rattle.toll_sql.specs.Asking.{IsQuerying}
-use Rattle.toll_sql.specs.Bag.{owned_by}
-use Rattle.toll_sql.specs.Cells.{columns_from, key_cells, key_order}
-use Rattle.toll_sql.specs.Rows.{AreSorted, AreOfOwner, AreAll}
-use Rattle.toll_sql.specs.Select.{AreShown}
-use Rattle.toll_sql.specs.Others.{HasOurs}
+use Rattle.std.proofs.Common.{◌≡◌, ℕ, zero, suc, Bool, true, false, cond, List, [], ◌∷◌, map, length, Result, IfOk, IfErr, refl, sym, ap, ap₂, subst, subst₂, ◌∙◌, Ordering, filter, IsPermutation, IsSorted}
+use Rattle.toll_sql.proofs.Common.{on, ordering_then, list_all, filter_agree, IfErr-weaker, IsPlain, command_of, reads_as, never_commits, survives_weaker, understood, reads_listing, Row, column, row_cmp, overlay, IsAnswer, key_cmp, Schema, State, HasCleanDisk, Survives, Shown, FailsToQuery, CommitsShowing, Env, eval_all, holds, Trees, Error, Null, Text, Bytes, IsQuerying, owned_by, columns_from, key_cells, key_order, AreSorted, AreOfOwner, AreAll, AreShown, HasOurs, tree_of, key_columns, width_of, is_owned, select_text, TableKind, Meta, and-true}
 use Rattle.toll_sql.proofs.Beside.{Others, is_ours, others_of, ours_and}
-use Rattle.toll_sql.specs.Schema.{tree_of, key_columns, width_of, is_owned, select_text}
-use Rattle.toll_sql.specs.declared.table_kind.TableKind.{TableKind}
-use Rattle.toll_sql.specs.declared.table_kind.TableKind.TheVariants.{Meta}
 use Rattle.toll_sql.proofs.Calls.{plain_given, shown_same}
 use Rattle.toll_sql.proofs.CellLemmas.{every_column}
 use Rattle.toll_sql.proofs.PutCommon.{equals_text}
@@ -19,7 +9,6 @@ use Rattle.toll_sql.proofs.PutTexts.{terms_from}
 use Rattle.toll_sql.proofs.QueryLemmas.{query_fails, live_of, open_of, same_of}
 use Rattle.toll_sql.proofs.SelectLemmas.{shown_by}
 use Rattle.toll_sql.proofs.SelectTexts.{owner_is, owner_tests, keys_from, query_of, select_table, select_is, select_given}
-use Rattle.toll_sql.proofs.UpsertLemmas.{and_true}
 
 -- ---- any text that compiles, whatever it reads
 
@@ -84,7 +73,7 @@ unfiltered [] params = refl
 unfiltered (row ∷ rows) params = ap (λ more. row ∷ more) (unfiltered rows params)
 
 own_pass : (o : Bytes) (rows : List Row) → filter (λ row. list_all (holds ((Text o ∷ []) ∷ row ∷ [])) owner_is) rows ≡ owned_by o rows
-own_pass o rows = filter_agree _ _ (λ row. and_true _ ∙ equals_text (column row 1) o) rows
+own_pass o rows = filter_agree _ _ (λ row. and-true _ ∙ equals_text (column row 1) o) rows
 
 module _ (k : TableKind) (params : Row) (old new : State) (schema : Schema) (has : old.now.schema ≡ schema) (is : (command_of (understood schema (select_text k)) ≡ select_table k) × (reads_listing schema (select_text k) ≡ false)) (hits : List Row)
     (passed : filter (λ row. list_all (holds (params ∷ row ∷ [])) (owner_tests (is_owned k))) (old.now.trees (tree_of k)) ≡ hits) (plain : IsPlain (understood schema (select_text k))) where

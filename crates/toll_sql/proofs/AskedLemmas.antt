@@ -1,9 +1,7 @@
 -- The rows that a text reads of a database, whatever its tables are.
 use Rattle.std.proofs.Common.{◌≡◌, ◌≢◌, ◌⊎◌, inl, inr, ℕ, true, false, List, [], None, Ok, Err, Result, IfOk, IfErr, refl, sym, ap, subst, ◌∙◌}
-use Rattle.toll_sql.proofs.Common.{timed, Database, RefusesToRead, Row, IsSourceOf, reads_listing, understood, State, Shown, FailsToQuery, FailsToShow, HasCause, IsNotRun, IsNoStatement, IsTooLate, store_error, Error, SqliteFailure, Compiled, CompileError, StoreError, OutOfMemory, Unstorable}
+use Rattle.toll_sql.proofs.Common.{timed, Database, RefusesToRead, Row, IsSourceOf, reads_listing, understood, State, Shown, FailsToQuery, FailsToShow, HasCause, IsNotRun, IsNoStatement, IsTooLate, store_error, Error, SqliteFailure, Compiled, CompileError, StoreError, OutOfMemory, Unstorable, AreReadBy, AreReadWith, IsUnreadBy, IsWholeText, is_disk_fault}
 use Rattle.sqlite.specs.declared.error.ErrorCode.TheVariants as code
-use Rattle.toll_sql.specs.Asked.{AreReadBy, AreReadWith, IsUnreadBy, IsWholeText}
-use Rattle.toll_sql.specs.Causes.{is_disk_fault}
 
 pub read_with : (sql : List ℕ) (params : Row) (old new : State) (rows : List Row) → Shown sql params old new rows → AreReadWith old.now sql params rows
 unfolding Shown

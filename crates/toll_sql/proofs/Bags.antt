@@ -1,11 +1,7 @@
 -- A row that is put by its key is placed among the rows that the table has.
-use Rattle.std.proofs.Common.{◌≡◌, ◌⊎◌, inl, inr, ℕ, ◌+◌, Bool, true, false, cond, List, [], ◌∷◌, map, refl, sym, ap, ◌∙◌, arith, Ordering, Less, Equal, Greater}
-use Rattle.std.specs.Prelude.{IsPermutation}
-use Rattle.toll_sql.proofs.Common.{IsTotalOrder, sum_by, AllByRecursion, is_eq, match_ordering, ordering_reverse, alike_right, sum_by-IsPermutation, IsPermutation-map, Row, all_has, Has}
+use Rattle.std.proofs.Common.{◌≡◌, ◌⊎◌, inl, inr, ℕ, ◌+◌, Bool, true, false, cond, List, [], ◌∷◌, map, refl, sym, ap, ◌∙◌, arith, Ordering, Less, Equal, Greater, IsPermutation}
+use Rattle.toll_sql.proofs.Common.{IsTotalOrder, sum_by, AllByRecursion, is_eq, match_ordering, ordering_reverse, alike_right, sum_by-IsPermutation, IsPermutation-map, Row, all_has, Has, place, Rises, SameBag, total, all_cells, cells_of, ReplacesOrAdds, IsRowAdded}
 use Rattle.std.proofs.lemmas.List.Sums.{sum_by-cons}
-use Rattle.toll_sql.specs.Bag.{place, Rises, SameBag, total, all_cells}
-use Rattle.toll_sql.specs.Cells.{cells_of}
-use Rattle.toll_sql.specs.Put.{ReplacesOrAdds, IsRowAdded}
 
 -- ---- sums
 

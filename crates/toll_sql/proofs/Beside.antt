@@ -1,9 +1,7 @@
 -- What follows the office's tables in a schema, by itself.
 use Rattle.std.proofs.Common.{◌≡◌, List, ◌++◌, ap₂}
-use Rattle.toll_sql.proofs.Common.{Schema, Table, Index}
+use Rattle.toll_sql.proofs.Common.{Schema, Table, Index, HasOurs, made_all}
 use Rattle.sqlite_schema.specs.declared.schema.View.{View}
-use Rattle.toll_sql.specs.Others.{HasOurs}
-use Rattle.toll_sql.specs.Schema.{made_all}
 
 pub record Others : Type 0 where
   pub tables : List Table

@@ -1,7 +1,6 @@
 -- The cause of an error that is reported as a fault of the disk.
 use Rattle.std.proofs.Common.{◌≡◌, inl, inr, ℕ, List, true, false, Ok, Err, IsTrue, IfErr, Result, arith, refl, sym, ap, ◌∙◌}
-use Rattle.toll_sql.proofs.Common.{cases_Bool, StoreError, OutOfMemory, Broken, Unstorable, Error, ExecuteReturnedResults, Row, Trees, Returning, Compiled, State, Fails, HasCause as StoreCause, store_error, IsNoStatement, IsNotRun, RunsCommand, RunsAlone, ExecutesIn, ExecutesInside, shows_rows, mode_of, text_of, Survives, HasCleanDisk, FailsToCommit}
-use Rattle.toll_sql.specs.Causes.{IsErrorCaused, is_disk_fault, Reason}
+use Rattle.toll_sql.proofs.Common.{cases_Bool, StoreError, OutOfMemory, Broken, Unstorable, Error, ExecuteReturnedResults, Row, Trees, Compiled, State, Fails, HasCause as StoreCause, store_error, IsNoStatement, IsNotRun, RunsCommand, RunsAlone, ExecutesIn, ExecutesInside, shows_rows, mode_of, text_of, Survives, HasCleanDisk, FailsToCommit, IsErrorCaused, is_disk_fault, Reason}
 use Rattle.toll_sql.proofs.Refusals.{doing}
 
 module _ (old new : State) where
@@ -55,9 +54,6 @@ module _ (old new : State) where
   commit_fails e (inl h) = cause_failed ⊥ e h
   commit_fails e (inr h) = other_cause e _ h.0 refl
 
-  show : (sql : List ℕ) (params : Row) (e : Error) (c : Compiled) (r : Returning) → RunsCommand old new sql c params (Err e) → IsErrorCaused old new e
-  show sql params e c r h = command_caused sql params e c h
-
   pub exec_fault : (sql : List ℕ) (params : Row) (r : Result ℕ Error) → ExecutesInside 0 sql params old new r → IfErr r (IsErrorCaused old new)
   exec_fault sql params (Ok n) h = tt
   exec_fault sql params (Err e) h = exec_fails 0 sql params e h
@@ -72,7 +68,3 @@ reason_before a b c P Q s t clean (inr shut) = elim (cases_Bool a.is_open) [
   ])
   | inr not ↦ inr not
 ]
-
-pub reason_after : (a b c : State) (Q : Trees → Type 0) → Survives b c Q → Reason a b → Reason a c
-reason_after a b c Q t (inl more) = inl (omega (arith, more, t.counts))
-reason_after a b c Q t (inr h) = inr h

@@ -1,9 +1,8 @@
 -- Cells of rows that fill their table's columns.
 use Rattle.std.proofs.Common.{◌≡◌, ℕ, zero, suc, true, List, [], ◌∷◌, length, ap, ap₂, ◌∙◌, refl}
-use Rattle.toll_sql.proofs.Common.{false≢true, and_parts, Kind, Row, column, Table, Value, Int, Text, Column}
+use Rattle.toll_sql.proofs.Common.{false≢true, and_parts, Kind, Row, column, Table, Value, Int, Text, Column, columns_from, is_of_kind, fit}
 use Rattle.sqlite.specs.Cast.{cast, cast_all, cast_row}
 use Rattle.sqlite.specs.Kind.TheVariants as kind
-use Rattle.toll_sql.specs.Cells.{columns_from, is_of_kind, fit}
 use Rattle.toll_sql.proofs.PutCommon.{cast_int}
 
 pub later_columns : (at n : ℕ) (v : Value) (row : Row) → columns_from (suc at) n (v ∷ row) ≡ columns_from at n row

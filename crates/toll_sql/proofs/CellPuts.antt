@@ -1,12 +1,8 @@
 -- Puts by a key, over the cells of a table's rows; two puts in either order give the same rows.
-use Rattle.std.proofs.Common.{◌≡◌, ◌⊎◌, inl, inr, ℕ, zero, suc, ◌<◌, Bool, true, false, List, [], ◌∷◌, ◌++◌, length, refl, sym, ap, subst, ◌∙◌, slice_index_or}
-use Rattle.std.specs.Prelude.{not, filter, IsPermutation}
+use Rattle.std.proofs.Common.{◌≡◌, ◌⊎◌, inl, inr, ℕ, zero, suc, ◌<◌, Bool, true, false, List, [], ◌∷◌, ◌++◌, length, refl, sym, ap, subst, ◌∙◌, slice_index_or, not, filter, IsPermutation}
 use Rattle.std.specs.List.{swap, slice_set}
-use Rattle.std.proofs.lemmas.List.{map-set}
 use Rattle.std.proofs.lemmas.List.Sorted.{IsPermutation-append_left, IsPermutation-append_right, IsPermutation-keeps, IsPermutation-swap}
-use Rattle.toll_sql.proofs.Common.{cases_Bool, length-map, AllByRecursion, IsPermutation-cons, IsPermutation-filter, IsPermutation-filter_both, IsPermutation-middle, IsPermutation-refl, IsPermutation-sym, IsPermutation-trans, all-permutation, Row}
-use Rattle.toll_sql.specs.Bag.{all_cells}
-use Rattle.toll_sql.specs.Cells.{cells_of}
+use Rattle.toll_sql.proofs.Common.{cases_Bool, length-map, AllByRecursion, IsPermutation-cons, IsPermutation-filter, IsPermutation-filter_both, IsPermutation-middle, IsPermutation-refl, IsPermutation-sym, IsPermutation-trans, all-permutation, Row, map-set, all_cells, cells_of}
 
 -- ---- lists
 

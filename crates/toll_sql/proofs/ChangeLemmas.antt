@@ -1,9 +1,7 @@
 -- A change is put as its row.
 use Rattle.std.proofs.Common.{◌≡◌, true, Ok, Err, Result, OnOk, refl, sym, subst}
-use Rattle.toll_sql.proofs.Common.{Row, State, Error, Change, Put}
+use Rattle.toll_sql.proofs.Common.{Row, State, Error, Change, Put, fill, IsValidChange, IsWriting, MakesPut, MakesRow, table_of_change, cells_of_change}
 use Rattle.toll_base.specs.declared.rows.Row.TheVariants as of
-use Rattle.toll_sql.specs.Cells.{fill}
-use Rattle.toll_sql.specs.Stores.{IsValidChange, IsWriting, MakesPut, MakesRow, table_of_change, cells_of_change}
 
 -- The cells of the change fill the columns of its table.
 pub fills : (change : Change) → fill (table_of_change change) (cells_of_change change) ≡ true

@@ -1,12 +1,10 @@
 -- Why files couldn't be closed.
 use Rattle.std.proofs.Common.{◌≡◌, ◌⊎◌, inl, inr, false, true, IsTrue, sym, ap, ◌∙◌}
 use Rattle.sqlite.specs.Files.{ExcusesClose, FailsToClose, IsClosed}
-use Rattle.toll_sql.proofs.Common.{Held, store_error, Error, IsClean, StoreError, OutOfMemory, Broken, Unstorable, KeepFault, Memory, Disk}
+use Rattle.toll_sql.proofs.Common.{Held, store_error, Error, IsClean, StoreError, OutOfMemory, Broken, Unstorable, KeepFault, Memory, Disk, is_disk_fault, IsUnclosed}
 use Rattle.sqlite.specs.Disk.{MoreFaults}
 use Rattle.sqlite_store.specs.FileStore.{faults, view}
 use Rattle.sqlite_store.specs.declared.store.FileStore.{FileStore}
-use Rattle.toll_sql.specs.Causes.{is_disk_fault}
-use Rattle.toll_sql.specs.FromFiles.{IsUnclosed}
 
 module _ {D : Type 0} {g : _} (conn : Held (FileStore D g)) (last : FileStore D g) where
   excused : (cause : StoreError) → IsTrue (is_disk_fault (store_error cause)) → ExcusesClose conn last cause → ((view conn.store).is_open ≡ false) ⊎ MoreFaults (faults conn.store) (faults last)

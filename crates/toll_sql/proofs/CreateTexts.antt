@@ -1,10 +1,6 @@
 -- The meaning of the texts that make the tables.
 use Rattle.std.proofs.Common.{◌≡◌, ◌<◌, ℕ, suc, false, [], ◌∷◌, take, get_or, Ok, refl, arith}
-use Rattle.toll_sql.proofs.Common.{IsPlain, command_of, statement_of, created, next_tree, CreateTable, table_defined_by, lacks_sequence, understood, Table, compiled, everything}
-use Rattle.toll_sql.specs.Plain.{no_schema}
-use Rattle.toll_sql.specs.Schema.{every_table, with_tables, earlier, table_of, tree_of, made_before, create_text}
-use Rattle.toll_sql.specs.declared.table_kind.TableKind.{TableKind}
-use Rattle.toll_sql.specs.declared.table_kind.TableKind.TheVariants.{Meta}
+use Rattle.toll_sql.proofs.Common.{IsPlain, command_of, statement_of, created, next_tree, CreateTable, table_defined_by, lacks_sequence, understood, Table, compiled, everything, no_schema, every_table, with_tables, earlier, table_of, tree_of, made_before, create_text, TableKind, Meta}
 use Rattle.toll_sql.proofs.PutTexts.{table_number}
 use Rattle.toll_sql.proofs.TextLemmas.{one_statement, command_is, statement_is, statement_plain}
 

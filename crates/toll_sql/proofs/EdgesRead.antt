@@ -1,11 +1,7 @@
 -- Edges that are read from rows that show them.
-use Rattle.std.proofs.Common.{◌≡◌, List, Result, IfOk, sym, ap, subst, ◌∙◌}
-use Rattle.std.specs.Prelude.{Contains}
-use Rattle.toll_sql.proofs.Common.{AllByRecursion, IfOk-weaker, Row, column, bytes, bytes_cmp, Slice, Edge, MoveRow, member_of_row, Contains-map, Contains-from_map, kept_in_order, member_of_all, AreEdges, IsEdge}
+use Rattle.std.proofs.Common.{◌≡◌, List, Result, IfOk, sym, ap, subst, ◌∙◌, Contains}
+use Rattle.toll_sql.proofs.Common.{AllByRecursion, IfOk-weaker, Row, column, bytes, bytes_cmp, Slice, Edge, MoveRow, member_of_row, Contains-map, Contains-from_map, kept_in_order, member_of_all, AreEdges, IsEdge, columns_from, AreEdgesReadFrom, HasNoEdge, IsNamedEdge, ShowEdges, edge_cells, IsMove, IsMovement}
 use Rattle.toll_base.specs.Lots.{edge_cmp}
-use Rattle.toll_sql.specs.Cells.{columns_from}
-use Rattle.toll_sql.specs.EdgeRows.{AreEdgesReadFrom, HasNoEdge, IsNamedEdge, ShowEdges, edge_cells}
-use Rattle.toll_sql.specs.Valid.{IsMove, IsMovement}
 use Rattle.toll_trace.proofs.Orders.{edges_exact}
 
 edge_same : (e f : Edge) → edge_cells e ≡ edge_cells f → e ≡ f

@@ -1,15 +1,7 @@
 -- The pairs are exactly the edges of the slice whose rows the tables have.
-use Rattle.std.proofs.Common.{◌≡◌, ◌≤◌, true, false, is_some, List, [], ◌∷◌, refl, sym, ap, subst, subst₂, ◌∙◌}
-use Rattle.toll_sql.proofs.Common.{false≢true, list_all, ordering_reverse, Row, column, IsAnswer, State, Term, eval_all, holds, Trees, Value, Text, Bytes, bytes_cmp, Slice, void_at, IsInKeyOrder, Edge, MoveRow, Consumed, Produced, Content, IsEdgeOfSome, row_of_member, member_of_row, IsActual, Stands, IsEdge}
-use Rattle.std.specs.Prelude.{Contains}
+use Rattle.std.proofs.Common.{◌≡◌, ◌≤◌, true, false, is_some, List, [], ◌∷◌, refl, sym, ap, subst, subst₂, ◌∙◌, Contains}
+use Rattle.toll_sql.proofs.Common.{false≢true, list_all, ordering_reverse, Row, column, IsAnswer, State, Term, eval_all, holds, Trees, Value, Text, Bytes, bytes_cmp, Slice, void_at, IsInKeyOrder, Edge, MoveRow, Consumed, Produced, Content, IsEdgeOfSome, row_of_member, member_of_row, IsActual, Stands, IsEdge, ShowEdges, draws_edges, edge_cells, kind_number, move_lot, move_order, move_number, move_segment, move_cells, void_cells, HoldsEach, HoldsPart, HoldsIn, HoldsPartIn, is_owned, tree_of, TableKind, Moves, Voids}
 use Rattle.std.proofs.lemmas.Cmp.{tied_itself, nat_list_cmp_total}
-use Rattle.toll_sql.specs.EdgeRows.{ShowEdges, draws_edges, edge_cells}
-use Rattle.toll_sql.specs.Encode.{kind_number, move_lot, move_order, move_number, move_segment, move_cells, void_cells}
-use Rattle.toll_sql.specs.Holds.{HoldsEach, HoldsPart}
-use Rattle.toll_sql.specs.Stores.{HoldsIn, HoldsPartIn}
-use Rattle.toll_sql.specs.Schema.{is_owned, tree_of}
-use Rattle.toll_sql.specs.declared.table_kind.TableKind.{TableKind}
-use Rattle.toll_sql.specs.declared.table_kind.TableKind.TheVariants.{Moves, Voids}
 use Rattle.toll_sql.proofs.JoinQuery.{pairs_that, owners_tests, all_tests, lots}
 use Rattle.toll_sql.proofs.JoinRows.{IsMatch, match_of, match_shown}
 use Rattle.toll_sql.proofs.JoinTests.{PassesTests, IsPairOf, equals, equals_text_only, null_is_none, owners_pass, pass_owners, all_pass, pass_all, pair_of, pair_passes, actual_of_kind}
@@ -157,6 +149,3 @@ moves_of_all db rows has = record { slices = λ o. part_within draws_edges is_ow
 
 pub moves_part : (s : State) (c : Content) → HoldsIn s c → (o : Bytes) → HoldsPartIn draws_edges s o (c.rows o)
 moves_part = holds_part draws_edges draws_owned
-
-pub owned_part : (s : State) (c : Content) → HoldsIn s c → (o : Bytes) → HoldsPartIn is_owned s o (c.rows o)
-owned_part = holds_part is_owned (λ k owned. owned)

@@ -1,17 +1,7 @@
 -- The content of the tables once the version is there.
 use Rattle.std.proofs.Common.{◌≡◌, true, List, [], ◌∷◌, refl, sym, subst, ◌∙◌, arith}
-use Rattle.toll_sql.proofs.Common.{AllByRecursion, Row, State, Table, Trees, IsShaped, Bytes, empty_slice, Content, empty_content}
+use Rattle.toll_sql.proofs.Common.{AllByRecursion, Row, State, Table, Trees, IsShaped, Bytes, empty_slice, Content, empty_content, all_cells, owned_by, place, key_order, WritesVersion, IsNewDatabase, IsShapedAs, MakesAllTables, meta_cells, owner_cells, unit_cells, rows_for, as_second, HasRows, Holds, HoldsSlice, NamesOwner, version, made_all, tree_of, is_owned, AreValidIn, IsOwner, IsUnit, TableKind, Meta, Owners, Units}
 use Rattle.sqlite_trees.specs.declared.store.Shape.TheVariants as shape
-use Rattle.toll_sql.specs.Bag.{all_cells, owned_by, place}
-use Rattle.toll_sql.specs.Cells.{key_order}
-use Rattle.toll_sql.specs.Create.{WritesVersion, IsNewDatabase, IsShapedAs, MakesAllTables}
-use Rattle.toll_sql.specs.Encode.{meta_cells, owner_cells, unit_cells, rows_for}
-use Rattle.toll_sql.specs.First.{as_second}
-use Rattle.toll_sql.specs.Holds.{HasRows, Holds, HoldsSlice, NamesOwner, version}
-use Rattle.toll_sql.specs.Schema.{made_all, tree_of, is_owned}
-use Rattle.toll_sql.specs.Valid.{AreValidIn, IsOwner, IsUnit}
-use Rattle.toll_sql.specs.declared.table_kind.TableKind.{TableKind}
-use Rattle.toll_sql.specs.declared.table_kind.TableKind.TheVariants.{Meta, Owners, Units}
 use Rattle.toll_sql.proofs.HoldsAfter.{other_tree, rows_held_after, same_all, same_each, unowned_apart}
 use Rattle.toll_sql.proofs.PutTexts.{table_number}
 use Rattle.toll_sql.proofs.WriteLemmas.{at_table}

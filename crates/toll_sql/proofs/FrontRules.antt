@@ -1,11 +1,8 @@
 -- A slice that is partly read keeps the rules if the whole slice does.
 use Rattle.std.proofs.Common.{◌≡◌, ℕ, zero, suc, ◌+◌, ◌≤◌, Bool, true, false, cond, List, [], ◌∷◌, take, length, Option, Some, is_some, nat_le, refl, arith, Ordering}
-use Rattle.toll_sql.proofs.Common.{is_eq, Bytes, bytes_cmp, pair_cmp, Slice, material_at, lot_at, LotRow, SublotRow, KeepsRules, is_actual_of, row_at, count, none_or}
+use Rattle.toll_sql.proofs.Common.{is_eq, Bytes, bytes_cmp, pair_cmp, Slice, material_at, lot_at, LotRow, SublotRow, KeepsRules, is_actual_of, row_at, count, none_or, front_slice, TableKind, Materials, Tests, Recipes, Requirements, Orders, Batches, Lots, Sublots, Moves, Results, Voids}
 use Rattle.toll_base.specs.declared.capacity.TheConstants.{MOST_ACTUALS, MOST_STOCK}
 use Rattle.toll_base.proofs.SliceFits.{empty_keeps}
-use Rattle.toll_sql.specs.Fronts.{front_slice}
-use Rattle.toll_sql.specs.declared.table_kind.TableKind.{TableKind}
-use Rattle.toll_sql.specs.declared.table_kind.TableKind.TheVariants.{Materials, Tests, Recipes, Requirements, Orders, Batches, Lots, Sublots, Moves, Results, Voids}
 
 take_at_most : {X : Type 0} (n : ℕ) (xs : List X) → length (take n xs) ≤ length xs
 take_at_most zero xs = omega arith

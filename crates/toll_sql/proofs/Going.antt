@@ -1,7 +1,6 @@
 -- Changes that are put one after another.
-use Rattle.std.proofs.Common.{◌≡◌, List, [], ◌∷◌, refl, ◌∙◌}
-use Rattle.toll_sql.proofs.Common.{State, Trees, Change}
-use Rattle.toll_sql.specs.Stores.{IsReady, MakesAll, MakesPut, PutsAll}
+use Rattle.std.proofs.Common.{◌≡◌, List, ◌∷◌, ◌∙◌}
+use Rattle.toll_sql.proofs.Common.{State, Trees, Change, IsReady, MakesPut, PutsAll}
 
 -- So far: the changes that are left make of the trees what all changes make of the first trees.
 pub record GoesOn (all rest : List Change) (old now : State) : Type 0 where
@@ -10,9 +9,6 @@ pub record GoesOn (all rest : List Change) (old now : State) : Type 0 where
   pub committed : now.committed ≡ old.committed
   pub rest_puts : (last : Trees) → PutsAll rest now.now.trees last → PutsAll all old.now.trees last
 
-pub goes_on_from_start : (all : List Change) (old : State) → IsReady old → GoesOn all all old old
-goes_on_from_start all old ready = record { ready = ready; schema = refl; committed = refl; rest_puts = λ last h. h }
-
 pub one_put_more : (all rest : List Change) (change : Change) (old now next : State) → GoesOn all (change ∷ rest) old now → MakesPut change now next → GoesOn all rest old next
 one_put_more all rest change old now next so h = record {
   ready = h.ready;
@@ -20,6 +16,3 @@ one_put_more all rest change old now next so h = record {
   committed = h.committed ∙ so.committed;
   rest_puts = λ last more. so.rest_puts last (next.now.trees, h.put, more);
 }
-
-pub makes_all_at_end : (all : List Change) (old new : State) → GoesOn all [] old new → MakesAll all old new
-makes_all_at_end all old new so = record { put = so.rest_puts new.now.trees refl; ready = so.ready; schema = so.schema; committed = so.committed }

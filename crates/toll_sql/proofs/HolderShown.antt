@@ -1,21 +1,9 @@
 -- The rows for a unit are exactly the batches that hold it.
-use Rattle.std.proofs.Common.{◌≡◌, ℕ, pos, Bool, true, false, not, Option, Some, None, List, [], ◌∷◌, map, codes, Result, Ok, Err, IfOk, OnOk, refl, sym, ap, ap₂, subst, ◌∙◌, ◌&&◌}
-use Rattle.toll_sql.proofs.Common.{false≢true, list_all, is_eq, ordering_reverse, and_parts, tied_itself, Contains-permutation, IsPermutation-sym, IfOk-weaker, on_ok_weaker, all-permutation, IsPlain, command_of, reads_as, Binary, Command, Select, understood, reads_listing, Database, Row, column, bytes, value_cmp, overlay, Query, IsAnswer, State, Shown, Term, col, lit, op2, holds, eval_all, Trees, Value, Null, Int, Text, Compare, Eq, everything, batch_cmp_total, same_bytes-exact, same_bytes-refl, Bytes, same_bytes, batch_cmp, Slice, batch_at, IsInKeyOrder, is_some_where, none_or, BatchRow, Content, KeepFault, Damaged, IsHolder, is_on, row_of_member, member_of_row, Contains-none, Contains-map, Contains-from_map, Contains-filter, Contains-from_filter, member_of_all}
-use Rattle.std.specs.Prelude.{◌≢◌, Contains, IsPermutation, filter}
+use Rattle.std.proofs.Common.{◌≡◌, ℕ, pos, Bool, true, false, not, Option, Some, None, List, [], ◌∷◌, map, codes, Result, Ok, Err, IfOk, OnOk, refl, sym, ap, ap₂, subst, ◌∙◌, ◌&&◌, ◌≢◌, Contains, IsPermutation, filter}
+use Rattle.toll_sql.proofs.Common.{false≢true, list_all, is_eq, ordering_reverse, and_parts, tied_itself, Contains-permutation, IsPermutation-sym, IfOk-weaker, on_ok_weaker, all-permutation, IsPlain, command_of, reads_as, Binary, Command, Select, understood, reads_listing, Database, Row, column, bytes, value_cmp, overlay, Query, IsAnswer, State, Shown, Term, col, lit, op2, holds, eval_all, Trees, Value, Null, Int, Text, Compare, Eq, everything, batch_cmp_total, same_bytes-exact, same_bytes-refl, Bytes, same_bytes, batch_cmp, Slice, batch_at, IsInKeyOrder, is_some_where, none_or, BatchRow, Content, KeepFault, Damaged, IsHolder, is_on, row_of_member, member_of_row, Contains-none, Contains-map, Contains-from_map, Contains-filter, Contains-from_filter, member_of_all, and_from, columns_from, flag, batch_cells, AreBatchRows, HasNoBatch, IsHolderOf, IsRowOfBatch, IsShownIn, ReportsHolder, ShowHolders, batch_columns, open_on, Holds, HoldsSlice, plain_query, HasOurs, is_owned, tree_of, width_of, IsBatch, Batches, AreReadWith, unit_text}
 use Rattle.toll_keep.specs.declared.holder.Holder.{Holder}
-use Rattle.toll_sql.specs.Cells.{columns_from}
-use Rattle.toll_sql.specs.Encode.{flag, batch_cells}
-use Rattle.toll_sql.specs.HolderRows.{AreBatchRows, HasNoBatch, IsHolderOf, IsRowOfBatch, IsShownIn, ReportsHolder, ShowHolders, batch_columns, open_on}
-use Rattle.toll_sql.specs.Holds.{Holds, HoldsSlice}
-use Rattle.toll_sql.specs.Select.{plain_query}
-use Rattle.toll_sql.specs.Others.{HasOurs}
 use Rattle.toll_sql.proofs.Beside.{Others, is_ours, others_of, ours_and}
-use Rattle.toll_sql.specs.Schema.{is_owned, tree_of, width_of}
-use Rattle.toll_sql.specs.Valid.{IsBatch}
-use Rattle.toll_sql.specs.declared.table_kind.TableKind.TheVariants.{Batches}
-use Rattle.toll_sql.specs.Asked.{AreReadWith}
-use Rattle.toll_sql.specs.AskedTexts.{unit_text}
-use Rattle.toll_sql.proofs.JoinTests.{equals, texts_same, text_itself, numbers_same, number_itself, and_both}
+use Rattle.toll_sql.proofs.JoinTests.{equals, texts_same, text_itself, numbers_same, number_itself}
 use Rattle.toll_sql.proofs.MemberRows.{AreRowsOfOwner, rows_kept, trees_seen, member_under, named_owner}
 use Rattle.toll_sql.proofs.Orders.{batches_order}
 use Rattle.toll_sql.proofs.Placing.{in_key_order}
@@ -98,7 +86,7 @@ module _ (unit : Bytes) (o : Bytes) (id : Value) (x : BatchRow) where
       let parts = and_parts _ _ on in
       let is : x.unit ≡ unit = same_bytes-exact x.unit unit parts.0 in
       let open_ : x.closed ≡ false = unclosed x.closed parts.1 in
-      and_both _ _ (subst (λ u. equals (Text u) (Text unit) ≡ true) (sym is) (text_itself unit)) (and_both _ true (subst (λ b. equals (Int (pos (flag b))) (Int (pos 0)) ≡ true) (sym open_) (number_itself 0)) refl)
+      and_from _ _ (subst (λ u. equals (Text u) (Text unit) ≡ true) (sym is) (text_itself unit)) (and_from _ true (subst (λ b. equals (Int (pos (flag b))) (Int (pos 0)) ≡ true) (sym open_) (number_itself 0)) refl)
     where
       unclosed : (b : Bool) → not b ≡ true → b ≡ false
       unclosed false h = refl
@@ -109,7 +97,7 @@ module _ (unit : Bytes) (o : Bytes) (id : Value) (x : BatchRow) where
       let parts = and_parts (equals (Text x.unit) (Text unit)) _ h in
       let is : x.unit ≡ unit = texts_same x.unit unit parts.0 in
       let open_ : x.closed ≡ false = open_flag x.closed (numbers_same (flag x.closed) 0 (and_parts _ true parts.1).0) in
-      and_both _ _ (subst (λ u. same_bytes u unit ≡ true) (sym is) (same_bytes-refl unit)) (ap not open_)
+      and_from _ _ (subst (λ u. same_bytes u unit ≡ true) (sym is) (same_bytes-refl unit)) (ap not open_)
 
 module _ (db : Trees) (s : Slice) (has : HoldsSlice db s.owner s) where
   pub batches_kept : AreRowsOfOwner s.owner (batch_cells s.owner) s.batches (db (tree_of Batches))

@@ -1,11 +1,7 @@
 -- The meaning of the texts that pair movements.
 use Rattle.std.proofs.Common.{◌≡◌, ℕ, pos, negsuc, false, List, [], ◌∷◌, ◌++◌, None, codes, refl}
-use Rattle.toll_sql.proofs.Common.{IsPlain, command_of, reads_as, Binary, Command, Select, understood, reads_listing, Row, overlay, Query, Join, IsAnswer, inner, left, end, State, Shown, Term, lit, col, op2, Null, Int, Compare, Is, Eq, Le, everything}
-use Rattle.toll_sql.specs.Others.{HasOurs}
+use Rattle.toll_sql.proofs.Common.{IsPlain, command_of, reads_as, Binary, Command, Select, understood, reads_listing, Row, overlay, Query, Join, IsAnswer, inner, left, end, State, Shown, Term, lit, col, op2, Null, Int, Compare, Is, Eq, Le, everything, HasOurs, tree_of, Moves, Voids, owners_text, all_text}
 use Rattle.toll_sql.proofs.Beside.{Others, is_ours, others_of, ours_and}
-use Rattle.toll_sql.specs.Schema.{tree_of}
-use Rattle.toll_sql.specs.declared.table_kind.TableKind.TheVariants.{Moves, Voids}
-use Rattle.toll_sql.specs.AskedTexts.{owners_text, all_text}
 
 abbrev same_terms : Term → Term → Term
 same_terms a b = op2 (Compare Eq Binary) a b

@@ -1,9 +1,6 @@
 -- The rows of the pairing: those of two movements that pass, with the voids that are joined to them.
-use Rattle.std.proofs.Common.{◌≡◌, inl, inr, Bool, true, false, cond, List, [], ◌∷◌, map, refl, sym, ap, subst, ◌∙◌}
-use Rattle.toll_sql.proofs.Common.{list_all, Contains-permutation, IsPermutation-sym, Row, Query, Output, output, IsAnswer, matches, or_nulls, Term, Env, eval_all, holds, Trees, Contains-none, Contains-here, Contains-cases, Contains-map, Contains-from_map, Contains-flat_map, Contains-from_flat_map}
-use Rattle.std.specs.Prelude.{Contains, filter}
-use Rattle.toll_sql.specs.Schema.{tree_of}
-use Rattle.toll_sql.specs.declared.table_kind.TableKind.TheVariants.{Moves, Voids}
+use Rattle.std.proofs.Common.{◌≡◌, inl, inr, Bool, true, false, cond, List, [], ◌∷◌, map, refl, sym, ap, subst, ◌∙◌, Contains, filter}
+use Rattle.toll_sql.proofs.Common.{list_all, Contains-permutation, IsPermutation-sym, Row, Query, Output, output, IsAnswer, matches, or_nulls, Term, Env, eval_all, holds, Trees, Contains-none, Contains-here, Contains-cases, Contains-map, Contains-from_map, Contains-flat_map, Contains-from_flat_map, tree_of, Moves, Voids}
 use Rattle.toll_sql.proofs.JoinQuery.{pairs_that, sources, lots, void_of}
 
 only_here : (b : Bool) (e env : Env) → Contains (cond b (e ∷ []) []) env → (b ≡ true) × (env ≡ e)

@@ -1,9 +1,8 @@
 -- The tests on two movements as the table has them.
 use Rattle.std.proofs.Common.{◌≡◌, ◌≤◌, ℕ, ℤ, pos, Bool, true, false, ◌&&◌, List, [], ◌∷◌, refl, sym, ap, subst, ◌∙◌, arith}
-use Rattle.toll_sql.proofs.Common.{false≢true, list_all, is_eq, is_le, int_cmp, nat_tests, tied_itself, exact_signed, Binary, binary, is_true, Row, column, value_cmp, holds, Value, Null, Int, Text, Compare, Is, Eq, Le, value_cmp_total, value_cmp-Int, Bytes, Move, Actual, MoveRow, Role, Consumed, Produced, IsActual}
-use Rattle.toll_sql.specs.Encode.{actual_kind, kind_number, move_lot, move_order, move_number, move_segment, move_cells}
+use Rattle.toll_sql.proofs.Common.{false≢true, list_all, is_eq, is_le, int_cmp, nat_tests, tied_itself, exact_signed, Binary, binary, is_true, Row, column, value_cmp, holds, Value, Null, Int, Text, Compare, Is, Eq, Le, value_cmp_total, value_cmp-Int, Bytes, Move, Actual, MoveRow, Role, Consumed, Produced, IsActual, and_from, actual_kind, kind_number, move_lot, move_order, move_number, move_segment, move_cells, equal_of}
 use Rattle.toll_sql.proofs.JoinQuery.{owners_tests, all_tests}
-use Rattle.toll_sql.proofs.PutCommon.{equals_text, equal_only, compares_text_only as text_of, truth_of_bool}
+use Rattle.toll_sql.proofs.PutCommon.{equals_text, compares_text_only as text_of, truth_of_bool}
 use Rattle.toll_sql.proofs.UpsertLemmas.{equals_int}
 
 -- ---- tests of values
@@ -27,7 +26,7 @@ pub texts_same : (s t : List ℕ) → equals (Text s) (Text t) ≡ true → s �
 texts_same s t h = let e = equals_text_only (Text s) t h in cc
 
 pub numbers_same : (m n : ℕ) → equals (Int (pos m)) (Int (pos n)) ≡ true → m ≡ n
-numbers_same m n h = let e = exact_signed (pos m) (pos n) (sym (value_cmp-Int (pos m) (pos n)) ∙ equal_only _ (sym (equals_int (Int (pos m)) (pos n)) ∙ h)) in cc
+numbers_same m n h = let e = exact_signed (pos m) (pos n) (sym (value_cmp-Int (pos m) (pos n)) ∙ equal_of _ (sym (equals_int (Int (pos m)) (pos n)) ∙ h)) in cc
 
 pub number_itself : (n : ℕ) → equals (Int (pos n)) (Int (pos n)) ≡ true
 number_itself n = equals_int (Int (pos n)) (pos n) ∙ ap is_eq (tied_itself value_cmp_total (Int (pos n)))
@@ -50,9 +49,6 @@ pub null_is_none : is_no_value Null ≡ true
 unfolding binary value_cmp lib.Ieee.is_nan lib.Ieee.lt
 null_is_none = refl
 
-pub and_both : (a b : Bool) → a ≡ true → b ≡ true → (a && b) ≡ true
-and_both a b h k = rw (h, k) refl
-
 -- ---- nine tests, one after the other
 
 pub record AreTrue (a b c d e f g h i : Bool) : Type 0 where
@@ -71,7 +67,7 @@ all_true true true true true true true true true true k = record { at0 = refl; a
 all_true _ _ _ _ _ _ _ _ _ k = absurd (false≢true k)
 
 true_all : (a b c d e f g h i : Bool) → AreTrue a b c d e f g h i → (a && (b && (c && (d && (e && (f && (g && (h && (i && true))))))))) ≡ true
-true_all a b c d e f g h i t = and_both a _ t.at0 (and_both b _ t.at1 (and_both c _ t.at2 (and_both d _ t.at3 (and_both e _ t.at4 (and_both f _ t.at5 (and_both g _ t.at6 (and_both h _ t.at7 (and_both i true t.at8 refl))))))))
+true_all a b c d e f g h i t = and_from a _ t.at0 (and_from b _ t.at1 (and_from c _ t.at2 (and_from d _ t.at3 (and_from e _ t.at4 (and_from f _ t.at5 (and_from g _ t.at6 (and_from h _ t.at7 (and_from i true t.at8 refl))))))))
 
 module _ (params c p v w : Row) where
   -- These rows pass the tests.

@@ -1,15 +1,8 @@
 -- The calls of a keep, by what its store did.
-use Rattle.std.proofs.Common.{◌≡◌, ◌≢◌, ◌⊎◌, inl, inr, Bool, false, None, List, [], ◌∷◌, Ok, Err, Result, IfOk, OnErr, OnOk, IsTrue, arith, refl, sym, ap, subst, ◌∙◌}
-use Rattle.toll_sql.proofs.Common.{false≢true, cases_Bool, Database, State, Survives, HasCleanDisk, Trees, Change, Content, ContentKeepsRules, content_after, KeepFault, Memory, Disk, Damaged, Closed}
-use Rattle.toll_keep.proofs.Calls.{goes_then, reads_then, read_fault, spared}
-use Rattle.toll_keep.specs.CallEffects.{CallEffect, IsReading, IsSpared, among-more, closes_keep}
+use Rattle.std.proofs.Common.{◌≡◌, ◌≢◌, ◌⊎◌, inl, inr, Bool, false, None, List, [], ◌∷◌, Ok, Err, Result, IfOk, OnErr, OnOk, IsTrue, arith, sym, ap, subst, ◌∙◌}
+use Rattle.toll_sql.proofs.Common.{false≢true, cases_Bool, Database, State, Survives, HasCleanDisk, Trees, Change, Content, ContentKeepsRules, content_after, KeepFault, Memory, Disk, Damaged, Closed, IsLooking, Holds, means, HoldsIn, IsOurs, LeavesIn, LiesOpen, HasApplied, PutsAll, HasOurs, goes_then, reads_then, read_fault, spared, CallEffect, IsReading, IsSpared, among-more, closes_keep}
 use Rattle.toll_keep.specs.Meaning.{Meaning}
-use Rattle.toll_sql.specs.Asking.{IsFinding, IsLooking}
 use Rattle.toll_sql.specs.Causes.{HasCause, Reason}
-use Rattle.toll_sql.specs.Holds.{Holds}
-use Rattle.toll_sql.specs.Meant.{means}
-use Rattle.toll_sql.specs.Stores.{HoldsIn, IsOurs, LeavesIn, LiesOpen, HasApplied, PutsAll}
-use Rattle.toll_sql.specs.Others.{HasOurs}
 use Rattle.toll_sql.proofs.HoldsAfter.{holds_all}
 use Rattle.toll_sql.proofs.PassLemmas.{IsMadeOrRefused, PassesOn, looks_on, made_on, ok_on, spared_on, undamaged_on}
 use Rattle.toll_sql.specs.Laws.{leaves_one}
@@ -127,38 +120,7 @@ module _ {K : Type 0} (store : K → State) (closed unsure : K → Bool) where
       whole = λ clean c held keeps reported. whole clean c (held (record { is_open = looks.asks.live clean (looks.damaged clean reported) })) keeps reported;
     }
 
-  -- A closed keep answers Closed, and stays unchanged.
-  closed_still : (k : K) → IsTrue (closed k) → RestsInStore k → IsReading {X = Unit {0}} meaning k k (keep_failed Closed)
-  closed_still k was only = record {
-    goes = record {
-      honest = λ clean. clean;
-      closed = (λ _. was, λ _. refl);
-      closes = was;
-      live = λ _ lives. lives;
-      shown = λ _. tt;
-      lasts = λ _ lives. inl lives;
-      spares = λ _ is. (cc);
-      cause = λ _ is. (cc);
-      since = λ _ later h. h;
-      stays = λ _ cs left. left;
-      shut = λ _ _ cs left. left;
-    };
-    keeps = λ clean. record {
-      content = λ c held. held;
-      crash = λ live c held db may. inl (committed_held (store k) c (only live) (held live) db may);
-    };
-    whole = λ _ c held keeps is. (cc);
-  }
-
   -- ---- the first thing that each call does
-
-  module _ (old mid : K) (only : RestsInStore old) where
-    -- If it isn't known whether the keep's store is open, the store was asked for that, and for nothing else.
-    pub keep_begun : (r : Result (Unit {0}) KeepFault) → (IsTrue (closed old) → (r ≡ Err Closed) × (mid ≡ old)) → (closed old ≡ false → IsFinding (store old) (store mid) r) → closed mid ≡ closes_keep r → IsTrue (unsure mid) ⊎ (r ≢ Err Memory) → IsReading meaning old mid r
-    keep_begun r shut found is lacks = elim (cases_Bool (closed old)) [
-      | inl was ↦ (let now = shut was in subst (λ a. IsReading meaning old mid a) (sym now.0) (subst (λ k. IsReading {X = Unit {0}} meaning old k (keep_failed Closed)) (sym now.1) (closed_still old was only)))
-      | inr not ↦ (let f = found not in looked old mid not r only f.looks is (λ _ reported. elim lacks [ inl unknown ↦ inr unknown | inr other ↦ absurd (other reported) ]) (λ _ _ _ _. f.undamaged) (λ clean _ cs left db may. elim (f.survives.crash clean db may) [ inl before ↦ left db before | inr never ↦ absurd never ]))
-    ]
 
   -- A call that ends there.
   pub unbegun : {X : Type 0} (old mid : K) (fault : KeepFault) → IsReading {X = Unit {0}} meaning old mid (keep_failed fault) → IsReading {X = X} meaning old mid (keep_failed fault)

@@ -1,12 +1,7 @@
 -- A stored row has the key of some cells if and only if the order of the key finds them equal.
 use Rattle.std.proofs.Common.{◌≡◌, ◌≤◌, ℕ, zero, suc, ◌+◌, pos, true, ◌&&◌, List, [], ◌∷◌, length, refl, sym, ap, ap₂, ◌∙◌, arith}
-use Rattle.toll_sql.proofs.Common.{false≢true, AllByRecursion, is_eq, and_parts, Kind, Row, column, row_cmp, value_cmp, Value, Int, Text, agree, equal, Column, first_key-plain, plain, first_key, is_eq-then}
+use Rattle.toll_sql.proofs.Common.{false≢true, AllByRecursion, is_eq, and_parts, Kind, Row, column, row_cmp, value_cmp, Value, Int, Text, agree, equal, Column, first_key-plain, plain, first_key, is_eq-then, columns_from, cells_of, fit, is_of_kind, key_order, has_row_key, key_columns, TableKind, Meta}
 use Rattle.sqlite.specs.Kind.TheVariants as kind
-use Rattle.toll_sql.specs.Cells.{columns_from, cells_of, fit, is_of_kind, key_order}
-use Rattle.toll_sql.specs.Stores.{has_row_key}
-use Rattle.toll_sql.specs.Schema.{key_columns}
-use Rattle.toll_sql.specs.declared.table_kind.TableKind.{TableKind}
-use Rattle.toll_sql.specs.declared.table_kind.TableKind.TheVariants.{Meta}
 use Rattle.toll_sql.proofs.PutCommon.{key_equals}
 use Rattle.toll_sql.proofs.UpsertLemmas.{equals_int}
 

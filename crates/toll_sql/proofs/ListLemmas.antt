@@ -1,10 +1,6 @@
 -- Stored rows, listed in the order in which they are read.
 use Rattle.std.proofs.Common.{◌≡◌, ℕ, zero, suc, ◌+◌, ◌<◌, ◌≤◌, Bool, true, false, cond, ◌||◌, List, [], ◌∷◌, ◌++◌, map, take, length, get_or, Option, Some, is_some, refl, sym, ap, subst, ◌∙◌, arith, Ordering}
-use Rattle.toll_sql.proofs.Common.{AllByRecursion, list_any, is_eq, get_or-map, length-map, take_more, Row, row_at}
-use Rattle.toll_sql.specs.StoredLaws.{AreStoredOfPlant}
-use Rattle.toll_sql.specs.Cells.{columns_from}
-use Rattle.toll_sql.specs.Schema.{width_of}
-use Rattle.toll_sql.specs.declared.table_kind.TableKind.{TableKind}
+use Rattle.toll_sql.proofs.Common.{AllByRecursion, list_any, is_eq, get_or-map, length-map, take_more, Row, row_at, map_push, AreStoredOfPlant, columns_from, width_of, TableKind}
 use Rattle.toll_sql.proofs.WriteLemmas.{whole_row}
 use Rattle.toll_sql.proofs.SoFar.{value_at, first_item}
 
@@ -35,26 +31,15 @@ module _ {X : Type 0} (k : TableKind) (cells : X → Row) (is_valid : X → Type
     unfolding list_item
     with_list_item listed x so_far is = ap (λ xs. xs ++ x ∷ []) so_far ∙ ap (λ y. take i l ++ y ∷ []) is ∙ sym (take_more l i (first_item l i list_inside) list_inside)
 
-  pub all_listed : (listed : List X) → listed ≡ take (length rows) l → listed ≡ l
-  all_listed listed so_far = so_far ∙ ap (λ n. take n l) list_as_many ∙ take_all l
-    where
-      take_all : (xs : List X) → take (length xs) xs ≡ xs
-      take_all [] = refl
-      take_all (x ∷ xs) = ap (λ ys. x ∷ ys) (take_all xs)
-
 -- ---- one more row
-
-map_more : {X Y : Type 0} (f : X → Y) (xs : List X) (x : X) → map f (xs ++ x ∷ []) ≡ map f xs ++ f x ∷ []
-map_more f [] x = refl
-map_more f (y ∷ ys) x = ap (λ zs. f y ∷ zs) (map_more f ys x)
 
 pub more_shown : {X : Type 0} (cells : X → Row) (show : Row → Row) (rows : List Row) (i : ℕ) → i < length rows → (row : Row) → row ≡ get_or rows i row → (listed : List X) (x : X) → map cells listed ≡ map show (take i rows) → show row ≡ cells x
     → map cells (listed ++ x ∷ []) ≡ map show (take (i + 1) rows)
 more_shown cells show rows i lt row is listed x so_far read =
-    map_more cells listed x
+    map_push cells listed x
     ∙ ap (λ zs. zs ++ cells x ∷ []) so_far
     ∙ ap (λ z. map show (take i rows) ++ z ∷ []) (sym read ∙ ap show is)
-    ∙ sym (map_more show (take i rows) (get_or rows i row))
+    ∙ sym (map_push show (take i rows) (get_or rows i row))
     ∙ ap (map show) (sym (take_more rows i row lt))
 
 pub more_valid : {X : Type 0} (P : X → Type 0) (xs : List X) (x : X) → AllByRecursion P xs → P x → AllByRecursion P (xs ++ x ∷ [])

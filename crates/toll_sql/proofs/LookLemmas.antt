@@ -1,19 +1,6 @@
 -- What is read of a store whose tables hold a content.
 use Rattle.std.proofs.Common.{◌≡◌, ◌≢◌, Bool, true, false, List, [], ◌∷◌, map, Ok, Err, Result, OnOk, IsTrue, refl, sym, subst, ◌∙◌}
-use Rattle.toll_sql.proofs.Common.{AllByRecursion, Database, Row, State, HasCleanDisk, Trees, Bytes, Slice, Content, KeepFault, Disk, Closed}
-use Rattle.toll_sql.specs.Asking.{LeavesStore, IsLooking}
-use Rattle.toll_sql.specs.Bag.{owned_by}
-use Rattle.toll_sql.specs.Cells.{fill}
-use Rattle.toll_sql.specs.Encode.{rows_for, material_cells, test_cells, recipe_cells, requirement_cells, order_cells, batch_cells, lot_cells, sublot_cells, move_cells, result_cells, void_cells}
-use Rattle.toll_sql.specs.Fronts.{IsStoredAs}
-use Rattle.toll_sql.specs.Holds.{HoldsAll, HoldsPart}
-use Rattle.toll_sql.specs.Others.{HasOurs}
-use Rattle.toll_sql.specs.Rows.{AreAll, AreOfOwner}
-use Rattle.toll_sql.specs.StoredLaws.{AreStoredOfPlant}
-use Rattle.toll_sql.specs.Stores.{HoldsIn, HoldsPartIn}
-use Rattle.toll_sql.specs.Schema.{tree_of, is_owned}
-use Rattle.toll_sql.specs.declared.table_kind.TableKind.{TableKind}
-use Rattle.toll_sql.specs.declared.table_kind.TableKind.TheVariants.{Materials, Tests, Recipes, Requirements, Orders, Batches, Lots, Sublots, Moves, Results, Voids}
+use Rattle.toll_sql.proofs.Common.{AllByRecursion, Database, Row, State, HasCleanDisk, Trees, Bytes, Slice, Content, KeepFault, Disk, Closed, LeavesStore, IsLooking, owned_by, fill, rows_for, material_cells, test_cells, recipe_cells, requirement_cells, order_cells, batch_cells, lot_cells, sublot_cells, move_cells, result_cells, void_cells, IsStoredAs, HoldsAll, HoldsPart, HasOurs, AreAll, AreOfOwner, AreStoredOfPlant, HoldsIn, HoldsPartIn, tree_of, is_owned, TableKind, Materials, Tests, Recipes, Requirements, Orders, Batches, Lots, Sublots, Moves, Results, Voids}
 use Rattle.toll_sql.proofs.ReadLemmas.{read_rows}
 
 -- ---- the rows of a slice fill the columns of their tables

@@ -1,17 +1,8 @@
 -- The effect of making one more table, and of the row of the version.
-use Rattle.std.proofs.Common.{◌≡◌, inl, ℕ, suc, ◌+◌, ◌<◌, false, List, [], ◌∷◌, take, get_or, arith, Ok, Result, IsTrue, ap, subst, ◌∙◌, sym, refl}
-use Rattle.toll_sql.proofs.Common.{AllByRecursion, State, ExecutesInside, Survives, HasCleanDisk, Table, Trees, Error, IsShaped}
+use Rattle.std.proofs.Common.{◌≡◌, ℕ, suc, ◌+◌, ◌<◌, false, List, [], ◌∷◌, take, get_or, arith, Ok, Result, IsTrue, ap, subst, ◌∙◌, sym, refl}
+use Rattle.toll_sql.proofs.Common.{AllByRecursion, State, ExecutesInside, Survives, HasCleanDisk, Table, Trees, Error, IsShaped, AreEmpty, IsTransactionStep, IsMaking, MakesTable, IsShapedAs, WritesVersion, meta_cells, version, HasOurs, IsReady, MakesRow, no_schema, every_table, with_tables, made_before, made_all, create_text, TableKind, Meta}
 use Rattle.sqlite_catalog.specs.Change.{KeepsRows, next_tree}
 use Rattle.sqlite_trees.specs.declared.store.Shape.TheVariants as shape
-use Rattle.toll_sql.specs.Create.{AreEmpty, IsTransactionStep, IsMaking, MakesTable, IsShapedAs, WritesVersion}
-use Rattle.toll_sql.specs.Encode.{meta_cells}
-use Rattle.toll_sql.specs.Holds.{version}
-use Rattle.toll_sql.specs.Others.{HasOurs}
-use Rattle.toll_sql.specs.Stores.{IsReady, MakesRow}
-use Rattle.toll_sql.specs.Plain.{no_schema}
-use Rattle.toll_sql.specs.Schema.{every_table, with_tables, made_before, made_all, create_text}
-use Rattle.toll_sql.specs.declared.table_kind.TableKind.{TableKind}
-use Rattle.toll_sql.specs.declared.table_kind.TableKind.TheVariants.{Meta}
 use Rattle.toll_sql.proofs.CreateLemmas.{adds}
 use Rattle.toll_sql.proofs.CreateTexts.{unplaced, create_is, create_defines, create_uncounted, create_place, earlier_is, next_is, number_at}
 use Rattle.toll_sql.proofs.PutTexts.{table_number}
@@ -85,12 +76,3 @@ next_step tables are n low first now next r so_far one =
     let at = number_at n low in
     step_in_turn (IsMaking no_schema) (IsMaking (made_before k)) (MakesFirst n) (MakesTable k) (MakesFirst (n + 1)) first now next tt r (λ _. next_ready n k at first now) (next_made n k at first now next) so_far
     (subst (λ all. IsTransactionStep (IsMaking (made_before (get_or all n Meta))) (MakesTable (get_or all n Meta)) now next r) are one)
-
-pub making_begun : (s : State) → IsTransactionStep (IsMaking no_schema) (MakesFirst 0) s s none_yet
-making_begun s = record {
-  makes = λ _ before _. record { making = before; empty = tt };
-  inside = λ _ within. within;
-  fault = λ _ _. tt;
-  kept = λ _. record { was_open = λ live. live; committed = λ _. refl };
-  survives = record { clean = omega arith; shield = λ h. h; counts = omega arith; limit = refl; closes = λ _ live. inl live; crash = λ _ db h. inl h };
-}

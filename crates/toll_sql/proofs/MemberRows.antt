@@ -1,15 +1,9 @@
 -- The rows of a table that holds those of a slice, one by one.
-use Rattle.std.proofs.Common.{◌≡◌, inl, inr, ℕ, suc, ◌+◌, Bool, true, false, cond, IsTrue, List, [], ◌∷◌, map, drop, refl, sym, ap, subst, ◌∙◌, arith}
-use Rattle.toll_sql.proofs.Common.{false≢true, AllByRecursion, is_eq, tied_itself, overlay, Trees, Row, column, value_cmp, row_cmp, Value, Text, Has, value_cmp_total, Bytes, Slice, is_name, Contains-none, Contains-here, Contains-later, Contains-cases, Contains-map, Contains-from_map, Contains-filter, Contains-from_filter, member_of_all}
-use Rattle.std.specs.Prelude.{Contains}
-use Rattle.toll_sql.specs.Bag.{SameBag, total, all_cells, owned_by}
-use Rattle.toll_sql.specs.Cells.{cells_of, fill}
-use Rattle.toll_sql.specs.Holds.{HoldsEach, HoldsPart, NamesOwner}
-use Rattle.toll_sql.specs.Schema.{table_of, tree_of}
-use Rattle.toll_sql.specs.declared.table_kind.TableKind.{TableKind}
+use Rattle.std.proofs.Common.{◌≡◌, inl, inr, ℕ, suc, ◌+◌, Bool, true, false, cond, IsTrue, List, [], ◌∷◌, map, drop, refl, sym, ap, subst, ◌∙◌, arith, Contains}
+use Rattle.toll_sql.proofs.Common.{false≢true, AllByRecursion, is_eq, tied_itself, overlay, Trees, Row, column, value_cmp, row_cmp, Value, Text, Has, value_cmp_total, Bytes, Slice, is_name, Contains-none, Contains-here, Contains-later, Contains-cases, Contains-map, Contains-from_map, Contains-filter, Contains-from_filter, member_of_all, or_cases, SameBag, total, all_cells, owned_by, cells_of, fill, HoldsEach, HoldsPart, NamesOwner, table_of, tree_of, TableKind}
 use Rattle.toll_sql.proofs.Keyed.{column_behind_rowid, cells_are}
 use Rattle.toll_sql.proofs.LookLemmas.{cells_fill}
-use Rattle.toll_sql.proofs.ReadLemmas.{IsItself, same_row, row_itself, read_found, among, stray, none_stray, row_exact, or_either}
+use Rattle.toll_sql.proofs.ReadLemmas.{IsItself, same_row, row_itself, read_found, among, stray, none_stray, row_exact}
 
 -- ---- members of lists
 
@@ -42,7 +36,7 @@ unstrayed ls (r ∷ rows) h row (inr more) = unstrayed ls rows (omega (arith, h)
 
 is_among : (ls : List Row) (row : Row) → among ls row ≡ true → Has ls row
 is_among [] row h = absurd (false≢true h)
-is_among (l ∷ ls) row h = elim (or_either (same_row l row) (among ls row) h) [
+is_among (l ∷ ls) row h = elim (or_cases (same_row l row) (among ls row) h) [
   | inl hit ↦ inl (sym (row_exact l row hit))
   | inr later ↦ inr (is_among ls row later)
 ]

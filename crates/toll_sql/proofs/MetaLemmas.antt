@@ -1,17 +1,6 @@
 -- The version in the rows of `meta`.
-use Rattle.std.proofs.Common.{◌≡◌, ◌≢◌, ◌≤◌, ◌-◌, inl, inr, ℕ, suc, pos, List, [], ◌∷◌, map, length, take, drop, get_or, arith, Option, None, Some, IfSome, codes, refl, ap, subst, ◌∙◌}
-use Rattle.toll_sql.proofs.Common.{AllByRecursion, take-length, IsPermutation-sym, Database, Row, column, Trees, Int, Text, all-permutation}
-use Rattle.std.specs.Prelude.{IsPermutation}
-use Rattle.toll_sql.specs.Asked.{ShowsMeta}
-use Rattle.toll_sql.specs.Bag.{all_cells}
-use Rattle.toll_sql.specs.Cells.{cells_of, columns_from}
-use Rattle.toll_sql.specs.Encode.{meta_cells}
-use Rattle.toll_sql.specs.First.{HasVersion, IsVersionIn, HaveNeitherVersion, HasVersionRow, first_version, meta_rows}
-use Rattle.toll_sql.specs.Holds.{version}
-use Rattle.toll_sql.specs.Rows.{AreAll}
-use Rattle.toll_sql.specs.Stores.{PutsRow}
-use Rattle.toll_sql.specs.Schema.{tree_of, width_of}
-use Rattle.toll_sql.specs.declared.table_kind.TableKind.TheVariants.{Meta}
+use Rattle.std.proofs.Common.{◌≡◌, ◌≢◌, ◌≤◌, ◌-◌, inl, inr, ℕ, suc, pos, List, [], ◌∷◌, map, length, take, drop, get_or, arith, Option, None, Some, IfSome, codes, refl, ap, subst, ◌∙◌, IsPermutation}
+use Rattle.toll_sql.proofs.Common.{AllByRecursion, take-length, IsPermutation-sym, Database, Row, column, Trees, Int, Text, all-permutation, ShowsMeta, all_cells, cells_of, columns_from, meta_cells, HasVersion, IsVersionIn, HaveNeitherVersion, HasVersionRow, first_version, meta_rows, version, AreAll, PutsRow, tree_of, width_of, Meta}
 use Rattle.toll_sql.proofs.ReadLemmas.{read_rows}
 
 abbrev HasVersionCells : ℕ → Row → Type 0

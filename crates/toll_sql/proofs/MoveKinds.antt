@@ -1,7 +1,6 @@
 -- A movement is determined by its cells.
 use Rattle.std.proofs.Common.{◌≡◌, ℕ, ℤ, pos, [], ◌∷◌, get_or, refl, sym, ap, subst, ◌∙◌}
-use Rattle.toll_sql.proofs.Common.{Value, Int, Text, Row, column, Bytes, Role, Consumed, Produced, Move, Receive, Split, Ship, Scrap, Actual}
-use Rattle.toll_sql.specs.Encode.{kind_number, move_lot, move_sublot, move_target, move_material, move_order, move_number, move_segment}
+use Rattle.toll_sql.proofs.Common.{Value, Int, Text, Row, column, Bytes, Role, Consumed, Produced, Move, Receive, Split, Ship, Scrap, Actual, kind_number, move_lot, move_sublot, move_target, move_material, move_order, move_number, move_segment}
 use Rattle.toll_sql.specs.Moves.{ShowsMove, IsUnshown}
 
 -- ---- the value of a cell of the kind

@@ -1,8 +1,6 @@
 -- A store that is asked whether it is open.
-use Rattle.std.proofs.Common.{◌≡◌, ◌⊎◌, inl, inr, ℕ, false, List, [], Ok, Err, Result, IsTrue, refl, arith}
-use Rattle.toll_sql.proofs.Common.{survives_weaker, Row, State, HasCleanDisk, IsNotRun, IsUnchanged, Survives, Error, KeepFault, Memory, Disk, Damaged, Closed}
-use Rattle.toll_sql.specs.Asking.{IsFinding}
-use Rattle.toll_sql.specs.Causes.{is_disk_fault}
+use Rattle.std.proofs.Common.{◌≡◌, ◌⊎◌, inl, inr, ℕ, false, List, [], Ok, Err, Result, IsTrue}
+use Rattle.toll_sql.proofs.Common.{survives_weaker, Row, State, HasCleanDisk, IsNotRun, IsUnchanged, Survives, Error, KeepFault, Memory, Disk, Damaged, Closed, IsFinding, is_disk_fault}
 use Rattle.toll_sql.proofs.CauseLemmas.{cause_not_run}
 use Rattle.toll_sql.proofs.QueryLemmas.{missed}
 
@@ -25,35 +23,6 @@ never_reported e fault (inl memory) (inl is) = let m = memory.0 in cc
 never_reported e fault (inl memory) (inr is) = let m = memory.0 in cc
 never_reported e fault (inr disk) (inl is) = let d = disk.0 in cc
 never_reported e fault (inr disk) (inr is) = let d = disk.0 in cc
-
--- A store that wasn't used stays unchanged.
-survives_itself : (s : State) → Survives s s (λ _. ⊥)
-survives_itself s = record {
-  clean = omega arith;
-  shield = λ h. h;
-  counts = omega arith;
-  limit = refl;
-  closes = λ _ live. inl live;
-  crash = λ _ db may. inl may;
-}
-
-pub found_still : (s : State) → (HasCleanDisk s → IsTrue s.is_open) → IsFinding s s found_ok
-found_still s is = record {
-  looks = record {
-    asks = record {
-      live = λ _ live. live;
-      shown = is;
-      same = λ _ _ _ _. (refl, refl);
-      mode = λ outside. outside;
-      survives = survives_weaker s s (λ _. ⊥) _ (λ _ db h. absurd h) (survives_itself s);
-    };
-    cause = λ _ is. (cc);
-    unclosed = λ is. (cc);
-    damaged = λ _ is. (cc);
-  };
-  undamaged = λ is. (cc);
-  survives = survives_itself s;
-}
 
 module _ (old new : State) (mode : old.in_transaction ≡ false → new.in_transaction ≡ false) (survives : Survives old new (λ _. ⊥)) where
   pub found_open : (HasCleanDisk new → IsUnchanged old new) → IsFinding old new found_ok

@@ -1,10 +1,6 @@
 -- The order of a table's key is that of the rows' keys.
 use Rattle.std.proofs.Common.{◌≡◌, ℕ, pos, refl, ap, ◌∙◌, arith, Ordering, Less, Equal, Greater}
-use Rattle.toll_sql.proofs.Common.{IsTotalOrder, ordering_then, nat_cmp, int_cmp, nat_tests, on_total, tied_itself, value_cmp, Int, Text, row_cmp_total, value_cmp_total, value_cmp-Int, value_cmp-Text, Bytes, bytes_cmp, pair_cmp, batch_cmp, result_cmp, requirement_cmp, role_number, MoveRow, BatchRow, LotRow, MaterialRow, OrderRow, OwnerRow, RecipeRow, RequirementRow, ResultRow, SublotRow, TestRow, UnitRow, VoidRow}
-use Rattle.toll_sql.specs.Cells.{key_cells, key_order}
-use Rattle.toll_sql.specs.Encode.{owner_cells, unit_cells, material_cells, test_cells, recipe_cells, requirement_cells, order_cells, batch_cells, lot_cells, sublot_cells, move_cells, result_cells, void_cells}
-use Rattle.toll_sql.specs.declared.table_kind.TableKind.{TableKind}
-use Rattle.toll_sql.specs.declared.table_kind.TableKind.TheVariants.{Owners, Units, Materials, Tests, Recipes, Requirements, Orders, Batches, Lots, Sublots, Moves, Results, Voids}
+use Rattle.toll_sql.proofs.Common.{IsTotalOrder, ordering_then, nat_cmp, int_cmp, nat_tests, on_total, tied_itself, value_cmp, Int, Text, row_cmp_total, value_cmp_total, value_cmp-Int, value_cmp-Text, Bytes, bytes_cmp, pair_cmp, batch_cmp, result_cmp, requirement_cmp, role_number, MoveRow, BatchRow, LotRow, MaterialRow, OrderRow, OwnerRow, RecipeRow, RequirementRow, ResultRow, SublotRow, TestRow, UnitRow, VoidRow, key_cells, key_order, owner_cells, unit_cells, material_cells, test_cells, recipe_cells, requirement_cells, order_cells, batch_cells, lot_cells, sublot_cells, move_cells, result_cells, void_cells, TableKind, Owners, Units, Materials, Tests, Recipes, Requirements, Orders, Batches, Lots, Sublots, Moves, Results, Voids}
 
 pub key_order_total : (k : TableKind) → IsTotalOrder (key_order k)
 key_order_total k = on_total (key_cells k) row_cmp_total

@@ -1,14 +1,8 @@
 -- Whatever follows the office's tables has no part in a put.
 use Rattle.std.proofs.Common.{◌≡◌, ℕ, zero, suc, slice_get, subst, Bool, false, ◌&&◌, ◌||◌, List, [], ◌∷◌, ◌++◌, Option, Some, refl, sym, ap, ◌∙◌}
-use Rattle.toll_sql.proofs.Common.{AllByRecursion, filter_map, flat_map, list_any, Row, Schema, State, Table, Work, work_for, works, aims, shares, agree, guards, Index, Enforced}
+use Rattle.toll_sql.proofs.Common.{AllByRecursion, filter_map, flat_map, list_any, Row, Schema, State, Table, Work, work_for, works, aims, shares, agree, guards, Index, Enforced, GuardsNone, HasOurs, RefersToNone, Puts, PutsRow, has_row_key, key_columns, made_all, table_of, tree_of, TableKind, or-false}
 use Rattle.sqlite_schema.specs.declared.schema.Reference.{Reference}
-use Rattle.toll_sql.specs.Others.{GuardsNone, HasOurs, RefersToNone}
-use Rattle.toll_sql.specs.Put.{Puts}
-use Rattle.toll_sql.specs.Stores.{PutsRow, has_row_key}
-use Rattle.toll_sql.specs.Schema.{key_columns, made_all, table_of, tree_of}
-use Rattle.toll_sql.specs.declared.table_kind.TableKind.{TableKind}
 use Rattle.toll_sql.proofs.Beside.{is_ours, others_of, ours_and}
-use Rattle.toll_sql.proofs.PutCommon.{or_false}
 use Rattle.toll_sql.proofs.PutTexts.{table_listed, table_number}
 
 pub at_listed : {X : Type 0} (P : X → Type 0) (xs : List X) (i : ℕ) (x : X) → AllByRecursion P xs → slice_get xs i ≡ Some x → P x
@@ -37,7 +31,7 @@ none_shares k target new row (i ∷ indexes) none =
 
 -- A row conflicts with another by the key of its table alone.
 pub meets_by_key : {schema : Schema} (k : TableKind) (has : HasOurs schema) (by_key : Bool) (new row : Row) → by_key || list_any (shares (Some (key_columns k)) (table_of k) new row) has.indexes.0 ≡ by_key
-meets_by_key k has by_key new row = ap (λ b. by_key || b) (none_shares k (key_columns k) new row has.indexes.0 has.indexes.2) ∙ or_false by_key
+meets_by_key k has by_key new row = ap (λ b. by_key || b) (none_shares k (key_columns k) new row has.indexes.0 has.indexes.2) ∙ or-false by_key
 
 -- The office's other tables stay unchanged, and so does the schema.
 pub others_here : (k : TableKind) (cells : Row) (old new : State) (has : HasOurs old.now.schema) → Puts (ours_and (others_of has)) (tree_of k) (has_row_key k cells) cells old.now.trees new.now.trees × (new.now.schema ≡ ours_and (others_of has))

@@ -1,12 +1,6 @@
 -- A store that is taken over by what one transaction makes.
 use Rattle.std.proofs.Common.{◌≡◌, ◌⊎◌, inl, inr, false, Ok, Err, Result, IsTrue, refl, sym, subst}
-use Rattle.toll_sql.proofs.Common.{survives_weaker, Database, State, Trees, Error, empty_content}
-use Rattle.toll_sql.specs.Causes.{is_disk_fault}
-use Rattle.toll_sql.specs.Create.{IsMaking, IsNewDatabase, IsWholeOrNothing, LeavesMade, begin}
-use Rattle.toll_sql.specs.Holds.{Holds}
-use Rattle.toll_sql.specs.Opening.{Creates, TakesOver, without_limit}
-use Rattle.toll_sql.specs.Plain.{no_schema}
-use Rattle.toll_sql.specs.declared.open_fault.OpenFault.{OpenFault}
+use Rattle.toll_sql.proofs.Common.{survives_weaker, Database, State, Trees, Error, empty_content, is_disk_fault, IsMaking, IsNewDatabase, IsWholeOrNothing, LeavesMade, begin, Holds, Creates, TakesOver, without_limit, no_schema, OpenFault}
 use Rattle.toll_sql.specs.declared.open_fault.OpenFault.TheVariants.{Memory, Disk, Damaged, NotOurs}
 
 -- This fault reports the error of the store.

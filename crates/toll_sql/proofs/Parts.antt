@@ -1,10 +1,6 @@
 -- The rows of one owner, after a put.
-use Rattle.std.proofs.Common.{◌≡◌, ◌⊎◌, inl, inr, Bool, true, false, cond, List, [], ◌∷◌, refl, sym, ap, subst₂, ◌∙◌}
-use Rattle.std.specs.Prelude.{filter, IsPermutation}
-use Rattle.toll_sql.proofs.Common.{AllByRecursion, is_eq, IsPermutation-filter, Row, column, value_cmp, Text, Bytes}
-use Rattle.toll_sql.specs.Bag.{SameBag, all_cells, owned_by}
-use Rattle.toll_sql.specs.Cells.{cells_of}
-use Rattle.toll_sql.specs.Put.{ReplacesOrAdds, IsRowAdded}
+use Rattle.std.proofs.Common.{◌≡◌, ◌⊎◌, inl, inr, Bool, true, false, cond, List, [], ◌∷◌, refl, sym, ap, subst₂, ◌∙◌, filter, IsPermutation}
+use Rattle.toll_sql.proofs.Common.{AllByRecursion, is_eq, IsPermutation-filter, Row, column, value_cmp, Text, Bytes, SameBag, all_cells, owned_by, cells_of, ReplacesOrAdds, IsRowAdded}
 use Rattle.toll_sql.proofs.Bags.{total_permuted, cells_permuted}
 
 module _ (o : Bytes) where

@@ -1,11 +1,6 @@
 -- An answer that was passed on. After Memory, the store was asked whether it is open.
-use Rattle.std.proofs.Common.{◌≡◌, ◌≢◌, inl, inr, Bool, List, Ok, Err, Result, IfOk, OnErr, OnOk, IsTrue, refl, sym, ap, subst, ◌∙◌}
-use Rattle.std.specs.Prelude.{◌⊎◌, is_err}
-use Rattle.toll_sql.proofs.Common.{survives_then, Database, State, Survives, HasCleanDisk, Trees, Change, Content, KeepFault, Memory, Disk, Damaged, Closed}
-use Rattle.toll_sql.specs.Asking.{ForIdle, IsProbedAfter, IsFinding, IsLooking, LeavesStore, memory_or_fault}
-use Rattle.toll_sql.specs.Causes.{Reason}
-use Rattle.toll_sql.specs.Others.{HasOurs}
-use Rattle.toll_sql.specs.Stores.{Applies, HoldsIn, LeavesPut}
+use Rattle.std.proofs.Common.{◌≡◌, ◌≢◌, inl, inr, Bool, List, Ok, Err, Result, IfOk, OnErr, OnOk, IsTrue, refl, sym, ap, subst, ◌∙◌, ◌⊎◌, is_err}
+use Rattle.toll_sql.proofs.Common.{survives_then, Database, State, Survives, HasCleanDisk, Trees, Change, Content, KeepFault, Memory, Disk, Damaged, Closed, ForIdle, IsProbedAfter, IsFinding, IsLooking, LeavesStore, memory_or_fault, Reason, HasOurs, Applies, HoldsIn, LeavesPut}
 use Rattle.toll_sql.proofs.CauseLemmas.{reason_before}
 use Rattle.toll_sql.proofs.ReadOn.{clean_before}
 

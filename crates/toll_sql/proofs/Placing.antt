@@ -1,8 +1,6 @@
 -- Rows placed in an order.
-use Rattle.std.proofs.Common.{◌≡◌, Bool, true, false, cond, List, [], ◌∷◌, map, Some, None, is_some, refl, sym, ap, ◌∙◌, Ordering, Less, Equal, Greater}
-use Rattle.std.specs.Prelude.{if◌then◌else◌}
-use Rattle.toll_sql.proofs.Common.{IsTotalOrder, AllByRecursion, IsStrictlySortedBy, is_eq, is_lt, match_ordering, ordering_reverse, Row, IsInKeyOrder, row_at, replace_row, insert_row, put_row}
-use Rattle.toll_sql.specs.Bag.{place, Rises}
+use Rattle.std.proofs.Common.{◌≡◌, Bool, true, false, cond, List, [], ◌∷◌, map, Some, None, is_some, refl, sym, ap, ◌∙◌, Ordering, Less, Equal, Greater, if◌then◌else◌}
+use Rattle.toll_sql.proofs.Common.{IsTotalOrder, AllByRecursion, IsStrictlySortedBy, is_eq, is_lt, match_ordering, ordering_reverse, Row, IsInKeyOrder, row_at, replace_row, insert_row, put_row, place, Rises}
 
 push : {X : Type 0} (b : Bool) (y : X) (l r : List X) → y ∷ cond b l r ≡ cond b (y ∷ l) (y ∷ r)
 push true y l r = refl

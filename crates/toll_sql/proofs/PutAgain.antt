@@ -1,19 +1,9 @@
 -- The puts of sublots that later ones overwrite may be left out.
-use Rattle.std.proofs.Common.{◌≡◌, inl, inr, ◌&&◌, ◌||◌, not, Bool, true, false, List, [], ◌∷◌, ◌++◌, reverse, length, drop, ◌+◌, ◌-◌, ◌≤◌, ℕ, get_or, Option, Some, None, cond, Result, IsTrue, nat_lt, ◌<◌, ◌^◌, refl, sym, ap, subst, ◌∙◌, arith}
-use Rattle.std.specs.Prelude.{if◌then◌else◌, IfSome}
-use Rattle.toll_sql.proofs.Common.{false≢true, and_parts, cases_Bool, is_eq, is_eq-then, nat_tests, on_total, tied_itself, nat_list_cmp_total, IsTotalOrder, equal, first_key, plain, same_bytes-exact, same_bytes-refl, AllByRecursion, Bytes, Change, Error, Put, Row, State, on_ok_weaker, SublotRow, Text, Trees, Value, column, is_name}
-use Rattle.std.proofs.lemmas.Cmp.{then_total}
-use Rattle.std.proofs.lemmas.List.{reverse-append}
+use Rattle.std.proofs.Common.{◌≡◌, inl, inr, ◌&&◌, ◌||◌, not, Bool, true, false, List, [], ◌∷◌, ◌++◌, reverse, length, drop, ◌+◌, ◌-◌, ◌≤◌, ℕ, get_or, Some, None, cond, Result, IsTrue, nat_lt, ◌<◌, ◌^◌, refl, sym, ap, subst, ◌∙◌, arith, if◌then◌else◌}
+use Rattle.toll_sql.proofs.Common.{false≢true, and_parts, cases_Bool, is_eq, is_eq-then, nat_tests, on_total, tied_itself, nat_list_cmp_total, IsTotalOrder, equal, first_key, plain, same_bytes-exact, same_bytes-refl, AllByRecursion, Bytes, Change, Error, Put, Row, State, on_ok_weaker, SublotRow, Text, Trees, Value, column, is_name, reverse-append, cells_of, sublot_cells, IsSublotValid, are_putting, is_put_again, is_same, key_for, last_puts, sublot_cmp, sublot_put, IsWriting, MakesAll, PutsAll, PutsChange, cells_of_change, has_row_key, table_of_change, made_all, tree_of, IsStorable, IsSublot, Sublots, then_total}
 use Rattle.toll_keep.proofs.Changed.{next_left}
 use Rattle.toll_base.specs.declared.rows.Row.TheVariants as of
-use Rattle.toll_sql.specs.Cells.{cells_of}
-use Rattle.toll_sql.specs.Encode.{sublot_cells}
-use Rattle.toll_sql.specs.LastPuts.{IsSublotValid, are_putting, is_put_again, is_same, key_for, last_puts, sublot_cmp, sublot_put}
-use Rattle.toll_sql.specs.Stores.{IsValidChange, IsWriting, MakesAll, PutsAll, PutsChange, cells_of_change, has_row_key, table_of_change}
-use Rattle.toll_sql.specs.Schema.{made_all, tree_of}
-use Rattle.toll_sql.specs.Valid.{IsStorable, IsSublot}
 use Rattle.toll_sql.specs.declared.last_puts.SublotKey.{SublotKey}
-use Rattle.toll_sql.specs.declared.table_kind.TableKind.TheVariants.{Sublots}
 use Rattle.toll_sql.proofs.HoldsAfter.{trees_apart, other_tree}
 use Rattle.toll_sql.proofs.PutCommon.{key_equals, equal_text_only, texts_equal}
 use Rattle.toll_sql.proofs.PutTexts.{table_number}
@@ -141,13 +131,6 @@ last_puts_suffice (change ∷ later) old new valid puts = elim (cases_Bool (is_p
 ]
 
 -- ---- the last puts
-
-if_some : {X : Type 0} (P : Type 0) (x : Option X) → P → IfSome x (λ _. P)
-if_some P (Some x) h = h
-if_some P None h = tt
-
-pub always_valid : (change : Change) → IsValidChange change → IsSublotValid change
-always_valid change valid = if_some (IsValidChange change) (sublot_put change) valid
 
 pub cond_or : (a b : Bool) → cond a true b ≡ (a || b)
 cond_or true b = refl

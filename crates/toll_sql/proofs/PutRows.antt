@@ -1,13 +1,7 @@
 -- The effect on the tables of a text that puts a row.
 use Rattle.std.proofs.Common.{◌≡◌, ℕ, suc, true, None, Ok, refl, ap, ◌∙◌}
-use Rattle.toll_sql.proofs.Common.{cast, Integer, understood, Row, State, Executes, rowid, Null, Int, agree, IsShaped, plain}
+use Rattle.toll_sql.proofs.Common.{cast, Integer, understood, Row, State, Executes, rowid, Null, Int, agree, IsShaped, plain, columns_from, fill, PutsRow, HasOurs, table_of, tree_of, key_columns, width_of, put_text, TableKind, Meta}
 use Rattle.sqlite_trees.specs.declared.store.Shape.TheVariants as shape
-use Rattle.toll_sql.specs.Cells.{columns_from, fill}
-use Rattle.toll_sql.specs.Stores.{PutsRow}
-use Rattle.toll_sql.specs.Others.{HasOurs}
-use Rattle.toll_sql.specs.Schema.{table_of, tree_of, key_columns, width_of, put_text}
-use Rattle.toll_sql.specs.declared.table_kind.TableKind.{TableKind}
-use Rattle.toll_sql.specs.declared.table_kind.TableKind.TheVariants.{Meta}
 use Rattle.toll_sql.proofs.Calls.{plain_given}
 use Rattle.toll_sql.proofs.CellLemmas.{cast_is}
 use Rattle.toll_sql.proofs.Beside.{is_ours, others_of, ours_and}

@@ -1,12 +1,7 @@
 -- The meaning of the texts that put rows.
 use Rattle.std.proofs.Common.{◌≡◌, ◌⊎◌, inl, inr, ℕ, zero, suc, nat_eq, List, [], ◌∷◌, ◌++◌, length, codes, Some, Ok, slice_get, get_or, refl, sym, ap, ◌∙◌}
 use Rattle.std.specs.Fmt.{decimal}
-use Rattle.toll_sql.proofs.Common.{cases_Bool, eqb-true, eq-eqb, command_of, Binary, Command, InsertOr, understood, Query, Values, Term, lit, col, op2, Null, Abort, compiled, Compare, Eq, everything}
-use Rattle.toll_sql.specs.Given.{IsGiven}
-use Rattle.toll_sql.specs.Select.{plain_query}
-use Rattle.toll_sql.specs.Schema.{made_all, every_table, table_of, tree_of, key_columns, width_of, put_text}
-use Rattle.toll_sql.specs.declared.table_kind.TableKind.{TableKind}
-use Rattle.toll_sql.specs.declared.table_kind.TableKind.TheVariants.{Meta, Owners, Units, Materials, Tests, Recipes, Requirements, Orders, Batches, Lots, Sublots, Moves, Results, Voids}
+use Rattle.toll_sql.proofs.Common.{cases_Bool, eqb-true, eq-eqb, command_of, Binary, Command, InsertOr, understood, Query, Values, Term, lit, col, op2, Null, Abort, compiled, Compare, Eq, everything, IsGiven, plain_query, made_all, every_table, table_of, tree_of, key_columns, width_of, put_text, TableKind, Meta, Owners, Units, Materials, Tests, Recipes, Requirements, Orders, Batches, Lots, Sublots, Moves, Results, Voids}
 use Rattle.toll_sql.proofs.Beside.{Others, ours_and}
 use Rattle.toll_sql.proofs.TextLemmas.{one_statement, command_is, statement_given}
 

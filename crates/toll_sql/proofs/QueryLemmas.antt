@@ -1,7 +1,6 @@
 -- The effect of a query on a connection, for any text and schema.
 use Rattle.std.proofs.Common.{◌≡◌, inl, inr, ℕ, true, false, List, Option, None, Some, Ok, Err, Result, IsTrue, IfOk, IfErr, OnOk, sym, ◌∙◌}
-use Rattle.toll_sql.proofs.Common.{Error, Row, Returning, Compiled, State, Fails, IsNotRun, RunsCommand, FailsToQuery, FailsToShow, IsUnchanged, Shown, ShowsRows}
-use Rattle.toll_sql.specs.Causes.{IsErrorCaused}
+use Rattle.toll_sql.proofs.Common.{Error, Row, Returning, Compiled, State, Fails, IsNotRun, RunsCommand, FailsToQuery, FailsToShow, IsUnchanged, Shown, ShowsRows, IsErrorCaused}
 use Rattle.toll_sql.proofs.CauseLemmas.{cause_not_run, command_caused}
 use Rattle.toll_sql.proofs.Refusals.{reading}
 

@@ -1,16 +1,7 @@
 -- Tables of version 1 are found and raised to this version.
 use Rattle.std.proofs.Common.{◌≡◌, ◌≢◌, ◌⊎◌, inl, inr, ℕ, None, Some, Ok, Err, Result, Option, IfOk, IfSome, IsTrue, OnOk, false, arith, refl, sym, subst, ◌∙◌}
-use Rattle.toll_sql.proofs.Common.{on_ok_weaker, on_err_weaker, survives_then, survives_weaker, Database, State, HasCleanDisk, IsUnchanged, Survives, Trees, Error, SqliteFailure, Content}
+use Rattle.toll_sql.proofs.Common.{on_ok_weaker, on_err_weaker, survives_then, survives_weaker, Database, State, HasCleanDisk, IsUnchanged, Survives, Trees, Error, SqliteFailure, Content, IsUnreadBy, meta_text, Reason, is_disk_fault, IsShapedAs, IsWholeOrNothing, LeavesMade, begin, AreFirst, HasVersion, IsFirst, Raised, HasVersionRow, first_ours, first_version, meta_rows, Holds, version, Adopts, Brings, FindsVersion, HoldsEither, LeavesTables, IsUnreadFor, LeavesRaised, TakesOver, without_limit, HasOurs, HoldsIn, OpenFault}
 use Rattle.sqlite.specs.declared.error.ErrorCode.TheVariants as code
-use Rattle.toll_sql.specs.Asked.{IsUnreadBy, meta_text}
-use Rattle.toll_sql.specs.Causes.{Reason, is_disk_fault}
-use Rattle.toll_sql.specs.Create.{IsShapedAs, IsWholeOrNothing, LeavesMade, begin}
-use Rattle.toll_sql.specs.First.{AreFirst, HasVersion, IsFirst, Raised, HasVersionRow, first_ours, first_version, meta_rows}
-use Rattle.toll_sql.specs.Holds.{Holds, version}
-use Rattle.toll_sql.specs.Opening.{Adopts, Brings, FindsVersion, HoldsEither, LeavesTables, IsUnreadFor, LeavesRaised, TakesOver, without_limit}
-use Rattle.toll_sql.specs.Others.{HasOurs}
-use Rattle.toll_sql.specs.Stores.{HoldsIn}
-use Rattle.toll_sql.specs.declared.open_fault.OpenFault.{OpenFault}
 use Rattle.toll_sql.specs.declared.open_fault.OpenFault.TheVariants.{Disk, Damaged, NotOurs}
 use Rattle.toll_sql.proofs.AdoptLemmas.{IsMisfit, ours_is_not_first, as_unlimited, version_found, no_disk, version_reported, turned_down}
 use Rattle.toll_sql.proofs.CauseLemmas.{reason_before}

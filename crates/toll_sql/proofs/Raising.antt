@@ -1,17 +1,8 @@
 -- The tables of version 1, raised.
 use Rattle.std.proofs.Common.{◌≡◌, Ordering, Less, Equal, Greater, [], ◌∷◌, ap, refl, sym, subst}
-use Rattle.toll_sql.proofs.Common.{match_ordering, ordering_reverse, State, IsShaped}
+use Rattle.toll_sql.proofs.Common.{match_ordering, ordering_reverse, State, IsShaped, place, key_order, IsShapedAs, MakesTable, WritesVersion, meta_cells, Raised, as_second, first_ours, first_version, HasRows, version, made_all, tree_of, TableKind, Meta, Voids}
 use Rattle.sqlite_catalog.specs.Change.{next_tree}
 use Rattle.sqlite_trees.specs.declared.store.Shape.TheVariants as shape
-use Rattle.toll_sql.specs.Bag.{place}
-use Rattle.toll_sql.specs.Cells.{key_order}
-use Rattle.toll_sql.specs.Create.{IsShapedAs, MakesTable, WritesVersion}
-use Rattle.toll_sql.specs.Encode.{meta_cells}
-use Rattle.toll_sql.specs.First.{Raised, as_second, first_ours, first_version}
-use Rattle.toll_sql.specs.Holds.{HasRows, version}
-use Rattle.toll_sql.specs.Schema.{made_all, tree_of}
-use Rattle.toll_sql.specs.declared.table_kind.TableKind.{TableKind}
-use Rattle.toll_sql.specs.declared.table_kind.TableKind.TheVariants.{Meta, Voids}
 use Rattle.toll_sql.proofs.CreateTexts.{unplaced}
 use Rattle.toll_sql.proofs.Fresh.{IsNotMeta, written_holds}
 use Rattle.toll_sql.proofs.MakeLemmas.{shaped_still}

@@ -1,20 +1,11 @@
 -- A query in the order of the key returns the rows of the table as a list.
-use Rattle.std.proofs.Common.{◌≡◌, ◌⊎◌, ℕ, zero, suc, ◌+◌, ◌<◌, ◌≤◌, Bool, true, false, ◌&&◌, ◌||◌, cond, inl, inr, List, [], ◌∷◌, map, length, get_or, refl, sym, ap, ap₂, subst, ◌∙◌, arith, Ordering, Less}
-use Rattle.toll_sql.proofs.Common.{false≢true, IsTotalOrder, AllByRecursion, is_eq, is_lt, int_cmp, and_parts, cases_Bool, tied_itself, int_cmp_total, sorted_far, ranks_by, Row, column, IsAscending, Value, Null, Int, Text, all_has, Has, same_bytes-exact, same_bytes-refl, same_bytes}
+use Rattle.std.proofs.Common.{◌≡◌, ℕ, zero, suc, ◌+◌, ◌<◌, ◌≤◌, Bool, true, false, ◌&&◌, ◌||◌, cond, inl, inr, List, [], ◌∷◌, map, length, get_or, refl, sym, ap, ap₂, subst, ◌∙◌, arith, Ordering, Less, IsSorted}
+use Rattle.toll_sql.proofs.Common.{false≢true, IsTotalOrder, AllByRecursion, is_eq, is_lt, int_cmp, and_parts, cases_Bool, tied_itself, int_cmp_total, sorted_far, ranks_by, Row, column, IsAscending, Value, Null, Int, Text, all_has, Has, same_bytes-exact, same_bytes-refl, same_bytes, and_from, or_cases, or_left, or_right, Rises, NeverFalls, SameBag, total, cells_of, columns_from, fill, key_order, HasRows, AreSorted, table_of, width_of, TableKind, equal_of}
 use Rattle.std.specs.FinMap.{int_cmp-IsAntisymmetric}
-use Rattle.std.specs.Prelude.{IsSorted}
-use Rattle.toll_sql.specs.Bag.{Rises, NeverFalls, SameBag, total}
-use Rattle.toll_sql.specs.Cells.{cells_of, columns_from, fill, key_order}
-use Rattle.toll_sql.specs.Holds.{HasRows}
-use Rattle.toll_sql.specs.Rows.{AreSorted}
-use Rattle.toll_sql.specs.Schema.{table_of, width_of}
-use Rattle.toll_sql.specs.declared.table_kind.TableKind.{TableKind}
 use Rattle.toll_sql.proofs.Bags.{total_permuted, total_map}
-use Rattle.toll_sql.proofs.Keyed.{IsCell, column_behind_rowid, cells_are}
+use Rattle.toll_sql.proofs.Keyed.{IsCell, cells_are}
 use Rattle.toll_sql.proofs.Orders.{key_order_total}
 use Rattle.toll_sql.proofs.WriteLemmas.{whole_row}
-use Rattle.toll_sql.proofs.JoinTests.{and_both}
-use Rattle.toll_sql.proofs.PutCommon.{equal_only}
 
 -- ---- rows are compared
 
@@ -25,7 +16,7 @@ is_same_value _ _ = false
 
 value_exact : (a b : Value) → is_same_value a b ≡ true → a ≡ b
 value_exact (Text s) (Text t) h = ap Text (same_bytes-exact s t h)
-value_exact (Int m) (Int n) h = ap Int (int_cmp-IsAntisymmetric m n (equal_only _ h))
+value_exact (Int m) (Int n) h = ap Int (int_cmp-IsAntisymmetric m n (equal_of _ h))
 value_exact _ _ h = absurd (false≢true h)
 
 value_itself : (v : Value) → IsCell v → is_same_value v v ≡ true
@@ -47,7 +38,7 @@ row_exact (a ∷ more) (b ∷ bs) h = let parts = and_parts _ _ h in ap₂ (λ x
 
 pub row_itself : (row : Row) → AllByRecursion IsCell row → same_row row row ≡ true
 row_itself [] h = refl
-row_itself (v ∷ row) h = and_both (is_same_value v v) (same_row row row) (value_itself v h.0) (row_itself row h.1)
+row_itself (v ∷ row) h = and_from (is_same_value v v) (same_row row row) (value_itself v h.0) (row_itself row h.1)
 
 -- ---- two lists with the same bag, one of which never falls while the other rises
 
@@ -105,17 +96,6 @@ abbrev pub among : List Row → Row → Bool
 among [] row = false
 among (l ∷ ls) row = same_row l row || among ls row
 
-pub or_either : (a b : Bool) → (a || b) ≡ true → (a ≡ true) ⊎ (b ≡ true)
-or_either true b h = inl refl
-or_either false b h = inr h
-
-or_left : (a b : Bool) → a ≡ true → (a || b) ≡ true
-or_left a b p = ap (λ x. x || b) p
-
-or_right : (a b : Bool) → b ≡ true → (a || b) ≡ true
-or_right true b p = refl
-or_right false b p = p
-
 has_among : (ls : List Row) (row : Row) → Has ls row → IsItself row → among ls row ≡ true
 has_among [] row has own = absurd has
 has_among (l ∷ ls) row (inl same) own = or_left (same_row l row) (among ls row) (ap (λ r. same_row r row) (sym same) ∙ own)
@@ -123,7 +103,7 @@ has_among (l ∷ ls) row (inr later) own = or_right (same_row l row) (among ls r
 
 among_itself : (ls : List Row) (row : Row) → AllByRecursion IsItself ls → among ls row ≡ true → IsItself row
 among_itself [] row own h = absurd (false≢true h)
-among_itself (l ∷ ls) row own h = elim (or_either (same_row l row) (among ls row) h) [
+among_itself (l ∷ ls) row own h = elim (or_cases (same_row l row) (among ls row) h) [
   | inl hit ↦ subst IsItself (row_exact l row hit) own.0
   | inr later ↦ among_itself ls row own.1 later
 ]

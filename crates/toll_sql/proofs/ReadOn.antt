@@ -1,20 +1,9 @@
 -- Reading calls in a row.
 use Rattle.std.proofs.Common.{◌≡◌, ◌<◌, ℕ, suc, ◌+◌, true, List, [], ◌∷◌, ◌++◌, take, drop, length, get_or, inl, inr, Ok, Err, Result, OnOk, IsTrue, refl, sym, ap, subst, subst₂, ◌∙◌, arith}
-use Rattle.toll_sql.proofs.Common.{false≢true, length-map, on_ok_weaker, AllByRecursion, Database, Row, State, HasCleanDisk, Survives, Trees, Bytes, Slice, KeepFault, Disk, Damaged, Closed, Memory}
+use Rattle.toll_sql.proofs.Common.{false≢true, length-map, on_ok_weaker, AllByRecursion, Database, Row, State, HasCleanDisk, Survives, Trees, Bytes, Slice, KeepFault, Disk, Damaged, Closed, Memory, LeavesStore, IsLooking, rows_for, front_slice, slice_past_table, HasOurs, AreAllTaken, LacksRoomIn, OverIdle, ReadsKind, ReadsNext, ReadsOn, next_of, AreRowsIn, ShowsOwnRows, tables_of_owners, AreStoredOfOwner, is_owned, TableKind, Meta, Owners, Units, Materials}
 use Rattle.toll_base.specs.declared.rows.Row.{Row as OfficeRow}
-use Rattle.toll_sql.specs.Asking.{LeavesStore, IsLooking}
-use Rattle.toll_sql.specs.Encode.{rows_for}
-use Rattle.toll_sql.specs.Fronts.{front_slice, slice_past_table}
-use Rattle.toll_sql.specs.Others.{HasOurs}
-use Rattle.toll_sql.specs.Reading.{AreAllTaken, LacksRoomIn, OverIdle, ReadsKind, ReadsNext, ReadsOn, next_of}
-use Rattle.toll_sql.specs.Shown.{AreRowsIn, ShowsOwnRows, tables_of_owners}
-use Rattle.toll_sql.specs.StoredLaws.{AreStoredOfOwner}
-use Rattle.toll_sql.specs.Schema.{is_owned}
-use Rattle.toll_sql.specs.declared.table_kind.TableKind.{TableKind}
-use Rattle.toll_sql.specs.declared.table_kind.TableKind.TheVariants.{Meta, Owners, Units, Materials}
 use Rattle.toll_sql.proofs.CauseLemmas.{reason_before}
 use Rattle.toll_sql.proofs.LookLemmas.{held_on}
-use Rattle.toll_sql.proofs.OpenLemmas.{found_still}
 use Rattle.toll_sql.proofs.Taken.{all_taken_then, lacks_in_before, lacks_in_then}
 
 -- ---- two reading calls in a row are one
@@ -170,9 +159,6 @@ read_well = Ok tt
 -- This many tables are read, from the first on.
 abbrev pub HasRead : ℕ → Bytes → State → State → Slice → Slice → Type 0
 HasRead n o a b s t = ReadsOn (front_slice Materials 0) (front_slice (kind_at n) 0) (take n tables_of_owners) o a b s t read_well
-
-pub no_tables_read : (o : Bytes) (a : State) (s : Slice) → (HasCleanDisk a → IsTrue a.is_open) → HasRead 0 o a a s s
-no_tables_read o a s live = record { looks = (found_still a live).looks; shows = λ _ _ _. tt; reads = λ _ _ _ first. first; whole = λ _ _ _ _ _ is. absurd cc; taken = λ _ _ _. refl; lacks = λ _ _ _ is. absurd cc }
 
 pub one_more_read : (tables : List TableKind) → tables ≡ tables_of_owners → (i : ℕ) → i < length tables → (o : Bytes) (a b c : State) (s t u : Slice) (r : Result (Unit {0}) KeepFault) → HasRead i o a b s t → (is_owned (get_or tables i Meta) ≡ true → ReadsNext (get_or tables i Meta) o b c t u r)
     → ReadsOn (front_slice Materials 0) (front_slice (kind_at (i + 1)) 0) (take (i + 1) tables_of_owners) o a c s u r

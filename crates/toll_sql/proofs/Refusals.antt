@@ -1,7 +1,7 @@
 -- No statement is refused by its own meaning with an error of the disk.
 use Rattle.std.proofs.Common.{◌≡◌, inl, inr, ℕ, ℤ, Bool, true, false, List, [], ◌∷◌, Option, Some, None, Err, Result, ◌++◌, fold, if◌then◌else◌, is_lt, int_cmp, is_some, slice_get, option_map, refl, ap, subst, ◌∙◌}
 use Rattle.std.specs.Bool.{MatchBool}
-use Rattle.toll_sql.proofs.Common.{option_to_list, Does, IsKeptAside, Tally, Database, RefusesQuery, RefusesToAlter, RefusesToRead, alter_error, edit_error, Row, Part, Gives, Refuses, Task, Then, Written, Trees, Null, Error, InvalidQuery, SqliteFailure, without_index, without_table, without_view, ids_of, cast_row, Edit, edit_of, with_rowid, Given, Refusal, Abort, Ignore, Replace, Returning, Upsert, Refers}
+use Rattle.toll_sql.proofs.Common.{option_to_list, Does, IsKeptAside, Tally, Database, RefusesQuery, RefusesToAlter, RefusesToRead, alter_error, edit_error, Row, Part, Gives, Refuses, Task, Then, Written, Trees, Null, Error, InvalidQuery, SqliteFailure, without_index, without_table, without_view, ids_of, cast_row, Edit, edit_of, with_rowid, Given, Refusal, Abort, Ignore, Replace, Returning, Upsert, Refers, is_disk_fault}
 use Rattle.sqlite.specs.Does as does
 use Rattle.sqlite.specs.Rows as rows
 use Rattle.sqlite_trees.specs.Tree.{rowid}
@@ -22,7 +22,6 @@ use Rattle.sqlite_schema.specs.declared.schema.Constraint.TheVariants.{ForeignKe
 use Rattle.sqlite_schema.specs.declared.schema.Keys.{Keys}
 use Rattle.sqlite_schema.specs.declared.schema.Schema.{Schema}
 use Rattle.sqlite_schema.specs.declared.schema.Table.{Table}
-use Rattle.toll_sql.specs.Causes.{is_disk_fault}
 
 -- It isn't refused with an error of the disk.
 abbrev Spares : {A : Type 0} → Part A → Type 0
@@ -253,9 +252,6 @@ module _ (task : Task) where
   ]
 
 -- ---- tables, indexes and views
-
-altered : (Why : AlterRefusal → Type 0) (e : Error) → RefusesToAlter Why e → is_disk_fault e ≡ false
-altered Why e h = is_other e _ h.2 (of_alter h.0)
 
 table : (text : List ℕ) (db : Database) → Spares (does.MakesTable text db)
 table text db e (inl h) = is_other e _ h.1 refl

@@ -1,10 +1,7 @@
 -- Stored rows put into a slice as they are read.
 use Rattle.std.proofs.Common.{◌≡◌, ℕ, ◌+◌, ◌<◌, List, length, get_or, sym, ap, subst, ◌∙◌}
-use Rattle.toll_sql.proofs.Common.{get_or-map, length-map, Row, Bytes, Slice, with_row, KeepsRules}
+use Rattle.toll_sql.proofs.Common.{get_or-map, length-map, Row, Bytes, Slice, with_row, KeepsRules, front_slice, IsStoredAs, AreStoredOfOwner, TableKind}
 use Rattle.toll_base.specs.declared.rows.Row.{Row as OfficeRow}
-use Rattle.toll_sql.specs.Fronts.{front_slice, IsStoredAs}
-use Rattle.toll_sql.specs.StoredLaws.{AreStoredOfOwner}
-use Rattle.toll_sql.specs.declared.table_kind.TableKind.{TableKind}
 use Rattle.toll_sql.proofs.FrontRules.{front_keeps}
 use Rattle.toll_sql.proofs.SoFar.{value_at, first_item}
 
@@ -36,6 +33,3 @@ module _ {X : Type 0} (k : TableKind) (cells : Bytes → X → Row) (is_valid : 
 
     pub with_it_keeps : (slice : Slice) → slice ≡ front_slice k i s → KeepsRules s → KeepsRules (with_row slice (any_row table_item))
     with_it_keeps slice so_far keeps = subst KeepsRules (sym (with_table_item slice so_far)) (front_keeps k (i + 1) s keeps)
-
-  pub all_in : (slice : Slice) → slice ≡ front_slice k (length rows) s → slice ≡ front_slice k (length (listed s)) s
-  all_in slice so_far = so_far ∙ ap (λ n. front_slice k n s) table_as_many

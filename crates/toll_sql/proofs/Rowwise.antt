@@ -1,14 +1,8 @@
 -- The effect of a put row on a slice, table by table.
 use Rattle.std.proofs.Common.{◌≡◌, inl, inr, sym, subst, Bool, true, false, cond, List, [], ◌∷◌, refl, Ordering}
-use Rattle.toll_sql.proofs.Common.{nat_list_cmp_total, AllByRecursion, is_eq, is_lt, column, Text, Bytes, bytes_cmp, pair_cmp, batch_cmp, result_cmp, requirement_cmp, Slice, with_row, replace_row, insert_row, put_row, MoveRow, BatchRow, LotRow, MaterialRow, OrderRow, RecipeRow, RequirementRow, ResultRow, SublotRow, TestRow, VoidRow, pair_cmp_total, batch_cmp_total, result_cmp_total, requirement_cmp_total}
+use Rattle.toll_sql.proofs.Common.{nat_list_cmp_total, AllByRecursion, is_eq, is_lt, column, Text, Bytes, bytes_cmp, pair_cmp, batch_cmp, result_cmp, requirement_cmp, Slice, with_row, replace_row, insert_row, put_row, MoveRow, BatchRow, LotRow, MaterialRow, OrderRow, RecipeRow, RequirementRow, ResultRow, SublotRow, TestRow, VoidRow, pair_cmp_total, batch_cmp_total, result_cmp_total, requirement_cmp_total, place, Rises, key_order, table_for, cells_for, rows_for, material_cells, test_cells, recipe_cells, requirement_cells, order_cells, batch_cells, lot_cells, sublot_cells, move_cells, result_cells, void_cells, AreValidIn, IsRow, TableKind, Materials, Tests, Recipes, Requirements, Orders, Batches, Lots, Sublots, Moves, Results, Voids}
 use Rattle.toll_base.specs.declared.rows.Row.{Row as OfficeRow}
 use Rattle.toll_base.specs.declared.rows.Row.TheVariants as of
-use Rattle.toll_sql.specs.Bag.{place, Rises}
-use Rattle.toll_sql.specs.Cells.{key_order}
-use Rattle.toll_sql.specs.Encode.{table_for, cells_for, rows_for, material_cells, test_cells, recipe_cells, requirement_cells, order_cells, batch_cells, lot_cells, sublot_cells, move_cells, result_cells, void_cells}
-use Rattle.toll_sql.specs.Valid.{AreValidIn, IsRow}
-use Rattle.toll_sql.specs.declared.table_kind.TableKind.{TableKind}
-use Rattle.toll_sql.specs.declared.table_kind.TableKind.TheVariants.{Materials, Tests, Recipes, Requirements, Orders, Batches, Lots, Sublots, Moves, Results, Voids}
 use Rattle.toll_sql.proofs.Orders.{materials_order, tests_order, recipes_order, requirements_order, orders_order, batches_order, lots_order, sublots_order, moves_order, results_order, voids_order}
 use Rattle.toll_sql.proofs.Placing.{put_placed}
 use Rattle.toll_sql.proofs.PutTexts.{table_number, same_table}

@@ -1,8 +1,6 @@
 -- The rows of a plain query.
-use Rattle.std.proofs.Common.{◌≡◌, ◌<◌, ◌+◌, ℕ, Bool, true, false, cond, List, [], ◌∷◌, ◌++◌, map, length, get_or, refl, sym, ap, subst, subst₂, ◌∙◌, arith, All}
-use Rattle.std.specs.Prelude.{filter, IsPermutation, IsSorted}
-use Rattle.toll_sql.proofs.Common.{list_all, flat_map, on, get_or-map, All-map, IsPermutation-map, All-permutation, Row, Term, Env, eval_all, holds, Output, IsAnswer, output, key_cmp, Trees, Key}
-use Rattle.toll_sql.specs.Select.{plain_query, AreShown}
+use Rattle.std.proofs.Common.{◌≡◌, ◌<◌, ◌+◌, ℕ, Bool, true, false, cond, List, [], ◌∷◌, ◌++◌, map, length, get_or, refl, sym, ap, subst, subst₂, ◌∙◌, arith, All, filter, IsPermutation, IsSorted}
+use Rattle.toll_sql.proofs.Common.{list_all, flat_map, on, get_or-map, All-map, IsPermutation-map, All-permutation, Row, Term, Env, eval_all, holds, Output, IsAnswer, output, key_cmp, Trees, Key, plain_query, AreShown}
 
 flat_hits : (p : Row → Bool) (params : Row) (rows : List Row) → flat_map (λ r. cond (p r) ((params ∷ r ∷ []) ∷ []) []) rows ≡ map (λ r. params ∷ r ∷ []) (filter p rows)
 flat_hits p params [] = refl

@@ -1,11 +1,6 @@
 -- The meaning of the texts that read rows.
 use Rattle.std.proofs.Common.{◌≡◌, ℕ, zero, suc, Bool, true, false, cond, List, [], ◌∷◌, map, length, codes, Ok, refl}
-use Rattle.toll_sql.proofs.Common.{command_of, Binary, Command, Select, understood, reads_listing, Query, Term, col, op2, compiled, Compare, Eq, everything, ascending, Key}
-use Rattle.toll_sql.specs.Given.{IsGiven}
-use Rattle.toll_sql.specs.Select.{plain_query}
-use Rattle.toll_sql.specs.Schema.{table_of, tree_of, key_columns, width_of, is_owned, select_text}
-use Rattle.toll_sql.specs.declared.table_kind.TableKind.{TableKind}
-use Rattle.toll_sql.specs.declared.table_kind.TableKind.TheVariants.{Meta}
+use Rattle.toll_sql.proofs.Common.{command_of, Binary, Command, Select, understood, reads_listing, Query, Term, col, op2, compiled, Compare, Eq, everything, ascending, Key, IsGiven, plain_query, table_of, tree_of, key_columns, width_of, is_owned, select_text, TableKind, Meta}
 use Rattle.toll_sql.proofs.Beside.{Others, ours_and}
 use Rattle.toll_sql.proofs.PutTexts.{terms_from}
 use Rattle.toll_sql.proofs.TextLemmas.{one_statement, command_is, unlisted, statement_given}

@@ -1,13 +1,6 @@
 -- Rows that are checked one after another.
 use Rattle.std.proofs.Common.{◌≡◌, ◌<◌, ◌≤◌, ◌+◌, ◌∙◌, ℕ, zero, suc, cond, inl, inr, List, [], ◌∷◌, length, take, map, get_or, refl, sym, subst, arith, Ok, Err, Result, OnOk}
-use Rattle.toll_sql.proofs.Common.{cases_Bool, IsPermutation-sym, AllByRecursion, is_eq, Row, column, value_cmp, Trees, Text, all-permutation, Bytes}
-use Rattle.toll_sql.specs.Bag.{owned_by}
-use Rattle.toll_sql.specs.Cells.{columns_from}
-use Rattle.toll_sql.specs.Shown.{AreOwnedBy, AreRowsOf, FirstIs, IsRowOfOwner}
-use Rattle.toll_sql.specs.Rows.{AreOfOwner}
-use Rattle.toll_sql.specs.Schema.{tree_of, width_of}
-use Rattle.toll_sql.specs.declared.table_kind.TableKind.{TableKind}
-use Rattle.toll_sql.specs.declared.table_kind.TableKind.TheVariants.{Meta}
+use Rattle.toll_sql.proofs.Common.{cases_Bool, IsPermutation-sym, AllByRecursion, is_eq, Row, column, value_cmp, Trees, Text, all-permutation, Bytes, owned_by, columns_from, AreOwnedBy, AreRowsOf, FirstIs, IsRowOfOwner, AreOfOwner, tree_of, width_of, TableKind, Meta}
 use Rattle.toll_sql.proofs.PutCommon.{compares_text_only}
 
 -- With the next row, the fact holds of one more.

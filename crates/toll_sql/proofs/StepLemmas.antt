@@ -1,9 +1,6 @@
 -- Calls within a transaction that write, one and several.
 use Rattle.std.proofs.Common.{◌≡◌, inl, inr, ℕ, false, List, Ok, Err, Result, IfErr, OnOk, IsTrue, ap, sym, subst, arith}
-use Rattle.toll_sql.proofs.Common.{cases_Bool, on_ok_weaker, inside_keeps, keeps_then, survives_then, Row, State, ExecutesInside, KeepsCommit, Survives, HasCleanDisk, Error}
-use Rattle.toll_sql.specs.Causes.{IsErrorCaused}
-use Rattle.toll_sql.specs.Create.{IsTransactionStep}
-use Rattle.toll_sql.specs.Stores.{IsReady, IsWriting}
+use Rattle.toll_sql.proofs.Common.{cases_Bool, on_ok_weaker, inside_keeps, keeps_then, survives_then, Row, State, ExecutesInside, KeepsCommit, Survives, HasCleanDisk, Error, IsErrorCaused, IsTransactionStep, IsReady, IsWriting}
 use Rattle.toll_sql.proofs.CauseLemmas.{exec_fault, reason_before}
 
 -- one statement

@@ -1,8 +1,7 @@
 -- Rows of each kind: determined by their cells, and added to a slice when they are read.
-use Rattle.std.proofs.Common.{◌≡◌, ℕ, ◌+◌, ◌<◌, ℤ, Bool, true, false, List, [], ◌∷◌, length, map, take, get_or, refl, sym, ap, ap₂, subst, ◌∙◌, IsTrue, Ordering}
-use Rattle.toll_sql.proofs.Common.{false≢true, IsTotalOrder, nat_list_cmp_total, Row, column, Bytes, bytes_cmp, pair_cmp, batch_cmp, result_cmp, requirement_cmp, role_number, put_row, Slice, with_row, is_name, MoveRow, Role, Consumed, Produced, BatchRow, LotRow, MaterialRow, OrderRow, RecipeRow, RequirementRow, ResultRow, SublotRow, TestRow, VoidRow, pair_cmp_total, batch_cmp_total, result_cmp_total, requirement_cmp_total}
+use Rattle.std.proofs.Common.{◌≡◌, ℕ, ◌+◌, ◌<◌, ℤ, Bool, true, false, List, [], ◌∷◌, length, map, take, get_or, refl, sym, ap, ap₂, subst, ◌∙◌, IsTrue, Ordering, T}
+use Rattle.toll_sql.proofs.Common.{false≢true, IsTotalOrder, nat_list_cmp_total, Row, column, Bytes, bytes_cmp, pair_cmp, batch_cmp, result_cmp, requirement_cmp, role_number, put_row, Slice, with_row, is_name, MoveRow, Role, Consumed, Produced, BatchRow, LotRow, MaterialRow, OrderRow, RecipeRow, RequirementRow, ResultRow, SublotRow, TestRow, VoidRow, pair_cmp_total, batch_cmp_total, result_cmp_total, requirement_cmp_total, Rises, key_order, rows_for, flag, disposition_number, state_number, origin_order, origin_number, owner_cells, unit_cells, material_cells, test_cells, recipe_cells, requirement_cells, order_cells, batch_cells, lot_cells, sublot_cells, move_cells, result_cells, void_cells, front_slice, AreStoredOfOwner, AreStoredOfPlant, IsOwner, IsUnit, IsOrigin, IsMaterial, IsTest, IsRecipe, IsRequirement, IsOrder, IsBatch, IsLot, IsSublot, IsMovement, IsResult, IsVoid, TableKind, Owners, Units, Materials, Tests, Recipes, Requirements, Orders, Batches, Lots, Sublots, Moves, Results, Voids}
 use Rattle.std.specs.Int.Signed.{le_z}
-use Rattle.std.specs.Prelude.{T}
 use Rattle.std.proofs.Math.Dec.{T_prop}
 use Rattle.toll_base.specs.declared.limits.Limits.{Limits}
 use Rattle.toll_base.specs.declared.lot.Disposition.{Disposition}
@@ -13,14 +12,6 @@ use Rattle.toll_base.specs.declared.rows.Row.{Row as OfficeRow}
 use Rattle.toll_base.specs.declared.rows.Row.TheVariants as of
 use Rattle.toll_base.specs.declared.state.State.{State}
 use Rattle.toll_base.specs.declared.state.State.TheVariants.{Idle, Running, Pausing, Paused, Holding, Held, Restarting, Stopping, Stopped, Aborting, Aborted, Complete}
-use Rattle.toll_sql.specs.Bag.{Rises}
-use Rattle.toll_sql.specs.Cells.{key_order}
-use Rattle.toll_sql.specs.Encode.{rows_for, flag, disposition_number, state_number, origin_order, origin_number, owner_cells, unit_cells, material_cells, test_cells, recipe_cells, requirement_cells, order_cells, batch_cells, lot_cells, sublot_cells, move_cells, result_cells, void_cells}
-use Rattle.toll_sql.specs.Fronts.{front_slice}
-use Rattle.toll_sql.specs.StoredLaws.{AreStoredOfOwner, AreStoredOfPlant}
-use Rattle.toll_sql.specs.Valid.{IsOwner, IsUnit, IsOrigin, IsMaterial, IsTest, IsRecipe, IsRequirement, IsOrder, IsBatch, IsLot, IsSublot, IsMovement, IsResult, IsVoid}
-use Rattle.toll_sql.specs.declared.table_kind.TableKind.{TableKind}
-use Rattle.toll_sql.specs.declared.table_kind.TableKind.TheVariants.{Owners, Units, Materials, Tests, Recipes, Requirements, Orders, Batches, Lots, Sublots, Moves, Results, Voids}
 use Rattle.toll_sql.proofs.Appending.{put_next}
 use Rattle.toll_sql.proofs.MoveKinds.{int_of, move_read_back, nat_of, of_row, value_text}
 use Rattle.toll_sql.proofs.Orders.{materials_order, tests_order, recipes_order, requirements_order, orders_order, batches_order, lots_order, sublots_order, moves_order, results_order, voids_order}

@@ -1,6 +1,5 @@
 -- Rows of a table by their rowids.
-use Rattle.std.proofs.Common.{◌≡◌, inl, inr, ℤ, true, false, not, ◌||◌, List, [], ◌∷◌, ◌++◌, refl, sym, ap, subst, ◌∙◌, Ordering, Less, Equal, Greater}
-use Rattle.std.specs.Prelude.{filter, IsPermutation}
+use Rattle.std.proofs.Common.{◌≡◌, inl, inr, ℤ, true, false, not, ◌||◌, List, [], ◌∷◌, ◌++◌, refl, sym, ap, subst, ◌∙◌, Ordering, Less, Equal, Greater, filter, IsPermutation}
 use Rattle.toll_sql.proofs.Common.{is_eq, match_ordering, ordering_reverse, AllByRecursion, tied_itself, IsPermutation-refl, IsPermutation-cons, IsPermutation-trans, IsPermutation-middle, IsPermutation-filter_both, Int, Row, value_cmp, Has, is_taken, all_has, value_cmp_total}
 use Rattle.sqlite.specs.Tree.{rowid, has_rowid, put_row, without_rowid, IsTable}
 

@@ -1,15 +1,7 @@
 -- Stored rows that fit into a slice, one after another.
-use Rattle.std.proofs.Common.{◌≡◌, ◌<◌, ◌≤◌, ◌+◌, ◌∙◌, ℕ, zero, suc, inl, inr, List, [], ◌∷◌, ◌++◌, length, take, get_or, sym, ap, subst, arith}
-use Rattle.std.proofs.Common.{Result, Ok, Err, OnOk}
-use Rattle.toll_sql.proofs.Common.{Row, Bytes, Slice, with_row, KeepsRules, Trees, KeepFault, Memory}
+use Rattle.std.proofs.Common.{◌≡◌, ◌<◌, ◌≤◌, ◌+◌, ◌∙◌, ℕ, zero, suc, inl, inr, List, [], ◌∷◌, ◌++◌, length, take, get_or, sym, ap, subst, arith, Result, Ok, Err, OnOk}
+use Rattle.toll_sql.proofs.Common.{Row, Bytes, Slice, with_row, KeepsRules, Trees, KeepFault, Memory, columns_from, cells_for, table_for, AreAllTaken, AreTaken, FitsSlice, LacksRoom, LacksRoomIn, TakesRows, AreStoredOfOwner, width_of, IsRow, TableKind}
 use Rattle.toll_base.specs.declared.rows.Row.{Row as OfficeRow}
-use Rattle.toll_sql.specs.Cells.{columns_from}
-use Rattle.toll_sql.specs.Encode.{cells_for, table_for}
-use Rattle.toll_sql.specs.Reading.{AreAllTaken, AreTaken, FitsSlice, LacksRoom, LacksRoomIn, TakesRows}
-use Rattle.toll_sql.specs.StoredLaws.{AreStoredOfOwner}
-use Rattle.toll_sql.specs.Schema.{width_of}
-use Rattle.toll_sql.specs.Valid.{IsRow}
-use Rattle.toll_sql.specs.declared.table_kind.TableKind.{TableKind}
 
 -- The row with these cells, which is put in or not.
 module _ {X : Type 0} (k : TableKind) (cells : Bytes → X → Row) (is_valid : X → Type 0) (any_row : X → OfficeRow) (listed : Slice → List X) (stand : AreStoredOfOwner k cells is_valid any_row listed)

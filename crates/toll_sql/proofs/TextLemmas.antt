@@ -1,7 +1,6 @@
 -- The meaning of a text that compiles to one whole statement.
 use Rattle.std.proofs.Common.{◌≡◌, ◌-◌, ℕ, false, List, [], length, take_all, le-leb, None, Ok, if◌then◌else◌, refl, sym, ap, subst, ◌∙◌, arith}
-use Rattle.toll_sql.proofs.Common.{IsPlain, command_of, statement_of, Command, understood, reads_listing, misses_table, if_select, listing_schema, Schema, compiled, Compiled}
-use Rattle.toll_sql.specs.Given.{IsGiven}
+use Rattle.toll_sql.proofs.Common.{IsPlain, command_of, statement_of, Command, understood, reads_listing, misses_table, if_select, listing_schema, Schema, compiled, Compiled, IsGiven}
 
 -- one statement, with parameters of these names, no RETURNING and no time
 abbrev pub one_statement : Command → List (List ℕ) → List ℕ → Compiled

@@ -1,13 +1,9 @@
 -- Rows that are put into trees, one put after another.
-use Rattle.std.proofs.Common.{◌≡◌, ◌≢◌, ◌⊎◌, inl, inr, ℕ, suc, pos, ◌<◌, ◌==◌, Bool, true, false, List, [], ◌∷◌, IsTrue, refl, sym, ap, subst, subst₂, ◌∙◌, arith, Less}
-use Rattle.std.specs.Prelude.{if◌then◌else◌, IsPermutation}
-use Rattle.toll_sql.proofs.Common.{cases_Bool, eq-eqb, eqb-true, nat_tests, int_cmp, IsPermutation-map, AllByRecursion, IsAscending, IsShaped, Row, Schema, Table, Trees, rowid, value_cmp, value_cmp-Int, Int}
+use Rattle.std.proofs.Common.{◌≡◌, ◌≢◌, ◌⊎◌, inl, inr, ℕ, suc, pos, ◌<◌, ◌==◌, Bool, true, false, List, [], ◌∷◌, IsTrue, refl, sym, ap, subst, subst₂, ◌∙◌, arith, Less, if◌then◌else◌, IsPermutation}
+use Rattle.toll_sql.proofs.Common.{cases_Bool, eq-eqb, eqb-true, nat_tests, int_cmp, IsPermutation-map, AllByRecursion, IsAscending, IsShaped, Row, Schema, Table, Trees, rowid, value_cmp, value_cmp-Int, Int, all_cells, cells_of, IsRowAdded, ReplacesOrAdds, Puts}
 use Rattle.sqlite_trees.specs.Tree.{with_tree}
 use Rattle.sqlite_trees.specs.View.{is_int}
 use Rattle.sqlite_trees.specs.declared.store.Shape.TheVariants as shape
-use Rattle.toll_sql.specs.Bag.{all_cells}
-use Rattle.toll_sql.specs.Cells.{cells_of}
-use Rattle.toll_sql.specs.Put.{IsRowAdded, ReplacesOrAdds, Puts}
 use Rattle.toll_sql.proofs.CellPuts.{PutsCells, late_first, overwritten, stored}
 
 -- ---- rows with these cells

@@ -1,11 +1,9 @@
 -- A movement is voided if and only if the table of voids has a row with its key.
-use Rattle.std.proofs.Common.{◌≡◌, ◌⊎◌, inl, inr, Bool, true, false, ◌&&◌, Option, Some, is_some, List, [], ◌∷◌, refl, sym, ap, subst, ◌∙◌}
-use Rattle.toll_sql.proofs.Common.{false≢true, is_eq, and_parts, exact_bytes, Row, column, or_nulls, Text, Bytes, bytes_cmp, row_at, VoidRow, Contains-none, Contains-here, Contains-later, Contains-cases, Contains-filter, Contains-from_filter}
-use Rattle.std.specs.Prelude.{Contains, filter, if◌then◌else◌}
+use Rattle.std.proofs.Common.{◌≡◌, ◌⊎◌, inl, inr, Bool, true, false, ◌&&◌, Option, Some, is_some, List, [], ◌∷◌, refl, sym, ap, subst, ◌∙◌, Contains, filter, if◌then◌else◌}
+use Rattle.toll_sql.proofs.Common.{false≢true, is_eq, and_parts, exact_bytes, Row, column, or_nulls, Text, Bytes, bytes_cmp, row_at, VoidRow, Contains-none, Contains-here, Contains-later, Contains-cases, Contains-filter, Contains-from_filter, and_from, void_cells}
 use Rattle.std.proofs.lemmas.Cmp.{tied_itself, nat_list_cmp_total}
 use Rattle.std.proofs.lemmas.Map.Views.{tells_apart}
-use Rattle.toll_sql.specs.Encode.{void_cells}
-use Rattle.toll_sql.proofs.JoinTests.{equals, is_no_value, equals_text_only, texts_same, text_itself, text_is_value, and_both}
+use Rattle.toll_sql.proofs.JoinTests.{equals, is_no_value, equals_text_only, texts_same, text_itself, text_is_value}
 use Rattle.toll_sql.proofs.MemberRows.{AreRowsOfOwner}
 
 abbrev void_with : List VoidRow → Bytes → Option VoidRow
@@ -62,7 +60,7 @@ module _ (o : Bytes) (rows : List VoidRow) (table : List Row) (has : AreRowsOfOw
           go true e =
               let f = found_void rows k e in
               let r = has.every f.0 f.1 in
-              let passes = and_both _ _ (text_itself o) (and_both _ true (subst (λ key. equals (Text key) (Text k) ≡ true) (sym f.2) (text_itself k)) refl) in
+              let passes = and_from _ _ (text_itself o) (and_from _ true (subst (λ key. equals (Text key) (Text k) ≡ true) (sym f.2) (text_itself k)) refl) in
               absurd (Contains-none (r.0 ∷ void_cells o f.0) (subst (λ xs. Contains xs (r.0 ∷ void_cells o f.0)) none (Contains-filter is_void table (r.0 ∷ void_cells o f.0) r.1 passes)))
 
   pub missing : is_some (void_with rows k) ≡ false → Contains (or_nulls (filter is_void table)) []

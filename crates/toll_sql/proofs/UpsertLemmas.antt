@@ -1,7 +1,6 @@
 -- The effect on any table of an INSERT of one row with ON CONFLICT DO UPDATE.
-use Rattle.std.proofs.Common.{◌≡◌, ◌≢◌, ◌⊎◌, inl, inr, ℕ, ℤ, pos, Bool, true, false, not, cond, ◌&&◌, List, [], ◌∷◌, ◌++◌, map, drop, length, slice_get, Option, Some, None, Ok, Err, Result, refl, sym, ap, subst, subst₂, ◌∙◌}
-use Rattle.std.specs.Prelude.{filter, IsPermutation, ◌/◌}
-use Rattle.toll_sql.proofs.Common.{is_eq, AllByRecursion, list_all, filter_agree, IsPermutation-map, Value, Null, Int, Row, column, value_cmp, binary, is_true, Term, col, op2, eval_all, holds, Query, IsAnswer, overlay, IsShaped, Schema, Table, Values, Binary, plain, Compare, Eq, Abort, Upsert, Enforced, agree, Has, conflicts, AreConflicts, cast_row, ids_of, Given, Chosen, Above, edit_of, taken_by, is_taken, next_rowid, with_rowid, id_in, without_all, put_all, are_fresh, all_has, value_rows, edit_error, Refusal, one_step, one_permutation, Command, InsertOr, Database, Tally, Does, OnTable, OnRows, AtPlace, understood, State, mode_of, Executes, IsPlain, command_of, statement_of, runs_as}
+use Rattle.std.proofs.Common.{◌≡◌, ◌≢◌, ◌⊎◌, inl, inr, ℕ, ℤ, pos, Bool, true, false, not, cond, ◌&&◌, List, [], ◌∷◌, ◌++◌, map, drop, length, slice_get, Option, Some, None, Ok, Err, Result, refl, sym, ap, subst, subst₂, ◌∙◌, filter, IsPermutation, ◌/◌}
+use Rattle.toll_sql.proofs.Common.{is_eq, AllByRecursion, list_all, filter_agree, IsPermutation-map, Value, Null, Int, Row, column, value_cmp, binary, is_true, Term, col, op2, eval_all, holds, Query, IsAnswer, overlay, IsShaped, Schema, Table, Values, Binary, plain, Compare, Eq, Abort, Upsert, Enforced, agree, Has, conflicts, AreConflicts, cast_row, ids_of, Given, Chosen, Above, edit_of, taken_by, is_taken, next_rowid, with_rowid, id_in, without_all, put_all, are_fresh, all_has, value_rows, edit_error, Refusal, one_step, one_permutation, Command, InsertOr, Database, Tally, Does, OnTable, OnRows, AtPlace, understood, State, mode_of, Executes, IsPlain, command_of, statement_of, runs_as, Puts, all_cells, plain_query, and-true}
 use Rattle.sqlite.specs.Tree.{Trees, rowid, has_rowid, put_row, without_rowid}
 use Rattle.sqlite_trees.specs.declared.store.Shape.TheVariants as shape
 use Rattle.sqlite_trees.proofs.TreeLemmas.{IsShaped-put_row, IsShaped-filter, not_true}
@@ -9,9 +8,6 @@ use Rattle.sqlite_rules.specs.Action.{works, Writes}
 use Rattle.sqlite_rules.proofs.PlaceLemmas.{given as given_stay}
 use Rattle.sqlite_rules.proofs.TableLemmas.{int_is}
 use Rattle.sqlite.specs.Rows.{Task, Written, Outcome, InsertsOr, Tries, TriesEach, Upserts, Puts as PutsRow, Resolves, Clears, Counts, Meets, Judged, nothing, stamped, count_of, rowids_for, shown as returned}
-use Rattle.toll_sql.specs.Put.{Puts}
-use Rattle.toll_sql.specs.Bag.{all_cells}
-use Rattle.toll_sql.specs.Select.{plain_query}
 use Rattle.toll_sql.proofs.SelectLemmas.{shown_by}
 use Rattle.toll_sql.proofs.TableLemmas.{one_hit, parted_by_rowid, put_perm}
 use Rattle.toll_sql.proofs.PutCommon.{truth_of_bool}
@@ -43,10 +39,6 @@ all_of P (x ∷ xs) f = (f x (inl refl), all_of P xs (λ y has. f y (inr has)))
 
 abbrev by_rowid : ℕ → List Term
 by_rowid n = op2 (Compare Eq Binary) (col 1 0) (col 0 n) ∷ []
-
-pub and_true : (b : Bool) → (b && true) ≡ b
-and_true true = refl
-and_true false = refl
 
 module _ (schema : Schema) (table : Table) (still : (olds news : List Row) → works schema Enforced 0 table.tree olds news ≡ []) where
   abbrev Other : Trees → Trees → Type 0
@@ -108,7 +100,7 @@ module _ (schema : Schema) (table : Table) (still : (olds news : List Row) → w
         })
 
     hits_are : (given : Row) (id : ℤ) → column given n ≡ Int id → (rows : List Row) → filter (λ r. list_all (holds (given ∷ r ∷ [])) (by_rowid n)) rows ≡ filter (has_rowid id) rows
-    hits_are given id is rows = filter_agree _ _ (λ r. and_true _ ∙ ap (λ v. is_true (binary (Compare Eq Binary) (rowid r) v)) is ∙ equals_int (rowid r) id) rows
+    hits_are given id is rows = filter_agree _ _ (λ r. and-true _ ∙ ap (λ v. is_true (binary (Compare Eq Binary) (rowid r) v)) is ∙ equals_int (rowid r) id) rows
 
     upsert_replaced : (db : Trees) (a : ℤ) (r : Row) (one : Written) → IsShaped shape.Table (db table.tree) → Has (db table.tree) r → agree plain target r target (Int a ∷ cols) ≡ true
         → Resolves task (Int a ∷ cols) db (rowid r ∷ []) (Some (record { lets = []; body = upsert_query })) (Ok one) → Puts schema table.tree has_key cols db one.trees

@@ -1,10 +1,8 @@
 -- Calls within a transaction, and its end.
 use Rattle.std.proofs.Common.{◌≡◌, inl, inr, false, Ok, Err, Result, [], IfErr, OnOk, OnErr, IsTrue, refl, sym, subst, ◌∙◌, arith}
-use Rattle.toll_sql.proofs.Common.{survives_then, Database, State, HasCleanDisk, IsRolledBack, KeepsCommit, KeepsCounts, Shows, Survives, FailsToCommit, Trees, Error}
-use Rattle.toll_sql.specs.Causes.{IsErrorCaused}
-use Rattle.toll_sql.specs.Create.{IsTransactionStep, IsWholeOrNothing, LeavesMade, begin}
+use Rattle.toll_sql.proofs.Common.{survives_then, Database, State, HasCleanDisk, KeepsCommit, KeepsCounts, Shows, Survives, FailsToCommit, Trees, Error, IsErrorCaused, IsTransactionStep, IsWholeOrNothing, LeavesMade, begin}
 use Rattle.toll_sql.proofs.ApplyLemmas.{not_committed}
-use Rattle.toll_sql.proofs.CauseLemmas.{commit_fails, reason_after, reason_before}
+use Rattle.toll_sql.proofs.CauseLemmas.{commit_fails, reason_before}
 
 module _ (Before : State → Type 0) (Made : Database → Type 0) (old last end : State) (settled : HasCleanDisk old → IsTrue old.is_open → old.now ≡ old.committed) where
   abbrev pub Makes : State → State → Type 0
@@ -15,26 +13,6 @@ module _ (Before : State → Type 0) (Made : Database → Type 0) (old last end 
 
   from_begin : (P : Trees → Type 0) → Survives (begin old) end P → Survives old end P
   from_begin P s = record { clean = s.clean; shield = s.shield; counts = s.counts; limit = s.limit; closes = s.closes; crash = s.crash }
-
-  -- The calls failed, and the transaction was rolled back.
-  pub undone : {X Y : Type 0} (r : Result X Error) (q : Result Y Error) (e : Error) → r ≡ Err e → q ≡ Err e → IsTransactionStep Before Makes (begin old) last r → end.in_transaction ≡ false → (HasCleanDisk end → IsRolledBack last end)
-      → Survives last end (λ _. ⊥) → IsWholeOrNothing Before Made old end q
-  undone {X} {Y} r q e one two step ended back t =
-      let late = λ (clean : HasCleanDisk end). let before : HasCleanDisk last = omega (arith, clean, t.clean) in before in
-      let first = λ (clean : HasCleanDisk end). let before : HasCleanDisk old = omega (arith, late clean, step.survives.clean) in before in
-      let fails = subst (λ (x : Result X Error). IfErr x (IsErrorCaused (begin old) last)) one in
-      subst (IsWholeOrNothing Before Made old end) (sym two) (record {
-        ended = ended;
-        all = λ _ _. tt;
-        shown = λ _. tt;
-        none = λ clean live.
-            let kept = step.kept (late clean) in
-            let was = (back clean).was_open live in
-            (((back clean).undone live).0 ∙ kept.committed was ∙ sym (settled (first clean) (kept.was_open was)), ((back clean).undone live).1 ∙ kept.committed was);
-        fault = λ clean disk. reason_after old last end (λ _. ⊥) t (fails (step.fault (late clean) refl) disk);
-        live = λ clean live. (step.kept (late clean)).was_open ((back clean).was_open live);
-        survives = from_begin CommitLeaves (survives_then (begin old) last end (λ _. ⊥) (λ _. ⊥) CommitLeaves (λ _ _ h. absurd h) (λ _ _ h. absurd h) step.survives t);
-      })
 
   transaction_made : {X Y : Type 0} (x : X) (r : Result Y Error) → IsTransactionStep Before Makes (begin old) last (Ok x) → HasCleanDisk last → Before (begin old) → OnOk r (IsTrue last.in_transaction × Shows last end last.now last.now false × KeepsCounts last end × (end.marks ≡ []))
       → OnOk r (Made end.now)

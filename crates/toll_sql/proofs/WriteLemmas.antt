@@ -1,12 +1,7 @@
 -- One row put within a transaction.
 use Rattle.std.proofs.Common.{◌≡◌, ◌≢◌, ◌⊎◌, inl, inr, ℕ, true, false, List, [], ◌∷◌, Ok, Err, Result, OnOk, IsTrue, sym, ap, subst, ◌∙◌, nat_eq}
-use Rattle.toll_sql.proofs.Common.{AllByRecursion, cases_Bool, eqb-true, eq-eqb, inside_keeps, Row, State, ExecutesInside, KeepsCommit, Survives, HasCleanDisk, Table, Trees, Error, IsShaped}
+use Rattle.toll_sql.proofs.Common.{AllByRecursion, cases_Bool, eqb-true, eq-eqb, inside_keeps, Row, State, ExecutesInside, KeepsCommit, Survives, HasCleanDisk, Table, Trees, Error, IsShaped, columns_from, fill, HasOurs, IsReady, IsWriting, MakesRow, PutsRow, made_all, table_of, tree_of, width_of, put_text, TableKind}
 use Rattle.sqlite_trees.specs.declared.store.Shape.TheVariants as shape
-use Rattle.toll_sql.specs.Cells.{columns_from, fill}
-use Rattle.toll_sql.specs.Others.{HasOurs}
-use Rattle.toll_sql.specs.Stores.{IsReady, IsWriting, MakesRow, PutsRow}
-use Rattle.toll_sql.specs.Schema.{made_all, table_of, tree_of, width_of, put_text}
-use Rattle.toll_sql.specs.declared.table_kind.TableKind.{TableKind}
 use Rattle.toll_sql.proofs.CauseLemmas.{exec_fault}
 use Rattle.toll_sql.proofs.CellLemmas.{every_column, fit_length}
 use Rattle.toll_sql.proofs.OthersLemmas.{at_listed}

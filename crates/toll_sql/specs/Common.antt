@@ -10,7 +10,7 @@ pub use Rattle.sqlite.specs.Tree.{IsAscending, Trees}
 pub use Rattle.sqlite.specs.declared.error.Error.{Error}
 pub use Rattle.sqlite.specs.declared.error.Error.TheVariants.{SqliteFailure}
 pub use Rattle.sqlite.specs.declared.types.Value.TheVariants.{Int, Null, Text}
-pub use Rattle.sqlite_catalog.specs.Change.{KeepsRows, indexed, is_used}
+pub use Rattle.sqlite_catalog.specs.Change.{KeepsRows}
 pub use Rattle.sqlite_resolve.specs.declared.compiled.Compiled.{Compiled}
 pub use Rattle.sqlite_schema.specs.Rules.{agree, guards}
 pub use Rattle.sqlite_schema.specs.declared.schema.Column.{Column}

@@ -1,6 +1,6 @@
 -- The last of several puts of one sublot.
-use Rattle.std.specs.BTreeSet.{BTreeSet, contains}
 use Rattle.std.specs.Prelude.{◌≡◌, ◌^◌, nat_lt, Bool, false, if◌then◌else◌, Option, Some, None, IfSome, List, [], ◌∷◌}
+use Rattle.std.specs.BTreeSet.{BTreeSet, contains}
 use Rattle.std.specs.List.{list_any}
 use Rattle.toll_sql.specs.Common.{Bytes, Ordering, SublotRow, bytes_cmp, is_eq}
 use Rattle.std.specs.Ordering.{ordering_then}

@@ -18,9 +18,3 @@ IsPlainIndex i = i.order ≡ plain
 -- the schema with these tables and indexes, and without views
 abbrev pub schema_of : List Table → List Index → Schema
 schema_of tables indexes = record { tables = tables; indexes = indexes; views = [] }
-
--- The schema has plain tables and plain indexes, and no views.
-pub record IsPlainSchema (schema : Schema) : Type 0 where
-  pub tables : AllByRecursion IsPlainTable schema.tables
-  pub indexes : AllByRecursion IsPlainIndex schema.indexes
-  pub views : schema.views ≡ []

@@ -1,11 +1,9 @@
 -- What a decision on the disposition of a lot owes.
 use Rattle.std.proofs.Common.{◌≡◌, Bool, true, false, ◌||◌, cond, Option, Some, None, is_some, is_none, List, [], ◌∷◌, map, refl, sym, ap, ◌∙◌}
-use Rattle.toll_stock.proofs.Common.{false≢true, nat_list_cmp_total, list_any, option_map, is_eq, Ordering, or_left, Bytes, same_bytes, bytes_cmp, Action, Release, Reject, by, History, acts, Slice, lot_at, material_at, with_row, KeepsRules, row_at, none_or, lot_id, Made, lot_made, is_out_of_limits, rejects, stays_released, disposition_of, OwnerFacts, facts_of, facts_given, lot_row, IsRowsOf, IsDecided, Decides, DecisionKeepsRules, Checks, is_quarantined, release_checks, reject_checks, Put, Decision, Disposition, Quarantined, Released, Rejected, LotRow, Lot, and_is, accepted_passes, verdict_is, Grows, put_rows, RowsFit, decides, keeps_rules, tables-own, tables-others, row_at-put_row, length-known, any-known, same_bytes-exact, same_bytes-refl, same_bytes-symm}
+use Rattle.toll_stock.proofs.Common.{false≢true, nat_list_cmp_total, list_any, option_map, is_eq, Ordering, or_left, Bytes, same_bytes, bytes_cmp, Action, Release, Reject, by, History, acts, Slice, lot_at, material_at, with_row, KeepsRules, row_at, none_or, lot_id, Made, lot_made, is_out_of_limits, rejects, stays_released, disposition_of, OwnerFacts, facts_of, facts_given, lot_row, IsRowsOf, IsDecided, Decides, DecisionKeepsRules, Checks, is_quarantined, release_checks, reject_checks, Put, Decision, Disposition, Quarantined, Released, Rejected, LotRow, Lot, and_is, accepted_passes, verdict_is, Grows, put_rows, RowsFit, decides, keeps_rules, tables-own, tables-others, row_at-put_row, length-known, any-known, same_bytes-exact, same_bytes-refl, same_bytes-symm, given_disposition, lot_row_made}
 use Rattle.toll_history.proofs.Moving.{lot_row_none}
 use Rattle.toll_history.proofs.OneOrigin.{at_made}
-use Rattle.toll_stock.specs.LotRows.{given_disposition}
 use Rattle.toll_stock.proofs.Mapped.{mapped_alike}
-use Rattle.toll_history.specs.OwnerFacts.{lot_row_made}
 
 -- tables with this row of a lot
 abbrev pub with_lot_changed : LotRow → OwnerFacts → OwnerFacts

@@ -1,9 +1,8 @@
 -- What the adding of a material owes.
 use Rattle.std.proofs.Common.{[], ◌∷◌, length, refl}
-use Rattle.toll_stock.proofs.Common.{or_right, AddMaterial, by, Slice, KeepsRules, facts_of, IsDecided, Decides, DecisionKeepsRules, material_checks, Put, Decision, Material, none_applies, accepted_passes, below_limit, tables-own}
+use Rattle.toll_stock.proofs.Common.{or_right, AddMaterial, by, Slice, KeepsRules, facts_of, IsDecided, Decides, DecisionKeepsRules, material_checks, Put, Decision, Material, none_applies, accepted_passes, below_limit, tables-own, MOST_MATERIALS}
 use Rattle.toll_base.specs.declared.rows.MaterialRow.{MaterialRow}
 use Rattle.toll_history.proofs.Naming.{Kind, IsNamedRowAdded, naming_owes}
-use Rattle.toll_base.specs.declared.capacity.TheConstants.{MOST_MATERIALS}
 
 pub material_owes : (own : Slice) (row : MaterialRow) (d : Decision) → IsDecided (material_checks (facts_of own) row) (Put own.owner (Material row) ∷ []) d → Decides (by own.owner (AddMaterial row)) own d × (KeepsRules own → DecisionKeepsRules own d)
 material_owes own row d decided =

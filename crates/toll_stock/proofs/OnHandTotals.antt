@@ -1,6 +1,6 @@
 -- The amount in the sublots of a lot is what its standing movements received and produced, less what they used up.
 use Rattle.std.proofs.Common.{◌≡◌, ℕ, ◌+◌, ◌-◌, ◌≤◌, Bool, true, false, not, ◌&&◌, cond, Option, Some, None, is_some, List, [], ◌∷◌, ◌++◌, refl, sym, ap, ◌∙◌, arith}
-use Rattle.toll_stock.proofs.Common.{false≢true, AllByRecursion, option_map_or, is_eq, Bytes, same_bytes, bytes_cmp, pair_cmp, IsInKeyOrder, row_at, total, is_some_where, Action, Record, Void, History, lot_id, same_lot, Movement, has_move_key, moved_by, movements, standing_after, standing, brings_into, takes_from, brought, taken, stock, sublot_known, Slice, sublot_at, OwnerFacts, IsRowsOf, sublot_row, IsLawful, Receive, Split, Ship, Scrap, Actual, SublotRow, both, and_is, some_where, same_bytes-exact, same_bytes-refl, same_bytes-symm, is_eq-then, pair_cmp_total, adds_to, uses_up, amounts, on_hand, total-alike}
+use Rattle.toll_stock.proofs.Common.{false≢true, AllByRecursion, option_map_or, is_eq, Bytes, same_bytes, bytes_cmp, pair_cmp, IsInKeyOrder, row_at, total, is_some_where, Action, Record, Void, History, lot_id, same_lot, Movement, has_move_key, moved_by, movements, standing_after, standing, brings_into, takes_from, brought, taken, stock, sublot_known, Slice, sublot_at, OwnerFacts, IsRowsOf, sublot_row, IsLawful, Receive, Split, Ship, Scrap, Actual, SublotRow, both, and_is, some_where, same_bytes-exact, same_bytes-refl, same_bytes-symm, is_eq-then, pair_cmp_total, adds_to, uses_up, amounts, on_hand, total-alike, on_hand_in, all_weaker}
 use Rattle.std.proofs.lemmas.Option.{cond_some}
 use Rattle.toll_history.specs.Laws.{BringsOwn, TakesKnown}
 use Rattle.toll_base.specs.declared.lot.LotId.{LotId}
@@ -9,8 +9,7 @@ use Rattle.toll_base.specs.declared.movement.Move.{Move}
 use Rattle.toll_history.proofs.Crossing.{all_filtered}
 use Rattle.toll_history.proofs.Owned.{all_bring_own, all_take_known}
 use Rattle.toll_history.proofs.Stock.{covered}
-use Rattle.toll_stock.specs.LotTotals.{on_hand_in}
-use Rattle.toll_stock.proofs.Sums.{total-along, total-plus, total-zero, total-swapped, cond-total, cond_zero, along, each_found, total_at}
+use Rattle.toll_stock.proofs.Sums.{total-along, total-plus, total-zero, total-swapped, cond-total, cond_zero, each_found, total_at}
 
 -- ---- the sublots that a movement brings into and takes from
 
@@ -107,7 +106,7 @@ module _ (rows : List SublotRow) (ordered : IsInKeyOrder pair_cmp (λ row. (row.
   moved_in place ms there =
       total-alike _ (λ row. total (λ m. cond (same_bytes row.lot lot) (cond (is_sublot_place (lot_id o row.lot) row.sublot (place m)) m.1.amount 0) 0) ms) rows (λ row. cond-total (same_bytes row.lot lot) (λ m. cond (is_sublot_place (lot_id o row.lot) row.sublot (place m)) m.1.amount 0) ms)
       ∙ total-swapped (λ row m. cond (same_bytes row.lot lot) (cond (is_sublot_place (lot_id o row.lot) row.sublot (place m)) m.1.amount 0) 0) rows ms
-      ∙ total-along _ (λ m. cond (is_in (lot_id o lot) (place m)) m.1.amount 0) ms (along _ _ (λ m has. once_in (place m) m.1.amount has) ms there)
+      ∙ total-along _ (λ m. cond (is_in (lot_id o lot) (place m)) m.1.amount 0) ms (all_weaker _ _ (λ m has. once_in (place m) m.1.amount has) ms there)
 
 -- ---- a split is in both sums
 
@@ -168,10 +167,10 @@ module _ (H : History) (lawful : IsLawful H) (s : Slice) (there : IsRowsOf H s) 
       ∙ moved_in s.sublots ordered s.owner lot (λ m. place m.0 m.1.what) (standing H) there_all
 
   brought_is : on_hand_all_brought ≡ total (λ m. cond (is_in id (goes_to m.0 m.1.what)) m.1.amount 0) (standing H)
-  brought_is = moved_is brings_into goes_to (λ of sub o what. (at_places of sub o what).0) (along _ _ (λ m brings. has_goes_to m brings (goes_to m.0 m.1.what) refl) (standing H) (each_standing (BringsOwn H) H (all_bring_own H lawful)))
+  brought_is = moved_is brings_into goes_to (λ of sub o what. (at_places of sub o what).0) (all_weaker _ _ (λ m brings. has_goes_to m brings (goes_to m.0 m.1.what) refl) (standing H) (each_standing (BringsOwn H) H (all_bring_own H lawful)))
 
   taken_is : on_hand_all_taken ≡ total (λ m. cond (is_in id (comes_from m.0 m.1.what)) m.1.amount 0) (standing H)
-  taken_is = moved_is takes_from comes_from (λ of sub o what. (at_places of sub o what).1) (along _ _ (λ m takes. has_comes_from m takes (comes_from m.0 m.1.what) refl) (standing H) (each_standing (TakesKnown H) H (all_take_known H lawful)))
+  taken_is = moved_is takes_from comes_from (λ of sub o what. (at_places of sub o what).1) (all_weaker _ _ (λ m takes. has_comes_from m takes (comes_from m.0 m.1.what) refl) (standing H) (each_standing (TakesKnown H) H (all_take_known H lawful)))
 
   -- The amount in a sublot, with what was taken from it, is what was brought into it.
   on_hand_left : (b : Bool) (held came went : ℕ) → held ≡ came - went → went ≤ came → cond b held 0 + cond b went 0 ≡ cond b came 0
@@ -188,7 +187,7 @@ module _ (H : History) (lawful : IsLawful H) (s : Slice) (there : IsRowsOf H s) 
   held_and_taken =
       sym (total-plus (λ row. cond (same_bytes row.lot lot) row.amount 0) (λ row. cond (same_bytes row.lot lot) (taken H (lot_id s.owner row.lot) row.sublot) 0) s.sublots)
       ∙ total-along _ (λ row. cond (same_bytes row.lot lot) (brought H (lot_id s.owner row.lot) row.sublot) 0) s.sublots
-      (along _ _ (λ row found. on_hand_left (same_bytes row.lot lot) row.amount _ _ (on_hand_held_is row found) (covered H (lot_id s.owner row.lot) row.sublot lawful)) s.sublots
+      (all_weaker _ _ (λ row found. on_hand_left (same_bytes row.lot lot) row.amount _ _ (on_hand_held_is row found) (covered H (lot_id s.owner row.lot) row.sublot lawful)) s.sublots
       (each_found pair_cmp pair_cmp_total (λ row. (row.lot, row.sublot)) s.sublots ordered))
 
   pub on_hand_is : on_hand_in s lot ≡ on_hand H id

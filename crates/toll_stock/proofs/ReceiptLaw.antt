@@ -1,7 +1,6 @@
 -- What a receipt owes.
 use Rattle.std.proofs.Common.{◌≡◌, ℕ, ◌+◌, not, ◌&&◌, is_some, List, [], ◌∷◌, ◌++◌, refl, sym, ap, ◌∙◌}
-use Rattle.toll_stock.proofs.Common.{lot_row_of, or_parts, sublot_bounds, Bytes, same_bytes, Record, by, History, Slice, lot_at, KeepsRules, where_so, is_some_where, OwnerFacts, facts_of, facts_given, IsDecided, Decides, DecisionKeepsRules, Accepted, Checks, verdict_of_checks, key_checks, receive_checks, verdict, IsLawful, IsValidAction, Put, Decision, Quarantined, Receipts, LotRow, MoveRow, Receive, SublotRow, Row, Lot, Sublot, Move, none_applies, Grows, LeavesOthers, known_passes, accepted_passes, move_fits, with_move, with_lot, with_sublot, put_came, recorded_came_in, tables-untaken, sublot_room, came_fit, bounded_owes, same_bytes-exact, same_bytes-refl}
-use Rattle.toll_history.specs.Puts.{gained}
+use Rattle.toll_stock.proofs.Common.{lot_row_of, or_parts, sublot_bounds, Bytes, same_bytes, Record, by, History, Slice, lot_at, KeepsRules, where_so, is_some_where, OwnerFacts, facts_of, facts_given, IsDecided, Decides, DecisionKeepsRules, Accepted, Checks, verdict_of_checks, key_checks, receive_checks, verdict, IsLawful, IsValidAction, Put, Decision, Quarantined, Receipts, LotRow, MoveRow, Receive, SublotRow, Row, Lot, Sublot, Move, none_applies, Grows, LeavesOthers, known_passes, accepted_passes, move_fits, with_move, with_lot, with_sublot, put_came, recorded_came_in, tables-untaken, sublot_room, came_fit, bounded_owes, same_bytes-exact, same_bytes-refl, gained}
 
 module _ (key material lot sublot : Bytes) (amount day : ℕ) where
   abbrev receipt : MoveRow

@@ -1,12 +1,9 @@
 -- What the recording of a result owes.
 use Rattle.std.proofs.Common.{◌≡◌, ℕ, suc, ◌+◌, ◌<◌, ℤ, Bool, true, false, not, ◌&&◌, ◌==◌, cond, Option, Some, None, is_some, List, [], ◌∷◌, map, length, refl, sym, ap, ◌∙◌, arith}
-use Rattle.toll_stock.proofs.Common.{false≢true, list_any, option_map, is_eq, ordering_then, nat_cmp, or_right, false_from_ne_true, tied_itself, Bytes, same_bytes, bytes_cmp, result_cmp, Action, RecordResult, by, History, acts, Slice, lot_at, result_at, with_row, KeepsRules, row_fits, or_else, is_out_of_limits, rejects, stays_released, disposition_of, result_of, result_row, latest_value, count_results_of, OwnerFacts, facts_of, facts_given, count_results_in, latest_in, IsDecided, Decides, DecisionKeepsRules, is_released, result_checks, Put, Decision, Disposition, Quarantined, Released, Rejected, ResultRow, Result, none_applies, both, and_is, verdict_is, Grows, put_rows, decides, keeps_rules, below_limit, tables-own, tables-others, tables_after, row_at-put_row, accepted_passes, length-new, count-new, same_bytes-exact, same_bytes-refl, same_bytes-symm, nat_eq-exact, is_eq-then, is_eq-nat_cmp, result_cmp_total}
+use Rattle.toll_stock.proofs.Common.{false≢true, list_any, option_map, is_eq, ordering_then, nat_cmp, or_right, false_from_ne_true, tied_itself, Bytes, same_bytes, bytes_cmp, result_cmp, Action, RecordResult, by, History, acts, Slice, lot_at, result_at, with_row, KeepsRules, row_fits, or_else, is_out_of_limits, rejects, stays_released, disposition_of, result_of, result_row, latest_value, count_results_of, OwnerFacts, facts_of, facts_given, count_results_in, latest_in, IsDecided, Decides, DecisionKeepsRules, is_released, result_checks, Put, Decision, Disposition, Quarantined, Released, Rejected, ResultRow, Result, none_applies, both, and_is, verdict_is, Grows, put_rows, decides, keeps_rules, below_limit, tables-own, tables-others, tables_after, row_at-put_row, accepted_passes, length-new, count-new, same_bytes-exact, same_bytes-refl, same_bytes-symm, nat_eq-exact, is_eq-then, is_eq-nat_cmp, result_cmp_total, MOST_RESULTS, given_disposition, disposition_after, result_rows, lot_row_made}
 use Rattle.std.proofs.lemmas.Bool.Decides.{nat_tests}
 use Rattle.toll_base.proofs.SliceFits.{fits_exact}
-use Rattle.toll_stock.specs.LotRows.{given_disposition, disposition_after, result_rows}
 use Rattle.toll_stock.proofs.LotLaw.{with_lot_changed, disposed, lot_in_slice, rows_fit, IsLotMade, known_made, lots_after, found_lot}
-use Rattle.toll_base.specs.declared.capacity.TheConstants.{MOST_RESULTS}
-use Rattle.toll_history.specs.OwnerFacts.{lot_row_made}
 
 -- ---- keys of results
 

@@ -1,11 +1,10 @@
 -- What the shipments of a slice took of a lot is what its standing shipments took.
 use Rattle.std.proofs.Common.{◌≡◌, ℕ, Bool, true, false, ◌&&◌, cond, Some, refl, sym, ap, ◌∙◌, arith}
-use Rattle.toll_stock.proofs.Common.{false≢true, nat_list_cmp_total, option_map_or, false_from_ne_true, Bytes, same_bytes, bytes_cmp, IsInKeyOrder, total, is_some_where, History, acts, lot_id, Movement, has_move_key, movement_of, standing, voided_in, Slice, move_at, OwnerFacts, IsRowsOf, IsLawful, is_actual, Receive, Split, Ship, Scrap, Actual, MoveRow, same_bytes-exact, same_bytes-refl, same_bytes-symm, ships_from, shipped, total-alike}
+use Rattle.toll_stock.proofs.Common.{false≢true, nat_list_cmp_total, option_map_or, false_from_ne_true, Bytes, same_bytes, bytes_cmp, IsInKeyOrder, total, is_some_where, History, acts, lot_id, Movement, has_move_key, movement_of, standing, voided_in, Slice, move_at, OwnerFacts, IsRowsOf, IsLawful, is_actual, Receive, Split, Ship, Scrap, Actual, MoveRow, same_bytes-exact, same_bytes-refl, same_bytes-symm, ships_from, shipped, total-alike, is_shipment_of, shipped_by, shipped_in, all_weaker}
 use Rattle.toll_base.specs.declared.movement.Move.{Move}
 use Rattle.toll_history.proofs.KeysOnce.{every_key_found, void_of_actual}
 use Rattle.toll_history.proofs.StandsOnce.{stands_once}
-use Rattle.toll_stock.specs.LotTotals.{is_shipment_of, shipped_by, shipped_in}
-use Rattle.toll_stock.proofs.Sums.{total-along, total-zero, total-swapped, cond-total, cond_zero, along, each_found, total_at}
+use Rattle.toll_stock.proofs.Sums.{total-along, total-zero, total-swapped, cond-total, cond_zero, each_found, total_at}
 use Rattle.toll_stock.proofs.OnHandTotals.{each_standing}
 
 -- An actual is no shipment, so a shipment is never voided.
@@ -73,7 +72,7 @@ module _ (H : History) (lawful : IsLawful H) (s : Slice) (there : IsRowsOf H s) 
   pub shipped_is : shipped_in s lot ≡ shipped H (lot_id s.owner lot)
   unfolding shipped
   shipped_is =
-      total-along _ (λ row. total (λ m. cond (has_move_key s.owner row.key m) (shipped_by lot row) 0) (standing H)) s.moves (along _ _ shipped_stands s.moves (each_found bytes_cmp nat_list_cmp_total (λ row. row.key) s.moves ordered))
+      total-along _ (λ row. total (λ m. cond (has_move_key s.owner row.key m) (shipped_by lot row) 0) (standing H)) s.moves (all_weaker _ _ shipped_stands s.moves (each_found bytes_cmp nat_list_cmp_total (λ row. row.key) s.moves ordered))
       ∙ total-swapped (λ row m. cond (has_move_key s.owner row.key m) (shipped_by lot row) 0) s.moves (standing H)
       ∙ total-along _ (λ m. cond (ships_from (lot_id s.owner lot) m.0 m.1.what) m.1.amount 0) (standing H)
-      (along _ _ taken_by (standing H) (each_standing (λ m. movement_of (acts m.0 H) m.1.key ≡ Some m.1) H (every_key_found H lawful)))
+      (all_weaker _ _ taken_by (standing H) (each_standing (λ m. movement_of (acts m.0 H) m.1.key ≡ Some m.1) H (every_key_found H lawful)))

@@ -1,7 +1,6 @@
 -- What a split owes.
 use Rattle.std.proofs.Common.{◌≡◌, ℕ, ◌+◌, ◌-◌, ◌&&◌, is_some, List, [], ◌∷◌, ◌++◌, false, refl, sym, ap, ◌∙◌}
-use Rattle.toll_stock.proofs.Common.{sublot_bounds, Bytes, same_bytes, Record, by, History, Slice, KeepsRules, OwnerFacts, facts_of, facts_given, IsDecided, Decides, DecisionKeepsRules, Accepted, Checks, verdict_of_checks, key_checks, split_checks, amount_in, verdict, IsLawful, IsValidAction, Put, Decision, MoveRow, Split, SublotRow, Row, Sublot, Move, none_applies, Grows, LeavesOthers, accepted_passes, move_fits, with_move, with_sublot, put_went_over, went_over, tables-untaken, sublot_room, went_over_fit, bounded_owes, same_bytes-refl, same_bytes-symm, and_right}
-use Rattle.toll_history.specs.Puts.{gained, less_in_sublot}
+use Rattle.toll_stock.proofs.Common.{sublot_bounds, Bytes, same_bytes, Record, by, History, Slice, KeepsRules, OwnerFacts, facts_of, facts_given, IsDecided, Decides, DecisionKeepsRules, Accepted, Checks, verdict_of_checks, key_checks, split_checks, amount_in, verdict, IsLawful, IsValidAction, Put, Decision, MoveRow, Split, SublotRow, Row, Sublot, Move, none_applies, Grows, LeavesOthers, accepted_passes, move_fits, with_move, with_sublot, put_went_over, went_over, tables-untaken, sublot_room, went_over_fit, bounded_owes, same_bytes-refl, same_bytes-symm, and_right, gained, less_in_sublot}
 
 module _ (key lot sublot target : Bytes) (amount day : ℕ) where
   abbrev parting : MoveRow

@@ -50,10 +50,6 @@ count-kept p q xs = total-kept p (λ x. cond (q x) 1 0) xs ∙ total-alike _ _ x
 pub total-drop : {X : Type 0} (f : X → ℕ) (xs : List X) (i : ℕ) (d : X) → i < length xs → total f (drop i xs) ≡ f (get_or xs i d) + total f (drop (suc i) xs)
 total-drop f xs i d lt = ap (total f) (drop-cons xs i d lt)
 
-pub along : {X : Type 0} (P Q : X → Type 0) → ((x : X) → P x → Q x) → (xs : List X) → AllByRecursion P xs → AllByRecursion Q xs
-along P Q f [] h = tt
-along P Q f (x ∷ xs) h = (f x h.0, along P Q f xs h.1)
-
 -- ---- rows in the order of their keys
 
 module _ {K R : Type 0} (cmp : K → K → Ordering) (o : IsTotalOrder cmp) (key : R → K) where

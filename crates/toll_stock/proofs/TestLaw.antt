@@ -1,14 +1,12 @@
 -- What the adding of a test owes.
 use Rattle.std.proofs.Common.{◌≡◌, false, ◌&&◌, ◌||◌, suc, cond, Some, is_some, [], ◌∷◌, length, refl, sym, ap, ◌∙◌}
-use Rattle.toll_stock.proofs.Common.{false≢true, list_any, option_map, is_eq, or_right, false_from_ne_true, Bytes, same_bytes, bytes_cmp, pair_cmp, AddTest, by, History, acts, Slice, test_at, with_row, KeepsRules, or_else, where_so, is_some_where, lot_id, Made, lot_made, material_used, is_outside, is_out_of_limits, rejects, stays_released, disposition_of, OwnerFacts, facts_of, facts_given, lot_row, IsDecided, Decides, DecisionKeepsRules, Accepted, test_checks, verdict, Put, Decision, Quarantined, Released, Rejected, Test, none_applies, accepted_passes, below_limit, tables-own, put_first, row_at-put_row, length-new, any-new, same_bytes-exact, pair_cmp_total, is_eq-then}
+use Rattle.toll_stock.proofs.Common.{false≢true, list_any, option_map, is_eq, or_right, false_from_ne_true, Bytes, same_bytes, bytes_cmp, pair_cmp, AddTest, by, History, acts, Slice, test_at, with_row, KeepsRules, or_else, where_so, is_some_where, lot_id, Made, lot_made, material_used, is_outside, is_out_of_limits, rejects, stays_released, disposition_of, OwnerFacts, facts_of, facts_given, lot_row, IsDecided, Decides, DecisionKeepsRules, Accepted, test_checks, verdict, Put, Decision, Quarantined, Released, Rejected, Test, none_applies, accepted_passes, below_limit, tables-own, put_first, row_at-put_row, length-new, any-new, same_bytes-exact, pair_cmp_total, is_eq-then, MOST_TESTS, lot_row_made}
 use Rattle.toll_history.specs.Work.{test_of}
 use Rattle.toll_base.specs.declared.rows.TestRow.{TestRow}
 use Rattle.toll_history.proofs.Adding.{adding_decided, adding_keeps}
 use Rattle.toll_history.proofs.OpenTests.{is_used}
 use Rattle.toll_stock.proofs.LotLaw.{disposed}
 use Rattle.toll_stock.proofs.Mapped.{mapped_alike}
-use Rattle.toll_base.specs.declared.capacity.TheConstants.{MOST_TESTS}
-use Rattle.toll_history.specs.OwnerFacts.{lot_row_made}
 
 -- tables with one more test
 abbrev with_test : TestRow → OwnerFacts → OwnerFacts

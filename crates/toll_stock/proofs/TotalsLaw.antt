@@ -1,9 +1,7 @@
 -- The totals of a lot, over a history whose rows the slice has.
 use Rattle.std.proofs.Common.{◌≡◌, Some, None, is_some, sym, ap, ◌∙◌}
-use Rattle.toll_stock.proofs.Common.{Bytes, where_so, History, lot_id, lot_made, Slice, lot_at, OwnerFacts, IsRowsOf, LotRow, on_hand, shipped}
-use Rattle.toll_stock.specs.LotTotals.{totals_given}
+use Rattle.toll_stock.proofs.Common.{Bytes, where_so, History, lot_id, lot_made, Slice, lot_at, OwnerFacts, IsRowsOf, LotRow, on_hand, shipped, totals_given, Totals}
 use Rattle.toll_stock.proofs.Mapped.{some_mapped}
-use Rattle.toll_stock.specs.declared.stock.Totals.{Totals}
 
 module _ (H : History) (s : Slice) (there : IsRowsOf H s) (lot : Bytes) where
   -- The slice has exactly the lots that were made.

@@ -1,10 +1,8 @@
 -- What the decision owes on a movement that takes from one of the owner's sublots: a shipment, or scrapping.
-use Rattle.std.proofs.Common.{◌≡◌, ℕ, ◌-◌, true, false, nat_le, is_none, [], ◌∷◌, ◌++◌, refl, sym, ap, ◌∙◌}
-use Rattle.toll_stock.proofs.Common.{Bytes, Record, by, History, Slice, KeepsRules, batch_has_room, OwnerFacts, facts_of, facts_given, IsDecided, Decides, DecisionKeepsRules, Accepted, Checks, verdict_of_checks, key_checks, movement_checks, ship_checks, scrap_checks, verdict, Put, Decision, MoveRow, Ship, Scrap, Sublot, Move, none_applies, rest_accept, verdict_is, decides, keeps_rules, checks_accept, went_fit}
-use Rattle.toll_history.specs.Puts.{less_in_sublot}
+use Rattle.std.proofs.Common.{◌≡◌, ℕ, true, false, nat_le, is_none, [], ◌∷◌, ◌++◌, refl, sym, ap, ◌∙◌}
+use Rattle.toll_stock.proofs.Common.{Bytes, Record, by, History, Slice, KeepsRules, batch_has_room, OwnerFacts, facts_of, facts_given, IsDecided, Decides, DecisionKeepsRules, Accepted, Checks, verdict_of_checks, key_checks, movement_checks, ship_checks, scrap_checks, verdict, Put, Decision, MoveRow, Ship, Scrap, Sublot, Move, none_applies, rest_accept, verdict_is, decides, keeps_rules, checks_accept, went_fit, less_in_sublot, MOST_MOVEMENTS}
 use Rattle.toll_base.specs.Values.{house_name}
 use Rattle.toll_stock.proofs.Withdrawn.{Withdraws, sublot_left, withdrawal_rows, leaves, withdrawal_grows}
-use Rattle.toll_base.specs.declared.capacity.TheConstants.{MOST_MOVEMENTS}
 
 module _ (row : MoveRow) (lot sublot : Bytes) (withdraws : Withdraws row lot sublot) (no_actual : (s : Slice) → batch_has_room s row.key row.what ≡ true) where
   -- These checks are the movement's own.

@@ -1,7 +1,6 @@
 -- The effect on everybody's tables of a movement that takes from one of its owner's sublots.
 use Rattle.std.proofs.Common.{◌≡◌, ◌-◌, false, ◌&&◌, None, is_some, is_none, List, [], ◌∷◌, sym, ap, ◌∙◌}
-use Rattle.toll_stock.proofs.Common.{Bytes, same_bytes, Record, by, History, lot_id, Movement, made_by, makes_lot, makes_sublot, lot_brought, brings_into, takes_from, OwnerFacts, facts_of, sublot_row, Accepted, verdict, MoveRow, SublotRow, Row, Sublot, Move, Grows, LeavesOthers, accepted_passes, with_move, with_sublot, put_went, went_out, tables-untaken, same_bytes-refl, same_bytes-symm}
-use Rattle.toll_history.specs.Puts.{less_in_sublot}
+use Rattle.toll_stock.proofs.Common.{Bytes, same_bytes, Record, by, History, lot_id, Movement, made_by, makes_lot, makes_sublot, lot_brought, brings_into, takes_from, OwnerFacts, facts_of, sublot_row, Accepted, verdict, MoveRow, SublotRow, Row, Sublot, Move, Grows, LeavesOthers, accepted_passes, with_move, with_sublot, put_went, went_out, tables-untaken, same_bytes-refl, same_bytes-symm, less_in_sublot}
 
 -- Of the owner's lots, the movement takes from this sublot and does nothing else.
 pub record Withdraws (row : MoveRow) (lot sublot : Bytes) : Type 0 where

@@ -14,6 +14,6 @@ pub use Rattle.toll_history.specs.Dispositions.{is_outside}
 pub use Rattle.toll_history.specs.History.{History}
 pub use Rattle.toll_history.specs.Movements.{lot_made, stock, sublot_known}
 pub use Rattle.toll_history.specs.OwnChanges.{PutsOnly}
-pub use Rattle.toll_history.specs.Puts.{gained, less_in_sublot, puts_of}
 pub use Rattle.toll_history.specs.OwnerFacts.{IsRowsOf, OwnerFacts, count_results_in, latest_in, facts_of}
+pub use Rattle.toll_history.specs.Puts.{gained, less_in_sublot, puts_of}
 pub use Rattle.toll_history.specs.Verdict.{Checks, IsLawful, amount_in, verdict_of_checks, is_released, key_checks, material_checks, movements_full, receive_checks, reject_checks, release_checks, result_checks, scrap_checks, ship_checks, split_checks, test_checks, tests_open}

@@ -1,14 +1,8 @@
 -- Uses in the order of a direction: the places of those ahead of a place.
-use Rattle.std.proofs.Common.{◌≡◌, ◌↔◌, ℕ, ◌+◌, ◌-◌, ◌<◌, ◌≤◌, Bool, true, false, List, [], ◌∷◌, ◌++◌, map, length, get_or, take, drop, refl, sym, ap, ◌∙◌, subst, inl, inr, arith}
-use Rattle.std.specs.Prelude.{Contains, slice_range}
-use Rattle.std.proofs.lemmas.List.{take-map, drop-map, length-map}
-use Rattle.toll_trace.proofs.Common.{false≢true, cases_lt, IsTotalOrder, IsStrictWeakOrder, IsPermutation, IsSortedBy, IsSortedByKey, nat_cmp, is_le, is_lt, ordering_reverse, ordering_then, MatchOrdering, Ordering, Less, Equal, Greater, ranked, tied_itself, nat_cmp_total, then_total, on_total, CmpEqualImpliesEq, exact_unsigned, exact_pairs, Contains-permutation, IsPermutation-sym, ranks_by, Contains-append_left, Contains-append_right, Contains-append_cases, batch_cmp}
-use Rattle.toll_trace.specs.declared.edge_index.Span.{Span}
-use Rattle.toll_trace.specs.declared.way.Way.{Way}
-use Rattle.toll_trace.specs.declared.way.Way.TheVariants.{Back, Forward}
-use Rattle.toll_trace.specs.EdgeIndex.{leaving, AreWithin, LeadsThrough}
-use Rattle.toll_trace.specs.Places.{Chain, ChainSegment, chain_cmp, chain_segment_cmp, order_along, IsAhead, PassesThrough, IsAheadOf, AreAhead}
-use Rattle.toll_trace.proofs.Extremes.{batches_total, exact_batches, not_below}
+use Rattle.std.proofs.Common.{◌≡◌, ◌↔◌, ℕ, ◌+◌, ◌-◌, ◌<◌, ◌≤◌, Bool, true, false, List, [], ◌∷◌, ◌++◌, map, length, get_or, take, drop, refl, sym, ap, ◌∙◌, subst, inl, inr, arith, Contains, slice_range}
+use Rattle.toll_base.proofs.Texts.{batch_cmp_total}
+use Rattle.toll_trace.proofs.Common.{false≢true, cases_lt, IsTotalOrder, IsStrictWeakOrder, IsPermutation, IsSortedBy, IsSortedByKey, nat_cmp, is_le, is_lt, ordering_reverse, ordering_then, MatchOrdering, Ordering, Less, Equal, Greater, ranked, tied_itself, nat_cmp_total, then_total, on_total, CmpEqualImpliesEq, exact_unsigned, exact_pairs, Contains-permutation, IsPermutation-sym, ranks_by, Contains-append_left, Contains-append_right, Contains-append_cases, batch_cmp, take-map, drop-map, length-map, Span, Way, Back, Forward, leaving, AreWithin, LeadsThrough, Chain, ChainSegment, chain_cmp, chain_segment_cmp, order_along, IsAhead, PassesThrough, IsAheadOf, AreAhead}
+use Rattle.toll_trace.proofs.Extremes.{exact_batches, not_below}
 use Rattle.toll_trace.proofs.Members.{Contains-none, Contains-here, Contains-cases, Contains-map, Contains-from_map}
 use Rattle.toll_trace.proofs.Runs.{run_below, up_to, IsEndOf}
 use Rattle.toll_trace.proofs.Walks.{at_from_range, range_from_at}
@@ -26,7 +20,7 @@ flip_exact : {K : Type 0} (R : K → K → Ordering) → CmpEqualImpliesEq R →
 flip_exact R exact a b h = sym (exact b a h)
 
 chains_total : IsTotalOrder chain_cmp
-chains_total = then_total (on_total (λ (c : Chain). c.0) nat_cmp_total) (on_total (λ (c : Chain). c.1) batches_total)
+chains_total = then_total (on_total (λ (c : Chain). c.0) nat_cmp_total) (on_total (λ (c : Chain). c.1) batch_cmp_total)
 
 exact_chains : CmpEqualImpliesEq chain_cmp
 exact_chains = exact_pairs nat_cmp batch_cmp exact_unsigned exact_batches
@@ -127,9 +121,6 @@ module _ (way : Way) (uses : List (ChainSegment × ℕ)) (place : ChainSegment) 
           ]
 
 -- ==== entries ahead
-
-pub ahead_none : (way : Way) (leaving : List (ChainSegment × ℕ)) → AreAhead way [] leaving []
-ahead_none way leaving = record { only = λ entry i. absurd (Contains-none entry i); every = λ u i. absurd (Contains-none u i) }
 
 pub ahead_more : (way : Way) (entering leaving : List (ChainSegment × ℕ)) (u : ChainSegment × ℕ) (span : Span) (sources : List (ℕ × Span)) → AreAhead way entering leaving sources → IsAheadOf way leaving u.0 span → AreAhead way (entering ++ u ∷ []) leaving (sources ++ (u.1, span) ∷ [])
 ahead_more way entering leaving u span sources old is = record {

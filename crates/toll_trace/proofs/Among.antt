@@ -1,17 +1,8 @@
 -- Traces over several graphs.
-use Rattle.std.proofs.Common.{◌≡◌, List, [], ◌∷◌, ◌++◌, map, refl, sym, ap, ap₂, ◌∙◌, subst, inl, inr}
-use Rattle.std.specs.Prelude.{Contains}
-use Rattle.toll_trace.proofs.Common.{Contains-append_cases, LotId}
+use Rattle.std.proofs.Common.{◌≡◌, List, [], ◌∷◌, ◌++◌, map, sym, ap, ap₂, ◌∙◌, subst, inl, inr, Contains}
+use Rattle.toll_trace.proofs.Common.{Contains-append_cases, LotId, map_push, EdgeIndex, Part, Step, Way, Leads, LeadAmong, joints_of, is_found, IsTrace, IsWalked, LeadThrough, all_steps}
 use Rattle.toll_trace.specs.declared.graph.Graph.{Graph}
-use Rattle.toll_trace.specs.declared.edge_index.EdgeIndex.{EdgeIndex}
-use Rattle.toll_trace.specs.declared.search.Part.{Part}
-use Rattle.toll_trace.specs.declared.step.Step.{Step}
-use Rattle.toll_trace.specs.declared.way.Way.{Way}
-use Rattle.toll_trace.specs.Graph.{Leads, LeadAmong, joints_of}
 use Rattle.toll_trace.specs.Leads.{IsIndexedStep}
-use Rattle.toll_trace.specs.Search.{is_found}
-use Rattle.toll_trace.specs.Trace.{IsTrace}
-use Rattle.toll_trace.specs.Walk.{IsWalked, LeadThrough, all_steps}
 use Rattle.toll_trace.proofs.Members.{Contains-none, Contains-here, Contains-cases, Contains-map, Contains-from_map}
 use Rattle.toll_trace.proofs.Unique.{trace_same}
 
@@ -23,13 +14,6 @@ among_steps_of way graph = (graph.lots.items, joints_of way graph)
 pub record ArePartsOf (way : Way) (from : LotId) (graphs : List Graph) (parts : List Part) : Type 0 where
   pub all : all_steps parts ≡ map (among_steps_of way) graphs
   pub walked : (part : Part) → Contains parts part → IsWalked (is_found []) (from ∷ []) part
-
-pub no_parts : (way : Way) (from : LotId) → ArePartsOf way from [] []
-no_parts way from = record { all = refl; walked = λ part i. absurd (Contains-none part i) }
-
-pub map_push : {X Y : Type 0} (f : X → Y) (xs : List X) (x : X) → map f (xs ++ x ∷ []) ≡ map f xs ++ f x ∷ []
-map_push f [] x = refl
-map_push f (y ∷ xs) x = ap (λ ys. f y ∷ ys) (map_push f xs x)
 
 pub one_part_more : (way : Way) (from : LotId) (graphs : List Graph) (parts : List Part) (graph : Graph) (part : Part) → ArePartsOf way from graphs parts → part.lots.now ≡ graph.lots.items → part.joints.now ≡ joints_of way graph → IsWalked (is_found []) (from ∷ []) part → ArePartsOf way from (graphs ++ graph ∷ []) (parts ++ part ∷ [])
 one_part_more way from graphs parts graph part old lots joints walked = record {

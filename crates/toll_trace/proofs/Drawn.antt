@@ -1,19 +1,15 @@
 -- The edges made from the uses of lots are those that two standing actuals draw.
-use Rattle.std.proofs.Common.{◌≡◌, ℕ, ◌≤◌, Bool, true, false, Some, None, is_some, List, [], ◌∷◌, map, refl, ap, ◌∙◌, subst, inl, inr, arith}
-use Rattle.toll_trace.proofs.Common.{false≢true, flat_map, IsStrictlySortedBy, IsPermutation, is_eq, ordering_reverse, Ordering, Less, Equal, Greater, leb-true, le-leb, tied_itself, nat_list_cmp_total, Contains-permutation, IsPermutation-sym, tells_apart, Bytes, bytes_cmp, batch_cmp, LotId, Edge, Role, Consumed, Produced, MoveRow, edge_cmp}
-use Rattle.std.specs.Prelude.{Contains, filter, if◌then◌else◌}
+use Rattle.std.proofs.Common.{◌≡◌, ℕ, ◌≤◌, Bool, true, false, Some, None, is_some, List, [], ◌∷◌, map, refl, ap, ◌∙◌, subst, inl, inr, arith, Contains, filter, if◌then◌else◌}
+use Rattle.toll_base.proofs.Texts.{batch_cmp_total}
+use Rattle.toll_trace.proofs.Common.{false≢true, flat_map, IsStrictlySortedBy, IsPermutation, is_eq, ordering_reverse, Ordering, Less, Equal, Greater, leb-true, le-leb, tied_itself, nat_list_cmp_total, Contains-permutation, IsPermutation-sym, tells_apart, Bytes, bytes_cmp, batch_cmp, LotId, Edge, Role, Consumed, Produced, MoveRow, edge_cmp, LotUse, IsInOrder, IsActual, IsDrawn, Stands, IsEdge, AreEdges, Batch, AreLeft, use_as, standing_use, uses, is_not_above, edge_between, edges_from}
 use Rattle.toll_base.specs.Roles.{same_role}
 use Rattle.toll_base.specs.Slice.{Slice, void_at}
 use Rattle.toll_base.specs.Table.{row_at, IsInKeyOrder}
 use Rattle.toll_base.specs.declared.movement.Move.{Move}
 use Rattle.toll_base.specs.declared.movement.Move.TheVariants.{Receive, Split, Ship, Scrap, Actual}
-use Rattle.toll_trace.specs.declared.edges.LotUse.{LotUse}
-use Rattle.toll_trace.specs.InOrder.{IsInOrder}
-use Rattle.toll_trace.specs.Edges.{IsActual, IsDrawn, Stands, IsEdge, AreEdges}
-use Rattle.toll_trace.specs.Uses.{Batch, AreLeft, use_as, standing_use, uses, is_not_above, edge_between, edges_from}
 use Rattle.toll_trace.proofs.Members.{Contains-none, Contains-here, Contains-later, Contains-cases, Contains-map, Contains-from_map, Contains-filter, Contains-from_filter, Contains-filter_map, Contains-from_filter_map, Contains-flat_map, Contains-from_flat_map, member_of_all, kept_in_order, some_by_test}
 use Rattle.toll_trace.proofs.Orders.{edges_exact}
-use Rattle.toll_trace.proofs.Extremes.{batches_total, exact_batches}
+use Rattle.toll_trace.proofs.Extremes.{exact_batches}
 
 -- ==== rows by their key
 
@@ -120,7 +116,7 @@ module _ (stands : MoveRow → Type 0) (consumptions productions : List (Batch �
       let c : Batch × LotUse = ((fed.order, fed.number), record { segment = lowest.0; lot = e.from }) in
       let p : Batch × LotUse = ((fed.order, fed.number), record { segment = highest.0; lot = e.to }) in
       let not_above : lowest.0 ≤ highest.0 = omega (arith, lowest.2, fed.not_above, highest.2) in
-      let of_batch = Contains-filter (λ production. is_eq (batch_cmp production.0 c.0)) productions p highest.1 (ap is_eq (tied_itself batches_total c.0)) in
+      let of_batch = Contains-filter (λ production. is_eq (batch_cmp production.0 c.0)) productions p highest.1 (ap is_eq (tied_itself batch_cmp_total c.0)) in
       let above = Contains-filter (is_not_above c.1) (filter (λ production. is_eq (batch_cmp production.0 c.0)) productions) p of_batch (le-leb _ _ not_above) in
       Contains-flat_map (edges_from productions) consumptions c e lowest.1
       (Contains-map (edge_between c.1) (filter (is_not_above c.1) (filter (λ production. is_eq (batch_cmp production.0 c.0)) productions)) p above)

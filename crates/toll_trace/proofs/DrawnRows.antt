@@ -1,10 +1,6 @@
 -- The edges that movements of a list draw, as a list.
-use Rattle.std.proofs.Common.{ℕ, Some, None, List, refl, ap, ◌∙◌, arith}
-use Rattle.std.specs.Prelude.{Contains, if◌then◌else◌}
-use Rattle.toll_trace.proofs.Common.{filter_map, flat_map, Bytes, LotId, Edge, Role, Consumed, Produced, MoveRow}
-use Rattle.toll_trace.specs.declared.edges.LotUse.{LotUse}
-use Rattle.toll_trace.specs.Edges.{IsActual, IsDrawn}
-use Rattle.toll_trace.specs.Uses.{Batch, use_as, edges_from}
+use Rattle.std.proofs.Common.{ℕ, Some, None, List, refl, ap, ◌∙◌, arith, Contains, if◌then◌else◌}
+use Rattle.toll_trace.proofs.Common.{filter_map, flat_map, Bytes, LotId, Edge, Role, Consumed, Produced, MoveRow, LotUse, IsActual, IsDrawn, Batch, use_as, edges_from}
 use Rattle.toll_trace.proofs.Members.{Contains-filter_map, Contains-from_filter_map}
 use Rattle.toll_trace.proofs.Drawn.{used_is, same_role-refl, edge_drawn, edge_listed}
 

@@ -1,19 +1,7 @@
 -- A joint for each edge.
-use Rattle.std.proofs.Common.{◌≡◌, ◌↔◌, ℕ, ◌+◌, ◌<◌, ◌≤◌, List, [], ◌∷◌, ◌++◌, length, get_or, take, refl, sym, ap, ap₂, ◌∙◌, subst, inl, inr, arith}
-use Rattle.std.specs.Prelude.{Contains}
-use Rattle.std.proofs.lemmas.List.{get_or_append_left, get_or_default, get_or_push, length_push}
-use Rattle.toll_trace.proofs.Common.{IsPermutation, Contains-permutation, IsPermutation-sym, take_all, Contains-append_left, Contains-append_right, Contains-append_cases, IsStrictlySortedBy, LotId, lot_cmp, Edge}
+use Rattle.std.proofs.Common.{◌≡◌, ◌↔◌, ℕ, ◌+◌, ◌<◌, ◌≤◌, List, [], ◌∷◌, ◌++◌, length, get_or, take, refl, sym, ap, ap₂, ◌∙◌, subst, inl, inr, arith, Contains}
+use Rattle.toll_trace.proofs.Common.{IsPermutation, Contains-permutation, IsPermutation-sym, take_all, Contains-append_left, Contains-append_right, Contains-append_cases, IsStrictlySortedBy, LotId, lot_cmp, Edge, get_or_append_left, get_or_default, get_or_push, length_push, Span, Step, Way, Back, Forward, step_ends, edge_of, IsJoined, IsGraphOf, Leads, IsInOrder, leaving, AreWithin, LeadsThrough, AreBelow, IsNumber, IsTrace}
 use Rattle.toll_trace.specs.declared.graph.Graph.{Graph}
-use Rattle.toll_trace.specs.declared.edge_index.Span.{Span}
-use Rattle.toll_trace.specs.declared.step.Step.{Step}
-use Rattle.toll_trace.specs.declared.way.Way.{Way}
-use Rattle.toll_trace.specs.declared.way.Way.TheVariants.{Back, Forward}
-use Rattle.toll_trace.specs.Chain.{step_ends, edge_of, IsJoined}
-use Rattle.toll_trace.specs.Graph.{IsGraphOf, Leads}
-use Rattle.toll_trace.specs.InOrder.{IsInOrder}
-use Rattle.toll_trace.specs.EdgeIndex.{leaving, AreWithin, LeadsThrough}
-use Rattle.toll_trace.specs.Numbers.{AreBelow, IsNumber}
-use Rattle.toll_trace.specs.Trace.{IsTrace}
 use Rattle.toll_trace.proofs.Ends.{ends_of, edge_of_ends}
 use Rattle.toll_trace.proofs.Members.{Contains-none, Contains-here, Contains-cases, kept_in_order}
 use Rattle.toll_trace.proofs.Numbering.{one_lot_numbered}
@@ -145,9 +133,6 @@ pub has_both : (lots : List LotId) (edges : List Edge) (way : Way) (e : Edge) �
 has_both lots edges way e has i = ends_listed way lots e (has e i)
 
 -- ==== what a graph of edges joins
-
-pub trace_of_joined : (edges : List Edge) (way : Way) (E : LotId → LotId → Type 0) → ((a b : LotId) → E a b ↔ IsJoined edges way a b) → (from : LotId) (trace : List Step) → IsTrace E from trace → IsTrace (IsJoined edges way) from trace
-trace_of_joined edges way E joined from trace t = trace_same E (IsJoined edges way) (λ a b. (joined a b).0) (λ a b. (joined a b).1) from trace t
 
 pub trace_of_graph : (edges : List Edge) (graph : Graph) → IsGraphOf edges graph → (way : Way) (from : LotId) (trace : List Step) → IsTrace (Leads graph way) from trace → IsTrace (IsJoined edges way) from trace
 trace_of_graph edges graph of_edges way from trace t = trace_same (Leads graph way) (IsJoined edges way) (of_edges.only way) (of_edges.every way) from trace t

@@ -1,9 +1,6 @@
 -- The two ends of an edge, and the edge between two lots.
 use Rattle.std.proofs.Common.{◌≡◌, refl}
-use Rattle.toll_trace.proofs.Common.{LotId, Edge}
-use Rattle.toll_trace.specs.declared.way.Way.{Way}
-use Rattle.toll_trace.specs.declared.way.Way.TheVariants.{Back, Forward}
-use Rattle.toll_trace.specs.Chain.{edge_of, step_ends}
+use Rattle.toll_trace.proofs.Common.{LotId, Edge, Way, Back, Forward, edge_of, step_ends}
 
 pub ends_of : (way : Way) (a b : LotId) → step_ends way (edge_of way a b) ≡ (a, b)
 ends_of Back a b = refl

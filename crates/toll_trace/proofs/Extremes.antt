@@ -1,9 +1,7 @@
 -- Of uses in order, those that are left: of each lot that a batch uses the first.
-use Rattle.std.proofs.Common.{◌≡◌, ◌⊎◌, ℕ, suc, ◌<◌, ◌≤◌, Bool, true, false, cond, List, [], ◌∷◌, length, get_or, refl, sym, ap, ap₂, ◌∙◌, subst, inl, inr, arith}
-use Rattle.toll_trace.proofs.Common.{false≢true, IsTotalOrder, IsStrictWeakOrder, dedup, dedup_from, IsPermutation, IsSortedBy, nat_cmp, is_lt, ordering_then, MatchOrdering, Ordering, Less, Equal, Greater, and_parts, eqb-true, ranked, tied_itself, nat_cmp_total, nat_list_cmp_total, then_total, on_total, Contains-from_dedup, Contains-permutation, IsPermutation-sym, ranks_by, IsStrictWeakOrder-flip, sorted_far, CmpEqualImpliesEq, exact_bytes, exact_unsigned, exact_pairs, tells_apart, Bytes, bytes_cmp, same_bytes, batch_cmp, lot_cmp, LotId}
-use Rattle.std.specs.Prelude.{Contains}
-use Rattle.toll_trace.specs.declared.edges.LotUse.{LotUse}
-use Rattle.toll_trace.specs.Uses.{Batch, AreLeft, same_use}
+use Rattle.std.proofs.Common.{◌≡◌, ◌⊎◌, ℕ, suc, ◌<◌, ◌≤◌, Bool, true, false, cond, List, [], ◌∷◌, length, get_or, refl, sym, ap, ap₂, ◌∙◌, subst, inl, inr, arith, Contains}
+use Rattle.toll_base.proofs.Texts.{same_bytes-exact, batch_cmp_total}
+use Rattle.toll_trace.proofs.Common.{false≢true, IsTotalOrder, IsStrictWeakOrder, dedup, dedup_from, IsPermutation, IsSortedBy, nat_cmp, is_lt, ordering_then, MatchOrdering, Ordering, Less, Equal, Greater, and_parts, eqb-true, ranked, tied_itself, nat_cmp_total, then_total, on_total, Contains-from_dedup, Contains-permutation, IsPermutation-sym, ranks_by, IsStrictWeakOrder-flip, sorted_far, CmpEqualImpliesEq, exact_bytes, exact_unsigned, exact_pairs, bytes_cmp, batch_cmp, lot_cmp, LotId, LotUse, Batch, AreLeft, same_use}
 use Rattle.toll_trace.proofs.Members.{Contains-none, Contains-here, Contains-later, Contains-cases}
 use Rattle.toll_trace.proofs.Orders.{lots_total}
 
@@ -59,9 +57,6 @@ all_have_equal_before R same (k ∷ xs) p x i = has_equal_before R same k xs p x
 
 -- ==== uses
 
-pub batches_total : IsTotalOrder batch_cmp
-batches_total = then_total (on_total (λ (b : Batch). b.0) nat_list_cmp_total) (on_total (λ (b : Batch). b.1) nat_cmp_total)
-
 pub exact_batches : CmpEqualImpliesEq batch_cmp
 exact_batches = exact_pairs bytes_cmp nat_cmp exact_bytes exact_unsigned
 
@@ -70,20 +65,17 @@ abbrev pub use_cmp : Batch × LotUse → Batch × LotUse → Ordering
 use_cmp u v = ordering_then (batch_cmp u.0 v.0) (ordering_then (lot_cmp u.1.lot v.1.lot) (nat_cmp u.1.segment v.1.segment))
 
 uses_total : IsTotalOrder use_cmp
-uses_total = then_total (on_total (λ (u : Batch × LotUse). u.0) batches_total) (then_total (on_total (λ (u : Batch × LotUse). u.1.lot) lots_total) (on_total (λ (u : Batch × LotUse). u.1.segment) nat_cmp_total))
-
-exact_same_bytes : (a b : Bytes) → same_bytes a b ≡ true → a ≡ b
-exact_same_bytes a b h = tells_apart exact_bytes a b h
+uses_total = then_total (on_total (λ (u : Batch × LotUse). u.0) batch_cmp_total) (then_total (on_total (λ (u : Batch × LotUse). u.1.lot) lots_total) (on_total (λ (u : Batch × LotUse). u.1.segment) nat_cmp_total))
 
 exact_use : (u v : Batch × LotUse) → same_use u v ≡ true → (u.0 ≡ v.0) × (u.1.lot ≡ v.1.lot)
 exact_use u v h =
     let both = and_parts _ _ h in
     let batch = and_parts _ _ both.0 in
     let lot = and_parts _ _ both.1 in
-    let order : u.0.0 ≡ v.0.0 = exact_same_bytes u.0.0 v.0.0 batch.0 in
+    let order : u.0.0 ≡ v.0.0 = same_bytes-exact u.0.0 v.0.0 batch.0 in
     let number : u.0.1 ≡ v.0.1 = eqb-true _ _ batch.1 in
-    let owner : u.1.lot.owner ≡ v.1.lot.owner = exact_same_bytes u.1.lot.owner v.1.lot.owner lot.0 in
-    let name : u.1.lot.lot ≡ v.1.lot.lot = exact_same_bytes u.1.lot.lot v.1.lot.lot lot.1 in
+    let owner : u.1.lot.owner ≡ v.1.lot.owner = same_bytes-exact u.1.lot.owner v.1.lot.owner lot.0 in
+    let name : u.1.lot.lot ≡ v.1.lot.lot = same_bytes-exact u.1.lot.lot v.1.lot.lot lot.1 in
     (ap₂ {C = Batch} (λ a b. (a, b)) order number, ap₂ {C = LotId} (λ a b. record { owner = a; lot = b }) owner name)
 
 pub not_below : (a b : ℕ) (r : Ordering) → MatchOrdering r (a < b) (a ≡ b) (b < a) → is_lt r ≡ false → b ≤ a
@@ -94,7 +86,7 @@ not_below a b Greater m h = omega arith
 -- Of two uses of one lot by one batch, the one that isn't below the other is in no lower segment.
 segments_rise : (u v : Batch × LotUse) → u.0 ≡ v.0 → u.1.lot ≡ v.1.lot → is_lt (use_cmp u v) ≡ false → v.1.segment ≤ u.1.segment
 segments_rise u v batch lot h =
-    let b : batch_cmp u.0 v.0 ≡ Equal = subst (λ w. batch_cmp u.0 w ≡ Equal) batch (tied_itself batches_total u.0) in
+    let b : batch_cmp u.0 v.0 ≡ Equal = subst (λ w. batch_cmp u.0 w ≡ Equal) batch (tied_itself batch_cmp_total u.0) in
     let l : lot_cmp u.1.lot v.1.lot ≡ Equal = subst (λ w. lot_cmp u.1.lot w ≡ Equal) lot (tied_itself lots_total u.1.lot) in
     let s : is_lt (nat_cmp u.1.segment v.1.segment) ≡ false = sym (ap (λ r. is_lt (ordering_then r (ordering_then (lot_cmp u.1.lot v.1.lot) (nat_cmp u.1.segment v.1.segment)))) b ∙ ap (λ r. is_lt (ordering_then r (nat_cmp u.1.segment v.1.segment))) l) ∙ h in
     not_below u.1.segment v.1.segment _ (ranked u.1.segment v.1.segment _ refl) s

@@ -1,13 +1,7 @@
 -- A trace grows by levels: what a level adds, and that the levels end.
-use Rattle.std.proofs.Common.{◌≡◌, ◌⊎◌, ℕ, zero, suc, ◌+◌, ◌<◌, ◌≤◌, nat_eq, Bool, true, false, not, ◌||◌, cond, List, [], ◌∷◌, ◌++◌, map, length, refl, sym, ap, ◌∙◌, subst, inl, inr, arith}
-use Rattle.toll_trace.proofs.Common.{false≢true, count, IsStrictlySortedBy, nat_cmp, is_eq, ordering_then, Less, cases_lt, or_cases, or_left, or_right, eqb-false, lt-ltb, not-true, not_from_true, not_from_false, false_from_ne_true, tied_itself, nat_cmp_total, eq_by_cmp_equiv, tells_apart, Contains-append_left, Contains-append_right, Contains-append_cases, LotId, lot_cmp}
-use Rattle.std.specs.Prelude.{Contains}
-use Rattle.toll_trace.specs.declared.step.Step.{Step}
+use Rattle.std.proofs.Common.{◌≡◌, ◌⊎◌, ℕ, zero, suc, ◌+◌, ◌<◌, ◌≤◌, nat_eq, Bool, true, false, not, ◌||◌, cond, List, [], ◌∷◌, ◌++◌, map, length, refl, sym, ap, ◌∙◌, subst, inl, inr, arith, Contains}
+use Rattle.toll_trace.proofs.Common.{false≢true, count, IsStrictlySortedBy, nat_cmp, is_eq, ordering_then, Less, cases_lt, or_cases, or_left, or_right, eqb-false, lt-ltb, not-true, not_from_true, not_from_false, false_from_ne_true, tied_itself, nat_cmp_total, eq_by_cmp_equiv, tells_apart, Contains-append_left, Contains-append_right, Contains-append_cases, LotId, lot_cmp, Step, IsChain, lots_of, IsTrace, IsInOrder, step_at, is_found, IsLevel}
 use Rattle.toll_trace.specs.Order.{step_cmp}
-use Rattle.toll_trace.specs.Chain.{IsChain}
-use Rattle.toll_trace.specs.Trace.{lots_of, IsTrace}
-use Rattle.toll_trace.specs.InOrder.{IsInOrder}
-use Rattle.toll_trace.specs.Search.{step_at, is_found, IsLevel}
 use Rattle.toll_trace.proofs.Members.{Contains-none, Contains-here, Contains-later, Contains-cases, Contains-from_map, all_of_members, member_of_all, sorted_append, kept_in_order, count-lt}
 use Rattle.toll_trace.proofs.Orders.{lots_total, lots_exact}
 

@@ -1,15 +1,8 @@
 -- Marks of lots, and lots by their numbers.
-use Rattle.std.proofs.Common.{◌≡◌, ℕ, ◌<◌, Bool, true, false, List, [], ◌∷◌, ◌++◌, length, get_or, set, refl, sym, ap, ◌∙◌, subst, inl, inr}
-use Rattle.std.specs.Prelude.{Contains}
-use Rattle.std.proofs.lemmas.List.{get_or-set_same, get_or-set_other, length-set}
-use Rattle.toll_trace.proofs.Common.{cases_eq, Contains-append_left, Contains-append_right, Contains-append_cases, LotId}
-use Rattle.toll_trace.specs.Numbers.{AreAdded, IsNumber}
-use Rattle.toll_trace.specs.Walk.{AreMarked, AreWalked, is_marked}
+use Rattle.std.proofs.Common.{◌≡◌, ℕ, ◌<◌, Bool, true, false, List, [], ◌∷◌, ◌++◌, length, get_or, set, sym, ap, ◌∙◌, subst, inl, inr, Contains}
+use Rattle.toll_trace.proofs.Common.{cases_eq, Contains-append_left, Contains-append_right, Contains-append_cases, LotId, get_or-set_same, get_or-set_other, length-set, AreAdded, IsNumber, AreMarked, AreWalked, is_marked}
 use Rattle.toll_trace.proofs.Members.{Contains-none, Contains-here, Contains-cases}
 use Rattle.toll_trace.proofs.Numbering.{one_lot_numbered}
-
-pub marked_none : (marks : List Bool) → AreMarked marks [] marks
-marked_none marks = record { sized = refl; kept = λ n h. h; added = λ n i. absurd (Contains-none n i); only = λ n h. inl h }
 
 pub marked_more : (old new : List Bool) (numbers : List ℕ) (n : ℕ) → n < length new → AreMarked old numbers new → AreMarked old (numbers ++ n ∷ []) (set new n true)
 marked_more old new numbers n lt was = record {
@@ -39,9 +32,6 @@ walked_marked targets lows front old new walked marked = record {
 }
 
 -- ==== lots by their numbers
-
-pub added_none : (all before : List LotId) → AreAdded all [] before before
-added_none all before = record { kept = λ b i. i; only = λ b i. inl i; every = λ n b i at. absurd (Contains-none n i) }
 
 pub added_more : (all before lots : List LotId) (numbers : List ℕ) (n : ℕ) (lot : LotId) → IsNumber all n lot → AreAdded all numbers before lots → AreAdded all (numbers ++ n ∷ []) before (lots ++ lot ∷ [])
 added_more all before lots numbers n lot at was = record {

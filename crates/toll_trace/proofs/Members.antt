@@ -1,8 +1,6 @@
 -- Members of lists, and lists in order.
-use Rattle.std.proofs.Common.{◌≡◌, ◌⊎◌, zero, suc, ◌+◌, ◌<◌, ◌≤◌, Bool, true, false, cond, Option, Some, None, List, [], ◌∷◌, ◌++◌, map, refl, sym, ap, ◌∙◌, subst, inl, inr, arith}
-use Rattle.toll_trace.proofs.Common.{false≢true, CmpEqualImpliesEq, tells_apart, count, IsTotalOrder, AllByRecursion, filter_map, cons_option, flat_map, Contains-append_left, Contains-append_right, Contains-append_cases, IsStrictlySortedBy, is_eq, ordering_reverse, Ordering, Less, Greater, tied_itself}
-use Rattle.std.specs.Prelude.{Contains, Any, filter, if◌then◌else◌}
-use Rattle.toll_trace.specs.InOrder.{IsInOrder}
+use Rattle.std.proofs.Common.{◌≡◌, ◌⊎◌, zero, suc, ◌+◌, ◌<◌, ◌≤◌, Bool, true, false, cond, Option, Some, None, List, [], ◌∷◌, ◌++◌, map, refl, sym, ap, ◌∙◌, subst, inl, inr, arith, Contains, Any, filter, if◌then◌else◌}
+use Rattle.toll_trace.proofs.Common.{false≢true, CmpEqualImpliesEq, tells_apart, count, IsTotalOrder, AllByRecursion, filter_map, cons_option, flat_map, Contains-append_left, Contains-append_right, Contains-append_cases, IsStrictlySortedBy, is_eq, ordering_reverse, Ordering, Less, Greater, tied_itself, IsInOrder}
 
 pub Contains-none : {X : Type 0} (x : X) → Contains [] x → ⊥
 Contains-none x (k, lt, e) = omega arith

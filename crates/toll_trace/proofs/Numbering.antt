@@ -1,10 +1,7 @@
 -- Lots and their numbers in a sorted list.
-use Rattle.std.proofs.Common.{◌≡◌, ℕ, zero, suc, ◌+◌, ◌-◌, ◌<◌, ◌≤◌, true, false, refl, List, [], ◌∷◌, ◌++◌, length, get_or, sym, ap, ◌∙◌, subst, Err, inl, inr, arith}
-use Rattle.std.specs.Prelude.{Contains}
+use Rattle.std.proofs.Common.{◌≡◌, ℕ, zero, suc, ◌+◌, ◌-◌, ◌<◌, ◌≤◌, false, List, [], ◌∷◌, ◌++◌, length, get_or, sym, ap, ◌∙◌, subst, Err, inl, inr, arith, Contains}
 use Rattle.std.specs.List.Sorted.{IsBinarySearchResult, IsNonDecreasingBy}
-use Rattle.std.proofs.lemmas.List.{get_or_default}
-use Rattle.toll_trace.proofs.Common.{false≢true, cases_lt, IsStrictlySortedBy, IsSortedByKey, is_lt, ordering_index, ordering_reverse, Ordering, Less, Equal, Greater, tied_itself, searchable_from_sorted, Contains-append_left, Contains-append_right, Contains-append_cases, LotId, lot_cmp}
-use Rattle.toll_trace.specs.Numbers.{IsNumber, AreAllNumbers, HaveNumbers}
+use Rattle.toll_trace.proofs.Common.{false≢true, cases_lt, IsStrictlySortedBy, IsSortedByKey, is_lt, ordering_index, ordering_reverse, Ordering, Less, Equal, Greater, tied_itself, searchable_from_sorted, Contains-append_left, Contains-append_right, Contains-append_cases, LotId, lot_cmp, get_or_default, IsNumber, AreAllNumbers, HaveNumbers}
 use Rattle.toll_trace.proofs.Members.{Contains-none, Contains-here, Contains-cases, member_of_all}
 use Rattle.toll_trace.proofs.Orders.{lots_total, lots_exact}
 
@@ -80,11 +77,6 @@ not_listed lots sorted n lot parted (k, lt, e) =
 both_less : (a b : LotId) → lot_cmp a b ≡ Less → lot_cmp b a ≡ Less → ⊥
 both_less a b ab ba = let not_less = reversed (lot_cmp b a) (lot_cmp a b) (lots_total.antisymm a b) ba in false≢true (sym not_less ∙ ap is_lt ab)
 
-pub is_less : (o : Ordering) → is_lt o ≡ true → o ≡ Less
-is_less Less is = refl
-is_less Equal is = absurd (false≢true is)
-is_less Greater is = absurd (false≢true is)
-
 -- A lot at a place or after it isn't less than the lot there.
 at_or_behind : (lots : List LotId) → IsStrictlySortedBy lot_cmp lots → (place k : ℕ) (lot : LotId) → place ≤ k → k < length lots → get_or lots k lot ≡ lot
     → lot_cmp lot (get_or lots place lot) ≡ Less → ⊥
@@ -127,9 +119,6 @@ behind_none lots place lot none k at = absurd (none (omega arith))
 
 -- ==== numbers of lots
 
-pub numbers_none : (lots : List LotId) → AreAllNumbers lots [] []
-numbers_none lots = record { only = λ n i. absurd (Contains-none n i); every = λ lot n i at. absurd (Contains-none lot i) }
-
 module _ (lots those : List LotId) (lot : LotId) (numbers : List ℕ) (old : AreAllNumbers lots those numbers) where
   pub numbers_more : IsStrictlySortedBy lot_cmp lots → (n : ℕ) → IsNumber lots n lot → AreAllNumbers lots (those ++ lot ∷ []) (numbers ++ n ∷ [])
   numbers_more sorted n at = record {
@@ -162,9 +151,6 @@ module _ (lots those : List LotId) (lot : LotId) (numbers : List ℕ) (old : Are
   }
 
 -- ==== numbered uses
-
-pub numbered_none : {P : Type 0} (lots : List LotId) → HaveNumbers {P = P} lots [] []
-numbered_none lots = record { only = λ v i. absurd (Contains-none v i); every = λ u n i at. absurd (Contains-none u i) }
 
 module _ {P : Type 0} (lots : List LotId) (uses : List (P × LotId)) (p : P) (lot : LotId) (all : List (P × ℕ)) (old : HaveNumbers lots uses all) where
   pub lot_numbered_more : IsStrictlySortedBy lot_cmp lots → (n : ℕ) → IsNumber lots n lot → HaveNumbers lots (uses ++ (p, lot) ∷ []) (all ++ (p, n) ∷ [])

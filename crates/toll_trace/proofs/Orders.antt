@@ -1,7 +1,6 @@
 -- The orders of lots, edges and steps are total, and only equal values compare equal.
 use Rattle.std.proofs.Common.{ℕ, List, ap}
-use Rattle.toll_trace.proofs.Common.{IsTotalOrder, nat_cmp_total, nat_list_cmp_total, then_total, on_total, CmpEqualImpliesEq, exact_bytes, exact_pairs, bytes_cmp, LotId, Edge, lot_cmp, edge_cmp}
-use Rattle.toll_trace.specs.declared.step.Step.{Step}
+use Rattle.toll_trace.proofs.Common.{IsTotalOrder, nat_cmp_total, nat_list_cmp_total, then_total, on_total, CmpEqualImpliesEq, exact_bytes, exact_pairs, bytes_cmp, LotId, lot_cmp, edge_cmp, Step}
 use Rattle.toll_trace.specs.Order.{step_cmp}
 
 pub lots_total : IsTotalOrder lot_cmp
@@ -9,9 +8,6 @@ lots_total = then_total (on_total (λ (l : LotId). l.owner) nat_list_cmp_total) 
 
 pub lots_exact : CmpEqualImpliesEq lot_cmp
 lots_exact a b h = ap (λ (p : List ℕ × List ℕ). record { owner = p.0; lot = p.1 }) (exact_pairs bytes_cmp bytes_cmp exact_bytes exact_bytes (a.owner, a.lot) (b.owner, b.lot) h)
-
-pub edges_total : IsTotalOrder edge_cmp
-edges_total = then_total (on_total (λ (e : Edge). e.from) lots_total) (on_total (λ (e : Edge). e.to) lots_total)
 
 pub edges_exact : CmpEqualImpliesEq edge_cmp
 edges_exact e f h = ap (λ (p : LotId × LotId). record { from = p.0; to = p.1 }) (exact_pairs lot_cmp lot_cmp lots_exact lots_exact (e.from, e.to) (f.from, f.to) h)

@@ -1,19 +1,8 @@
 -- Several graphs, walked one after another at each level.
-use Rattle.std.proofs.Common.{◌≡◌, ◌≢◌, ◌⊎◌, ℕ, zero, suc, ◌+◌, ◌<◌, ◌≤◌, Bool, true, false, List, [], ◌∷◌, ◌++◌, map, length, get_or, set, replicate, refl, sym, ap, ap₂, ◌∙◌, subst, inl, inr, arith}
-use Rattle.std.specs.Prelude.{Contains}
+use Rattle.std.proofs.Common.{◌≡◌, ◌≢◌, ◌⊎◌, ℕ, zero, suc, ◌+◌, ◌<◌, ◌≤◌, Bool, true, false, List, [], ◌∷◌, ◌++◌, map, length, get_or, set, replicate, refl, sym, ap, ap₂, ◌∙◌, subst, inl, inr, arith, Contains}
 use Rattle.std.proofs.Math.Seq.{map-set_same}
-use Rattle.std.proofs.lemmas.List.{get_or-set_same, get_or-set_other, get_or_default, length-set, length-replicate}
-use Rattle.std.proofs.lemmas.List.Elements.{Contains-get_or}
-use Rattle.toll_trace.proofs.Common.{flat_map, cases_eq, Contains-append_left, Contains-append_right, Contains-append_cases, IsStrictlySortedBy, LotId, lot_cmp}
-use Rattle.toll_trace.specs.declared.edge_index.EdgeIndex.{EdgeIndex}
-use Rattle.toll_trace.specs.declared.search.Part.{Part}
-use Rattle.toll_trace.specs.declared.step.Step.{Step}
-use Rattle.toll_trace.specs.InOrder.{IsInOrder}
+use Rattle.toll_trace.proofs.Common.{flat_map, cases_eq, Contains-append_left, Contains-append_right, Contains-append_cases, IsStrictlySortedBy, LotId, lot_cmp, get_or-set_same, get_or-set_other, get_or_default, length-set, length-replicate, Contains-get_or, EdgeIndex, Part, Step, IsInOrder, AreAllNumbers, AreBelow, IsNumber, step_at, is_found, lots_of, AreFaced, AreLedTo, IsFaced, IsLedOn, IsStepped, IsWalked, LeadThrough, all_steps, is_marked}
 use Rattle.toll_trace.specs.Leads.{IsIndexedStep}
-use Rattle.toll_trace.specs.Numbers.{AreAllNumbers, AreBelow, IsNumber}
-use Rattle.toll_trace.specs.Search.{step_at, is_found}
-use Rattle.toll_trace.specs.Trace.{lots_of}
-use Rattle.toll_trace.specs.Walk.{AreFaced, AreLedTo, IsFaced, IsLedOn, IsSound, IsStepped, IsWalked, LeadThrough, all_steps, is_marked}
 use Rattle.toll_trace.proofs.Levels.{lot_is_found, level_found_lot, lots_more}
 use Rattle.toll_trace.proofs.Members.{Contains-none, Contains-map, Contains-from_map, Contains-flat_map, kept_in_order}
 use Rattle.toll_trace.proofs.Numbering.{listed_number, one_lot_numbered, one_number, some_lot}
@@ -42,7 +31,7 @@ grown_found found k front = record {
 
 -- ==== one part
 
-same_test : (s t : Bool) → (s ≡ true → t ≡ true) → (t ≡ true → s ≡ true) → s ≡ t
+pub same_test : (s t : Bool) → (s ≡ true → t ≡ true) → (t ≡ true → s ≡ true) → s ≡ t
 same_test true t f g = sym (f refl)
 same_test false true f g = g refl
 same_test false false f g = refl
@@ -184,9 +173,6 @@ module _ (known grown : LotId → Bool) (front : List LotId) (old now : List Par
 
   its_lots : (part : Part) → Contains now part → (n : ℕ) (b : LotId) → Contains part.front.items n → IsNumber part.lots.now n b → Contains sorted b
   its_lots part c n b j number = kept_in_order lot_cmp lots_exact lots sorted order b (sofar.listed c.0 part (let lt = c.1 in omega arith) c.1 n b (subst (λ (p : Part). Contains p.front.items n) (sym c.2) j) (subst (λ (p : Part). IsNumber p.lots.now n b) (sym c.2) number))
-
-  pub all_sorted : (part : Part) → Contains now part → IsSound part
-  all_sorted part c = (its_stepped part c).sound
 
   -- If there is only one part, all of these lots are at its front.
   pub alone_faces : length now ≡ 1 → (part : Part) → Contains now part → AreAllNumbers part.lots.now sorted part.front.items

@@ -1,23 +1,10 @@
 -- The records of several slices draw the edges of each.
-use Rattle.std.proofs.Common.{◌≡◌, ◌↔◌, ◌⊎◌, ℕ, ◌+◌, ◌<◌, List, [], ◌++◌, map, length, refl, sym, ap, ◌∙◌, subst, inl, inr, arith}
-use Rattle.std.specs.Prelude.{Contains}
-use Rattle.toll_trace.proofs.Common.{length-append, length-map, Contains-append_left, Contains-append_right, Contains-append_cases, IsPermutation, Contains-permutation, IsPermutation-sym, bytes_cmp, lot_cmp, LotId, Edge, Consumed, Produced}
+use Rattle.std.proofs.Common.{◌≡◌, ◌↔◌, ◌⊎◌, ℕ, ◌+◌, ◌<◌, List, [], ◌++◌, map, length, refl, sym, ap, ◌∙◌, subst, inl, inr, arith, Contains}
+use Rattle.toll_trace.proofs.Common.{length-append, length-map, Contains-append_left, Contains-append_right, Contains-append_cases, IsPermutation, Contains-permutation, IsPermutation-sym, bytes_cmp, lot_cmp, LotId, Edge, Consumed, Produced, LotUse, EdgeIndex, Way, Back, Forward, edge_of, IsActual, IsEdge, IsGraph, Leads, IsInOrder, LeadsThrough, AreBelow, HaveNumbers, IsNumber, HaveUsed, Chain, ChainSegment, placed_use, PassesThrough, AreSliceNumbersInRange, Batch, uses}
 use Rattle.toll_base.specs.Slice.{Slice}
 use Rattle.toll_base.specs.Table.{IsInKeyOrder}
-use Rattle.toll_trace.specs.declared.edges.LotUse.{LotUse}
 use Rattle.toll_trace.specs.declared.graph.Graph.{Graph}
-use Rattle.toll_trace.specs.declared.edge_index.EdgeIndex.{EdgeIndex}
-use Rattle.toll_trace.specs.declared.way.Way.{Way}
-use Rattle.toll_trace.specs.declared.way.Way.TheVariants.{Back, Forward}
-use Rattle.toll_trace.specs.Chain.{edge_of}
-use Rattle.toll_trace.specs.Edges.{IsActual, IsEdge}
-use Rattle.toll_trace.specs.Graph.{IsGraph, Leads}
-use Rattle.toll_trace.specs.InOrder.{IsInOrder}
-use Rattle.toll_trace.specs.EdgeIndex.{LeadsThrough}
 use Rattle.toll_trace.specs.Leads.{IsIndexedStep}
-use Rattle.toll_trace.specs.Numbers.{AreBelow, HaveNumbers, IsNumber, HaveUsed}
-use Rattle.toll_trace.specs.Places.{Chain, ChainSegment, placed_use, PassesThrough, AreSliceNumbersInRange}
-use Rattle.toll_trace.specs.Uses.{Batch, uses}
 use Rattle.toll_trace.proofs.Drawn.{use_recorded, use_listed}
 use Rattle.toll_trace.proofs.Members.{Contains-none, Contains-map, Contains-from_map, kept_in_order}
 use Rattle.toll_trace.proofs.Numbering.{has_number, one_lot_numbered}

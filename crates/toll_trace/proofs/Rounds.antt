@@ -1,13 +1,6 @@
 -- The next level, by a look at every edge.
-use Rattle.std.proofs.Common.{◌≡◌, false, not, ◌&&◌, List, map, refl, sym, ap, ◌∙◌, subst}
-use Rattle.std.specs.Prelude.{Contains}
-use Rattle.toll_trace.proofs.Common.{filter_map, and_parts, and_from, not-true, not_from_false, LotId, Edge, lot_cmp}
-use Rattle.toll_trace.specs.declared.step.Step.{Step}
-use Rattle.toll_trace.specs.declared.way.Way.{Way}
-use Rattle.toll_trace.specs.InOrder.{IsInOrder}
-use Rattle.toll_trace.specs.Chain.{edge_of, step_ends, IsJoined}
-use Rattle.toll_trace.specs.Trace.{lots_of}
-use Rattle.toll_trace.specs.Search.{is_found, next_lot, IsLevel}
+use Rattle.std.proofs.Common.{◌≡◌, false, not, ◌&&◌, List, map, refl, sym, ap, ◌∙◌, subst, Contains}
+use Rattle.toll_trace.proofs.Common.{filter_map, and_parts, and_from, not-true, not_from_false, LotId, Edge, lot_cmp, Step, Way, IsInOrder, edge_of, step_ends, IsJoined, lots_of, is_found, next_lot, IsLevel}
 use Rattle.toll_trace.proofs.Ends.{ends_of, edge_of_ends}
 use Rattle.toll_trace.proofs.Members.{Contains-map, Contains-filter_map, Contains-from_filter_map, some_by_test}
 use Rattle.toll_trace.proofs.Levels.{lot_is_found, level_found_lot, level_of}

@@ -1,7 +1,6 @@
 -- In a list sorted by a key, the items of one key lie between two places that searches find.
-use Rattle.std.proofs.Common.{◌≡◌, ℕ, zero, suc, ◌+◌, ◌-◌, ◌≤◌, Bool, true, false, cond, ltb, leb, List, [], ◌∷◌, length, take, drop, refl, sym, ap, ◌∙◌, subst, arith}
+use Rattle.std.proofs.Common.{◌≡◌, ℕ, zero, suc, ◌+◌, ◌-◌, ◌≤◌, Bool, true, false, cond, ltb, leb, List, [], ◌∷◌, length, take, drop, refl, sym, ap, ◌∙◌, subst, arith, filter}
 use Rattle.toll_trace.proofs.Common.{false≢true, IsTotalOrder, IsSortedByKey, IsPartitionedBy, IsPartitionPoint, is_lt, is_le, is_eq, ordering_index, Ordering, Less, Equal, Greater, searchable_from_sorted, IsPartitionedBy-ltb, IsPartitionedBy-leb}
-use Rattle.std.specs.Prelude.{filter}
 
 is_lt-index : (o : Ordering) → is_lt o ≡ ltb (ordering_index o) 1
 is_lt-index Less = refl

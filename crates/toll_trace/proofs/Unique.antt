@@ -1,16 +1,11 @@
 -- A trace is the only one, and depends on nothing but which lots an edge joins; and so are the edges of movements.
-use Rattle.std.proofs.Common.{◌≡◌, ℕ, zero, suc, List, sym, ap₂, subst, arith}
-use Rattle.std.specs.Prelude.{Contains}
-use Rattle.toll_trace.proofs.Common.{LotId, Edge, MoveRow, edge_cmp}
-use Rattle.toll_trace.specs.declared.step.Step.{Step}
+use Rattle.std.proofs.Common.{◌≡◌, ℕ, zero, suc, List, sym, ap₂, subst, arith, Contains}
+use Rattle.toll_trace.proofs.Common.{LotId, Edge, MoveRow, Step, IsChain, IsTrace, IsDrawn, AreEdges}
 use Rattle.toll_trace.specs.Order.{step_cmp}
-use Rattle.toll_trace.specs.Chain.{IsChain}
-use Rattle.toll_trace.specs.Trace.{IsTrace}
-use Rattle.toll_trace.specs.Edges.{IsDrawn, AreEdges}
 use Rattle.toll_trace.proofs.Members.{Contains-from_map, same_sorted}
-use Rattle.toll_trace.proofs.Orders.{edges_total, steps_total}
+use Rattle.toll_trace.proofs.Orders.{steps_total}
 
-chain_same : (E F : LotId → LotId → Type 0) → ((a b : LotId) → E a b → F a b) → (a : LotId) (n : ℕ) (b : LotId) → IsChain E a n b → IsChain F a n b
+pub chain_same : (E F : LotId → LotId → Type 0) → ((a b : LotId) → E a b → F a b) → (a : LotId) (n : ℕ) (b : LotId) → IsChain E a n b → IsChain F a n b
 chain_same E F to a zero b c = c
 chain_same E F to a (suc n) b c = (c.0, chain_same E F to a n c.0 c.1, to c.0 b c.2)
 
@@ -59,6 +54,3 @@ edges_same P Q to from edges are = record {
   every = λ e q. are.every e (from e q);
   ordered = are.ordered;
 }
-
-pub edges_unique : (is_edge : Edge → Type 0) (x y : List Edge) → AreEdges is_edge x → AreEdges is_edge y → x ≡ y
-edges_unique is_edge x y ax ay = same_sorted edge_cmp edges_total x y ax.ordered ay.ordered (λ e i. ay.every e (ax.only e i)) (λ e i. ax.every e (ay.only e i))

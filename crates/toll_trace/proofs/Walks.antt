@@ -1,24 +1,10 @@
 -- The known lots while joints are walked.
-use Rattle.std.proofs.Common.{◌≡◌, ◌≢◌, ◌⊎◌, ℕ, ◌+◌, ◌-◌, ◌<◌, ◌≤◌, Bool, true, false, not, List, [], ◌∷◌, ◌++◌, map, length, get_or, take, drop, set, refl, sym, ap, ◌∙◌, subst, inl, inr, arith}
-use Rattle.std.specs.Prelude.{Contains, filter, slice_range}
-use Rattle.std.proofs.lemmas.List.{length-take, length-drop, get_or-take, get_or-drop, get_or-set_same, get_or-set_other, get_or_default, get_or_past}
-use Rattle.toll_trace.proofs.Common.{flat_map, flat_map_more, is_eq, take_more, cases_eq, cases_lt, not-true, not_from_false, tied_itself, tells_apart, nat_cmp, nat_cmp_total, exact_unsigned, Contains-append_left, Contains-append_right, Contains-append_cases, LotId}
-use Rattle.toll_trace.specs.declared.edge_index.Span.{Span}
-use Rattle.toll_trace.specs.declared.step.Step.{Step}
-use Rattle.toll_trace.specs.EdgeIndex.{leaving, LeadsThrough}
-use Rattle.toll_trace.specs.Search.{step_at, is_found, IsLevel}
-use Rattle.toll_trace.specs.Trace.{lots_of}
-use Rattle.toll_trace.specs.declared.search.Part.{Part}
-use Rattle.toll_trace.specs.InOrder.{IsInOrder}
-use Rattle.toll_trace.specs.Numbers.{AreBelow}
-use Rattle.toll_trace.specs.Walk.{AreWalked, AreEntered, AreLedOn, AreLedTo, LeadThrough, all_steps}
+use Rattle.std.proofs.Common.{◌≡◌, ◌≢◌, ◌⊎◌, ℕ, ◌+◌, ◌-◌, ◌<◌, ◌≤◌, Bool, true, false, not, List, [], ◌∷◌, ◌++◌, map, length, get_or, take, drop, set, refl, sym, ap, ◌∙◌, subst, inl, inr, arith, Contains, filter, slice_range}
+use Rattle.toll_trace.proofs.Common.{flat_map, flat_map_more, is_eq, take_more, cases_eq, cases_lt, not-true, not_from_false, tied_itself, tells_apart, nat_cmp, nat_cmp_total, exact_unsigned, Contains-append_left, Contains-append_right, Contains-append_cases, LotId, length-take, length-drop, get_or-take, get_or-drop, get_or-set_same, get_or-set_other, get_or_past, Span, Step, leaving, LeadsThrough, step_at, is_found, IsLevel, lots_of, Part, IsInOrder, AreBelow, AreWalked, AreEntered, AreLedOn, AreLedTo, LeadThrough, all_steps}
 use Rattle.toll_trace.proofs.Levels.{level_found_lot, not_found_lot, lots_more}
 use Rattle.toll_trace.proofs.Members.{Contains-none, Contains-here, Contains-cases, Contains-filter, Contains-from_filter, Contains-flat_map, Contains-from_flat_map, kept_in_order}
 
 -- ==== the items between two places
-
-abbrev IsInSpan : {X : Type 0} → List X → ℕ → ℕ → X → Type 0
-IsInSpan xs i j x = (k : ℕ) × (i ≤ k) × (k < j) × (k < length xs) × (get_or xs k x ≡ x)
 
 pub at_from_range : {X : Type 0} (xs : List X) (i j : ℕ) (x : X) → Contains (slice_range xs i j) x → (k : ℕ) × (i ≤ k) × (k < j) × (k < length xs) × (get_or xs k x ≡ x)
 at_from_range xs i j x (k, lt, e) =
@@ -47,22 +33,10 @@ item_of xs i x lt is = (i, lt, sym is)
 pub with_item : {X : Type 0} (xs : List X) (i : ℕ) (x : X) → i < length xs → x ≡ get_or xs i x → take (i + 1) xs ≡ take i xs ++ x ∷ []
 with_item xs i x lt is = take_more xs i x lt ∙ ap (λ y. take i xs ++ y ∷ []) (sym is)
 
--- The same, for the item that was read at the place.
-pub with_read : {X : Type 0} (xs : List X) (i : ℕ) (d : X) → i < length xs → take (i + 1) xs ≡ take i xs ++ get_or xs i d ∷ []
-with_read xs i d lt = with_item xs i (get_or xs i d) lt (sym (get_or_default xs i (get_or xs i d) d lt))
-
 pub range_below : (count : ℕ) (targets : List ℕ) (i j : ℕ) → AreBelow count targets → AreBelow count (slice_range targets i j)
 range_below count targets i j below n c = let (k, ge, lt, in_exits, e) = at_from_range targets i j n c in below n (k, in_exits, e)
 
 module _ {K X : Type 0} (targets : List X) (is_old : X → Bool) where
-  pub entered_none : (lows : List ℕ) (lots : List X) → AreWalked targets is_old lows lots → AreEntered {K = K} targets is_old [] lows lots lots
-  entered_none lows lots walked = record {
-    walked = walked;
-    kept = λ x i. i;
-    only = λ x i. inl i;
-    every = λ entry x i j. absurd (Contains-none entry i);
-  }
-
   -- a span of which all joints were walked
   pub entered_again : (done : List (K × Span)) (entry : K × Span) (lows : List ℕ) (before lots : List X) → entry.1.end ≤ length targets → get_or lows entry.1.end 0 ≤ entry.1.start → AreEntered targets is_old done lows before lots → AreEntered targets is_old (done ++ entry ∷ []) lows before lots
   entered_again done entry lows before lots within walked_to old = record {

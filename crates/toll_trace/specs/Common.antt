@@ -1,6 +1,6 @@
 -- Definitions of other crates that several definitions here use.
-pub use Rattle.std.specs.List.{filter_map, flat_map, list_any}
-pub use Rattle.std.specs.List.Sorted.{IsPermutation, IsStrictlySortedBy}
+pub use Rattle.std.specs.List.{filter_map, list_any}
+pub use Rattle.std.specs.List.Sorted.{IsStrictlySortedBy}
 pub use Rattle.std.specs.Ordering.{is_eq, nat_cmp, ordering_then}
 pub use Rattle.std.specs.declared.cmp.Ordering.{Ordering}
 pub use Rattle.toll_base.specs.Bytes.{Bytes, same_bytes}

@@ -1,20 +1,11 @@
 -- Each request is asked for at its address, and nowhere else.
-use Rattle.std.proofs.Common.{◌≡◌, ◌∙◌, ℕ, ◌+◌, ◌<◌, zero, suc, true, false, Bool, cond, List, [], ◌∷◌, ◌++◌, length, take, drop, get_or, refl, sym, ap, subst, arith, inl, inr, Option, Some, None, Result, Ok, append-nil, rules}
-use Rattle.std.proofs.lemmas.List.{take-append-drop}
-use Rattle.std.specs.Prelude.{◌==◌, nat_le, not, IsSome, IsSomeAnd, option_map}
-use Rattle.toll_wire.proofs.Common.{AllByRecursion, IfSome, list_all, position_or_len, nat_tests, take-append_seam, and_parts, Bytes, Request, Failure, Verb, Get, Post, Placing, IsBodyOf}
+use Rattle.std.proofs.Common.{◌≡◌, ◌∙◌, ℕ, ◌+◌, ◌<◌, zero, suc, true, false, Bool, cond, List, [], ◌∷◌, ◌++◌, length, take, drop, get_or, refl, sym, ap, subst, arith, inl, inr, Option, Some, None, Result, Ok, append-nil, rules, ◌==◌, nat_le, not, IsSome, IsSomeAnd, option_map}
+use Rattle.toll_wire.proofs.Common.{AllByRecursion, IfSome, list_all, position_or_len, nat_tests, take-append_seam, and_parts, Bytes, Request, Failure, Verb, Get, Post, Placing, IsBodyOf, IsAsking, IsRequestAt, IsRequestOf, MakesRequest, ValuesFit, kind_for, placing_request, AreValues, IsPath, PathLeadsTo, parts_of, path_of, In, IsAskable, Route, address_of, path_text_of, request_from, routes, Endpoint, Values, take-append-drop, RequestKind}
 use Rattle.toll_base.specs.declared.request.Request.TheVariants as request
 use Rattle.toll_wire.specs.Addresses.{HasAddress, IsBodyFor, IsQuery}
-use Rattle.toll_wire.specs.Routing.{IsAsking, IsRequestAt, IsRequestOf, MakesRequest, ValuesFit, kind_for, placing_request}
-use Rattle.toll_wire.specs.Places.{AreValues, IsPath, PathLeadsTo, parts_of, path_of}
-use Rattle.toll_wire.specs.Routers.{In}
-use Rattle.toll_wire.specs.Routes.{IsAskable, Route, address_of, path_text_of, request_from, routes}
 use Rattle.toll_wire.specs.declared.routes.parts.Parts.{Parts}
 use Rattle.toll_wire.specs.declared.routes.parts.Parts.TheVariants as part
-use Rattle.toll_wire.specs.declared.routes.route.Endpoint.{Endpoint}
-use Rattle.toll_wire.specs.declared.routes.route.RequestKind.{RequestKind}
 use Rattle.toll_wire.specs.declared.routes.route.RequestKind.TheVariants as ask
-use Rattle.toll_wire.specs.declared.routes.values.Values.{Values}
 use Rattle.toll_wire.specs.declared.routes.values.Values.TheVariants.{Nothing, Name, NameAndNumber}
 use Rattle.toll_wire.proofs.BodyWithin.{order_body_within}
 use Rattle.toll_wire.proofs.Places.{good, is_path_byte, leads_to, path_bytes}

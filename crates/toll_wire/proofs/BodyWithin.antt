@@ -1,12 +1,10 @@
 -- The order that a body asks for has names and a count of batches within their bounds.
-use Rattle.std.proofs.Common.{◌≡◌, ℕ, ◌&&◌, Bool, true, false, Option, Some, None, refl, subst}
-use Rattle.std.specs.Prelude.{nat_le, codes, if◌then◌else◌, IsTrue}
+use Rattle.std.proofs.Common.{◌≡◌, ℕ, ◌&&◌, Bool, true, false, Option, Some, None, refl, subst, nat_le, codes, if◌then◌else◌, IsTrue}
+use Rattle.toll_wire.proofs.Common.{Bytes, IsBatchNo, is_name}
 use Rattle.std.specs.Option.{option_map, option_and_then}
 use Rattle.std.proofs.lemmas.Bool.{leb-true}
 use Rattle.serde_json.specs.Data.{Data}
 use Rattle.serde_json.specs.Find.{get, as_str, as_number, as_u64}
-use Rattle.toll_base.specs.Bytes.{Bytes}
-use Rattle.toll_base.specs.Values.{IsBatchNo, is_name}
 use Rattle.toll_base.specs.declared.bounded.TheConstants.{MOST_BATCHES}
 use Rattle.toll_wire.specs.declared.bodies.body.Placing.{Placing}
 use Rattle.toll_wire.specs.Bodies.{batches_at, name_member, placing_of, IsOrderBody}

@@ -1,21 +1,11 @@
 -- Events have one list of answers, if none is a fault, and an owner's part alone has one list of replies.
 use Rattle.std.proofs.Common.{◌≡◌, true, cond, Some, None, is_some, List, [], ◌∷◌, map, Result, Ok, Err, refl, sym, ap, subst, ◌∙◌}
 use Rattle.std.specs.Option.{option_map}
-use Rattle.toll_wire.proofs.Common.{false≢true, result_ok, Bytes, History, KeepFault, PlantCmd, PlantAnswer, meaning_of_plant_reply}
+use Rattle.toll_wire.proofs.Common.{false≢true, result_ok, Bytes, History, KeepFault, PlantCmd, PlantAnswer, meaning_of_plant_reply, Event, Answer, Text, Unavailable, IsPlantStep, IsStep, ReplyText, PlantMeaning, NoFaults, meaning_of_answer, text_of_failure, text_of_reply_meaning, Asks, Fails, Saying, By, Nobody, IsTold, after_saying, IsRun, OwnEvent, Sent, Did, AreAlone, Forbidden}
 use Rattle.toll_answers.proofs.OneReply.{one_reply}
 use Rattle.toll_answers.proofs.OneAnswer.{one_plant_answer}
-use Rattle.toll_history.specs.Runs.{IsRun}
-use Rattle.toll_wire.specs.declared.event.Event.{Event}
 use Rattle.toll_wire.specs.declared.event.Event.TheVariants.{Owner, Plant as CommandOf}
-use Rattle.toll_wire.specs.declared.event.Answer.{Answer}
 use Rattle.toll_wire.specs.declared.event.Answer.TheVariants.{Bytes as Reply, Plant as CommandReply}
-use Rattle.toll_wire.specs.declared.outgoing.Out.TheVariants.{Text, Unavailable}
-use Rattle.toll_desk.specs.OfficeSteps.{IsPlantStep}
-use Rattle.toll_wire.specs.OfficeRuns.{IsStep, ReplyText, PlantMeaning, NoFaults, meaning_of_answer}
-use Rattle.toll_wire.specs.Parts.{OwnEvent, Sent, Did, AreAlone}
-use Rattle.toll_wire.specs.ReplyTexts.{text_of_failure, text_of_reply_meaning}
-use Rattle.toll_wire.specs.Sayings.{Asks, Fails, Saying, By, Nobody, IsTold, after_saying}
-use Rattle.toll_protocol.specs.declared.http_messages.failure.Failure.TheVariants.{Forbidden}
 use Rattle.toll_wire.proofs.Readings.{says_once}
 
 -- the reply to a saying has one text

@@ -1,20 +1,11 @@
 -- A step leaves a history or grows it by one command.
 use Rattle.std.proofs.Common.{◌≡◌, ◌⊎◌, true, false, cond, Option, Some, None, List, Result, Ok, Err, refl, sym, ap, subst, ◌∙◌, inl, inr}
-use Rattle.toll_wire.proofs.Common.{Bytes, same_bytes, PlaceOrder, CancelOrder, Release, Reject, Command, by, History, part, Verdict, Accepted, Repeated, Refused, verdict, grow, grown, IsLawful, IsValidAction, KeepFault, Request, IsValidOwnerRequest, has_owner_key, after_answer, after_reply, PlantCmd, PlantAnswer, meaning_of_plant_reply, recorded_command, option_map_or}
+use Rattle.toll_wire.proofs.Common.{Bytes, same_bytes, PlaceOrder, CancelOrder, Release, Reject, Command, by, History, part, Verdict, Accepted, Repeated, Refused, verdict, grow, grown, IsLawful, IsValidAction, KeepFault, Request, IsValidOwnerRequest, has_owner_key, after_answer, after_reply, PlantCmd, PlantAnswer, meaning_of_plant_reply, recorded_command, option_map_or, Event, Answer, Text, Unavailable, IsPlantStep, IsStep, Saying, By, Asks, Fails, Nobody, Says, after_saying, claimed_in, claims, IsRun, run_back}
 use Rattle.toll_base.specs.Words.{is_some_where}
 use Rattle.toll_base.specs.declared.request.Request.TheVariants as request
-use Rattle.toll_history.specs.Runs.{IsRun}
 use Rattle.toll_history.proofs.Own.{part-other}
-use Rattle.toll_history.proofs.RunLemmas.{run_back}
-use Rattle.toll_answers.proofs.OwnReplies.{lawful-grow}
-use Rattle.toll_wire.specs.declared.event.Event.{Event}
 use Rattle.toll_wire.specs.declared.event.Event.TheVariants.{Owner, Plant as CommandOf}
-use Rattle.toll_wire.specs.declared.event.Answer.{Answer}
 use Rattle.toll_wire.specs.declared.event.Answer.TheVariants.{Bytes as Reply, Plant as CommandReply}
-use Rattle.toll_wire.specs.declared.outgoing.Out.TheVariants.{Text, Unavailable}
-use Rattle.toll_desk.specs.OfficeSteps.{IsPlantStep}
-use Rattle.toll_wire.specs.OfficeRuns.{IsStep}
-use Rattle.toll_wire.specs.Sayings.{Saying, By, Asks, Fails, Nobody, Says, after_saying, claimed_in, claims}
 use Rattle.toll_wire.proofs.Valid.{IsValidSaying, says_valid}
 
 -- the one is the other, or that grown by such a command
@@ -64,13 +55,6 @@ part-after_saying o bytes H s says other =
     ]
 
 -- ---- lawful histories
-
-pub lawful-after_saying : (bytes : Bytes) (H : History) (s : Saying) → Says bytes s → IsLawful H → IsLawful (after_saying H s)
-lawful-after_saying bytes H s says lawful =
-    elim (grows_by_saying H s (says_valid bytes s says)) [
-      | inl same ↦ subst IsLawful (sym same) lawful
-      | inr grows ↦ subst IsLawful (sym grows.2) (lawful-grow H grows.0 lawful grows.1.1)
-    ]
 
 lawful_before : (H : History) (c : Command) → IsLawful (grow H c) → IsLawful H
 lawful_before H c = by_verdict (verdict H c)

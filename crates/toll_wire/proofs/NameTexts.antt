@@ -1,12 +1,11 @@
 -- Names and measures are texts.
 use Rattle.std.proofs.Common.{◌≡◌, ℕ, zero, suc, ◌<◌, Bool, true, [], ◌∷◌, refl, arith, Result, Ok, Err}
+use Rattle.toll_wire.proofs.Common.{Bytes, is_letter, is_measure, is_name, is_name_byte}
 use Rattle.std.specs.Prelude.{IsTrue, IsUtf8, MatchResult, IsOk}
 use Rattle.std.specs.Str.{IsAscii}
 use Rattle.std.specs.List.{list_all}
 use Rattle.std.proofs.lemmas.Bool.Decides.{nat_tests}
 use Rattle.std.proofs.lemmas.Str.{IsUtf8-from_ascii}
-use Rattle.toll_base.specs.Bytes.{Bytes}
-use Rattle.toll_base.specs.Values.{is_letter, is_measure, is_name, is_name_byte}
 
 -- bytes that pass a test which only ASCII passes
 ascii_if_passed : (passes : ℕ → Bool) → ((b : ℕ) → passes b ≡ true → b < 128) → (bytes : Bytes) → list_all passes bytes ≡ true → IsAscii bytes

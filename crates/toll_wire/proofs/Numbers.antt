@@ -1,12 +1,10 @@
 -- The decimal texts of batches' numbers.
-use Rattle.std.proofs.Common.{◌≡◌, ◌∙◌, ℕ, ◌<◌, ◌≤◌, true, false, Bool, [], ◌∷◌, length, take, get_or, refl, sym, ap, subst, arith, Some, None, Result, Ok, Err, nat_le}
-use Rattle.std.specs.Prelude.{decimal, nat_eq, ◌&&◌, if◌then◌else◌}
-use Rattle.toll_wire.proofs.Common.{OkIff, result_ok, list_all, and_parts, and_from, nat_tests, Decides-eqb, decimal-digits_value, decimal_nonempty, digits_decimal, digits_value-decimal, first_decimal, length-decimal-le, starts_is, Bytes, IsBatchNo, is_digit, is_text_of, number_of}
+use Rattle.std.proofs.Common.{◌≡◌, ◌∙◌, ℕ, ◌<◌, ◌≤◌, true, false, Bool, [], ◌∷◌, length, take, get_or, refl, sym, ap, subst, arith, Some, None, Result, Ok, Err, nat_le, decimal, nat_eq, ◌&&◌, if◌then◌else◌}
+use Rattle.toll_wire.proofs.Common.{OkIff, result_ok, list_all, and_parts, and_from, nat_tests, Decides-eqb, decimal-digits_value, decimal_nonempty, digits_decimal, digits_value-decimal, first_decimal, length-decimal-le, starts_is, Bytes, IsBatchNo, is_digit, is_text_of, number_of, IsNumberRead}
 use Rattle.std.specs.Cmp.Lexicographic.{pointwise}
 use Rattle.std.specs.Str.Parse.{digits_value}
 use Rattle.std.proofs.lemmas.Str.Parse.{digits_value_short}
 use Rattle.toll_base.specs.declared.refusal.Refusal.{Refusal}
-use Rattle.toll_wire.specs.Places.{IsNumberRead}
 pub use Rattle.toll_base.proofs.Digits.{digits_model}
 
 -- ---- a zero in front

@@ -1,13 +1,6 @@
 -- What the office's router finds is what a path leads to.
-use Rattle.std.proofs.Common.{◌≡◌, ◌∙◌, ℕ, ◌<◌, zero, suc, true, List, [], ◌∷◌, length, get_or, map, refl, sym, ap, subst, arith, inl, inr, Some, None, Result, Ok, Err}
-use Rattle.std.proofs.Common.{Fits, w8}
-use Rattle.std.specs.Prelude.{nat_le}
-use Rattle.toll_wire.proofs.Common.{MatchResult, result_ok, AllByRecursion, list_all, IsAscii, IsUtf8, and_parts, nat_tests, IsUtf8-from_ascii, walk, RouteOf, first, Bytes}
-use Rattle.toll_wire.specs.Places.{AreValuesReadFrom, IsPath, PathLeadsTo, count_parts, parts_of, texts_of}
-use Rattle.toll_wire.specs.Routers.{In, IsOffice, OfficeRows, tokens}
-use Rattle.toll_wire.specs.Routes.{Route, routes, spelled}
-use Rattle.toll_wire.specs.declared.routes.route.Endpoint.{Endpoint}
-use Rattle.toll_wire.specs.declared.routes.values.Values.{Values}
+use Rattle.std.proofs.Common.{◌≡◌, ◌∙◌, ℕ, ◌<◌, zero, suc, true, List, [], ◌∷◌, length, get_or, map, refl, sym, ap, subst, arith, inl, inr, Some, None, Result, Ok, Err, Fits, w8, nat_le}
+use Rattle.toll_wire.proofs.Common.{MatchResult, result_ok, AllByRecursion, list_all, IsAscii, IsUtf8, and_parts, nat_tests, IsUtf8-from_ascii, walk, RouteOf, first, Bytes, AreValuesReadFrom, IsPath, PathLeadsTo, count_parts, parts_of, texts_of, In, IsOffice, OfficeRows, tokens, Route, routes, spelled, Endpoint, Values}
 use Rattle.toll_wire.proofs.Patterns.{MatchesPattern, filled_length, filled_once, is_plain_pattern, pattern_path_once}
 use Rattle.toll_wire.proofs.Places.{good, is_path_byte, place_leads_nowhere, leads_to, path_bytes, path_is, same_route, spelled_is}
 use Rattle.toll_wire.proofs.RouterSearch.{AreBytes, ArePlain, Finds, finds}

@@ -1,15 +1,7 @@
 -- A method, a target and a body ask for one thing.
-use Rattle.std.proofs.Common.{◌≡◌, ◌∙◌, true, List, [], ◌∷◌, ◌++◌, refl, sym, ap, subst, inl, inr, Option, Some, None}
-use Rattle.std.specs.Prelude.{Result, Ok, option_map}
-use Rattle.toll_wire.proofs.Common.{append_cancel_left, append_cancel_right, Bytes, Verb, Placing, IsOrderBody, IsBodyOf, order_in, Request, Failure}
-use Rattle.toll_wire.specs.Routing.{IsRequestAt, MakesRequest, IsRequestOf, IsAsking, IsPlacing, kind_for, placing_request}
-use Rattle.toll_wire.specs.Places.{AreValues, IsPath, PathLeadsTo, parts_of, path_of, texts_of}
-use Rattle.toll_wire.specs.Routers.{holes}
-use Rattle.toll_wire.specs.Routes.{Route, routes, path_text_of, request_from}
-use Rattle.toll_wire.specs.declared.routes.route.Endpoint.{Endpoint}
-use Rattle.toll_wire.specs.declared.routes.route.RequestKind.{RequestKind}
+use Rattle.std.proofs.Common.{◌≡◌, ◌∙◌, true, List, [], ◌∷◌, ◌++◌, refl, sym, ap, subst, inl, inr, Option, Some, None, Result, Ok, option_map}
+use Rattle.toll_wire.proofs.Common.{append_cancel_left, append_cancel_right, Bytes, Verb, Placing, IsOrderBody, IsBodyOf, order_in, Request, Failure, IsRequestAt, MakesRequest, IsRequestOf, IsAsking, IsPlacing, kind_for, placing_request, AreValues, IsPath, PathLeadsTo, parts_of, path_of, texts_of, holes, Route, routes, path_text_of, request_from, Endpoint, Values, RequestKind}
 use Rattle.toll_wire.specs.declared.routes.route.RequestKind.TheVariants.{Place}
-use Rattle.toll_wire.specs.declared.routes.values.Values.{Values}
 use Rattle.toll_wire.specs.declared.routes.parts.Parts.{Parts}
 use Rattle.toll_wire.specs.declared.routes.parts.Parts.TheVariants as part
 use Rattle.toll_wire.proofs.Patterns.{MatchesPattern, filled_once, is_plain_pattern}

@@ -1,6 +1,5 @@
 -- Patterns of paths, where 256 stands for a part: which paths are of a pattern, and with which texts in its parts.
-use Rattle.std.proofs.Common.{◌≡◌, ◌⊎◌, ◌∙◌, ℕ, ◌+◌, ◌<◌, Bool, true, false, cond, List, [], ◌∷◌, ◌++◌, length, refl, sym, ap, subst, arith, inl, inr}
-use Rattle.std.specs.Prelude.{◌==◌, ◌&&◌, ◌||◌, nat_le}
+use Rattle.std.proofs.Common.{◌≡◌, ◌⊎◌, ◌∙◌, ℕ, ◌+◌, ◌<◌, Bool, true, false, cond, List, [], ◌∷◌, ◌++◌, length, refl, sym, ap, subst, arith, inl, inr, ◌==◌, ◌&&◌, ◌||◌, nat_le}
 use Rattle.toll_wire.proofs.Common.{AllByRecursion, and_parts, nat_tests}
 
 -- ---- up to the first slash

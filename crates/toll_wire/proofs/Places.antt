@@ -1,12 +1,7 @@
 -- The paths of the routes: each is of one route, with one list of values.
-use Rattle.std.proofs.Common.{◌≡◌, ◌⊎◌, ◌∙◌, ℕ, ◌<◌, Bool, true, false, List, [], ◌∷◌, ◌++◌, length, refl, sym, ap, subst, arith, inl, inr, Some, None, append-nil, append_assoc}
-use Rattle.std.specs.Prelude.{decimal, ◌==◌, ◌&&◌, not, nat_eq, nat_le, nat_lt, IsTrue}
-use Rattle.toll_wire.proofs.Common.{list_all, and_from, and_parts, nat_tests, decimal_injective, decimal_nonempty, digits_decimal, Bytes, IsBatchNo, is_digit, is_name, is_name_byte, is_text_of}
+use Rattle.std.proofs.Common.{◌≡◌, ◌⊎◌, ◌∙◌, ℕ, ◌<◌, Bool, true, false, List, [], ◌∷◌, ◌++◌, length, refl, sym, ap, subst, arith, inl, inr, Some, None, append-nil, append_assoc, decimal, ◌==◌, ◌&&◌, not, nat_eq, nat_le, nat_lt, IsTrue}
+use Rattle.toll_wire.proofs.Common.{list_all, and_from, and_parts, nat_tests, decimal_injective, decimal_nonempty, digits_decimal, Bytes, IsBatchNo, is_digit, is_name, is_name_byte, is_text_of, AreValues, IsPath, PathLeadsTo, count_parts, parts_of, texts_of, In, holes, tokens, Route, routes, spelled, path_text_of, Values}
 use Rattle.std.proofs.lemmas.List.Folds.{list_all-append}
-use Rattle.toll_wire.specs.Places.{AreValues, IsPath, PathLeadsTo, count_parts, parts_of, texts_of}
-use Rattle.toll_wire.specs.Routers.{In, holes, tokens}
-use Rattle.toll_wire.specs.Routes.{Route, routes, spelled, path_text_of}
-use Rattle.toll_wire.specs.declared.routes.values.Values.{Values}
 use Rattle.toll_wire.specs.declared.routes.values.Values.TheVariants.{Nothing, Name, NameAndNumber}
 use Rattle.toll_wire.proofs.Numbers.{digits_model}
 use Rattle.toll_wire.proofs.Patterns.{MatchesPattern, IsPathPart, NoSlash, are_apart, filled_apart, is_plain_pattern, wilds}

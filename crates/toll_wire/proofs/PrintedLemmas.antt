@@ -1,7 +1,6 @@
 -- What is printed of a recall and a trace is that of the definitions.
-use Rattle.std.proofs.Common.{◌≡◌, true, is_some, Some, List, ap, subst, ◌∙◌}
-use Rattle.std.specs.Prelude.{Contains, MatchBool}
-use Rattle.toll_wire.proofs.Common.{Bytes, UnknownLot, History, acts, Verdict, Accepted, Repeated, Refused, verdict_of_checks, Shows, IsCheckedOr, IsPlantAnswer, IsRecallShown, IsTraceShown, lot_checks, has_owner_key, IsOwnerAnswer, IsReply, IsTraceReply, Request, OwnerReply, ReplyForbidden, ReplyRefused, ReplyTrace, recall_text}
+use Rattle.std.proofs.Common.{◌≡◌, true, is_some, Some, List, ap, subst, ◌∙◌, Contains, MatchBool}
+use Rattle.toll_wire.proofs.Common.{Bytes, UnknownLot, History, acts, Verdict, Accepted, Repeated, Refused, verdict_of_checks, Shows, IsCheckedOr, IsPlantAnswer, IsRecallShown, IsTraceShown, lot_checks, has_owner_key, IsOwnerAnswer, IsReply, IsTraceReply, Request, OwnerReply, ReplyForbidden, ReplyRefused, ReplyTrace, recall_text, text_of_reply_meaning, Asks, By, IsTold}
 use Rattle.toll_answers.specs.declared.plant_cmd.PlantCmd.TheVariants.{Recall, Trace}
 use Rattle.toll_base.specs.Lots.{lot_id}
 use Rattle.toll_base.specs.declared.lot.LotId.{LotId}
@@ -13,8 +12,6 @@ use Rattle.toll_trace.specs.declared.step.Step.{Step}
 use Rattle.toll_trace.specs.declared.way.Way.{Way}
 use Rattle.toll_trace.specs.declared.way.Way.TheVariants.{Back, Forward}
 use Rattle.toll_wire.specs.Printed.{PrintsLine, asks_trace}
-use Rattle.toll_wire.specs.ReplyTexts.{text_of_reply_meaning}
-use Rattle.toll_wire.specs.Sayings.{Asks, By, IsTold}
 
 -- if a text is shown, the checks were passed
 shown_past : (v : Verdict) (S : Type 0) (text : Bytes) → IsCheckedOr v S (Shows text) → S

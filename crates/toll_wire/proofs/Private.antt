@@ -1,22 +1,12 @@
 -- In a run each owner has its part, and its replies are those that its part gives alone.
-use Rattle.std.proofs.Common.{◌≡◌, Bool, true, false, cond, Option, Some, None, List, [], ◌∷◌, Result, Ok, Err, refl, sym, ap, subst, subst₂, ◌∙◌, inl, inr}
-use Rattle.std.specs.Prelude.{◌⊎◌}
-use Rattle.toll_wire.proofs.Common.{false≢true, Bytes, same_bytes, Command, Content, History, part, Verdict, Accepted, Repeated, Refused, verdict, grow, grown, IsLawful, KeepFault, has_owner_key, IsReply, after_reply, PlantCmd, PlantAnswer, Judged, IsQuestionAnswer, IsVerdictOr, meaning_of_plant_reply, recorded_command, option_map_or}
-use Rattle.toll_base.specs.Values.{house_name}
+use Rattle.std.proofs.Common.{◌≡◌, Bool, true, false, cond, Option, Some, None, List, [], ◌∷◌, Result, Ok, Err, refl, sym, ap, subst, subst₂, ◌∙◌, inl, inr, ◌⊎◌}
+use Rattle.toll_wire.proofs.Common.{false≢true, Bytes, same_bytes, Command, Content, History, part, Verdict, Accepted, Repeated, Refused, verdict, grow, grown, IsLawful, KeepFault, has_owner_key, IsReply, after_reply, PlantCmd, PlantAnswer, Judged, IsQuestionAnswer, IsVerdictOr, meaning_of_plant_reply, recorded_command, option_map_or, Event, Answer, Text, Unavailable, IsPlantStep, IsStep, IsRunOf, Saying, By, Asks, Fails, Nobody, Says, IsTold, after_saying, claims, house_name, IsRun, OwnEvent, Sent, Did, IsClaimed, done_for, WithDone, IsPart, AreAlone, HasPart, RepliesAsAlone, IsPrivate}
 use Rattle.toll_desk.specs.Outcome.{HoldsFor}
-use Rattle.toll_history.specs.Runs.{IsRun}
 use Rattle.toll_history.proofs.Own.{part-own, part-other}
 use Rattle.toll_base.proofs.Texts.{same_bytes-exact}
 use Rattle.toll_answers.proofs.OwnReplies.{has_owner_key-part, reply-both_ways, after_reply-part}
-use Rattle.toll_wire.specs.declared.event.Event.{Event}
 use Rattle.toll_wire.specs.declared.event.Event.TheVariants.{Owner, Plant as CommandOf}
-use Rattle.toll_wire.specs.declared.event.Answer.{Answer}
 use Rattle.toll_wire.specs.declared.event.Answer.TheVariants.{Bytes as Reply, Plant as CommandReply}
-use Rattle.toll_wire.specs.declared.outgoing.Out.TheVariants.{Text, Unavailable}
-use Rattle.toll_desk.specs.OfficeSteps.{IsPlantStep}
-use Rattle.toll_wire.specs.OfficeRuns.{IsStep, IsRunOf}
-use Rattle.toll_wire.specs.Parts.{OwnEvent, Sent, Did, IsClaimed, done_for, WithDone, IsPart, AreAlone, HasPart, RepliesAsAlone, IsPrivate}
-use Rattle.toll_wire.specs.Sayings.{Saying, By, Asks, Fails, Nobody, Says, IsTold, after_saying, claims}
 use Rattle.toll_wire.proofs.Growth.{lawful_before_run, part-after_saying}
 use Rattle.toll_wire.proofs.Readings.{says_once}
 

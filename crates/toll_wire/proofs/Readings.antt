@@ -1,9 +1,8 @@
 -- Bytes say one thing.
 use Rattle.std.proofs.Common.{◌≡◌, ◌∙◌, sym, ap, subst}
-use Rattle.toll_wire.proofs.Common.{Bytes, ParseResult, refused, request}
+use Rattle.toll_wire.proofs.Common.{Bytes, ParseResult, refused, request, IsSaidBy, Saying, Says, saying_of}
 use Rattle.toll_protocol.proofs.Arrivals.{arrives_once}
 use Rattle.toll_wire.proofs.Once.{asking_once}
-use Rattle.toll_wire.specs.Sayings.{IsSaidBy, Saying, Says, saying_of}
 
 said_once : (outcome : ParseResult) (a b : Saying) → IsSaidBy outcome a → IsSaidBy outcome b → a ≡ b
 said_once (refused failure) a b e f = e ∙ sym f

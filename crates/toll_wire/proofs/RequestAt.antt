@@ -1,15 +1,7 @@
 -- What is asked for at the endpoint of a path.
-use Rattle.std.proofs.Common.{◌≡◌, ap, refl, subst, Some, None, Result, Ok, Err}
-use Rattle.std.specs.Prelude.{IfOk}
+use Rattle.std.proofs.Common.{◌≡◌, ap, refl, subst, Some, None, Result, Ok, Err, IfOk}
 use Rattle.std.specs.declared.alloc.AllocError.{AllocError}
-use Rattle.toll_wire.proofs.Common.{Bytes, Request, Verb, Failure}
-use Rattle.toll_protocol.specs.declared.http_messages.failure.Failure.TheVariants.{MethodNotAllowed, NoRoute}
-use Rattle.toll_wire.specs.Routing.{MakesRequest, IsRequestOf, IsAsking, kind_for, other_of}
-use Rattle.toll_wire.specs.Places.{PathLeadsTo, path_of}
-use Rattle.toll_wire.specs.Routes.{routes}
-use Rattle.toll_wire.specs.declared.routes.route.Endpoint.{Endpoint}
-use Rattle.toll_wire.specs.declared.routes.route.RequestKind.{RequestKind}
-use Rattle.toll_wire.specs.declared.routes.values.Values.{Values}
+use Rattle.toll_wire.proofs.Common.{Bytes, Request, Verb, Failure, MakesRequest, IsRequestOf, IsAsking, kind_for, other_of, PathLeadsTo, path_of, routes, Endpoint, Values, MethodNotAllowed, NoRoute, RequestKind}
 
 pub request_at : (verb : Verb) (target body path : Bytes) (s : Endpoint) (v : Values) (kind : RequestKind) (requested : Result (Result Request Failure) AllocError) → path ≡ path_of target
     → PathLeadsTo routes path (Some (s, v)) → Some kind ≡ kind_for verb s → IfOk requested (MakesRequest kind v body) → IfOk requested (IsAsking verb target body)

@@ -1,8 +1,6 @@
 -- A router of plain patterns finds a row that a path is of, if there is one.
-use Rattle.std.proofs.Common.{◌≡◌, ◌⊎◌, ◌↔◌, ◌∙◌, ℕ, ◌-◌, ◌<◌, ◌≤◌, zero, suc, Bool, true, false, cond, List, [], ◌∷◌, ◌++◌, length, take, drop, refl, sym, ap, subst, arith, inl, inr, Option, Some, None, length-append, append-nil}
-use Rattle.std.specs.Prelude.{◌==◌, ltb}
-use Rattle.toll_wire.proofs.Common.{AllByRecursion, and_parts, nat_tests, Decides-eqb, ends_is, RowsOf, cuts, first, has_slash, longest_from, or_else, own, param_step, seek, segment, step, with_suffix}
-use Rattle.toll_wire.specs.Routers.{In}
+use Rattle.std.proofs.Common.{◌≡◌, ◌⊎◌, ◌↔◌, ◌∙◌, ℕ, ◌-◌, ◌<◌, ◌≤◌, zero, suc, Bool, true, false, cond, List, [], ◌∷◌, ◌++◌, length, take, drop, refl, sym, ap, subst, arith, inl, inr, Option, Some, None, length-append, append-nil, ◌==◌, ltb}
+use Rattle.toll_wire.proofs.Common.{AllByRecursion, and_parts, nat_tests, Decides-eqb, ends_is, RowsOf, cuts, first, has_slash, longest_from, or_else, own, param_step, seek, segment, step, with_suffix, In}
 use Rattle.toll_wire.proofs.Patterns.{EndsPart, MatchesPattern, IsPathPart, NoSlash, pattern_ends_part, ends_part, filled_nil, is_plain_pattern, pattern_plain, part_ends, split}
 
 -- ---- the segment at the start of a path

@@ -1,16 +1,12 @@
 -- What the router of the office holds.
 use Rattle.std.proofs.Common.{◌≡◌, ◌⊎◌, ◌∙◌, ◌&&◌, map, ℕ, ◌+◌, ◌<◌, ◌≤◌, suc, arith, length, drop, get_or, Bool, true, false, cond, List, [], ◌∷◌, refl, sym, ap, subst, inl, inr, Some, Result, Ok, Err}
-use Rattle.toll_wire.proofs.Common.{is_none, drop-cons, and_parts, InsertsRead, RouteOf, nearest, route_from, RowsOf, comes_before}
+use Rattle.toll_wire.proofs.Common.{is_none, drop-cons, and_parts, InsertsRead, RouteOf, nearest, route_from, RowsOf, comes_before, count_parts, In, IsOffice, OfficeRows, tokens, routes, Endpoint}
 use Rattle.std.proofs.Math.ListN.{drop_of_length-le}
 use Rattle.matchit.specs.Order.{placed}
 use Rattle.matchit.specs.Route.{Scan, parse_route}
 use Rattle.matchit.specs.declared.error.InsertError.{InsertError}
 use Rattle.matchit.specs.declared.error.InsertError.TheVariants.{Conflict, InvalidParam, InvalidParamSegment, InvalidCatchAll, OutOfMemory}
-use Rattle.toll_wire.specs.Places.{count_parts}
-use Rattle.toll_wire.specs.Routers.{In, IsOffice, OfficeRows, tokens}
 use Rattle.toll_wire.specs.Routes as spec
-use Rattle.toll_wire.specs.Routes.{routes}
-use Rattle.toll_wire.specs.declared.routes.route.Endpoint.{Endpoint}
 use Rattle.toll_wire.specs.declared.routes.route.Route.{Route}
 
 -- ---- inserts

@@ -1,10 +1,7 @@
 -- What is sent of lists and of objects.
 use Rattle.std.proofs.Common.{◌≡◌, suc, Some, List, [], ◌∷◌, length, map, refl, ap}
-use Rattle.serde.specs.Event.{Log, Logs, map_begins, map_ends}
+use Rattle.toll_wire.proofs.Common.{Log, Logs, map_begins, map_ends, SendsMembers, SendsValue, items_len, members_len, items_of, Bytes}
 use Rattle.serde_json.specs.Data.{Data, object, Members, member, no_members}
-use Rattle.serde_json.specs.Events.{SendsMembers, SendsValue, items_len, members_len}
-use Rattle.serde_json.specs.View.{items_of}
-use Rattle.toll_base.specs.Bytes.{Bytes}
 use Rattle.toll_wire.specs.Sending.{SendsMember}
 
 -- lists are as long as what is said of them

@@ -1,27 +1,19 @@
 -- Requests that are served, over any keep.
-use Rattle.std.proofs.Common.{◌≡◌, ℕ, Bool, true, false, ◌&&◌, cond, List, [], Some, None, Result, Ok, Err, IfErr, IfOk, refl, sym, subst, inl, inr}
-use Rattle.toll_wire.proofs.Common.{Vec, starts_with, digits, false≢true, Bytes, History, IsLawful, Meaning, Content, CallEffect, IsReading, Represents, KeepFault, Memory, Request, OwnerReply, ReplyForbidden, ReplyRefused, has_owner_key, IsReply, IsValidOwnerRequest, after_reply, is_granted, may_change, writes, finished, reply_text, Forbidden}
-use Rattle.std.specs.Prelude.{OnErr, IsTrue, nat_eq, codes}
-use Rattle.std.proofs.lemmas.Result.{IfOk-weaker}
+use Rattle.std.proofs.Common.{OnErr, IsTrue, nat_eq, codes, ◌≡◌, ℕ, Bool, true, false, ◌&&◌, cond, List, [], Some, None, Result, Ok, Err, IfErr, IfOk, refl, sym, subst, inl, inr}
+use Rattle.toll_wire.proofs.Common.{Vec, starts_with, digits, false≢true, Bytes, History, IsLawful, Meaning, Content, CallEffect, IsReading, Represents, KeepFault, Memory, Request, OwnerReply, ReplyForbidden, ReplyRefused, has_owner_key, IsReply, IsValidOwnerRequest, after_reply, is_granted, may_change, writes, finished, reply_text, Forbidden, IfOk-weaker, owner_steps, Calls, IsKeepStep, IsStepFrom, StoreEffect, calls_of, Text, Unavailable, fault_or_memory, text_of_failure, text_of_reply_meaning, text_if_reply, ClaimedRequest, Asks, Fails, Saying, By, Nobody, IsTold, MayBeReply, after_saying, IfPlacedBefore, IfSayingUnchanging, IsReplyWhere, IsGranted, IsSayingStep, IsFaultMet, SayingCalls, saying_steps}
 use Rattle.toll_base.specs.declared.decision.Change.{Change}
 use Rattle.toll_keep.proofs.Calls.{Rests, answered, failed_call, goes_fault, goes_memory, read_memory, settles_still}
 use Rattle.toll_keep.specs.CallEffects.{Keeps}
 use Rattle.toll_desk.specs.Clauses.{IfUnchanging, OverContentRows}
-use Rattle.toll_desk.specs.OfficeSteps.{owner_steps}
 use Rattle.toll_desk.specs.Outcome.{CommitEffect}
 use Rattle.toll_desk.specs.Plans.{IsPlan}
 use Rattle.toll_desk.specs.Reads.{Over}
-use Rattle.toll_desk.specs.Steps.{Calls, IsKeepStep, IsStepFrom, StoreEffect, calls_of}
 use Rattle.toll_desk.proofs.CommitLemmas.{and_false, commit_step, goes_on}
 use Rattle.toll_desk.proofs.OwnerPlans.{lawful_after_reply}
 use Rattle.toll_desk.proofs.StepLemmas.{step_as, store_of}
 use Rattle.toll_protocol.specs.declared.http_messages.failure.Failure.{Failure}
 use Rattle.toll_wire.specs.declared.outgoing.Out.{Out}
-use Rattle.toll_wire.specs.declared.outgoing.Out.TheVariants.{Text, Unavailable}
 use Rattle.toll_wire.specs.OutTexts.{IsText, text_if}
-use Rattle.toll_wire.specs.ReplyTexts.{fault_or_memory, text_of_failure, text_of_reply_meaning, text_if_reply}
-use Rattle.toll_wire.specs.Sayings.{ClaimedRequest, Asks, Fails, Saying, By, Nobody, IsTold, MayBeReply, after_saying}
-use Rattle.toll_wire.specs.Steps.{IfPlacedBefore, IfSayingUnchanging, IsReplyWhere, IsGranted, IsSayingStep, IsFaultMet, SayingCalls, saying_steps}
 
 -- ---- texts
 

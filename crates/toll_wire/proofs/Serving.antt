@@ -1,23 +1,13 @@
 -- Events of the office, one after another, are a run.
-use Rattle.std.proofs.Common.{◌≡◌, false, List, [], ◌∷◌, Err, refl, sym, subst, ap, ◌∙◌, inl, inr}
-use Rattle.toll_wire.proofs.Common.{Vec, AllByRecursion, false≢true, History, Meaning, Content, CallEffect, KeepFault, Memory, Disk, Damaged, Closed, PlantCmd, meaning_of_plant_reply}
-use Rattle.std.specs.Prelude.{ℕ}
-use Rattle.toll_history.proofs.RunLemmas.{run_back}
+use Rattle.std.proofs.Common.{◌≡◌, false, List, [], ◌∷◌, Err, refl, sym, subst, ap, ◌∙◌, inl, inr, ℕ}
+use Rattle.toll_wire.proofs.Common.{Vec, AllByRecursion, false≢true, History, Meaning, Content, CallEffect, KeepFault, Memory, Disk, Damaged, Closed, PlantCmd, meaning_of_plant_reply, AfterCalls, Calls, IsStepFrom, state_at, Event, Answer, Text, Unavailable, Saying, Says, IsSayingStep, saying_steps, PlantCalls, plant_steps, IsStep, MayMake, IsEventServed, AreServed, AreSteps, IsOpenAnswer, IsRunOf, run_back}
 use Rattle.toll_answers.specs.declared.plant_cmd.PlantCmd.TheVariants as cmd
 use Rattle.toll_desk.specs.Reads.{Over}
 use Rattle.toll_keep.specs.CallEffects.{Keeps}
-use Rattle.toll_desk.specs.Steps.{AfterCalls, Calls, IsStepFrom, state_at}
 use Rattle.toll_desk.proofs.StepLemmas.{history_run, stands_after, step_as, steps_from}
-use Rattle.toll_wire.specs.declared.event.Event.{Event}
 use Rattle.toll_wire.specs.declared.event.Event.TheVariants.{Owner, Plant as Command}
-use Rattle.toll_wire.specs.declared.event.Answer.{Answer}
 use Rattle.toll_wire.specs.declared.event.Answer.TheVariants.{Bytes as Reply, Plant as CommandReply}
 use Rattle.toll_wire.specs.declared.outgoing.Out.{Out}
-use Rattle.toll_wire.specs.declared.outgoing.Out.TheVariants.{Text, Unavailable}
-use Rattle.toll_wire.specs.Sayings.{Saying, Says}
-use Rattle.toll_wire.specs.Steps.{IsSayingStep, saying_steps}
-use Rattle.toll_desk.specs.OfficeSteps.{PlantCalls, plant_steps}
-use Rattle.toll_wire.specs.OfficeRuns.{IsStep, MayMake, IsEventServed, AreServed, AreSteps, IsOpenAnswer, IsRunOf}
 use Rattle.toll_wire.proofs.Private.{run_of}
 use Rattle.toll_wire.proofs.Served.{keeps_still, still_from}
 

@@ -1,6 +1,5 @@
 -- Which parts of a path a router gives.
-use Rattle.std.proofs.Common.{◌≡◌, ◌∙◌, ℕ, ◌+◌, ◌-◌, ◌<◌, true, false, List, [], ◌∷◌, ◌++◌, length, take, drop, get_or, map, refl, sym, ap, subst, arith, inl, inr, length-append}
-use Rattle.std.specs.Prelude.{ltb, leb}
+use Rattle.std.proofs.Common.{◌≡◌, ◌∙◌, ℕ, ◌+◌, ◌-◌, ◌<◌, true, false, List, [], ◌∷◌, ◌++◌, length, take, drop, get_or, map, refl, sym, ap, subst, arith, inl, inr, length-append, ltb, leb}
 use Rattle.toll_wire.proofs.Common.{AllByRecursion, IsCharBoundary, IsUtf8, take-append_seam, drop-append_seam, and_right, nat_tests, drop-drop, get_or-append-add, get_or-drop, IsCharBoundary-before_ascii, IsUtf8-drop, IsUtf8-past_char, IsUtf8-take, encode_ascii, after_token, part_of, walk, wild_from, wild_stop, segment}
 use Rattle.toll_wire.proofs.Patterns.{EndsPart, GoOn, MatchesPattern, IsPathPart, pattern_ends_part, go_on, is_plain_pattern, part_ends, pattern_plain}
 use Rattle.toll_wire.proofs.RouterSearch.{segment_to}

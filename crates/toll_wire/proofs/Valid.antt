@@ -2,10 +2,7 @@
 use Rattle.std.proofs.Common.{Option, Some, None, Result, Ok, Err, sym, subst}
 use Rattle.toll_base.specs.declared.request.Request.TheVariants.{Place}
 use Rattle.toll_wire.proofs.AddressLemmas.{each_has_address}
-use Rattle.toll_wire.proofs.Common.{Bytes, Failure, IsValidOwnerRequest, ParseResult, Request, Verb, refused, request}
-use Rattle.toll_wire.specs.Routes.{IsAskable}
-use Rattle.toll_wire.specs.Routing.{IsAsking}
-use Rattle.toll_wire.specs.Sayings.{Saying, By, Asks, saying_of, IsSaidBy, Says}
+use Rattle.toll_wire.proofs.Common.{Bytes, Failure, IsValidOwnerRequest, ParseResult, Request, Verb, refused, request, IsAskable, IsAsking, Saying, By, Asks, saying_of, IsSaidBy, Says}
 
 abbrev pub IsValidSaying : Saying → Type 0
 IsValidSaying (By o key (Asks q)) = IsValidOwnerRequest q

@@ -1,8 +1,7 @@
 -- Bodies byte for byte, by the definitions.
-use Rattle.std.proofs.Common.{◌≡◌, [], ◌∷◌, negsuc, false, true, Some, None, refl}
-use Rattle.std.specs.Prelude.{codes}
+use Rattle.std.proofs.Common.{◌≡◌, [], ◌∷◌, negsuc, false, true, Some, None, refl, codes}
+use Rattle.toll_wire.proofs.Common.{option_and_then}
 use Rattle.std.specs.Fmt.{digits}
-use Rattle.std.specs.Option.{option_and_then}
 use Rattle.serde_json.proofs.OnLiterals.{serde_json_on_literals}
 use Rattle.serde_json.specs.Read.{read}
 use Rattle.serde_json.specs.Written.{compact_text}

@@ -1,10 +1,8 @@
 -- Replies byte for byte, by the definitions.
-use Rattle.std.proofs.Common.{◌≡◌, Some, refl}
-use Rattle.std.specs.Prelude.{codes}
-use Rattle.toll_wire.proofs.Common.{digits, serde_json_on_literals, OrderExists, Forbidden, MethodNotAllowed, NotImplemented, reply_text}
+use Rattle.std.proofs.Common.{◌≡◌, Some, refl, codes}
+use Rattle.toll_wire.proofs.Common.{digits, serde_json_on_literals, OrderExists, Forbidden, MethodNotAllowed, NotImplemented, reply_text, text_of_failure, text_of_reply}
 use Rattle.toll_desk.specs.declared.request.Reply.TheVariants.{Order, Refused}
 use Rattle.toll_protocol.specs.declared.http_messages.verb.Verb.TheVariants.{Get}
-use Rattle.toll_wire.specs.ReplyTexts.{text_of_failure, text_of_reply}
 use Rattle.toll_wire.proofs.WorkedBodies.{open_order}
 
 an_order_is_replied : text_of_reply (Order open_order)

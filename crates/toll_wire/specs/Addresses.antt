@@ -1,10 +1,8 @@
 -- Laws of requests: what asks for each.
 use Rattle.std.specs.Prelude.{◌≡◌, [], ◌∷◌, ◌++◌, Result, Ok}
-use Rattle.toll_base.specs.Bytes.{Bytes}
-use Rattle.toll_base.specs.declared.request.Request.{Request}
+use Rattle.toll_wire.specs.Common.{Bytes, Request, Verb}
 use Rattle.toll_base.specs.declared.request.Request.TheVariants.{Place}
 use Rattle.toll_protocol.specs.declared.http_messages.failure.Failure.{Failure}
-use Rattle.toll_protocol.specs.declared.http_messages.verb.Verb.{Verb}
 use Rattle.toll_wire.specs.Bodies.{IsOrderBody}
 use Rattle.toll_wire.specs.Routes.{IsAskable, address_of}
 use Rattle.toll_wire.specs.Routing.{IsAsking}

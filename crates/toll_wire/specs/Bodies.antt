@@ -1,10 +1,8 @@
 -- What the body of a request for an order asks for (RFC 8259).
 use Rattle.std.specs.Prelude.{◌≡◌, ℕ, ◌&&◌, nat_le, Option, Some, None, if◌then◌else◌, option_map, option_and_then, codes, IsUtf8}
-use Rattle.serde_json.specs.Data.{Data}
+use Rattle.toll_wire.specs.Common.{Data, Bytes, is_name}
 use Rattle.serde_json.specs.Read.{read}
 use Rattle.serde_json.specs.Find.{get, as_str, as_number, as_u64}
-use Rattle.toll_base.specs.Bytes.{Bytes}
-use Rattle.toll_base.specs.Values.{is_name}
 use Rattle.toll_base.specs.declared.bounded.TheConstants.{MOST_BATCHES}
 use Rattle.toll_wire.specs.declared.bodies.body.Placing.{Placing}
 

@@ -1,8 +1,7 @@
 -- The bodies of replies hold no fraction.
 use Rattle.std.proofs.Common.{◌≡◌, ℤ, pos, negsuc, false, ◌||◌, List, [], ◌∷◌, refl, ap, ◌∙◌}
-use Rattle.serde_json.specs.Data.{Data}
+use Rattle.toll_wire.specs.Common.{Data, Bytes}
 use Rattle.serde_json.specs.Written.{has_float}
-use Rattle.toll_base.specs.Bytes.{Bytes}
 use Rattle.toll_base.specs.declared.rows.BatchRow.{BatchRow}
 use Rattle.toll_base.specs.declared.rows.LotRow.{LotRow}
 use Rattle.toll_base.specs.declared.rows.ResultRow.{ResultRow}

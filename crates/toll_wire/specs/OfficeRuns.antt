@@ -1,8 +1,7 @@
 -- Events of the office, and their answers, as a run.
 use Rattle.std.specs.Prelude.{◌≡◌, ◌⊎◌, true, is_some, Option, Some, None, option_map, List, Err}
-use Rattle.std.specs.List.{AllByRecursion}
 use Rattle.std.specs.Result.{result_ok}
-use Rattle.toll_wire.specs.Common.{Bytes, History, IsLawful, Meaning, Content, KeepFault, Memory, PlantAnswer, after_plant, meaning_of_plant_reply, HoldsFor}
+use Rattle.toll_wire.specs.Common.{Bytes, History, IsLawful, Meaning, Content, KeepFault, Memory, PlantAnswer, after_plant, meaning_of_plant_reply, HoldsFor, AllByRecursion}
 use Rattle.toll_answers.specs.PlantAnswers.{IsValidCommand}
 use Rattle.toll_history.specs.Runs.{IsRun}
 use Rattle.toll_desk.specs.OfficeSteps.{IsPlantStep, plant_steps}

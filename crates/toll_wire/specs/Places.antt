@@ -1,8 +1,6 @@
 -- What a target leads to.
 use Rattle.std.specs.Prelude.{◌≡◌, ◌⊎◌, ℕ, ◌==◌, IsTrue, List, [], ◌∷◌, decimal, Option, Some, None}
-use Rattle.std.specs.List.{before_first}
-use Rattle.toll_base.specs.Bytes.{Bytes}
-use Rattle.toll_base.specs.Values.{IsBatchNo, is_name}
+use Rattle.toll_wire.specs.Common.{before_first, Bytes, IsBatchNo, is_name}
 use Rattle.toll_wire.specs.Routes.{Route, spelled}
 use Rattle.toll_wire.specs.declared.routes.route.Endpoint.{Endpoint}
 use Rattle.toll_wire.specs.declared.routes.parts.Parts.{Parts}

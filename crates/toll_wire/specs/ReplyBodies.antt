@@ -1,8 +1,7 @@
 -- The bodies of replies, as JSON values (RFC 8259): keys stand in the order of their bytes.
 use Rattle.std.specs.Prelude.{ℕ, ℤ, pos, negsuc, List, [], ◌∷◌, ◌++◌, codes, decimal, map}
-use Rattle.serde_json.specs.Data.{Data, boolean, number, unsigned, negative, string, array, object, Members, member, no_members}
+use Rattle.toll_wire.specs.Common.{Data, boolean, number, unsigned, negative, string, array, object, Members, member, no_members, Bytes}
 use Rattle.serde_json.specs.View.{items_of}
-use Rattle.toll_base.specs.Bytes.{Bytes}
 use Rattle.toll_base.specs.Refusal.{refusal_code, title_of}
 use Rattle.toll_base.specs.States.{word_of_state}
 use Rattle.toll_base.specs.declared.lot.Origin.{Origin}

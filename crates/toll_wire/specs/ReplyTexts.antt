@@ -1,9 +1,8 @@
 -- The texts of replies (RFC 9112, section 6; RFC 9110, section 15).
 use Rattle.std.specs.Prelude.{ℕ, [], Option, Some, None, Result, Ok, Err, codes}
-use Rattle.serde_json.specs.Data.{Data}
 use Rattle.serde_json.specs.Written.{compact_text}
 use Rattle.toll_answers.specs.OwnerReply.{OwnerReply, ReplyForbidden, ReplyOrders, ReplyOrder, ReplyBatch, ReplyStock, ReplyLot, ReplyTrace, ReplyRefused}
-use Rattle.toll_wire.specs.Common.{Bytes, KeepFault, Memory, meaning_of_reply, Failure, Forbidden}
+use Rattle.toll_wire.specs.Common.{Bytes, KeepFault, Memory, meaning_of_reply, Failure, Forbidden, Data}
 use Rattle.toll_base.specs.declared.refusal.Refusal.{Refusal}
 use Rattle.toll_base.specs.declared.refusal.Refusal.TheVariants.{UnknownOrder, UnknownBatch, UnknownLot}
 use Rattle.toll_desk.specs.declared.request.Reply.{Reply}

@@ -1,10 +1,7 @@
 -- Every route of the office, the request that is asked for there, and the address of each request.
 use Rattle.std.specs.Prelude.{List, [], ◌∷◌, ◌++◌, codes, decimal, IsTrue, Option, Some, None}
-use Rattle.toll_base.specs.Bytes.{Bytes}
-use Rattle.toll_base.specs.Values.{IsBatchNo, is_name}
-use Rattle.toll_base.specs.declared.request.Request.{Request}
+use Rattle.toll_wire.specs.Common.{Bytes, IsBatchNo, is_name, Request, Verb}
 use Rattle.toll_base.specs.declared.request.Request.TheVariants as request
-use Rattle.toll_protocol.specs.declared.http_messages.verb.Verb.{Verb}
 use Rattle.toll_protocol.specs.declared.http_messages.verb.Verb.TheVariants.{Get, Post}
 use Rattle.toll_wire.specs.declared.routes.route.Endpoint.{Endpoint}
 use Rattle.toll_wire.specs.declared.routes.route.RequestKind.{RequestKind}

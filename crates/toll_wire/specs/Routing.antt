@@ -1,9 +1,7 @@
 -- What a target, a method and a body ask for.
 use Rattle.std.specs.Prelude.{◌≡◌, Option, Some, None, Result, Ok, Err, IsSome, option_map}
-use Rattle.toll_base.specs.Bytes.{Bytes}
-use Rattle.toll_base.specs.declared.request.Request.{Request}
+use Rattle.toll_wire.specs.Common.{Bytes, Request, Verb}
 use Rattle.toll_base.specs.declared.request.Request.TheVariants as request
-use Rattle.toll_protocol.specs.declared.http_messages.verb.Verb.{Verb}
 use Rattle.toll_protocol.specs.declared.http_messages.verb.Verb.TheVariants.{Get, Post}
 use Rattle.toll_protocol.specs.declared.http_messages.failure.Failure.{Failure}
 use Rattle.toll_protocol.specs.declared.http_messages.failure.Failure.TheVariants.{BadRequest, NoRoute, MethodNotAllowed}

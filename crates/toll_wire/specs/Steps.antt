@@ -1,7 +1,6 @@
 -- What is so once a request was served.
 use Rattle.std.specs.Prelude.{◌≡◌, ◌⊎◌, Bool, false, Some, None, Ok, Err, IsTrue, nat_eq, codes}
-use Rattle.std.specs.List.{starts_with}
-use Rattle.toll_wire.specs.Common.{Bytes, History, Meaning, Content, KeepFault, Memory, writes}
+use Rattle.toll_wire.specs.Common.{Bytes, History, Meaning, Content, KeepFault, Memory, writes, starts_with}
 use Rattle.toll_keep.specs.CallEffects.{CallEffect}
 use Rattle.toll_desk.specs.Clauses.{IfPlacedAgain}
 use Rattle.toll_desk.specs.Steps.{Calls, IsKeepStep, StepKind}

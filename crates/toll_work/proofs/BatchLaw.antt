@@ -1,8 +1,7 @@
 -- What the commanding and the closing of a batch owe: each changes the row of a known batch.
 use Rattle.std.proofs.Common.{◌≡◌, ℕ, Bool, true, false, ◌&&◌, ◌||◌, ◌==◌, cond, Option, Some, None, is_none, List, [], ◌∷◌, map, refl, sym, ap, ◌∙◌, arith}
-use Rattle.toll_work.proofs.Common.{option_map, is_eq, nat_tests, Bytes, same_bytes, batch_cmp, Action, CommandBatch, CloseBatch, by, History, acts, Slice, batch_at, with_row, KeepsRules, followed, unit_of, state_of, is_closed, batch_of, OwnerFacts, facts_of, facts_given, IsDecided, Decides, DecisionKeepsRules, Checks, Accepted, verdict_of_checks, verdict, batch_command_checks, close_checks, records_or_voids, State, Put, Decision, BatchRow, Batch, none_applies, both, accepted_passes, verdict_is, Grows, RowsFit, put_rows, decides, keeps_rules, tables-own, tables-others, tables_after, row_at-put_row, count-known, same_bytes-exact, same_bytes-symm, nat_eq-exact, batch_cmp_total, same_batch}
+use Rattle.toll_work.proofs.Common.{option_map, is_eq, nat_tests, Bytes, same_bytes, batch_cmp, Action, CommandBatch, CloseBatch, by, History, acts, Slice, batch_at, with_row, KeepsRules, followed, unit_of, state_of, is_closed, batch_of, OwnerFacts, facts_of, facts_given, IsDecided, Decides, DecisionKeepsRules, Checks, Accepted, verdict_of_checks, verdict, batch_command_checks, close_checks, records_or_voids, State, Put, Decision, BatchRow, Batch, none_applies, both, accepted_passes, verdict_is, Grows, RowsFit, put_rows, decides, keeps_rules, tables-own, tables-others, tables_after, row_at-put_row, count-known, same_bytes-exact, same_bytes-symm, nat_eq-exact, batch_cmp_total, same_batch, commanded_row, closed_row, changed_rows}
 use Rattle.toll_base.specs.declared.state_command.StateCommand.{StateCommand}
-use Rattle.toll_work.specs.Plans.{commanded_row, closed_row, changed_rows}
 use Rattle.toll_work.proofs.FoundRow.{row_at-key, so_of_known, known_changed}
 
 -- ---- keys of batches

@@ -1,7 +1,6 @@
 -- What the cancelling of an order owes.
 use Rattle.std.proofs.Common.{◌≡◌, Bool, true, false, cond, Option, Some, None, is_some, is_none, [], ◌∷◌, ◌||◌, map, refl, sym, ap, ◌∙◌}
-use Rattle.toll_work.proofs.Common.{list_any, option_map, or_left, nat_list_cmp_total, Bytes, same_bytes, bytes_cmp, CancelOrder, by, History, acts, Slice, order_at, with_row, KeepsRules, order_of, cancels, OwnerFacts, facts_of, facts_given, IsDecided, Decides, DecisionKeepsRules, cancel_checks, Put, Decision, OrderRow, Order, none_applies, accepted_passes, verdict_is, Grows, RowsFit, put_rows, decides, keeps_rules, tables-own, tables-others, row_at-put_row, length-known, any-known, same_bytes-exact, same_bytes-symm}
-use Rattle.toll_work.specs.Plans.{cancelled_row, cancelled_rows}
+use Rattle.toll_work.proofs.Common.{list_any, option_map, or_left, nat_list_cmp_total, Bytes, same_bytes, bytes_cmp, CancelOrder, by, History, acts, Slice, order_at, with_row, KeepsRules, order_of, cancels, OwnerFacts, facts_of, facts_given, IsDecided, Decides, DecisionKeepsRules, cancel_checks, Put, Decision, OrderRow, Order, none_applies, accepted_passes, verdict_is, Grows, RowsFit, put_rows, decides, keeps_rules, tables-own, tables-others, row_at-put_row, length-known, any-known, same_bytes-exact, same_bytes-symm, cancelled_row, cancelled_rows}
 use Rattle.toll_work.proofs.FoundRow.{row_at-key, so_of_known, known_changed}
 use Rattle.toll_work.proofs.OrderLaw.{order_as_placed}
 

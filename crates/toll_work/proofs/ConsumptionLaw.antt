@@ -1,5 +1,5 @@
 -- What a consumption owes, of a lot of the batch's owner or of HOUSE.
-use Rattle.std.proofs.Common.{◌≡◌, ℕ, ◌-◌, true, false, ◌&&◌, is_some, is_none, List, [], ◌∷◌, ◌++◌, refl, sym, ap, subst, ◌∙◌}
+use Rattle.std.proofs.Common.{◌≡◌, ℕ, true, false, ◌&&◌, is_some, is_none, List, [], ◌∷◌, ◌++◌, refl, sym, ap, subst, ◌∙◌}
 use Rattle.toll_work.proofs.Common.{or_parts, or_left, Bytes, same_bytes, house_name, Record, by, History, lot_id, takes_from, Slice, with_row, KeepsRules, row_fits, count_actuals, OwnerFacts, facts_of, facts_given, sublot_row, IsRowsOf, after_changes, changes_of, IsDecided, DecidesWith, DecisionKeepsRules, PutsOnlyWith, Accepted, Checks, verdict_of_checks, key_checks, actual_checks, consumed_checks, tables_for, verdict, IsLawful, IsValidAction, Change, Put, Decision, LotId, Role, Consumed, MoveRow, Actual, SublotRow, Sublot, Move, applies, none_applies, verdict_is, right_over, below_limit, tables_for_are, accepted_passes, move_fits, with_move, with_sublot, is_sublot_key, put_move, put_sublot, put_went, went_out, moved_elsewhere, taken_from_other, tables-untaken, move_room, less_fit, same_bytes-exact, same_bytes-refl, same_bytes-symm, sublot_named}
 use Rattle.toll_history.specs.Puts.{less_in_sublot}
 use Rattle.toll_work.specs.ActualPlans.{IsConsumptionPlan}

@@ -1,10 +1,9 @@
 -- What the opening of a batch owes.
 use Rattle.std.proofs.Common.{◌≡◌, ℕ, suc, ◌+◌, ◌<◌, Bool, true, false, not, ◌&&◌, ◌||◌, ◌==◌, cond, Option, Some, None, is_some, is_none, List, [], ◌∷◌, map, refl, sym, ap, ◌∙◌, arith}
-use Rattle.toll_work.proofs.Common.{false≢true, option_map, is_eq, nat_tests, Bytes, same_bytes, or_else, batch_cmp, Action, OpenBatch, CommandBatch, CloseBatch, by, History, acts, unit_known, Slice, batch_at, with_row, KeepsRules, followed, opens, count_opened, unit_opened, unit_of, state_of, is_closed, batch_of, OwnerFacts, facts_of, facts_given, IsDecided, DecisionKeepsRules, Accepted, verdict_of_checks, verdict, open_checks, IsLawful, IsValidAction, State, Put, Decision, BatchRow, Batch, along_acts, is_none_map, accepted_passes, verdict_is, Grows, keeps_rules, tables-own, tables-others, row_at-put_row, count-new, same_bytes-exact, same_bytes-symm, nat_eq-exact, batch_cmp_total, same_batch, right_over, grown_rows}
+use Rattle.toll_work.proofs.Common.{false≢true, option_map, is_eq, nat_tests, Bytes, same_bytes, or_else, batch_cmp, Action, OpenBatch, CommandBatch, CloseBatch, by, History, acts, unit_known, Slice, batch_at, with_row, KeepsRules, followed, opens, count_opened, unit_opened, unit_of, state_of, is_closed, batch_of, OwnerFacts, facts_of, facts_given, IsDecided, DecisionKeepsRules, Accepted, verdict_of_checks, verdict, open_checks, IsLawful, IsValidAction, State, Put, Decision, BatchRow, Batch, along_acts, is_none_map, accepted_passes, verdict_is, Grows, keeps_rules, tables-own, tables-others, row_at-put_row, count-new, same_bytes-exact, same_bytes-symm, nat_eq-exact, batch_cmp_total, same_batch, right_over, grown_rows, opened_row, opened_rows}
 use Rattle.toll_history.specs.Holders.{holder}
 use Rattle.toll_base.specs.declared.state.State.TheVariants.{Idle}
 use Rattle.toll_work.specs.Opening.{DecidesOpening}
-use Rattle.toll_work.specs.Plans.{opened_row, opened_rows}
 use Rattle.toll_work.proofs.BatchLaw.{batch_key, batch_row, same_batch-exact, nat_eq-symm}
 
 -- ---- the tables

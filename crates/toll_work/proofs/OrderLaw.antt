@@ -1,8 +1,7 @@
 -- What the placing of an order owes.
 use Rattle.std.proofs.Common.{◌≡◌, suc, Bool, true, false, ◌||◌, cond, ℕ, Option, Some, None, is_some, is_none, List, [], ◌∷◌, length, refl, sym, ap, ◌∙◌}
-use Rattle.toll_work.proofs.Common.{list_any, option_map, or_right, nat_list_cmp_total, Bytes, same_bytes, bytes_cmp, first_some, or_else, where_so, Action, PlaceOrder, by, History, acts, Slice, order_at, with_row, KeepsRules, order_placed, order_of, cancels, OwnerFacts, facts_of, facts_given, IsDecided, Decides, DecisionKeepsRules, Accepted, order_checks, verdict, IsLawful, Put, Decision, OrderRow, Order, none_applies, accepted_passes, adding_decided, adding_keeps, below_limit, tables-own, row_at-put_row, none_of, length-new, any-new, same_bytes-exact}
+use Rattle.toll_work.proofs.Common.{list_any, option_map, or_right, nat_list_cmp_total, Bytes, same_bytes, bytes_cmp, first_some, or_else, where_so, Action, PlaceOrder, by, History, acts, Slice, order_at, with_row, KeepsRules, order_placed, order_of, cancels, OwnerFacts, facts_of, facts_given, IsDecided, Decides, DecisionKeepsRules, Accepted, order_checks, verdict, IsLawful, Put, Decision, OrderRow, Order, none_applies, accepted_passes, adding_decided, adding_keeps, below_limit, tables-own, row_at-put_row, none_of, length-new, any-new, same_bytes-exact, MOST_ORDERS}
 use Rattle.toll_history.proofs.Uncancelled.{uncancelled}
-use Rattle.toll_base.specs.declared.capacity.TheConstants.{MOST_ORDERS}
 
 -- an order that is placed by this action
 abbrev new_order : (order recipe : Bytes) → ℕ → OrderRow

@@ -1,9 +1,8 @@
 -- What the adding of a recipe owes.
 use Rattle.std.proofs.Common.{[], ◌∷◌, length, refl}
-use Rattle.toll_work.proofs.Common.{or_right, AddRecipe, by, Slice, KeepsRules, facts_of, IsDecided, Decides, DecisionKeepsRules, recipe_checks, Put, Decision, Recipe, none_applies, accepted_passes, below_limit, tables-own}
+use Rattle.toll_work.proofs.Common.{or_right, AddRecipe, by, Slice, KeepsRules, facts_of, IsDecided, Decides, DecisionKeepsRules, recipe_checks, Put, Decision, Recipe, none_applies, accepted_passes, below_limit, tables-own, MOST_RECIPES}
 use Rattle.toll_base.specs.declared.rows.RecipeRow.{RecipeRow}
 use Rattle.toll_history.proofs.Naming.{Kind, IsNamedRowAdded, naming_owes}
-use Rattle.toll_base.specs.declared.capacity.TheConstants.{MOST_RECIPES}
 
 pub recipe_owes : (own : Slice) (row : RecipeRow) (d : Decision) → IsDecided (recipe_checks (facts_of own) row) (Put own.owner (Recipe row) ∷ []) d → Decides (by own.owner (AddRecipe row)) own d × (KeepsRules own → DecisionKeepsRules own d)
 recipe_owes own row d decided =

@@ -1,7 +1,6 @@
 -- What the requiring of a material owes.
 use Rattle.std.proofs.Common.{◌≡◌, suc, false, cond, Some, is_some, [], ◌∷◌, length, refl, ◌∙◌}
-use Rattle.toll_work.proofs.Common.{or_right, Bytes, requirement_cmp, Require, by, History, acts, Slice, requirement_at, with_row, KeepsRules, requirement_of, same_requirement, OwnerFacts, facts_of, facts_given, IsDecided, DecidesWith, DecisionKeepsRules, Checks, requirement_key, requirement_checks, tables_for, Put, Decision, RequirementRow, Requirement, none_applies, accepted_passes, adding_decided_with, adding_keeps, below_limit, tables-own, put_first, row_at-put_row, length-new, requirement_cmp_total}
-use Rattle.toll_base.specs.declared.capacity.TheConstants.{MOST_REQUIREMENTS}
+use Rattle.toll_work.proofs.Common.{or_right, Bytes, requirement_cmp, Require, by, History, acts, Slice, requirement_at, with_row, KeepsRules, requirement_of, same_requirement, OwnerFacts, facts_of, facts_given, IsDecided, DecidesWith, DecisionKeepsRules, Checks, requirement_key, requirement_checks, tables_for, Put, Decision, RequirementRow, Requirement, none_applies, accepted_passes, adding_decided_with, adding_keeps, below_limit, tables-own, put_first, row_at-put_row, length-new, requirement_cmp_total, MOST_REQUIREMENTS}
 
 -- tables with one more requirement
 abbrev with_requirement : RequirementRow → OwnerFacts → OwnerFacts

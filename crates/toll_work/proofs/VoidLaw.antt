@@ -1,9 +1,7 @@
 -- What a void owes.
 use Rattle.std.proofs.Common.{◌≡◌, ℕ, ◌+◌, ◌-◌, ◌≤◌, Bool, true, false, not, ◌&&◌, ◌||◌, cond, nat_le, nat_lt, Option, Some, None, is_some, is_none, List, [], ◌∷◌, ◌++◌, length, refl, sym, ap, subst, ◌∙◌, arith}
-use Rattle.toll_work.proofs.Common.{sublot_row_of, false≢true, or_left, nat_tests, Bytes, same_bytes, bytes_cmp, pair_cmp, house_name, History, acts, owner_known, lot_id, same_lot, movement_of, voided_in, brings_into, takes_from, sublot_known, stock, Slice, with_row, lot_at, sublot_at, move_at, KeepsRules, row_fits, OwnerFacts, facts_of, facts_given, sublot_row, IsRowsOf, where_so, is_some_where, none_or, after_changes, changes_of, IsDecided, DecidesWith, DecisionKeepsRules, PutsOnlyWith, Accepted, Refused, Checks, verdict_of_checks, is_actual, is_of_closed, takes_too_much, tables_for, amount_in, verdict, IsLawful, IsValidAction, BringsOwn, TakesKnown, Change, Put, Decision, LotId, UnknownKey, Voided, BatchClosed, NotEnough, LimitReached, Role, Consumed, Produced, MoveRow, Actual, SublotRow, Sublot, Void as VoidPut, both, tables_for_are, held_is, none_applies, unbounded, sublot_room_in, less_fit, verdict_is, right_over, rules_by, keeps_put, accepted_passes, each_decided, with_sublot, with_void, is_sublot_key, put_sublot, put_void, same_bytes-exact, same_bytes-refl, same_bytes-symm, is_eq-then, more}
-use Rattle.toll_history.specs.Puts.{gained, less_in_sublot}
+use Rattle.toll_work.proofs.Common.{sublot_row_of, false≢true, or_left, nat_tests, Bytes, same_bytes, bytes_cmp, pair_cmp, house_name, History, acts, owner_known, lot_id, same_lot, movement_of, voided_in, brings_into, takes_from, sublot_known, stock, Slice, with_row, lot_at, sublot_at, move_at, KeepsRules, row_fits, OwnerFacts, facts_of, facts_given, sublot_row, IsRowsOf, where_so, is_some_where, none_or, after_changes, changes_of, IsDecided, DecidesWith, DecisionKeepsRules, PutsOnlyWith, Accepted, Refused, Checks, verdict_of_checks, is_actual, is_of_closed, takes_too_much, tables_for, amount_in, verdict, IsLawful, IsValidAction, BringsOwn, TakesKnown, Change, Put, Decision, LotId, UnknownKey, Voided, BatchClosed, NotEnough, LimitReached, Role, Consumed, Produced, MoveRow, Actual, SublotRow, Sublot, Void as VoidPut, both, tables_for_are, held_is, none_applies, unbounded, sublot_room_in, less_fit, verdict_is, right_over, rules_by, keeps_put, accepted_passes, each_decided, with_sublot, with_void, is_sublot_key, put_sublot, put_void, same_bytes-exact, same_bytes-refl, same_bytes-symm, is_eq-then, more, MOST_STOCK, MOST_SUBLOTS, gained, less_in_sublot, void_batch_checks, giving_bounds, actual_sublot}
 use Rattle.toll_history.specs.Command.{Void, by}
-use Rattle.toll_work.specs.Voiding.{void_batch_checks, giving_bounds, actual_sublot}
 use Rattle.toll_base.specs.declared.decision.Decision.TheVariants.{Refuse}
 use Rattle.toll_history.proofs.EachMove.{of_found}
 use Rattle.toll_history.proofs.Owned.{all_bring_own, all_take_known}
@@ -14,7 +12,6 @@ use Rattle.toll_work.proofs.MadeChanges.{each_accepted, puts_with, puts_consumed
 use Rattle.toll_work.proofs.OwedWith.{Owes}
 use Rattle.toll_work.proofs.TwoPuts.{after_both, both_keep, second_keeps}
 use Rattle.toll_work.proofs.Voided.{own_but_sublots, others_but_sublots, given_back, taken_out, stayed_at}
-use Rattle.toll_base.specs.declared.capacity.TheConstants.{MOST_STOCK, MOST_SUBLOTS}
 
 -- ---- everybody's rows, if the void changes one sublot of this owner
 

@@ -13,6 +13,6 @@ pub use Rattle.toll_history.specs.Common.{BatchRow, Bytes, Consumed, KeepsRules,
 pub use Rattle.toll_history.specs.Decision.{Decides, DecidesWith, DecisionKeepsRules, IsDecided, IsRightOver, verdict_of_result}
 pub use Rattle.toll_history.specs.History.{History, acts, owner_known, unit_known}
 pub use Rattle.toll_history.specs.OwnChanges.{PutsOnly, PutsOnlyWith, sublot_named}
-pub use Rattle.toll_history.specs.Puts.{gained, less_in_sublot, puts_of}
 pub use Rattle.toll_history.specs.OwnerFacts.{IsRowsOf, OwnerFacts, facts_of}
+pub use Rattle.toll_history.specs.Puts.{gained, less_in_sublot, puts_of}
 pub use Rattle.toll_history.specs.Verdict.{Checks, IsLawful, actual_checks, actuals_full, amount_in, batch_command_checks, cancel_checks, close_checks, consumed_checks, crosses, verdict_of_checks, is_actual, key_checks, open_batch_checks, open_checks, order_checks, produced_checks, recipe_checks, recipe_of_order, requirement_checks, requirement_key, uncancelled_order_checks, tables_for}

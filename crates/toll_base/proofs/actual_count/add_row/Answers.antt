@@ -1,6 +1,6 @@
 use Rattle.std.proofs.Common.{◌≡◌, true, is_some, sym, ap, ◌∙◌}
+use Rattle.toll_base.proofs.Common.{is_actual_of}
 use Rattle.toll_base.specs.ActualCounts.{actual_count_at}
-use Rattle.toll_base.specs.SliceRules.{is_actual_of}
 use Rattle.toll_base.proofs.ActualCountLemmas.{as_many, still_counted, now_counted, no_row, same_along}
 use Rattle.toll_base.proofs.actual_count.add_row.Goals as goal
 

@@ -1,7 +1,6 @@
 use Rattle.std.proofs.Common.{rules, sym, ◌∙◌}
+use Rattle.toll_base.proofs.Common.{get_or_from_slice_get, key_cmp_at}
 use Rattle.std.proofs.lemmas.Fn.{always_returns_same}
-use Rattle.std.proofs.lemmas.Option.{get_or_from_slice_get}
-use Rattle.toll_base.specs.MoveRows.{key_cmp_at}
 use Rattle.toll_base.proofs.MovePlaces.{place_searched, behind_all, less_exact}
 use Rattle.toll_base.proofs.move_rows.search.Goals as goal
 

@@ -1,6 +1,5 @@
 use Rattle.std.proofs.lemmas.List.Elements.{All-from_recursion}
-use Rattle.toll_history.specs.Movements.{movements}
-use Rattle.toll_history.specs.Laws.{Agrees}
+use Rattle.toll_history.proofs.Common.{movements, Agrees}
 use Rattle.toll_history.proofs.OneOrigin.{one_origin}
 use Rattle.toll_history.proofs.laws.a_lot_has_one_origin.Goals as goal
 

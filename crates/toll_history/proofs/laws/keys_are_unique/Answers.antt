@@ -1,7 +1,6 @@
 use Rattle.std.proofs.Common.{◌≡◌, Some}
+use Rattle.toll_history.proofs.Common.{acts, movements, movement_of}
 use Rattle.std.proofs.lemmas.List.Elements.{All-from_recursion}
-use Rattle.toll_history.specs.History.{acts}
-use Rattle.toll_history.specs.Movements.{movements, movement_of}
 use Rattle.toll_history.proofs.KeysOnce.{every_key_found, found_once}
 use Rattle.toll_history.proofs.laws.keys_are_unique.Goals as goal
 

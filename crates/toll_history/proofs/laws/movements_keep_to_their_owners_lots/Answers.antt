@@ -1,6 +1,5 @@
 use Rattle.std.proofs.lemmas.List.Elements.{All-from_recursion}
-use Rattle.toll_history.specs.Movements.{movements}
-use Rattle.toll_history.specs.Laws.{BringsOwn, TakesKnown}
+use Rattle.toll_history.proofs.Common.{movements, BringsOwn, TakesKnown}
 use Rattle.toll_history.proofs.Owned.{all_bring_own, all_take_known}
 use Rattle.toll_history.proofs.laws.movements_keep_to_their_owners_lots.Goals as goal
 

@@ -1,6 +1,5 @@
 use Rattle.std.proofs.Common.{Some, sym, ap, subst, ◌∙◌}
-use Rattle.toll_keep.specs.Content.{content_after}
-use Rattle.toll_keep.specs.Remembered.{AreOf}
+use Rattle.toll_keep.proofs.Common.{content_after, AreOf}
 use Rattle.toll_keep.proofs.StagedLemmas.{none_after, some_after}
 use Rattle.toll_keep.proofs.cached_reading.read_slice.Goals as goal
 

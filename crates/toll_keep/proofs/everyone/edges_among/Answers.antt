@@ -1,6 +1,5 @@
-use Rattle.std.proofs.Common.{◌≡◌, ◌++◌, subst, sym, ap, ◌∙◌}
-use Rattle.std.proofs.Common.{take, ◌+◌}
-use Rattle.toll_keep.specs.Holding.{AreGathered}
+use Rattle.std.proofs.Common.{◌≡◌, ◌++◌, subst, sym, ap, ◌∙◌, take, ◌+◌}
+use Rattle.toll_keep.proofs.Common.{AreGathered}
 use Rattle.toll_keep.proofs.AllOwners.{gathered_next}
 use Rattle.toll_keep.proofs.everyone.edges_among.Goals as goal
 

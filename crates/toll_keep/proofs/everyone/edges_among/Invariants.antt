@@ -1,5 +1,5 @@
 use Rattle.std.proofs.Common.{take}
-use Rattle.toll_keep.specs.Holding.{AreGathered}
+use Rattle.toll_keep.proofs.Common.{AreGathered}
 use Rattle.toll_keep.proofs.everyone.edges_among.Given as goal
 
 abbrev pub invariant-loop-slice : goal.invariant-loop-slice

@@ -1,6 +1,5 @@
 use Rattle.std.proofs.Common.{None}
-use Rattle.std.specs.List.{AllWithin}
-use Rattle.toll_keep.specs.Holding.{IsHolderIn}
+use Rattle.toll_keep.proofs.Common.{AllWithin, IsHolderIn}
 use Rattle.toll_keep.proofs.holder.holder_among.Given as goal
 
 -- None of the slices so far has a batch that holds the unit.

@@ -1,7 +1,6 @@
 use Rattle.std.proofs.Common.{◌≡◌, Some, None, option_map, find, sym, ap, ◌∙◌, subst, rules, tests}
-use Rattle.toll_keep.proofs.Common.{YieldsList-from_slice, find_from_yields_List, batch_cmp_total}
+use Rattle.toll_keep.proofs.Common.{YieldsList-from_slice, find_from_yields_List, batch_cmp_total, is_on, IsHolderIn}
 use Rattle.toll_base.specs.Keys.{batch_cmp}
-use Rattle.toll_keep.specs.Holding.{is_on, IsHolderIn}
 use Rattle.toll_keep.proofs.Finding.{none_found, one_found}
 use Rattle.toll_keep.proofs.holder.holder_in.Goals as goal
 

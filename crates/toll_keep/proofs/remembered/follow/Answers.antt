@@ -1,7 +1,6 @@
 use Rattle.std.proofs.Common.{◌≡◌, false, sym, ap, ◌∙◌}
-use Rattle.toll_keep.proofs.Common.{list_any}
+use Rattle.toll_keep.proofs.Common.{list_any, is_put_for}
 use Rattle.toll_keep.proofs.RememberedLemmas.{none_put}
-use Rattle.toll_keep.specs.Remembered.{is_put_for}
 use Rattle.toll_keep.proofs.remembered.follow.Goals as goal
 
 pub returns-then-not-has_put_for : goal.returns-then-not-has_put_for

@@ -1,5 +1,5 @@
 use Rattle.std.proofs.Common.{◌≡◌, drop}
-use Rattle.toll_base.specs.Changes.{after_changes}
+use Rattle.toll_keep.proofs.Common.{after_changes}
 use Rattle.toll_keep.proofs.remembered.follow.Given as goal
 
 -- With the changes to come, the rows are those after all changes.

@@ -1,6 +1,6 @@
 use Rattle.std.proofs.Common.{◌<◌, length, set, sym, ap, subst, ◌∙◌}
+use Rattle.toll_keep.proofs.Common.{after_changes}
 use Rattle.std.proofs.lemmas.List.Edits.{map_over_more}
-use Rattle.toll_base.specs.Changes.{after_changes}
 use Rattle.toll_keep.proofs.remembered.follow_all.Goals as goal
 
 pub loop-slice-preserved : goal.loop-slice-preserved

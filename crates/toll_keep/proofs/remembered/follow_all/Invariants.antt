@@ -1,5 +1,5 @@
 use Rattle.std.proofs.Common.{◌≡◌, ◌++◌, map, take, drop}
-use Rattle.toll_base.specs.Changes.{after_changes}
+use Rattle.toll_keep.proofs.Common.{after_changes}
 use Rattle.toll_keep.proofs.remembered.follow_all.Given as goal
 
 -- The slices so far are those after all changes.

@@ -1,6 +1,5 @@
 use Rattle.std.proofs.Common.{rules, tests}
-use Rattle.toll_keep.proofs.Common.{YieldsList-from_slice, position_from_yields_List}
-use Rattle.toll_keep.specs.Slices.{is_slice_of}
+use Rattle.toll_keep.proofs.Common.{YieldsList-from_slice, position_from_yields_List, is_slice_of}
 use Rattle.toll_keep.proofs.slices.index_of_slice.Goals as goal
 
 pub returns : goal.returns

@@ -1,6 +1,6 @@
 use Rattle.std.proofs.Common.{◌≡◌, Some, None, position, ap, sym, ◌∙◌}
+use Rattle.toll_keep.proofs.Common.{is_slice_of}
 use Rattle.toll_keep.specs.Common.{with_row}
-use Rattle.toll_keep.specs.Slices.{is_slice_of}
 use Rattle.toll_keep.proofs.Outcomes.{on_ok_weaker}
 use Rattle.toll_keep.proofs.Slicing.{row_there, row_added}
 use Rattle.toll_keep.proofs.slices.put_for.Goals as goal

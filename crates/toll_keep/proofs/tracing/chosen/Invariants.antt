@@ -1,6 +1,5 @@
-use Rattle.std.proofs.Common.{◌≡◌, map, take}
-use Rattle.std.specs.Prelude.{filter}
-use Rattle.std.specs.List.{list_any}
+use Rattle.std.proofs.Common.{◌≡◌, map, take, filter}
+use Rattle.toll_keep.proofs.Common.{list_any}
 use Rattle.toll_base.specs.Bytes.{same_bytes}
 use Rattle.toll_keep.proofs.tracing.chosen.Given as goal
 

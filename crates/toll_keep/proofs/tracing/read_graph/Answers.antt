@@ -1,7 +1,6 @@
 use Rattle.std.proofs.Common.{sym, ap, subst, ◌∙◌}
-use Rattle.std.specs.List.{list_any}
+use Rattle.toll_keep.proofs.Common.{AreGraphsOf, HasGraph, list_any}
 use Rattle.toll_base.specs.Bytes.{same_bytes}
-use Rattle.toll_keep.specs.Graphs.{AreGraphsOf, HasGraph}
 use Rattle.toll_keep.proofs.Learning.{known_there, still_has_graph, has_pushed, graphs_pushed}
 use Rattle.toll_keep.proofs.tracing.read_graph.Goals as goal
 

@@ -1,8 +1,5 @@
-use Rattle.std.proofs.Common.{◌++◌, ◌∷◌, [], take, sym, ap, subst, ◌∙◌, inl, inr}
-use Rattle.std.specs.Prelude.{Contains}
-use Rattle.std.proofs.lemmas.List.{take_all}
-use Rattle.toll_keep.proofs.Common.{Contains-push_cases, take_more}
-use Rattle.toll_keep.specs.Graphs.{HasGraph}
+use Rattle.std.proofs.Common.{◌++◌, ◌∷◌, [], take, sym, ap, subst, ◌∙◌, inl, inr, Contains}
+use Rattle.toll_keep.proofs.Common.{Contains-push_cases, take_more, HasGraph, take_all}
 use Rattle.toll_keep.proofs.tracing.read_graphs.Goals as goal
 
 pub loop-owner-preserved : goal.loop-owner-preserved

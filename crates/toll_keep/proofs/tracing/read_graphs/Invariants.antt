@@ -1,10 +1,5 @@
-use Rattle.std.proofs.Common.{take}
-use Rattle.std.specs.Prelude.{Contains}
-use Rattle.toll_keep.proofs.Common.{Bytes}
-use Rattle.toll_keep.specs.Content.{Content}
-use Rattle.toll_keep.specs.Graphs.{AreGraphsOf, HasGraph}
-use Rattle.toll_keep.specs.Reads.{HaveRead, IsContentKept}
-use Rattle.toll_keep.specs.Remembered.{AreOf, OnlyKnownHaveRows}
+use Rattle.std.proofs.Common.{take, Contains}
+use Rattle.toll_keep.proofs.Common.{Bytes, Content, AreGraphsOf, HasGraph, AreOf, OnlyKnownHaveRows, HaveRead, IsContentKept}
 use Rattle.toll_keep.proofs.tracing.read_graphs.Given as goal
 
 -- The calls so far were answered, and the graphs of the owners so far are there.

@@ -1,5 +1,5 @@
 use Rattle.std.proofs.Common.{sym, subst}
-use Rattle.toll_keep.specs.Remembered.{AreOf}
+use Rattle.toll_keep.proofs.Common.{AreOf}
 use Rattle.toll_keep.proofs.Around.{some_owners}
 use Rattle.toll_keep.proofs.Calls.{read_ok, read_fault}
 use Rattle.toll_keep.proofs.tracing.read_trace.Goals as goal

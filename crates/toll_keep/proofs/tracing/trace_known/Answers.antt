@@ -1,5 +1,4 @@
-use Rattle.std.proofs.Common.{map, ap, subst, ◌∙◌}
-use Rattle.std.specs.Prelude.{IfOk}
+use Rattle.std.proofs.Common.{map, ap, subst, ◌∙◌, IfOk}
 use Rattle.toll_trace.specs.Graph.{LeadAmong}
 use Rattle.toll_trace.specs.Trace.{IsTrace}
 use Rattle.toll_keep.proofs.Learning.{gives_trace}

@@ -1,5 +1,5 @@
 use Rattle.std.proofs.Common.{sym, subst}
-use Rattle.toll_keep.specs.Graphs.{AreGraphsOf, HasGraph}
+use Rattle.toll_keep.proofs.Common.{AreGraphsOf, HasGraph}
 use Rattle.toll_keep.proofs.Learning.{graphs_taken}
 use Rattle.toll_keep.proofs.tracing.trace_read.Goals as goal
 

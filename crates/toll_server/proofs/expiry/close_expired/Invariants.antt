@@ -1,6 +1,6 @@
 -- The connections with a key below the loop's are closed if they are late, and all others are unchanged.
 use Rattle.std.proofs.Common.{◌≤◌}
-use Rattle.slab.specs.Slab.{slab_len}
+use Rattle.toll_server.proofs.Common.{slab_len}
 use Rattle.toll_server.proofs.ExpiryLemmas.{ClosedBelow}
 use Rattle.toll_server.proofs.expiry.close_expired.Given as goal
 

@@ -1,7 +1,6 @@
 -- The connections that aren't reading are still there, and no other was added.
 use Rattle.std.proofs.Common.{◌≤◌}
-use Rattle.slab.specs.Slab.{slab_len}
-use Rattle.toll_server.specs.Connections.{KeepsSubmitted, NoneNew}
+use Rattle.toll_server.proofs.Common.{slab_len, KeepsSubmitted, NoneNew}
 use Rattle.toll_server.proofs.expiry.close_readers.Given as goal
 
 abbrev pub invariant-loop : goal.invariant-loop

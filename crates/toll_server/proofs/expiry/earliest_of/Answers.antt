@@ -1,6 +1,5 @@
-use Rattle.std.proofs.Common.{sym, Option, None, Some, arith}
-use Rattle.std.specs.Prelude.{IfSome}
-use Rattle.toll_server.specs.Connections.{IsEarliest}
+use Rattle.std.proofs.Common.{sym, Option, None, Some, arith, IfSome}
+use Rattle.toll_server.proofs.Common.{IsEarliest}
 use Rattle.toll_server.specs.declared.expiry.Earliest.{Earliest}
 use Rattle.toll_server.proofs.ExpiryLemmas.{Found, found_all, left_out, passed, earliest_taken}
 use Rattle.toll_server.proofs.expiry.earliest_of.Goals as goal

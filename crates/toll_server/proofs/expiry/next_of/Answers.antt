@@ -1,7 +1,5 @@
-use Rattle.std.proofs.Common.{sym, Option, None, Some, arith}
-use Rattle.std.specs.Prelude.{IfNone, IfSome}
-use Rattle.toll_server.specs.Connections.{NobodyWaits, queue_in}
-use Rattle.toll_server.specs.Queues.{IsNext}
+use Rattle.std.proofs.Common.{sym, Option, None, Some, arith, IfNone, IfSome}
+use Rattle.toll_server.proofs.Common.{NobodyWaits, queue_in, IsNext}
 use Rattle.toll_server.specs.declared.expiry.Next.{Next}
 use Rattle.toll_server.proofs.ExpiryLemmas.{FoundNext, next_all, next_left_out, next_passed, next_taken, nobody_all}
 use Rattle.toll_server.proofs.expiry.next_of.Goals as goal

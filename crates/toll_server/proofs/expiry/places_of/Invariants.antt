@@ -1,7 +1,6 @@
 -- The party's places below the loop's key were counted.
-use Rattle.std.proofs.Common.{◌≡◌, ◌≤◌, take}
-use Rattle.std.specs.Prelude.{count_by}
-use Rattle.toll_server.specs.Connections.{is_place_of}
+use Rattle.std.proofs.Common.{◌≡◌, ◌≤◌, take, count_by}
+use Rattle.toll_server.proofs.Common.{is_place_of}
 use Rattle.toll_server.proofs.expiry.places_of.Given as goal
 
 abbrev pub invariant-loop-key : goal.invariant-loop-key

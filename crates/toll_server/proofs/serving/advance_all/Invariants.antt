@@ -1,6 +1,6 @@
 -- This many ready connections were read, one after another, and the tasks left are unchanged.
 use Rattle.std.proofs.Common.{◌≡◌, ◌≤◌, ◌+◌}
-use Rattle.toll_server.specs.Connections.{KeepsTasks}
+use Rattle.toll_server.proofs.Common.{KeepsTasks}
 use Rattle.toll_server.proofs.RoundLemmas.{Hearing}
 use Rattle.toll_server.proofs.serving.advance_all.Given as goal
 

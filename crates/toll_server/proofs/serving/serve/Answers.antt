@@ -1,12 +1,11 @@
 use Rattle.std.proofs.Common.{◌≡◌, ◌∙◌, ◌+◌, ℕ, ap, arith, refl}
+use Rattle.toll_server.proofs.Common.{tasks_in, Accepts, BreaksDown, EndsSo, Tally}
 use Rattle.toll_server.proofs.AcceptLemmas.{accepted_all}
 use Rattle.toll_server.proofs.ClosingLemmas.{Asks, accepted_events, asked_once, asks_first, asks_kept, begins_events, broken_events, closed_for_cause, keeps_limit, moved_events, stopped_events, turned_events, waited_events, wound_events}
 use Rattle.toll_server.proofs.ConnectionLemmas.{empty_none, empty_queue, no_connection}
 use Rattle.toll_server.proofs.ListenLemmas.{accepted_listening, begins_listening, broken_listening, clocked_listening, failed_listening, listens_till, stopped_listening, waited_listening}
 use Rattle.toll_server.proofs.RoundLemmas.{accepted_so, begins, broken_rounds, clocked_so, fewer_so, in_rounds, in_turn, round_so, stopped_so}
 use Rattle.toll_server.proofs.TallyLemmas.{OnlyClock, OnlyListening, clock_went_on, on_err, tallies_begin, tallies_then, tallies_weaker}
-use Rattle.toll_server.specs.Connections.{tasks_in}
-use Rattle.toll_server.specs.Networks.{Accepts, BreaksDown, EndsSo, Tally}
 use Rattle.toll_server.specs.declared.serving.ServingEnd.TheVariants.{All, Fault}
 use Rattle.toll_server.proofs.serving.serve.Goals as goal
 
@@ -81,193 +80,135 @@ loop-preserved g c =
           clock (λ t u v p r. (ap (λ n. n + c.take_turn.new.self.owners_left) (ap (λ x. x.owners) r) ∙ p.0, ap (λ x. x.waits) r ∙ p.1));
     }
 
-pub returns-then-is_err-clause-in_turn : goal.returns-then-is_err-clause-in_turn
-returns-then-is_err-clause-in_turn g c =
+pub returns-then-is_err : goal.returns-then-is_err
+returns-then-is_err g c =
     let come = accepted_so g.O.Party.PartialEq.eq g.O.Service.is_by g.O.Service.answers g.O.Service.resumes g.W.Stream.Source g.W.Stream.Sink c.args.service.now c.loop.service c.loop.connections.event_count c.accept.new.self.event_count c.loop.connections.slots c.accept.new.self.slots _ _ _
     c.accept.ensures.event_count c.accept.ensures.queue c.accept.ensures.tasks
     (accepted_all c.accept.result g.W.Stream.Source.unread c.loop.connections c.accept.new.self _ _ c.accept.ensures.tally c.accept.ensures.added c.accept.ensures.stands) c.loop.invariant.so_far in
-    in_turn g.O.Party.PartialEq.eq g.O.Service.is_by g.O.Service.answers g.O.Service.resumes g.W.Stream.Source g.W.Stream.Sink g.met.O.Party.Eq.laws c.args.service.now c.loop.service c.accept.new.self.event_count c.accept.new.self.slots _ _ come
-
-pub returns-then-is_err-clause-rounds : goal.returns-then-is_err-clause-rounds
-returns-then-is_err-clause-rounds g c =
-    let come = accepted_so g.O.Party.PartialEq.eq g.O.Service.is_by g.O.Service.answers g.O.Service.resumes g.W.Stream.Source g.W.Stream.Sink c.args.service.now c.loop.service c.loop.connections.event_count c.accept.new.self.event_count c.loop.connections.slots c.accept.new.self.slots _ _ _
-    c.accept.ensures.event_count c.accept.ensures.queue c.accept.ensures.tasks
-    (accepted_all c.accept.result g.W.Stream.Source.unread c.loop.connections c.accept.new.self _ _ c.accept.ensures.tally c.accept.ensures.added c.accept.ensures.stands) c.loop.invariant.so_far in
-    in_rounds g.O.Party.PartialEq.eq g.O.Service.is_by g.O.Service.answers g.O.Service.resumes g.W.Stream.Source g.W.Stream.Sink g.met.O.Party.Eq.laws c.args.service.now c.loop.service c.accept.new.self.event_count c.accept.new.self.slots _ _ come
-
-pub returns-then-is_err-clause-run : goal.returns-then-is_err-clause-run
-returns-then-is_err-clause-run g c =
-    let come = accepted_so g.O.Party.PartialEq.eq g.O.Service.is_by g.O.Service.answers g.O.Service.resumes g.W.Stream.Source g.W.Stream.Sink c.args.service.now c.loop.service c.loop.connections.event_count c.accept.new.self.event_count c.loop.connections.slots c.accept.new.self.slots _ _ _
-    c.accept.ensures.event_count c.accept.ensures.queue c.accept.ensures.tasks
-    (accepted_all c.accept.result g.W.Stream.Source.unread c.loop.connections c.accept.new.self _ _ c.accept.ensures.tally c.accept.ensures.added c.accept.ensures.stands) c.loop.invariant.so_far in
-    (tasks_in c.accept.new.self.slots, come.run, (λ over. absurd (cc over)))
-
-pub returns-then-is_over-clause-in_turn : goal.returns-then-is_over-clause-in_turn
-returns-then-is_over-clause-in_turn g c =
-    let came = accepted_so g.O.Party.PartialEq.eq g.O.Service.is_by g.O.Service.answers g.O.Service.resumes g.W.Stream.Source g.W.Stream.Sink c.args.service.now c.loop.service c.loop.connections.event_count c.accept.new.self.event_count c.loop.connections.slots c.accept.new.self.slots _ _ _
-    c.accept.ensures.event_count c.accept.ensures.queue c.accept.ensures.tasks
-    (accepted_all c.accept.result g.W.Stream.Source.unread c.loop.connections c.accept.new.self _ _ c.accept.ensures.tally c.accept.ensures.added c.accept.ensures.stands) c.loop.invariant.so_far in
-    let come = fewer_so g.O.Party.PartialEq.eq g.O.Service.is_by g.O.Service.answers g.O.Service.resumes g.W.Stream.Source g.W.Stream.Sink c.args.service.now c.loop.service c.accept.new.self.event_count c.wind_down.new.self.event_count c.accept.new.self.slots c.wind_down.new.self.slots _ _
-    c.wind_down.ensures.event_count c.wind_down.ensures.queue c.wind_down.ensures.tasks c.wind_down.ensures.none_new (stopped_so g.O.Party.PartialEq.eq g.O.Service.is_by g.O.Service.answers g.O.Service.resumes g.W.Stream.Source g.W.Stream.Sink c.args.service.now c.loop.service c.accept.new.self.event_count c.accept.new.self.slots _ _ _
-    c.stop_listening.ensures.rest came) in
-    in_turn g.O.Party.PartialEq.eq g.O.Service.is_by g.O.Service.answers g.O.Service.resumes g.W.Stream.Source g.W.Stream.Sink g.met.O.Party.Eq.laws c.args.service.now c.loop.service c.wind_down.new.self.event_count c.wind_down.new.self.slots _ _ come
-
-pub returns-then-is_over-clause-rounds : goal.returns-then-is_over-clause-rounds
-returns-then-is_over-clause-rounds g c =
-    let came = accepted_so g.O.Party.PartialEq.eq g.O.Service.is_by g.O.Service.answers g.O.Service.resumes g.W.Stream.Source g.W.Stream.Sink c.args.service.now c.loop.service c.loop.connections.event_count c.accept.new.self.event_count c.loop.connections.slots c.accept.new.self.slots _ _ _
-    c.accept.ensures.event_count c.accept.ensures.queue c.accept.ensures.tasks
-    (accepted_all c.accept.result g.W.Stream.Source.unread c.loop.connections c.accept.new.self _ _ c.accept.ensures.tally c.accept.ensures.added c.accept.ensures.stands) c.loop.invariant.so_far in
-    let come = fewer_so g.O.Party.PartialEq.eq g.O.Service.is_by g.O.Service.answers g.O.Service.resumes g.W.Stream.Source g.W.Stream.Sink c.args.service.now c.loop.service c.accept.new.self.event_count c.wind_down.new.self.event_count c.accept.new.self.slots c.wind_down.new.self.slots _ _
-    c.wind_down.ensures.event_count c.wind_down.ensures.queue c.wind_down.ensures.tasks c.wind_down.ensures.none_new (stopped_so g.O.Party.PartialEq.eq g.O.Service.is_by g.O.Service.answers g.O.Service.resumes g.W.Stream.Source g.W.Stream.Sink c.args.service.now c.loop.service c.accept.new.self.event_count c.accept.new.self.slots _ _ _
-    c.stop_listening.ensures.rest came) in
-    in_rounds g.O.Party.PartialEq.eq g.O.Service.is_by g.O.Service.answers g.O.Service.resumes g.W.Stream.Source g.W.Stream.Sink g.met.O.Party.Eq.laws c.args.service.now c.loop.service c.wind_down.new.self.event_count c.wind_down.new.self.slots _ _ come
-
-pub returns-then-is_over-clause-run : goal.returns-then-is_over-clause-run
-returns-then-is_over-clause-run g c =
-    let came = accepted_so g.O.Party.PartialEq.eq g.O.Service.is_by g.O.Service.answers g.O.Service.resumes g.W.Stream.Source g.W.Stream.Sink c.args.service.now c.loop.service c.loop.connections.event_count c.accept.new.self.event_count c.loop.connections.slots c.accept.new.self.slots _ _ _
-    c.accept.ensures.event_count c.accept.ensures.queue c.accept.ensures.tasks
-    (accepted_all c.accept.result g.W.Stream.Source.unread c.loop.connections c.accept.new.self _ _ c.accept.ensures.tally c.accept.ensures.added c.accept.ensures.stands) c.loop.invariant.so_far in
-    let come = fewer_so g.O.Party.PartialEq.eq g.O.Service.is_by g.O.Service.answers g.O.Service.resumes g.W.Stream.Source g.W.Stream.Sink c.args.service.now c.loop.service c.accept.new.self.event_count c.wind_down.new.self.event_count c.accept.new.self.slots c.wind_down.new.self.slots _ _
-    c.wind_down.ensures.event_count c.wind_down.ensures.queue c.wind_down.ensures.tasks c.wind_down.ensures.none_new (stopped_so g.O.Party.PartialEq.eq g.O.Service.is_by g.O.Service.answers g.O.Service.resumes g.W.Stream.Source g.W.Stream.Sink c.args.service.now c.loop.service c.accept.new.self.event_count c.accept.new.self.slots _ _ _
-    c.stop_listening.ensures.rest came) in
-    (tasks_in c.wind_down.new.self.slots, come.run, (λ over. empty_none c.wind_down.new.self.slots (c.is_over.ensures.0 c.if-is_over.true).1))
-
-pub returns-in-Err-clause-in_turn : goal.returns-in-Err-clause-in_turn
-returns-in-Err-clause-in_turn g c =
-    let came = accepted_so g.O.Party.PartialEq.eq g.O.Service.is_by g.O.Service.answers g.O.Service.resumes g.W.Stream.Source g.W.Stream.Sink c.args.service.now c.loop.service c.loop.connections.event_count c.accept.new.self.event_count c.loop.connections.slots c.accept.new.self.slots _ _ _
-    c.accept.ensures.event_count c.accept.ensures.queue c.accept.ensures.tasks
-    (accepted_all c.accept.result g.W.Stream.Source.unread c.loop.connections c.accept.new.self _ _ c.accept.ensures.tally c.accept.ensures.added c.accept.ensures.stands) c.loop.invariant.so_far in
-    let come = fewer_so g.O.Party.PartialEq.eq g.O.Service.is_by g.O.Service.answers g.O.Service.resumes g.W.Stream.Source g.W.Stream.Sink c.args.service.now c.loop.service c.accept.new.self.event_count c.wind_down.new.self.event_count c.accept.new.self.slots c.wind_down.new.self.slots _ _
-    c.wind_down.ensures.event_count c.wind_down.ensures.queue c.wind_down.ensures.tasks c.wind_down.ensures.none_new (stopped_so g.O.Party.PartialEq.eq g.O.Service.is_by g.O.Service.answers g.O.Service.resumes g.W.Stream.Source g.W.Stream.Sink c.args.service.now c.loop.service c.accept.new.self.event_count c.accept.new.self.slots _ _ _
-    c.stop_listening.ensures.rest came) in
-    in_turn g.O.Party.PartialEq.eq g.O.Service.is_by g.O.Service.answers g.O.Service.resumes g.W.Stream.Source g.W.Stream.Sink g.met.O.Party.Eq.laws c.args.service.now c.loop.service c.wind_down.new.self.event_count c.wind_down.new.self.slots _ _ come
-
-pub returns-in-Err-clause-rounds : goal.returns-in-Err-clause-rounds
-returns-in-Err-clause-rounds g c =
-    let came = accepted_so g.O.Party.PartialEq.eq g.O.Service.is_by g.O.Service.answers g.O.Service.resumes g.W.Stream.Source g.W.Stream.Sink c.args.service.now c.loop.service c.loop.connections.event_count c.accept.new.self.event_count c.loop.connections.slots c.accept.new.self.slots _ _ _
-    c.accept.ensures.event_count c.accept.ensures.queue c.accept.ensures.tasks
-    (accepted_all c.accept.result g.W.Stream.Source.unread c.loop.connections c.accept.new.self _ _ c.accept.ensures.tally c.accept.ensures.added c.accept.ensures.stands) c.loop.invariant.so_far in
-    let come = fewer_so g.O.Party.PartialEq.eq g.O.Service.is_by g.O.Service.answers g.O.Service.resumes g.W.Stream.Source g.W.Stream.Sink c.args.service.now c.loop.service c.accept.new.self.event_count c.wind_down.new.self.event_count c.accept.new.self.slots c.wind_down.new.self.slots _ _
-    c.wind_down.ensures.event_count c.wind_down.ensures.queue c.wind_down.ensures.tasks c.wind_down.ensures.none_new (stopped_so g.O.Party.PartialEq.eq g.O.Service.is_by g.O.Service.answers g.O.Service.resumes g.W.Stream.Source g.W.Stream.Sink c.args.service.now c.loop.service c.accept.new.self.event_count c.accept.new.self.slots _ _ _
-    c.stop_listening.ensures.rest came) in
-    broken_rounds g.O.Party.PartialEq.eq g.O.Service.is_by g.O.Service.answers g.O.Service.resumes g.W.Stream.Source g.W.Stream.Sink c.args.service.now c.loop.service _ _ _ c.in-Err.ensures.fails (in_rounds g.O.Party.PartialEq.eq g.O.Service.is_by g.O.Service.answers g.O.Service.resumes g.W.Stream.Source g.W.Stream.Sink g.met.O.Party.Eq.laws c.args.service.now c.loop.service c.wind_down.new.self.event_count c.wind_down.new.self.slots _ _ come)
-
-pub returns-in-Err-clause-run : goal.returns-in-Err-clause-run
-returns-in-Err-clause-run g c =
-    let came = accepted_so g.O.Party.PartialEq.eq g.O.Service.is_by g.O.Service.answers g.O.Service.resumes g.W.Stream.Source g.W.Stream.Sink c.args.service.now c.loop.service c.loop.connections.event_count c.accept.new.self.event_count c.loop.connections.slots c.accept.new.self.slots _ _ _
-    c.accept.ensures.event_count c.accept.ensures.queue c.accept.ensures.tasks
-    (accepted_all c.accept.result g.W.Stream.Source.unread c.loop.connections c.accept.new.self _ _ c.accept.ensures.tally c.accept.ensures.added c.accept.ensures.stands) c.loop.invariant.so_far in
-    let come = fewer_so g.O.Party.PartialEq.eq g.O.Service.is_by g.O.Service.answers g.O.Service.resumes g.W.Stream.Source g.W.Stream.Sink c.args.service.now c.loop.service c.accept.new.self.event_count c.wind_down.new.self.event_count c.accept.new.self.slots c.wind_down.new.self.slots _ _
-    c.wind_down.ensures.event_count c.wind_down.ensures.queue c.wind_down.ensures.tasks c.wind_down.ensures.none_new (stopped_so g.O.Party.PartialEq.eq g.O.Service.is_by g.O.Service.answers g.O.Service.resumes g.W.Stream.Source g.W.Stream.Sink c.args.service.now c.loop.service c.accept.new.self.event_count c.accept.new.self.slots _ _ _
-    c.stop_listening.ensures.rest came) in
-    (tasks_in c.wind_down.new.self.slots, come.run, (λ over. absurd (cc over)))
-
-pub returns-clause-in_turn : goal.returns-clause-in_turn
-returns-clause-in_turn g c =
-    let come = c.loop.invariant.so_far in
-    in_turn g.O.Party.PartialEq.eq g.O.Service.is_by g.O.Service.answers g.O.Service.resumes g.W.Stream.Source g.W.Stream.Sink g.met.O.Party.Eq.laws c.args.service.now c.loop.service c.loop.connections.event_count c.loop.connections.slots _ _ come
-
-pub returns-clause-rounds : goal.returns-clause-rounds
-returns-clause-rounds g c =
-    let come = c.loop.invariant.so_far in
-    in_rounds g.O.Party.PartialEq.eq g.O.Service.is_by g.O.Service.answers g.O.Service.resumes g.W.Stream.Source g.W.Stream.Sink g.met.O.Party.Eq.laws c.args.service.now c.loop.service c.loop.connections.event_count c.loop.connections.slots _ _ come
-
-pub returns-clause-run : goal.returns-clause-run
-returns-clause-run g c =
-    let come = c.loop.invariant.so_far in
-    (tasks_in c.loop.connections.slots, come.run, (λ over. absurd (cc over)))
-
-pub returns-then-is_err-clause-end : goal.returns-then-is_err-clause-end
-returns-then-is_err-clause-end g c =
-    tallies_then (Has c.args.count c.loop.connections.owners_left c.loop.counter) (Accepts c.accept.result c.loop.connections.accept_state c.loop.connections.owners_left c.accept.new.self.owners_left)
-    (EndsSo Fault c.args.count) _ _ _ c.loop.invariant.tally c.accept.ensures.tally
-    (λ t u v p r. let (owners, waits, wakes, unheard, missed, clock, err, request, more) = r in on_err c.accept.result (let e = c.is_err.ensures in let is = c.if-is_err.true in cc) err)
-
-pub returns-then-is_over-clause-end : goal.returns-then-is_over-clause-end
-returns-then-is_over-clause-end g c =
-    let entered = tallies_then (Has c.args.count c.loop.connections.owners_left c.loop.counter) (Accepts c.accept.result c.loop.connections.accept_state c.loop.connections.owners_left c.accept.new.self.owners_left)
-    (EndsSo All c.args.count) _ _ _ c.loop.invariant.tally c.accept.ensures.tally
-    (λ t u v p r. omega (arith, p.0, r.0, c.wind_down.ensures.owners_left, (c.is_over.ensures.0 c.if-is_over.true).0)) in
-    tallies_then (EndsSo All c.args.count) OnlyListening (EndsSo All c.args.count) _ _ _ entered c.stop_listening.ensures.rest (λ t u v p r. ap (λ x. x.owners) r ∙ p)
-
-pub returns-in-Err-clause-end : goal.returns-in-Err-clause-end
-returns-in-Err-clause-end g c =
-    let entered = tallies_then (Has c.args.count c.loop.connections.owners_left c.loop.counter) (Accepts c.accept.result c.loop.connections.accept_state c.loop.connections.owners_left c.accept.new.self.owners_left)
-    (Has c.args.count c.accept.new.self.owners_left c.loop.counter) _ _ _ c.loop.invariant.tally c.accept.ensures.tally (λ t u v p r. (omega (arith, p.0, r.0), r.1 ∙ p.1)) in
-    let stopped = tallies_then (Has c.args.count c.accept.new.self.owners_left c.loop.counter) OnlyListening (Has c.args.count c.accept.new.self.owners_left c.loop.counter) _ _ _ entered c.stop_listening.ensures.rest
-    (λ t u v p r. (ap (λ n. n + c.accept.new.self.owners_left) (ap (λ x. x.owners) r) ∙ p.0, ap (λ x. x.waits) r ∙ p.1)) in
-    tallies_then (Has c.args.count c.accept.new.self.owners_left c.loop.counter) BreaksDown (EndsSo Fault c.args.count) _ _ _ stopped c.in-Err.ensures.fails (λ t u v p r. r.0)
-
-pub returns-then-is_err-clause-listens : goal.returns-then-is_err-clause-listens
-returns-then-is_err-clause-listens g c = listens_till c.args.count c.accept.new.self.owners_left (c.loop.counter + 1) _ _ (omega arith) (failed_listening c.args.count c.accept.new.self.owners_left (c.loop.counter + 1) _ _
-    (on_err c.accept.result (let e = c.is_err.ensures in let is = c.if-is_err.true in cc) c.accept.ensures.fails)
-    (accepted_listening c.accept.result c.loop.connections.accept_state c.args.count c.loop.connections.owners_left c.accept.new.self.owners_left c.loop.counter _ _ _
-    c.accept.ensures.left c.accept.ensures.tally c.accept.ensures.listens c.loop.invariant.listens))
-
-pub returns-then-is_over-clause-listens : goal.returns-then-is_over-clause-listens
-returns-then-is_over-clause-listens g c = listens_till c.args.count c.accept.new.self.owners_left (c.loop.counter + 1) _ _ (omega arith) (stopped_listening c.args.count c.accept.new.self.owners_left (c.loop.counter + 1) _ _ _ c.stop_listening.ensures.listens c.stop_listening.ensures.rest
-    (accepted_listening c.accept.result c.loop.connections.accept_state c.args.count c.loop.connections.owners_left c.accept.new.self.owners_left c.loop.counter _ _ _
-    c.accept.ensures.left c.accept.ensures.tally c.accept.ensures.listens c.loop.invariant.listens))
-
-pub returns-in-Err-clause-listens : goal.returns-in-Err-clause-listens
-returns-in-Err-clause-listens g c = listens_till c.args.count c.accept.new.self.owners_left (c.loop.counter + 1) _ _ (omega arith)
-    (broken_listening c.args.count c.accept.new.self.owners_left (c.loop.counter + 1) _ _ _ c.in-Err.ensures.fails (stopped_listening c.args.count c.accept.new.self.owners_left (c.loop.counter + 1) _ _ _ c.stop_listening.ensures.listens c.stop_listening.ensures.rest
-    (accepted_listening c.accept.result c.loop.connections.accept_state c.args.count c.loop.connections.owners_left c.accept.new.self.owners_left c.loop.counter _ _ _
-    c.accept.ensures.left c.accept.ensures.tally c.accept.ensures.listens c.loop.invariant.listens)))
-
-pub returns-clause-listens : goal.returns-clause-listens
-returns-clause-listens g c = listens_till c.args.count c.loop.connections.owners_left c.loop.counter _ _ (omega arith) c.loop.invariant.listens
-
-pub returns-then-is_err-clause-closes : goal.returns-then-is_err-clause-closes
-returns-then-is_err-clause-closes g c =
     let same = g.O.Party.PartialEq.eq in
     let most = c.loop.connections.most_open in
     let from = g.W.Stream.Source in
     let to = g.W.Stream.Sink in
     let left = c.accept.new.self.owners_left in
-    let came = accepted_events same most from to c.accept.result c.loop.connections.accept_state c.loop.connections c.accept.new.self c.loop.connections.owners_left left _ _ _ refl
+    let came_events = accepted_events same most from to c.accept.result c.loop.connections.accept_state c.loop.connections c.accept.new.self c.loop.connections.owners_left left _ _ _ refl
     c.accept.ensures.left c.accept.ensures.tally c.accept.ensures.added c.loop.invariant.events in
     let owners = tallies_then (Has c.args.count c.loop.connections.owners_left c.loop.counter) (Accepts c.accept.result c.loop.connections.accept_state c.loop.connections.owners_left left)
     (λ t u. u.owners + left ≡ t.owners + c.args.count) _ _ _ c.loop.invariant.tally c.accept.ensures.tally (λ t u v p r. omega (arith, p.0, r.0)) in
-    closed_for_cause same most from to _ c.args.count left _ c.accept.new.self.slots _ _ c.loop.invariant.most_open (λ over. absurd (cc over)) owners came
+    record {
+      run = (tasks_in c.accept.new.self.slots, come.run, (λ over. absurd (cc over)));
+      in_turn = in_turn g.O.Party.PartialEq.eq g.O.Service.is_by g.O.Service.answers g.O.Service.resumes g.W.Stream.Source g.W.Stream.Sink g.met.O.Party.Eq.laws c.args.service.now c.loop.service c.accept.new.self.event_count c.accept.new.self.slots _ _ come;
+      rounds = in_rounds g.O.Party.PartialEq.eq g.O.Service.is_by g.O.Service.answers g.O.Service.resumes g.W.Stream.Source g.W.Stream.Sink g.met.O.Party.Eq.laws c.args.service.now c.loop.service c.accept.new.self.event_count c.accept.new.self.slots _ _ come;
+      end = tallies_then (Has c.args.count c.loop.connections.owners_left c.loop.counter) (Accepts c.accept.result c.loop.connections.accept_state c.loop.connections.owners_left c.accept.new.self.owners_left)
+          (EndsSo Fault c.args.count) _ _ _ c.loop.invariant.tally c.accept.ensures.tally
+          (λ t u v p r. let (owners, waits, wakes, unheard, missed, clock, err, request, more) = r in on_err c.accept.result (let e = c.is_err.ensures in let is = c.if-is_err.true in cc) err);
+      listens = listens_till c.args.count c.accept.new.self.owners_left (c.loop.counter + 1) _ _ (omega arith) (failed_listening c.args.count c.accept.new.self.owners_left (c.loop.counter + 1) _ _
+          (on_err c.accept.result (let e = c.is_err.ensures in let is = c.if-is_err.true in cc) c.accept.ensures.fails)
+          (accepted_listening c.accept.result c.loop.connections.accept_state c.args.count c.loop.connections.owners_left c.accept.new.self.owners_left c.loop.counter _ _ _
+          c.accept.ensures.left c.accept.ensures.tally c.accept.ensures.listens c.loop.invariant.listens));
+      closes = closed_for_cause same most from to _ c.args.count left _ c.accept.new.self.slots _ _ c.loop.invariant.most_open (λ over. absurd (cc over)) owners came_events;
+      asks = asked_once c.args.count (c.loop.counter + 1) _ _ (omega arith) (
+          asks_first c.accept.result c.loop.connections.accept_state c.args.count c.loop.counter c.loop.connections.owners_left c.accept.new.self.owners_left _ _ _ c.loop.invariant.starts
+          c.accept.ensures.tally c.loop.invariant.asks);
+    }
 
-pub returns-then-is_over-clause-closes : goal.returns-then-is_over-clause-closes
-returns-then-is_over-clause-closes g c =
+pub returns-then-is_over : goal.returns-then-is_over
+returns-then-is_over g c =
+    let came = accepted_so g.O.Party.PartialEq.eq g.O.Service.is_by g.O.Service.answers g.O.Service.resumes g.W.Stream.Source g.W.Stream.Sink c.args.service.now c.loop.service c.loop.connections.event_count c.accept.new.self.event_count c.loop.connections.slots c.accept.new.self.slots _ _ _
+    c.accept.ensures.event_count c.accept.ensures.queue c.accept.ensures.tasks
+    (accepted_all c.accept.result g.W.Stream.Source.unread c.loop.connections c.accept.new.self _ _ c.accept.ensures.tally c.accept.ensures.added c.accept.ensures.stands) c.loop.invariant.so_far in
+    let come = fewer_so g.O.Party.PartialEq.eq g.O.Service.is_by g.O.Service.answers g.O.Service.resumes g.W.Stream.Source g.W.Stream.Sink c.args.service.now c.loop.service c.accept.new.self.event_count c.wind_down.new.self.event_count c.accept.new.self.slots c.wind_down.new.self.slots _ _
+    c.wind_down.ensures.event_count c.wind_down.ensures.queue c.wind_down.ensures.tasks c.wind_down.ensures.none_new (stopped_so g.O.Party.PartialEq.eq g.O.Service.is_by g.O.Service.answers g.O.Service.resumes g.W.Stream.Source g.W.Stream.Sink c.args.service.now c.loop.service c.accept.new.self.event_count c.accept.new.self.slots _ _ _
+    c.stop_listening.ensures.rest came) in
+    let entered = tallies_then (Has c.args.count c.loop.connections.owners_left c.loop.counter) (Accepts c.accept.result c.loop.connections.accept_state c.loop.connections.owners_left c.accept.new.self.owners_left)
+    (EndsSo All c.args.count) _ _ _ c.loop.invariant.tally c.accept.ensures.tally
+    (λ t u v p r. omega (arith, p.0, r.0, c.wind_down.ensures.owners_left, (c.is_over.ensures.0 c.if-is_over.true).0)) in
     let same = g.O.Party.PartialEq.eq in
     let most = c.loop.connections.most_open in
     let from = g.W.Stream.Source in
     let to = g.W.Stream.Sink in
     let left = c.accept.new.self.owners_left in
-    let came = accepted_events same most from to c.accept.result c.loop.connections.accept_state c.loop.connections c.accept.new.self c.loop.connections.owners_left left _ _ _ refl
+    let came_events = accepted_events same most from to c.accept.result c.loop.connections.accept_state c.loop.connections c.accept.new.self c.loop.connections.owners_left left _ _ _ refl
     c.accept.ensures.left c.accept.ensures.tally c.accept.ensures.added c.loop.invariant.events in
-    let stopped = stopped_events same most from to left c.accept.new.self.slots _ _ _ c.stop_listening.ensures.rest came in
-    let wound = wound_events same most from to left c.accept.new.self.slots c.wind_down.new.self.slots _ _ c.wind_down.ensures.readers stopped in
+    let stopped_then = stopped_events same most from to left c.accept.new.self.slots _ _ _ c.stop_listening.ensures.rest came_events in
+    let wound = wound_events same most from to left c.accept.new.self.slots c.wind_down.new.self.slots _ _ c.wind_down.ensures.readers stopped_then in
     let owners = tallies_then (Has c.args.count c.loop.connections.owners_left c.loop.counter) (Accepts c.accept.result c.loop.connections.accept_state c.loop.connections.owners_left left)
     (λ t u. u.owners + left ≡ t.owners + c.args.count) _ _ _ c.loop.invariant.tally c.accept.ensures.tally (λ t u v p r. omega (arith, p.0, r.0)) in
     let owners_then = tallies_then (λ t u. u.owners + left ≡ t.owners + c.args.count) OnlyListening (λ t u. u.owners + left ≡ t.owners + c.args.count) _ _ _ owners c.stop_listening.ensures.rest
     (λ t u v p r. ap (λ n. n + left) (ap (λ x. x.owners) r) ∙ p) in
-    closed_for_cause same most from to _ c.args.count left _ c.wind_down.new.self.slots _ _ c.loop.invariant.most_open
-    (λ over. no_connection c.wind_down.new.self.slots (c.is_over.ensures.0 c.if-is_over.true).1) owners_then wound
+    record {
+      run = (tasks_in c.wind_down.new.self.slots, come.run, (λ over. empty_none c.wind_down.new.self.slots (c.is_over.ensures.0 c.if-is_over.true).1));
+      in_turn = in_turn g.O.Party.PartialEq.eq g.O.Service.is_by g.O.Service.answers g.O.Service.resumes g.W.Stream.Source g.W.Stream.Sink g.met.O.Party.Eq.laws c.args.service.now c.loop.service c.wind_down.new.self.event_count c.wind_down.new.self.slots _ _ come;
+      rounds = in_rounds g.O.Party.PartialEq.eq g.O.Service.is_by g.O.Service.answers g.O.Service.resumes g.W.Stream.Source g.W.Stream.Sink g.met.O.Party.Eq.laws c.args.service.now c.loop.service c.wind_down.new.self.event_count c.wind_down.new.self.slots _ _ come;
+      end = tallies_then (EndsSo All c.args.count) OnlyListening (EndsSo All c.args.count) _ _ _ entered c.stop_listening.ensures.rest (λ t u v p r. ap (λ x. x.owners) r ∙ p);
+      listens = listens_till c.args.count c.accept.new.self.owners_left (c.loop.counter + 1) _ _ (omega arith) (stopped_listening c.args.count c.accept.new.self.owners_left (c.loop.counter + 1) _ _ _ c.stop_listening.ensures.listens c.stop_listening.ensures.rest
+          (accepted_listening c.accept.result c.loop.connections.accept_state c.args.count c.loop.connections.owners_left c.accept.new.self.owners_left c.loop.counter _ _ _
+          c.accept.ensures.left c.accept.ensures.tally c.accept.ensures.listens c.loop.invariant.listens));
+      closes = closed_for_cause same most from to _ c.args.count left _ c.wind_down.new.self.slots _ _ c.loop.invariant.most_open
+          (λ over. no_connection c.wind_down.new.self.slots (c.is_over.ensures.0 c.if-is_over.true).1) owners_then wound;
+      asks = asked_once c.args.count (c.loop.counter + 1) _ _ (omega arith)
+          (asks_kept c.args.count (c.loop.counter + 1) OnlyListening _ _ _ (λ t u r. ap (λ x. x.accepts) r) c.stop_listening.ensures.rest (
+          asks_first c.accept.result c.loop.connections.accept_state c.args.count c.loop.counter c.loop.connections.owners_left c.accept.new.self.owners_left _ _ _ c.loop.invariant.starts
+          c.accept.ensures.tally c.loop.invariant.asks));
+    }
 
-pub returns-in-Err-clause-closes : goal.returns-in-Err-clause-closes
-returns-in-Err-clause-closes g c =
+pub returns-in-Err : goal.returns-in-Err
+returns-in-Err g c =
+    let came = accepted_so g.O.Party.PartialEq.eq g.O.Service.is_by g.O.Service.answers g.O.Service.resumes g.W.Stream.Source g.W.Stream.Sink c.args.service.now c.loop.service c.loop.connections.event_count c.accept.new.self.event_count c.loop.connections.slots c.accept.new.self.slots _ _ _
+    c.accept.ensures.event_count c.accept.ensures.queue c.accept.ensures.tasks
+    (accepted_all c.accept.result g.W.Stream.Source.unread c.loop.connections c.accept.new.self _ _ c.accept.ensures.tally c.accept.ensures.added c.accept.ensures.stands) c.loop.invariant.so_far in
+    let come = fewer_so g.O.Party.PartialEq.eq g.O.Service.is_by g.O.Service.answers g.O.Service.resumes g.W.Stream.Source g.W.Stream.Sink c.args.service.now c.loop.service c.accept.new.self.event_count c.wind_down.new.self.event_count c.accept.new.self.slots c.wind_down.new.self.slots _ _
+    c.wind_down.ensures.event_count c.wind_down.ensures.queue c.wind_down.ensures.tasks c.wind_down.ensures.none_new (stopped_so g.O.Party.PartialEq.eq g.O.Service.is_by g.O.Service.answers g.O.Service.resumes g.W.Stream.Source g.W.Stream.Sink c.args.service.now c.loop.service c.accept.new.self.event_count c.accept.new.self.slots _ _ _
+    c.stop_listening.ensures.rest came) in
+    let entered = tallies_then (Has c.args.count c.loop.connections.owners_left c.loop.counter) (Accepts c.accept.result c.loop.connections.accept_state c.loop.connections.owners_left c.accept.new.self.owners_left)
+    (Has c.args.count c.accept.new.self.owners_left c.loop.counter) _ _ _ c.loop.invariant.tally c.accept.ensures.tally (λ t u v p r. (omega (arith, p.0, r.0), r.1 ∙ p.1)) in
+    let stopped = tallies_then (Has c.args.count c.accept.new.self.owners_left c.loop.counter) OnlyListening (Has c.args.count c.accept.new.self.owners_left c.loop.counter) _ _ _ entered c.stop_listening.ensures.rest
+    (λ t u v p r. (ap (λ n. n + c.accept.new.self.owners_left) (ap (λ x. x.owners) r) ∙ p.0, ap (λ x. x.waits) r ∙ p.1)) in
     let same = g.O.Party.PartialEq.eq in
     let most = c.loop.connections.most_open in
     let from = g.W.Stream.Source in
     let to = g.W.Stream.Sink in
     let left = c.accept.new.self.owners_left in
-    let came = accepted_events same most from to c.accept.result c.loop.connections.accept_state c.loop.connections c.accept.new.self c.loop.connections.owners_left left _ _ _ refl
+    let came_events = accepted_events same most from to c.accept.result c.loop.connections.accept_state c.loop.connections c.accept.new.self c.loop.connections.owners_left left _ _ _ refl
     c.accept.ensures.left c.accept.ensures.tally c.accept.ensures.added c.loop.invariant.events in
-    let stopped = stopped_events same most from to left c.accept.new.self.slots _ _ _ c.stop_listening.ensures.rest came in
-    let wound = wound_events same most from to left c.accept.new.self.slots c.wind_down.new.self.slots _ _ c.wind_down.ensures.readers stopped in
+    let stopped_then = stopped_events same most from to left c.accept.new.self.slots _ _ _ c.stop_listening.ensures.rest came_events in
+    let wound = wound_events same most from to left c.accept.new.self.slots c.wind_down.new.self.slots _ _ c.wind_down.ensures.readers stopped_then in
     let owners = tallies_then (Has c.args.count c.loop.connections.owners_left c.loop.counter) (Accepts c.accept.result c.loop.connections.accept_state c.loop.connections.owners_left left)
     (λ t u. u.owners + left ≡ t.owners + c.args.count) _ _ _ c.loop.invariant.tally c.accept.ensures.tally (λ t u v p r. omega (arith, p.0, r.0)) in
     let owners_then = tallies_then (λ t u. u.owners + left ≡ t.owners + c.args.count) OnlyListening (λ t u. u.owners + left ≡ t.owners + c.args.count) _ _ _ owners c.stop_listening.ensures.rest
     (λ t u v p r. ap (λ n. n + left) (ap (λ x. x.owners) r) ∙ p) in
     let owners_last = tallies_then (λ t u. u.owners + left ≡ t.owners + c.args.count) BreaksDown (λ t u. u.owners + left ≡ t.owners + c.args.count) _ _ _ owners_then c.in-Err.ensures.fails
     (λ t u v p r. let (failed, arrivals, wakes, missed, same_owners, listens, accepts) = r in ap (λ n. n + left) same_owners ∙ p) in
-    closed_for_cause same most from to _ c.args.count left _ c.wind_down.new.self.slots _ _ c.loop.invariant.most_open (λ over. absurd (cc over)) owners_last
-    (broken_events same most from to left c.wind_down.new.self.slots _ _ _ c.in-Err.ensures.fails wound)
+    record {
+      run = (tasks_in c.wind_down.new.self.slots, come.run, (λ over. absurd (cc over)));
+      in_turn = in_turn g.O.Party.PartialEq.eq g.O.Service.is_by g.O.Service.answers g.O.Service.resumes g.W.Stream.Source g.W.Stream.Sink g.met.O.Party.Eq.laws c.args.service.now c.loop.service c.wind_down.new.self.event_count c.wind_down.new.self.slots _ _ come;
+      rounds = broken_rounds g.O.Party.PartialEq.eq g.O.Service.is_by g.O.Service.answers g.O.Service.resumes g.W.Stream.Source g.W.Stream.Sink c.args.service.now c.loop.service _ _ _ c.in-Err.ensures.fails (in_rounds g.O.Party.PartialEq.eq g.O.Service.is_by g.O.Service.answers g.O.Service.resumes g.W.Stream.Source g.W.Stream.Sink g.met.O.Party.Eq.laws c.args.service.now c.loop.service c.wind_down.new.self.event_count c.wind_down.new.self.slots _ _ come);
+      end = tallies_then (Has c.args.count c.accept.new.self.owners_left c.loop.counter) BreaksDown (EndsSo Fault c.args.count) _ _ _ stopped c.in-Err.ensures.fails (λ t u v p r. r.0);
+      listens = listens_till c.args.count c.accept.new.self.owners_left (c.loop.counter + 1) _ _ (omega arith)
+          (broken_listening c.args.count c.accept.new.self.owners_left (c.loop.counter + 1) _ _ _ c.in-Err.ensures.fails (stopped_listening c.args.count c.accept.new.self.owners_left (c.loop.counter + 1) _ _ _ c.stop_listening.ensures.listens c.stop_listening.ensures.rest
+          (accepted_listening c.accept.result c.loop.connections.accept_state c.args.count c.loop.connections.owners_left c.accept.new.self.owners_left c.loop.counter _ _ _
+          c.accept.ensures.left c.accept.ensures.tally c.accept.ensures.listens c.loop.invariant.listens)));
+      closes = closed_for_cause same most from to _ c.args.count left _ c.wind_down.new.self.slots _ _ c.loop.invariant.most_open (λ over. absurd (cc over)) owners_last
+          (broken_events same most from to left c.wind_down.new.self.slots _ _ _ c.in-Err.ensures.fails wound);
+      asks = asked_once c.args.count (c.loop.counter + 1) _ _ (omega arith)
+          (asks_kept c.args.count (c.loop.counter + 1) BreaksDown _ _ _ (λ t u r. let (failed, arrivals, wakes, missed, owners, listens, accepts) = r in accepts) c.in-Err.ensures.fails
+          (asks_kept c.args.count (c.loop.counter + 1) OnlyListening _ _ _ (λ t u r. ap (λ x. x.accepts) r) c.stop_listening.ensures.rest (
+          asks_first c.accept.result c.loop.connections.accept_state c.args.count c.loop.counter c.loop.connections.owners_left c.accept.new.self.owners_left _ _ _ c.loop.invariant.starts
+          c.accept.ensures.tally c.loop.invariant.asks)));
+    }
+
+pub returns-clause-in_turn : goal.returns-clause-in_turn
+returns-clause-in_turn g c =
+    in_turn g.O.Party.PartialEq.eq g.O.Service.is_by g.O.Service.answers g.O.Service.resumes g.W.Stream.Source g.W.Stream.Sink g.met.O.Party.Eq.laws c.args.service.now c.loop.service c.loop.connections.event_count c.loop.connections.slots _ _ c.loop.invariant.so_far
+
+pub returns-clause-rounds : goal.returns-clause-rounds
+returns-clause-rounds g c =
+    in_rounds g.O.Party.PartialEq.eq g.O.Service.is_by g.O.Service.answers g.O.Service.resumes g.W.Stream.Source g.W.Stream.Sink g.met.O.Party.Eq.laws c.args.service.now c.loop.service c.loop.connections.event_count c.loop.connections.slots _ _ c.loop.invariant.so_far
+
+pub returns-clause-run : goal.returns-clause-run
+returns-clause-run g c = (tasks_in c.loop.connections.slots, c.loop.invariant.so_far.run, (λ over. absurd (cc over)))
+
+pub returns-clause-listens : goal.returns-clause-listens
+returns-clause-listens g c = listens_till c.args.count c.loop.connections.owners_left c.loop.counter _ _ (omega arith) c.loop.invariant.listens
 
 pub returns-clause-closes : goal.returns-clause-closes
 returns-clause-closes g c =
@@ -275,24 +216,6 @@ returns-clause-closes g c =
     c.loop.invariant.most_open (λ over. absurd (cc over))
     (tallies_weaker (Has c.args.count c.loop.connections.owners_left c.loop.counter) (λ t u. u.owners + c.loop.connections.owners_left ≡ t.owners + c.args.count) _ _ c.loop.invariant.tally (λ t u p. p.0))
     c.loop.invariant.events
-
-pub returns-then-is_err-clause-asks : goal.returns-then-is_err-clause-asks
-returns-then-is_err-clause-asks g c = asked_once c.args.count (c.loop.counter + 1) _ _ (omega arith) (
-    asks_first c.accept.result c.loop.connections.accept_state c.args.count c.loop.counter c.loop.connections.owners_left c.accept.new.self.owners_left _ _ _ c.loop.invariant.starts
-    c.accept.ensures.tally c.loop.invariant.asks)
-
-pub returns-then-is_over-clause-asks : goal.returns-then-is_over-clause-asks
-returns-then-is_over-clause-asks g c = asked_once c.args.count (c.loop.counter + 1) _ _ (omega arith)
-    (asks_kept c.args.count (c.loop.counter + 1) OnlyListening _ _ _ (λ t u r. ap (λ x. x.accepts) r) c.stop_listening.ensures.rest (
-    asks_first c.accept.result c.loop.connections.accept_state c.args.count c.loop.counter c.loop.connections.owners_left c.accept.new.self.owners_left _ _ _ c.loop.invariant.starts
-    c.accept.ensures.tally c.loop.invariant.asks))
-
-pub returns-in-Err-clause-asks : goal.returns-in-Err-clause-asks
-returns-in-Err-clause-asks g c = asked_once c.args.count (c.loop.counter + 1) _ _ (omega arith)
-    (asks_kept c.args.count (c.loop.counter + 1) BreaksDown _ _ _ (λ t u r. let (failed, arrivals, wakes, missed, owners, listens, accepts) = r in accepts) c.in-Err.ensures.fails
-    (asks_kept c.args.count (c.loop.counter + 1) OnlyListening _ _ _ (λ t u r. ap (λ x. x.accepts) r) c.stop_listening.ensures.rest (
-    asks_first c.accept.result c.loop.connections.accept_state c.args.count c.loop.counter c.loop.connections.owners_left c.accept.new.self.owners_left _ _ _ c.loop.invariant.starts
-    c.accept.ensures.tally c.loop.invariant.asks)))
 
 pub returns-clause-asks : goal.returns-clause-asks
 returns-clause-asks g c = asked_once c.args.count c.loop.counter _ _ (omega arith) c.loop.invariant.asks

@@ -1,10 +1,8 @@
 -- The service ran so far by rounds, in turn, and the tasks left are those of the connections. The accepted owners and those still to accept
 -- add up, and each that came is open or was closed for a cause. There were as many waits as rounds, and the network listened while owners were still to be accepted.
-use Rattle.std.proofs.Common.{◌≡◌, ◌≤◌, ◌+◌, ◌*◌}
-use Rattle.std.specs.Prelude.{IfSome}
+use Rattle.std.proofs.Common.{◌≡◌, ◌≤◌, ◌+◌, ◌*◌, IfSome}
+use Rattle.toll_server.proofs.Common.{Tallies, Open}
 use Rattle.toll_server.proofs.ClosingLemmas.{Asks, EventsSoFar}
-use Rattle.toll_server.specs.Networks.{Tallies}
-use Rattle.toll_server.specs.declared.connections.AcceptState.TheVariants.{Open}
 use Rattle.toll_server.specs.declared.network.TheConstants.{MOST_READY}
 use Rattle.toll_server.proofs.ListenLemmas.{ListensSoFar}
 use Rattle.toll_server.proofs.RoundLemmas.{IsServedSoFar}

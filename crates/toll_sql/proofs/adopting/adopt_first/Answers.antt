@@ -1,5 +1,5 @@
 use Rattle.std.proofs.Common.{rules}
-use Rattle.sqlite.specs.Held.{state}
+use Rattle.toll_sql.proofs.Common.{state}
 use Rattle.toll_sql.proofs.RaiseLemmas.{all_adopted, raise_other_first}
 use Rattle.toll_sql.proofs.adopting.adopt_first.Goals as goal
 

@@ -1,6 +1,5 @@
 use Rattle.std.proofs.Common.{rules}
-use Rattle.sqlite.specs.Held.{state}
-use Rattle.toll_sql.specs.First.{first_version}
+use Rattle.toll_sql.proofs.Common.{state, first_version}
 use Rattle.toll_sql.proofs.AdoptLemmas.{IsMisfit, other_version, this_version}
 use Rattle.toll_sql.proofs.adopting.adopt_ours.Goals as goal
 

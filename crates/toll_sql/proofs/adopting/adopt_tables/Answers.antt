@@ -1,6 +1,5 @@
 use Rattle.std.proofs.Common.{subst}
-use Rattle.sqlite.specs.Held.{state}
-use Rattle.toll_sql.specs.Opening.{Adopts}
+use Rattle.toll_sql.proofs.Common.{state, Adopts}
 use Rattle.toll_sql.proofs.AdoptLemmas.{adopted}
 use Rattle.toll_sql.proofs.adopting.adopt_tables.Goals as goal
 

@@ -1,6 +1,4 @@
-use Rattle.sqlite.specs.Held.{state}
-use Rattle.toll_sql.specs.Create.{IsShapedAs}
-use Rattle.toll_sql.specs.First.{IsFirst, Raised, first_ours}
+use Rattle.toll_sql.proofs.Common.{state, IsShapedAs, IsFirst, Raised, first_ours}
 use Rattle.toll_sql.proofs.RaiseLemmas.{all_brought, none_brought, start_first}
 use Rattle.toll_sql.proofs.adopting.raise_all.Goals as goal
 

@@ -1,7 +1,5 @@
 use Rattle.std.proofs.Common.{Ok, rules, subst}
-use Rattle.sqlite.specs.Held.{state}
-use Rattle.toll_sql.specs.Create.{IsMaking, IsNewDatabase, IsTransactionStep}
-use Rattle.toll_sql.specs.Plain.{no_schema}
+use Rattle.toll_sql.proofs.Common.{state, IsMaking, IsNewDatabase, IsTransactionStep, no_schema}
 use Rattle.toll_sql.proofs.Whole.{committed}
 use Rattle.toll_sql.proofs.creating.create_or_none.Goals as goal
 

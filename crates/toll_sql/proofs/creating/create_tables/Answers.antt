@@ -1,7 +1,5 @@
 use Rattle.std.proofs.Common.{rules, subst}
-use Rattle.sqlite.specs.Held.{state}
-use Rattle.toll_sql.specs.Create.{IsMaking, IsNewDatabase, IsWholeOrNothing}
-use Rattle.toll_sql.specs.Plain.{no_schema}
+use Rattle.toll_sql.proofs.Common.{state, IsMaking, IsNewDatabase, IsWholeOrNothing, no_schema}
 use Rattle.toll_sql.proofs.OverLemmas.{created, failed_with, made_ok, not_created}
 use Rattle.toll_sql.proofs.creating.create_tables.Goals as goal
 

@@ -1,7 +1,4 @@
-use Rattle.sqlite.specs.Held.{state}
-use Rattle.toll_sql.specs.Create.{IsMaking, IsNewDatabase, IsShapedAs, MakesAllTables, WritesVersion}
-use Rattle.toll_sql.specs.Plain.{no_schema}
-use Rattle.toll_sql.specs.Schema.{made_all}
+use Rattle.toll_sql.proofs.Common.{state, IsMaking, IsNewDatabase, IsShapedAs, MakesAllTables, WritesVersion, no_schema, made_all}
 use Rattle.toll_sql.proofs.Fresh.{made_new, shaped_new}
 use Rattle.toll_sql.proofs.StepLemmas.{step_in_turn}
 use Rattle.toll_sql.proofs.creating.make_all.Goals as goal

@@ -1,7 +1,5 @@
 use Rattle.std.proofs.Common.{◌≡◌, ◌+◌, Ok, Err, rules, subst, arith}
-use Rattle.sqlite.specs.Held.{state}
-use Rattle.toll_sql.specs.Create.{IsMaking, IsTransactionStep, MakesAllTables}
-use Rattle.toll_sql.specs.Plain.{no_schema}
+use Rattle.toll_sql.proofs.Common.{state, IsMaking, IsTransactionStep, MakesAllTables, no_schema}
 use Rattle.toll_sql.proofs.MakeLemmas.{MakesFirst, next_step, none_yet}
 use Rattle.toll_sql.proofs.StepLemmas.{step_with_other_answer, makes_more, stopped_at_first}
 use Rattle.toll_sql.proofs.creating.make_tables.Goals as goal

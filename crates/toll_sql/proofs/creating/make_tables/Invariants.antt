@@ -1,7 +1,5 @@
 use Rattle.std.proofs.Common.{◌≡◌}
-use Rattle.sqlite.specs.Held.{state}
-use Rattle.toll_sql.specs.Create.{IsMaking, IsTransactionStep}
-use Rattle.toll_sql.specs.Plain.{no_schema}
+use Rattle.toll_sql.proofs.Common.{state, IsMaking, IsTransactionStep, no_schema}
 use Rattle.toll_sql.proofs.MakeLemmas.{MakesFirst, none_yet}
 use Rattle.toll_sql.proofs.creating.make_tables.Given as goal
 

@@ -1,8 +1,4 @@
-use Rattle.sqlite.specs.Held.{state}
-use Rattle.toll_sql.specs.Create.{IsMaking, IsShapedAs, MakesTable, WritesVersion}
-use Rattle.toll_sql.specs.First.{Raised, first_ours}
-use Rattle.toll_sql.specs.Schema.{made_all}
-use Rattle.toll_sql.specs.declared.table_kind.TableKind.TheVariants.{Voids}
+use Rattle.toll_sql.proofs.Common.{state, IsMaking, IsShapedAs, MakesTable, WritesVersion, Raised, first_ours, made_all, Voids}
 use Rattle.toll_sql.proofs.Raising.{raised, raised_shaped}
 use Rattle.toll_sql.proofs.StepLemmas.{step_from_more, step_in_turn}
 use Rattle.toll_sql.proofs.creating.raise.Goals as goal

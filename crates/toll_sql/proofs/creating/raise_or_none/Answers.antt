@@ -1,7 +1,5 @@
 use Rattle.std.proofs.Common.{Ok, rules, subst}
-use Rattle.sqlite.specs.Held.{state}
-use Rattle.toll_sql.specs.Create.{IsShapedAs, IsTransactionStep}
-use Rattle.toll_sql.specs.First.{Raised, first_ours}
+use Rattle.toll_sql.proofs.Common.{state, IsShapedAs, IsTransactionStep, Raised, first_ours}
 use Rattle.toll_sql.proofs.StepLemmas.{makes_more}
 use Rattle.toll_sql.proofs.Whole.{committed}
 use Rattle.toll_sql.proofs.creating.raise_or_none.Goals as goal

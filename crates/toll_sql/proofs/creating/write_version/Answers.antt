@@ -1,12 +1,5 @@
 use Rattle.std.proofs.Common.{◌≡◌, true, refl, subst}
-use Rattle.sqlite.specs.Held.{state}
-use Rattle.toll_sql.specs.Cells.{fill}
-use Rattle.toll_sql.specs.Create.{IsShapedAs, WritesVersion}
-use Rattle.toll_sql.specs.Encode.{meta_cells}
-use Rattle.toll_sql.specs.Holds.{version}
-use Rattle.toll_sql.specs.Stores.{IsReady, IsWriting, MakesRow}
-use Rattle.toll_sql.specs.Schema.{made_all}
-use Rattle.toll_sql.specs.declared.table_kind.TableKind.TheVariants.{Meta}
+use Rattle.toll_sql.proofs.Common.{state, fill, IsShapedAs, WritesVersion, meta_cells, version, IsReady, IsWriting, MakesRow, made_all, Meta}
 use Rattle.toll_sql.proofs.MakeLemmas.{make_ready, version_written}
 use Rattle.toll_sql.proofs.StepLemmas.{step_from_more, makes_more, put_step}
 use Rattle.toll_sql.proofs.creating.write_version.Goals as goal

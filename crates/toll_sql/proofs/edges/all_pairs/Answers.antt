@@ -1,9 +1,8 @@
 use Rattle.std.proofs.Common.{[], refl}
-use Rattle.toll_sql.proofs.Common.{IfOk-weaker, state}
+use Rattle.toll_sql.proofs.Common.{IfOk-weaker, state, all_text}
 use Rattle.toll_sql.proofs.AskLemmas.{select_answered}
 use Rattle.toll_sql.proofs.AskedLemmas.{read_with}
 use Rattle.toll_sql.proofs.EdgesShown.{all_shown}
-use Rattle.toll_sql.specs.AskedTexts.{all_text}
 use Rattle.toll_sql.proofs.JoinQuery.{all_plain, all_answered}
 use Rattle.toll_sql.proofs.edges.all_pairs.Goals as goal
 

@@ -1,6 +1,5 @@
 use Rattle.std.proofs.Common.{rules}
-use Rattle.toll_sql.specs.Cells.{columns_from}
-use Rattle.toll_sql.specs.EdgeRows.{ShowsEdge, edge_cells}
+use Rattle.toll_sql.proofs.Common.{columns_from, ShowsEdge, edge_cells}
 use Rattle.toll_sql.proofs.ListLemmas.{more_shown}
 use Rattle.toll_sql.proofs.SoFar.{first_good}
 use Rattle.toll_sql.proofs.edges.edges_in.Goals as goal

@@ -1,7 +1,5 @@
 use Rattle.std.proofs.Common.{◌≡◌, ◌≤◌, take, map}
-use Rattle.toll_sql.specs.Cells.{columns_from}
-use Rattle.toll_sql.specs.EdgeRows.{ShowsEdge, edge_cells}
-use Rattle.toll_sql.specs.Shown.{FirstIs}
+use Rattle.toll_sql.proofs.Common.{columns_from, ShowsEdge, edge_cells, FirstIs}
 use Rattle.toll_sql.proofs.edges.edges_in.Given as goal
 
 abbrev pub invariant-loop-row : goal.invariant-loop-row

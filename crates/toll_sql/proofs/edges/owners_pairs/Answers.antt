@@ -1,9 +1,8 @@
 use Rattle.std.proofs.Common.{[], ◌∷◌, refl, ap}
-use Rattle.toll_sql.proofs.Common.{IfOk-weaker, state, Bytes, Text}
+use Rattle.toll_sql.proofs.Common.{IfOk-weaker, state, Bytes, Text, owners_text}
 use Rattle.toll_sql.proofs.AskLemmas.{select_answered}
 use Rattle.toll_sql.proofs.AskedLemmas.{read_with}
 use Rattle.toll_sql.proofs.EdgesShown.{owners_shown}
-use Rattle.toll_sql.specs.AskedTexts.{owners_text}
 use Rattle.toll_sql.proofs.JoinQuery.{owners_plain, owners_answered}
 use Rattle.toll_sql.proofs.edges.owners_pairs.Goals as goal
 

@@ -1,7 +1,5 @@
 use Rattle.std.proofs.Common.{IfOk, refl, subst}
-use Rattle.toll_sql.proofs.Common.{IfOk-weaker, state, IsEdge}
-use Rattle.toll_sql.specs.EdgeRows.{AreEdgesReadFrom, HasNoEdge}
-use Rattle.toll_sql.specs.declared.table_kind.TableKind.TheVariants.{Moves}
+use Rattle.toll_sql.proofs.Common.{IfOk-weaker, state, IsEdge, AreEdgesReadFrom, HasNoEdge, Moves}
 use Rattle.toll_sql.proofs.EdgesRead.{each_named, edge_named, read_from}
 use Rattle.toll_sql.proofs.LookLemmas.{looking}
 use Rattle.toll_sql.proofs.edges.read_edges.Goals as goal

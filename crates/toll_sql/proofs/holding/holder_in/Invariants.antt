@@ -1,7 +1,5 @@
-use Rattle.std.proofs.Common.{◌≡◌, IfSome, None, take}
-use Rattle.std.specs.Prelude.{Contains}
-use Rattle.toll_sql.proofs.Common.{Row}
-use Rattle.toll_sql.specs.HolderRows.{AreBatchRows, IsRowOfBatch}
+use Rattle.std.proofs.Common.{◌≡◌, IfSome, None, take, Contains}
+use Rattle.toll_sql.proofs.Common.{Row, AreBatchRows, IsRowOfBatch}
 use Rattle.toll_sql.proofs.holding.holder_in.Given as goal
 
 -- The rows so far are those of batches, and one of them is that of the batch that was found.

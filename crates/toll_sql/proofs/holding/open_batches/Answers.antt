@@ -1,8 +1,7 @@
 use Rattle.std.proofs.Common.{[], ◌∷◌, refl, ap}
-use Rattle.toll_sql.proofs.Common.{IfOk-weaker, state, Bytes, Text}
+use Rattle.toll_sql.proofs.Common.{IfOk-weaker, state, Bytes, Text, unit_text}
 use Rattle.toll_sql.proofs.AskLemmas.{select_answered}
 use Rattle.toll_sql.proofs.AskedLemmas.{read_with}
-use Rattle.toll_sql.specs.AskedTexts.{unit_text}
 use Rattle.toll_sql.proofs.HolderShown.{unit_plain, unit_answered, found_on, holders_shown}
 use Rattle.toll_sql.proofs.holding.open_batches.Goals as goal
 

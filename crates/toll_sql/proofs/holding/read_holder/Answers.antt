@@ -1,7 +1,5 @@
 use Rattle.std.proofs.Common.{[], ◌∷◌, IfOk, OnOk, subst}
-use Rattle.toll_sql.proofs.Common.{state, Text}
-use Rattle.toll_sql.specs.AskedTexts.{unit_text}
-use Rattle.toll_sql.specs.HolderRows.{AreBatchRows, HasNoBatch, IsShownIn, open_on}
+use Rattle.toll_sql.proofs.Common.{state, Text, unit_text, AreBatchRows, HasNoBatch, IsShownIn, open_on}
 use Rattle.toll_sql.proofs.HolderShown.{holder_each_named, holder_read_from, shown_whole, told_too, unnamed_too, whole_too}
 use Rattle.toll_sql.proofs.LookLemmas.{looking}
 use Rattle.toll_sql.proofs.holding.read_holder.Goals as goal

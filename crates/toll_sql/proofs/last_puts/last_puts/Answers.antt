@@ -1,6 +1,5 @@
 use Rattle.std.proofs.Common.{◌≡◌, ◌-◌, ◌∷◌, drop, reverse, ap, subst, sym, ◌∙◌, arith}
-use Rattle.toll_sql.proofs.Common.{AllByRecursion}
-use Rattle.toll_sql.specs.LastPuts.{AreNoted, IsSublotValid, last_puts}
+use Rattle.toll_sql.proofs.Common.{AllByRecursion, AreNoted, IsSublotValid, last_puts}
 use Rattle.toll_sql.proofs.PutAgain.{one_before, one_kept, last_left}
 use Rattle.toll_sql.proofs.last_puts.last_puts.Goals as goal
 

@@ -1,6 +1,5 @@
 use Rattle.std.proofs.Common.{◌≡◌, drop, reverse}
-use Rattle.toll_sql.proofs.Common.{AllByRecursion}
-use Rattle.toll_sql.specs.LastPuts.{AreNoted, IsSublotValid, last_puts}
+use Rattle.toll_sql.proofs.Common.{AllByRecursion, AreNoted, IsSublotValid, last_puts}
 use Rattle.toll_sql.proofs.last_puts.last_puts.Given as goal
 
 abbrev pub invariant-loop-i : goal.invariant-loop-i

@@ -1,6 +1,5 @@
 use Rattle.std.proofs.Common.{true, cond, ◌||◌, ap, ◌∙◌}
-use Rattle.toll_sql.proofs.Common.{is_eq}
-use Rattle.toll_sql.specs.LastPuts.{are_putting, is_same, sublot_cmp}
+use Rattle.toll_sql.proofs.Common.{is_eq, are_putting, is_same, sublot_cmp}
 use Rattle.toll_sql.proofs.PutAgain.{cond_or}
 use Rattle.toll_sql.proofs.last_puts.note.Goals as goal
 

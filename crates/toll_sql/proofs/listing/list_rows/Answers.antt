@@ -1,7 +1,5 @@
 use Rattle.std.proofs.Common.{◌∙◌, ap, map, rules}
-use Rattle.toll_sql.specs.Cells.{columns_from}
-use Rattle.toll_sql.specs.PlantRows.{ShowsRow}
-use Rattle.toll_sql.specs.Schema.{width_of}
+use Rattle.toll_sql.proofs.Common.{columns_from, width_of, ShowsRow}
 use Rattle.toll_sql.proofs.ListLemmas.{list_item, list_item_is, list_item_valid, more_shown, more_valid, read_it, take_past, with_list_item}
 use Rattle.toll_sql.proofs.SoFar.{first_good}
 use Rattle.toll_sql.proofs.listing.list_rows.Goals as goal

@@ -1,10 +1,6 @@
 use Rattle.std.proofs.Common.{◌≡◌, ◌≤◌, List, map, take}
+use Rattle.toll_sql.proofs.Common.{columns_from, FirstIs, AreStoredOfPlant, width_of, ShowsRow}
 use Rattle.std.specs.List.{AllByRecursion}
-use Rattle.toll_sql.specs.Cells.{columns_from}
-use Rattle.toll_sql.specs.PlantRows.{ShowsRow}
-use Rattle.toll_sql.specs.Shown.{FirstIs}
-use Rattle.toll_sql.specs.StoredLaws.{AreStoredOfPlant}
-use Rattle.toll_sql.specs.Schema.{width_of}
 use Rattle.toll_sql.proofs.listing.list_rows.Given as goal
 
 -- The rows so far are listed.

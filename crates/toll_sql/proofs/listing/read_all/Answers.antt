@@ -1,8 +1,5 @@
 use Rattle.std.proofs.Common.{◌≡◌, false, map, sym, ap, subst, ◌∙◌}
-use Rattle.toll_sql.proofs.Common.{IfOk-weaker, state}
-use Rattle.toll_sql.specs.Asked.{AreReadBy}
-use Rattle.toll_sql.specs.Cells.{columns_from}
-use Rattle.toll_sql.specs.Schema.{is_owned, select_text, width_of}
+use Rattle.toll_sql.proofs.Common.{IfOk-weaker, state, AreReadBy, columns_from, is_owned, select_text, width_of}
 use Rattle.toll_sql.proofs.LookLemmas.{looking, plant_rows}
 use Rattle.toll_sql.proofs.listing.read_all.Goals as goal
 

@@ -1,6 +1,5 @@
 use Rattle.std.proofs.Common.{Option, None, Some, Err, IfSome, ap, ◌∙◌}
-use Rattle.toll_sql.specs.FromFiles.{fault_of_files}
-use Rattle.toll_sql.specs.declared.open_fault.OpenFault.{OpenFault}
+use Rattle.toll_sql.proofs.Common.{OpenFault, fault_of_files}
 use Rattle.toll_sql.proofs.opening.connect.Goals as goal
 
 weaker : {X : Type 0} (P Q : X → Type 0) → ((x : X) → P x → Q x) → (o : Option X) → IfSome o P → IfSome o Q

@@ -1,6 +1,5 @@
 use Rattle.std.proofs.Common.{[], refl}
-use Rattle.toll_sql.proofs.Common.{IfOk-weaker, state}
-use Rattle.toll_sql.specs.Schema.{select_text}
+use Rattle.toll_sql.proofs.Common.{IfOk-weaker, state, select_text}
 use Rattle.toll_sql.proofs.AskLemmas.{all_selected, select_answered, select_plain}
 use Rattle.toll_sql.proofs.AskedLemmas.{read_of}
 use Rattle.toll_sql.proofs.queries.all_rows.Goals as goal

@@ -1,6 +1,5 @@
 use Rattle.std.proofs.Common.{[], ◌∷◌, ap}
-use Rattle.toll_sql.proofs.Common.{IfOk-weaker, state, Bytes, Text}
-use Rattle.toll_sql.specs.Schema.{select_text}
+use Rattle.toll_sql.proofs.Common.{IfOk-weaker, state, Bytes, Text, select_text}
 use Rattle.toll_sql.proofs.AskLemmas.{select_answered, owners_selected, select_plain}
 use Rattle.toll_sql.proofs.queries.owners_rows.Goals as goal
 

@@ -1,7 +1,5 @@
 use Rattle.std.proofs.Common.{◌≡◌, ◌∙◌, Err, rules}
-use Rattle.toll_sql.proofs.Common.{column, Text}
-use Rattle.toll_sql.specs.Reading.{TakesRows}
-use Rattle.toll_sql.specs.Shown.{IsRowOfOwner}
+use Rattle.toll_sql.proofs.Common.{column, Text, TakesRows, IsRowOfOwner}
 use Rattle.toll_sql.proofs.SoFar.{all_behind, all_with_one_more, value_there}
 use Rattle.toll_sql.proofs.Taken.{all_taken, lacks_here, one_more_taken}
 use Rattle.toll_sql.proofs.RowsIn.{table_item, table_item_is, table_item_valid, with_table_item, with_it_keeps}

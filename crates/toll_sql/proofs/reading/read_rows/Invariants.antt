@@ -1,9 +1,5 @@
 use Rattle.std.proofs.Common.{◌≡◌, take}
-use Rattle.toll_sql.proofs.Common.{AllByRecursion, Bytes, Slice}
-use Rattle.toll_sql.specs.Fronts.{front_slice, IsStoredAs}
-use Rattle.toll_sql.specs.Reading.{AreTaken}
-use Rattle.toll_sql.specs.Shown.{AreOwnedBy, IsRowOfOwner}
-use Rattle.toll_sql.specs.StoredLaws.{AreStoredOfOwner}
+use Rattle.toll_sql.proofs.Common.{AllByRecursion, Bytes, Slice, front_slice, IsStoredAs, AreTaken, AreOwnedBy, IsRowOfOwner, AreStoredOfOwner}
 use Rattle.toll_sql.proofs.reading.read_rows.Given as goal
 
 -- The rows so far are in, and each is one of its kind.

@@ -1,12 +1,5 @@
 use Rattle.std.proofs.Common.{◌≡◌, true, List, inl, inr, refl, sym, subst}
-use Rattle.toll_sql.proofs.Common.{state, Row, HasCleanDisk, Slice, on_ok_weaker, AllByRecursion}
-use Rattle.toll_sql.specs.Fronts.{IsStoredAs}
-use Rattle.toll_sql.specs.Reading.{TakesRows}
-use Rattle.toll_sql.specs.Rows.{AreOfOwner}
-use Rattle.toll_sql.specs.Stores.{HoldsPartIn}
-use Rattle.toll_sql.specs.Others.{HasOurs}
-use Rattle.toll_sql.specs.Schema.{is_owned}
-use Rattle.toll_sql.specs.Shown.{AreOwnedBy, IsRowOfOwner}
+use Rattle.toll_sql.proofs.Common.{state, Row, HasCleanDisk, Slice, on_ok_weaker, AllByRecursion, IsStoredAs, TakesRows, AreOfOwner, HoldsPartIn, HasOurs, is_owned, AreOwnedBy, IsRowOfOwner}
 use Rattle.toll_sql.proofs.LookLemmas.{looking, stored_as}
 use Rattle.toll_sql.proofs.SoFar.{read_owned, stored_shown}
 use Rattle.toll_sql.proofs.reading.read_table.Goals as goal

@@ -1,10 +1,5 @@
 use Rattle.std.proofs.Common.{[], rules, Option, Ok, Err, sym, subst, ◌∙◌}
-use Rattle.toll_sql.proofs.Common.{false≢true, state, Slice}
-use Rattle.toll_sql.specs.Asking.{IsLooking}
-use Rattle.toll_sql.specs.Encode.{owner_cells}
-use Rattle.toll_sql.specs.Shown.{AreReported, tables_of_owners}
-use Rattle.toll_sql.specs.Valid.{IsOwner}
-use Rattle.toll_sql.specs.declared.table_kind.TableKind.TheVariants.{Owners}
+use Rattle.toll_sql.proofs.Common.{false≢true, state, Slice, IsLooking, owner_cells, AreReported, tables_of_owners, IsOwner, Owners}
 use Rattle.toll_sql.proofs.Alone.{all_rows, no_rows_read, told_reads, told_whole}
 use Rattle.toll_sql.proofs.ReadOn.{looks_then, looks_as, shows_then}
 use Rattle.toll_sql.proofs.slice_reading.read_slice.Goals as goal

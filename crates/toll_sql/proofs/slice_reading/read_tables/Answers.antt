@@ -1,11 +1,5 @@
 use Rattle.std.proofs.Common.{◌≡◌, ◌<◌, ◌+◌, List, take, drop, length, Err, rules, ap, subst, arith}
-use Rattle.sqlite.specs.Held.{state}
-use Rattle.toll_sql.specs.Fronts.{front_slice}
-use Rattle.toll_sql.specs.Reading.{ReadsOn}
-use Rattle.toll_sql.specs.Shown.{tables_of_owners}
-use Rattle.toll_sql.specs.Schema.{every_table}
-use Rattle.toll_sql.specs.declared.table_kind.TableKind.{TableKind}
-use Rattle.toll_sql.specs.declared.table_kind.TableKind.TheVariants.{Materials}
+use Rattle.toll_sql.proofs.Common.{state, front_slice, ReadsOn, tables_of_owners, every_table, TableKind, Materials}
 use Rattle.toll_sql.proofs.ReadOn.{HasRead, kind_at, one_more_read, read_well, reads_not, owners_table_step}
 use Rattle.toll_sql.proofs.slice_reading.read_tables.Goals as goal
 

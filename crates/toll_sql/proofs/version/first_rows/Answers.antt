@@ -1,9 +1,7 @@
 use Rattle.std.proofs.Common.{[], IfOk, IfErr, subst}
-use Rattle.toll_sql.proofs.Common.{IfOk-weaker, state, CommitsShowing, FailsToQuery, HasCleanDisk, Shown, Survives}
+use Rattle.toll_sql.proofs.Common.{IfOk-weaker, state, CommitsShowing, FailsToQuery, HasCleanDisk, Shown, Survives, select_text, Meta}
 use Rattle.toll_sql.proofs.AskInside.{asked_first, asked_same, first_rows}
 use Rattle.toll_sql.proofs.AskedLemmas.{read_of}
-use Rattle.toll_sql.specs.Schema.{select_text}
-use Rattle.toll_sql.specs.declared.table_kind.TableKind.TheVariants.{Meta}
 use Rattle.toll_sql.proofs.version.first_rows.Goals as goal
 
 pub returns : goal.returns

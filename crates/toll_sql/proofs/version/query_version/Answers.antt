@@ -1,7 +1,5 @@
 use Rattle.std.proofs.Common.{◌⊎◌, [], IfOk, IfErr, rules, subst}
-use Rattle.toll_sql.proofs.Common.{state, FailsToQuery, HasCleanDisk, IsTooLate, Shown}
-use Rattle.toll_sql.specs.Schema.{select_text}
-use Rattle.toll_sql.specs.declared.table_kind.TableKind.TheVariants.{Meta}
+use Rattle.toll_sql.proofs.Common.{state, FailsToQuery, HasCleanDisk, IsTooLate, Shown, select_text, Meta}
 use Rattle.toll_sql.proofs.AskInside.{query_leaves_store}
 use Rattle.toll_sql.proofs.AskedLemmas.{read_of, unread_of}
 use Rattle.toll_sql.proofs.version.query_version.Goals as goal

@@ -1,6 +1,5 @@
 use Rattle.std.proofs.Common.{subst}
-use Rattle.sqlite.specs.Held.{state}
-use Rattle.toll_sql.specs.First.{IsVersionIn}
+use Rattle.toll_sql.proofs.Common.{state, IsVersionIn}
 use Rattle.toll_sql.proofs.MetaLemmas.{read_alone, read_told}
 use Rattle.toll_sql.proofs.version.read_first_version.Goals as goal
 

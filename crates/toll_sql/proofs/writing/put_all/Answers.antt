@@ -1,5 +1,5 @@
 use Rattle.std.proofs.Common.{◌∙◌}
-use Rattle.sqlite.specs.Held.{state}
+use Rattle.toll_sql.proofs.Common.{state}
 use Rattle.toll_sql.proofs.PutAgain.{made_all_of}
 use Rattle.toll_sql.proofs.writing.put_all.Goals as goal
 

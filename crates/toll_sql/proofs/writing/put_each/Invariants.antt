@@ -1,6 +1,5 @@
 use Rattle.std.proofs.Common.{◌≡◌, drop, IsTrue}
-use Rattle.toll_sql.proofs.Common.{state, HasCleanDisk, KeepsCommit, Survives}
-use Rattle.toll_sql.specs.Stores.{IsReady}
+use Rattle.toll_sql.proofs.Common.{state, HasCleanDisk, KeepsCommit, Survives, IsReady}
 use Rattle.toll_sql.proofs.Going.{GoesOn}
 use Rattle.toll_sql.proofs.writing.put_each.Given as goal
 

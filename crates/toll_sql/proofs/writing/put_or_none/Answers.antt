@@ -1,6 +1,5 @@
 use Rattle.std.proofs.Common.{Ok, IsTrue, rules, subst}
-use Rattle.toll_sql.proofs.Common.{state, HasCleanDisk}
-use Rattle.toll_sql.specs.Stores.{IsApplied, IsReady, IsWriting, LiesIdle, MakesAll}
+use Rattle.toll_sql.proofs.Common.{state, HasCleanDisk, IsApplied, IsReady, IsWriting, LiesIdle, MakesAll}
 use Rattle.toll_sql.proofs.Applied.{applied_all}
 use Rattle.toll_sql.proofs.StepLemmas.{makes_more, put_step}
 use Rattle.toll_sql.proofs.Whole.{committed}

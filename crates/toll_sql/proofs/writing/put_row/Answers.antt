@@ -1,7 +1,6 @@
 use Rattle.std.proofs.Common.{sym, subst}
-use Rattle.toll_sql.proofs.Common.{state, bound, Put}
+use Rattle.toll_sql.proofs.Common.{state, bound, Put, IsWriting, MakesPut}
 use Rattle.toll_base.specs.declared.rows.Row.TheVariants.{Move}
-use Rattle.toll_sql.specs.Stores.{IsWriting, MakesPut}
 use Rattle.toll_sql.proofs.ChangeLemmas.{as_change}
 use Rattle.toll_sql.proofs.writing.put_row.Goals as goal
 

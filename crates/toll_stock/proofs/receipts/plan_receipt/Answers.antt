@@ -1,7 +1,6 @@
 use Rattle.std.proofs.Common.{rules, ◌+◌, [], ◌∷◌, ◌++◌}
 use Rattle.std.specs.Prelude.{IfOk}
-use Rattle.toll_stock.proofs.Common.{lot_row_of, Put, Quarantined, Receipts, Lot, Move, Sublot, sublot_bounds, IsDecided, facts_of, key_checks, receive_checks}
-use Rattle.toll_history.specs.Puts.{gained}
+use Rattle.toll_stock.proofs.Common.{lot_row_of, Put, Quarantined, Receipts, Lot, Move, Sublot, sublot_bounds, IsDecided, facts_of, key_checks, receive_checks, gained}
 use Rattle.toll_stock.proofs.receipts.plan_receipt.Goals as goal
 
 pub returns-clause-plan : goal.returns-clause-plan

@@ -1,5 +1,4 @@
-use Rattle.toll_stock.proofs.Common.{puts_rows, facts_of, owed}
-use Rattle.toll_stock.specs.LotRows.{result_rows}
+use Rattle.toll_stock.proofs.Common.{puts_rows, facts_of, owed, result_rows}
 use Rattle.toll_stock.proofs.ResultLaw.{result_decided, result_keeps}
 use Rattle.toll_stock.proofs.results.record_result.Goals as goal
 

@@ -1,7 +1,6 @@
 use Rattle.std.proofs.Common.{rules, [], ◌∷◌, ◌++◌}
 use Rattle.std.specs.Prelude.{IfOk}
-use Rattle.toll_history.specs.Puts.{gained, less_in_sublot}
-use Rattle.toll_stock.proofs.Common.{Put, Move, Sublot, IsDecided, facts_of, key_checks}
+use Rattle.toll_stock.proofs.Common.{Put, Move, Sublot, IsDecided, facts_of, key_checks, gained, less_in_sublot}
 use Rattle.toll_stock.specs.Plans.{parted_checks}
 use Rattle.toll_stock.proofs.splits.plan_split.Goals as goal
 

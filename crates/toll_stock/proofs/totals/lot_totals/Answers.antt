@@ -1,5 +1,5 @@
 use Rattle.std.proofs.Common.{Some, sym, ◌∙◌}
-use Rattle.toll_stock.specs.declared.stock.Totals.{Totals}
+use Rattle.toll_stock.proofs.Common.{Totals}
 use Rattle.toll_stock.proofs.TotalsLaw.{none_given, totals_are_given}
 use Rattle.toll_stock.proofs.totals.lot_totals.Goals as goal
 

@@ -1,9 +1,7 @@
 -- With the shipments to come, the sum is that of all; and it fits 64 bits.
 use Rattle.std.proofs.Common.{◌≡◌, ◌+◌, ◌*◌, ◌≤◌, length}
-use Rattle.toll_stock.proofs.Common.{total}
-use Rattle.toll_stock.specs.LotTotals.{shipped_by}
+use Rattle.toll_stock.proofs.Common.{total, shipped_by, MOST_MOVEMENTS}
 use Rattle.toll_stock.proofs.totals.sum_of_shipments.Given as goal
-use Rattle.toll_base.specs.declared.capacity.TheConstants.{MOST_MOVEMENTS}
 
 abbrev pub invariant-loop-row : goal.invariant-loop-row
 invariant-loop-row l = record {

@@ -1,5 +1,5 @@
 use Rattle.std.proofs.Common.{take}
-use Rattle.toll_trace.specs.Places.{AreAhead}
+use Rattle.toll_trace.proofs.Common.{AreAhead}
 use Rattle.toll_trace.proofs.edge_index.entries_ahead.Given as goal
 
 abbrev pub invariant-loop-place : goal.invariant-loop-place

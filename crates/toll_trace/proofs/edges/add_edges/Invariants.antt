@@ -1,6 +1,5 @@
-use Rattle.std.proofs.Common.{◌≡◌, ◌++◌, take, map}
-use Rattle.std.specs.Prelude.{filter}
-use Rattle.toll_trace.specs.Uses.{is_not_above, edge_between}
+use Rattle.std.proofs.Common.{◌≡◌, ◌++◌, take, map, filter}
+use Rattle.toll_trace.proofs.Common.{is_not_above, edge_between}
 use Rattle.toll_trace.proofs.edges.add_edges.Given as goal
 
 abbrev pub invariant-loop-production : goal.invariant-loop-production

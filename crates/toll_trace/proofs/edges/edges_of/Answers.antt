@@ -1,7 +1,5 @@
 use Rattle.std.proofs.Common.{◌≤◌, ap, ◌∙◌, subst}
-use Rattle.toll_trace.proofs.Common.{flat_map, edge_cmp}
-use Rattle.toll_trace.specs.InOrder.{IsInOrder}
-use Rattle.toll_trace.specs.Uses.{AreLeft, edges_from}
+use Rattle.toll_trace.proofs.Common.{flat_map, edge_cmp, IsInOrder, AreLeft, edges_from}
 use Rattle.toll_trace.proofs.Drawn.{edges_are}
 use Rattle.toll_trace.proofs.edges.edges_of.Goals as goal
 

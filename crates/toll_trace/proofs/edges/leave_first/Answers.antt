@@ -1,6 +1,6 @@
 use Rattle.std.proofs.Common.{rules}
+use Rattle.toll_trace.proofs.Common.{same_use}
 use Rattle.std.proofs.lemmas.Fn.{dedup_same}
-use Rattle.toll_trace.specs.Uses.{same_use}
 use Rattle.toll_trace.proofs.edges.leave_first.Goals as goal
 
 pub returns : goal.returns

@@ -1,6 +1,5 @@
 use Rattle.std.proofs.Common.{◌≤◌, subst, sym, rules}
-use Rattle.toll_trace.proofs.Common.{is_lt, answers_always}
-use Rattle.toll_trace.specs.Uses.{AreLeft}
+use Rattle.toll_trace.proofs.Common.{is_lt, answers_always, AreLeft}
 use Rattle.toll_trace.proofs.Extremes.{use_cmp, uses_fall, highest_left}
 use Rattle.toll_trace.proofs.edges.leave_highest.Goals as goal
 

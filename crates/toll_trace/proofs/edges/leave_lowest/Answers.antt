@@ -1,5 +1,5 @@
 use Rattle.std.proofs.Common.{◌≤◌, subst, sym}
-use Rattle.toll_trace.specs.Uses.{AreLeft}
+use Rattle.toll_trace.proofs.Common.{AreLeft}
 use Rattle.toll_trace.proofs.Extremes.{lowest_left}
 use Rattle.toll_trace.proofs.edges.leave_lowest.Goals as goal
 

@@ -1,6 +1,5 @@
 use Rattle.std.proofs.Common.{◌++◌, ◌∙◌, map, ap, subst}
-use Rattle.toll_trace.proofs.Common.{lot_cmp}
-use Rattle.toll_trace.specs.InOrder.{IsInOrder}
+use Rattle.toll_trace.proofs.Common.{lot_cmp, IsInOrder}
 use Rattle.toll_trace.proofs.Recording.{used_in_order}
 use Rattle.toll_trace.proofs.graph.lots_used.Goals as goal
 

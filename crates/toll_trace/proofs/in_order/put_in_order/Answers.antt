@@ -1,5 +1,4 @@
-use Rattle.std.proofs.Common.{◌≡◌, true, sym, ◌∙◌}
-use Rattle.std.specs.Prelude.{Any}
+use Rattle.std.proofs.Common.{◌≡◌, true, sym, ◌∙◌, Any}
 use Rattle.std.proofs.lemmas.List.Filters.{dedup_is}
 use Rattle.toll_trace.proofs.Common.{Any-dedup, Contains-from_dedup, IsStrictlySortedBy-dedup, Contains-permutation, IsPermutation-sym}
 use Rattle.toll_trace.proofs.in_order.put_in_order.Goals as goal

@@ -1,5 +1,5 @@
 use Rattle.std.proofs.Common.{take}
-use Rattle.toll_trace.specs.Numbers.{AreAllNumbers}
+use Rattle.toll_trace.proofs.Common.{AreAllNumbers}
 use Rattle.toll_trace.proofs.numbers.add_numbers.Given as goal
 
 abbrev pub invariant-loop-lot : goal.invariant-loop-lot

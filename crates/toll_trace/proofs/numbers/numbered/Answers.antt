@@ -1,6 +1,5 @@
 use Rattle.std.proofs.Common.{subst, take}
-use Rattle.toll_trace.proofs.Common.{take_all}
-use Rattle.toll_trace.specs.Numbers.{HaveNumbers}
+use Rattle.toll_trace.proofs.Common.{take_all, HaveNumbers}
 use Rattle.toll_trace.proofs.Numbering.{lot_numbered_more}
 use Rattle.toll_trace.proofs.Walks.{item_of, with_item}
 use Rattle.toll_trace.proofs.numbers.numbered.Goals as goal

@@ -1,5 +1,5 @@
 use Rattle.std.proofs.Common.{take}
-use Rattle.toll_trace.specs.Numbers.{HaveNumbers}
+use Rattle.toll_trace.proofs.Common.{HaveNumbers}
 use Rattle.toll_trace.proofs.numbers.numbered.Given as goal
 
 abbrev pub invariant-loop-place : goal.invariant-loop-place

@@ -1,8 +1,8 @@
 use Rattle.std.proofs.Common.{rules}
+use Rattle.toll_trace.proofs.Common.{order_along, chain_segment_cmp, chain_cmp}
 use Rattle.std.proofs.lemmas.List.Sorted.{IsPartitionPoint-from_clause}
 use Rattle.toll_trace.proofs.Runs.{run_below, up_to, below_first, up_to_first}
 use Rattle.toll_trace.proofs.Ahead.{span_ahead, along_total, chains_along_total, chains_sorted}
-use Rattle.toll_trace.specs.Places.{order_along, chain_segment_cmp, chain_cmp}
 use Rattle.toll_trace.proofs.places.ahead_of.Goals as goal
 
 pub returns : goal.returns

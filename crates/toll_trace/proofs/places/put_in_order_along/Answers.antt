@@ -1,7 +1,5 @@
 use Rattle.std.proofs.Common.{rules}
-use Rattle.toll_trace.proofs.Common.{is_lt, answers_always}
-use Rattle.toll_trace.specs.declared.way.Way.TheVariants.{Back, Forward}
-use Rattle.toll_trace.specs.Places.{order_along, chain_segment_cmp}
+use Rattle.toll_trace.proofs.Common.{is_lt, answers_always, Back, Forward, order_along, chain_segment_cmp}
 use Rattle.toll_trace.proofs.Ahead.{uses_along}
 use Rattle.toll_trace.proofs.places.put_in_order_along.Goals as goal
 

@@ -1,10 +1,8 @@
 use Rattle.std.proofs.Common.{◌≡◌, Ok, subst, rules, tests}
 use Rattle.std.specs.declared.alloc.AllocError.{AllocError}
-use Rattle.toll_trace.proofs.Common.{filter_map, lot_cmp}
+use Rattle.toll_trace.proofs.Common.{filter_map, lot_cmp, IsInOrder, next_lot}
 use Rattle.std.proofs.lemmas.Iterator.{YieldsList-from_slice, items_from_collect}
 use Rattle.std.proofs.lemmas.Iterator.Consumers.{YieldsList-from_filter_map}
-use Rattle.toll_trace.specs.InOrder.{IsInOrder}
-use Rattle.toll_trace.specs.Search.{next_lot}
 use Rattle.toll_trace.proofs.Rounds.{level_by_edges}
 use Rattle.toll_trace.proofs.plain.next_lots.Goals as goal
 

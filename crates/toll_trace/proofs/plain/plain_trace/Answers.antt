@@ -1,8 +1,5 @@
 use Rattle.std.proofs.Common.{◌≡◌, ◌+◌, ◌<◌, ◌++◌, [], length, map, ap, ◌∙◌, sym, subst, arith}
-use Rattle.toll_trace.proofs.Common.{nil_from_length, length-append, length-map, eqb-true}
-use Rattle.toll_trace.specs.Chain.{IsJoined, step_ends}
-use Rattle.toll_trace.specs.Trace.{IsTrace}
-use Rattle.toll_trace.specs.Search.{IsLevel, step_at}
+use Rattle.toll_trace.proofs.Common.{nil_from_length, length-append, length-map, eqb-true, IsJoined, step_ends, IsTrace, IsLevel, step_at}
 use Rattle.toll_trace.proofs.Levels.{IsReached, count_unfound, reached_start, reached_more, trace_done, fewer_unfound, some_lots}
 use Rattle.toll_trace.proofs.Rounds.{targets_all}
 use Rattle.toll_trace.proofs.plain.plain_trace.Goals as goal

@@ -1,6 +1,5 @@
 use Rattle.std.proofs.Common.{◌<◌, ◌^◌, length, map}
-use Rattle.toll_trace.specs.Chain.{IsJoined, step_ends}
-use Rattle.toll_trace.specs.Search.{IsLevel}
+use Rattle.toll_trace.proofs.Common.{IsJoined, step_ends, IsLevel}
 use Rattle.toll_trace.proofs.Levels.{IsReached, count_unfound}
 use Rattle.toll_trace.proofs.plain.plain_trace.Given as goal
 

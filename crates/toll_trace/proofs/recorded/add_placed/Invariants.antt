@@ -1,5 +1,5 @@
 use Rattle.std.proofs.Common.{◌≡◌, ◌++◌, map, take}
-use Rattle.toll_trace.specs.Places.{placed_use}
+use Rattle.toll_trace.proofs.Common.{placed_use}
 use Rattle.toll_trace.proofs.recorded.add_placed.Given as goal
 
 abbrev pub invariant-loop-batch : goal.invariant-loop-batch

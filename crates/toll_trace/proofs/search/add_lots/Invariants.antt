@@ -1,5 +1,5 @@
 use Rattle.std.proofs.Common.{take}
-use Rattle.toll_trace.specs.Numbers.{AreAdded}
+use Rattle.toll_trace.proofs.Common.{AreAdded}
 use Rattle.toll_trace.proofs.search.add_lots.Given as goal
 
 abbrev pub invariant-loop-number : goal.invariant-loop-number

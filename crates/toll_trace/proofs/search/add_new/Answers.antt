@@ -1,5 +1,5 @@
 use Rattle.std.proofs.Common.{get_or}
-use Rattle.std.proofs.lemmas.List.Elements.{Contains-get_or}
+use Rattle.toll_trace.proofs.Common.{Contains-get_or}
 use Rattle.toll_trace.proofs.search.add_new.Goals as goal
 
 pub bounds-marks-number : goal.bounds-marks-number

@@ -1,6 +1,5 @@
-use Rattle.std.proofs.Common.{◌≡◌, ◌++◌, take, not}
-use Rattle.std.specs.Prelude.{filter}
-use Rattle.toll_trace.specs.Walk.{is_marked}
+use Rattle.std.proofs.Common.{◌≡◌, ◌++◌, take, not, filter}
+use Rattle.toll_trace.proofs.Common.{is_marked}
 use Rattle.toll_trace.proofs.search.add_new.Given as goal
 
 abbrev pub invariant-loop-number : goal.invariant-loop-number

@@ -1,5 +1,5 @@
 use Rattle.std.proofs.Common.{◌≡◌, ◌++◌, map, take}
-use Rattle.toll_trace.specs.Search.{step_at}
+use Rattle.toll_trace.proofs.Common.{step_at}
 use Rattle.toll_trace.proofs.search.add_steps.Given as goal
 
 abbrev pub invariant-loop-lot : goal.invariant-loop-lot

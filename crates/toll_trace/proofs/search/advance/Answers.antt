@@ -1,7 +1,5 @@
 use Rattle.std.proofs.Common.{◌<◌, ◌∙◌, length, ap, sym, subst, arith}
-use Rattle.std.proofs.lemmas.List.{get_or_default, with_items_is}
-use Rattle.toll_trace.specs.Search.{is_found}
-use Rattle.toll_trace.specs.Walk.{AreFaced, IsLedOn, all_steps}
+use Rattle.toll_trace.proofs.Common.{get_or_default, with_items_is, is_found, AreFaced, IsLedOn, all_steps}
 use Rattle.toll_trace.proofs.Parts.{IsGrown, alone_faces, grown_found, parts_all, parts_more, parts_none}
 use Rattle.toll_trace.proofs.search.advance.Goals as goal
 

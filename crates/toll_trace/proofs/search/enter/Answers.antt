@@ -1,8 +1,6 @@
 use Rattle.std.proofs.Common.{ℕ, ◌<◌, ◌≤◌, length, get_or, take, arith, rules}
-use Rattle.std.proofs.lemmas.List.Elements.{Contains-get_or}
-use Rattle.toll_trace.specs.declared.edge_index.Span.{Span}
-use Rattle.toll_trace.specs.Walk.{is_marked}
-use Rattle.toll_trace.proofs.Walks.{entered_again, entered_more, range_below, with_read}
+use Rattle.toll_trace.proofs.Common.{take_more, Contains-get_or, Span, is_marked}
+use Rattle.toll_trace.proofs.Walks.{entered_again, entered_more, range_below}
 use Rattle.toll_trace.proofs.search.enter.Goals as goal
 use Rattle.toll_trace.proofs.search.enter.Goals.{then-span-low+in_ok-add_new, else-span-low}
 
@@ -19,7 +17,7 @@ pub loop-span-preserved : goal.loop-span-preserved
 loop-span-preserved c =
     let entry : ℕ × Span = get_or c.args.sources.now c.loop-span.span-index (0, record { start = 0; end = 0 }) in
     let within : entry.1.end ≤ length c.args.targets.now = c.requires.within entry (Contains-get_or c.args.sources.now c.loop-span.span-index (0, record { start = 0; end = 0 }) c.loop-span-test.true) in
-    let grown = with_read c.args.sources.now c.loop-span.span-index (0, record { start = 0; end = 0 }) c.loop-span-test.true in
+    let grown = take_more c.args.sources.now c.loop-span.span-index (0, record { start = 0; end = 0 }) c.loop-span-test.true in
     elim c.if-span-low.branch [
       | then-span-low+in_ok-add_new w ↦
           rw (grown, w.lows-is, w.numbers-is, w.in_ok-add_new.ensures)

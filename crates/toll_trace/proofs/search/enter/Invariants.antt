@@ -1,5 +1,5 @@
 use Rattle.std.proofs.Common.{take}
-use Rattle.toll_trace.specs.Walk.{AreEntered, is_marked}
+use Rattle.toll_trace.proofs.Common.{AreEntered, is_marked}
 use Rattle.toll_trace.proofs.search.enter.Given as goal
 
 abbrev pub invariant-loop-span : goal.invariant-loop-span

@@ -1,6 +1,5 @@
 use Rattle.std.proofs.Common.{◌<◌, length, ap, subst, arith}
-use Rattle.std.proofs.lemmas.List.{get_or_default, with_items_is}
-use Rattle.toll_trace.specs.Walk.{IsFaced}
+use Rattle.toll_trace.proofs.Common.{get_or_default, with_items_is, IsFaced}
 use Rattle.toll_trace.proofs.Parts.{faced_all, faced_alone, faced_more, faced_none}
 use Rattle.toll_trace.proofs.search.face_all.Goals as goal
 

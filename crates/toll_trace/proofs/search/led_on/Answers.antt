@@ -1,7 +1,5 @@
 use Rattle.std.proofs.Common.{[], get_or, take, sym, subst, arith}
-use Rattle.std.proofs.lemmas.List.{get_or_default}
-use Rattle.toll_trace.proofs.Common.{is_eq, nat_cmp, take_all}
-use Rattle.toll_trace.specs.Walk.{AreEntered, is_marked}
+use Rattle.toll_trace.proofs.Common.{is_eq, nat_cmp, take_all, get_or_default, AreEntered, is_marked}
 use Rattle.toll_trace.proofs.Members.{Contains-from_filter}
 use Rattle.toll_trace.proofs.Walks.{entered_both, entries_more, entries_of, led_in_order}
 use Rattle.toll_trace.proofs.search.led_on.Goals as goal

@@ -1,5 +1,5 @@
 use Rattle.std.proofs.Common.{◌≡◌, [], length, take}
-use Rattle.toll_trace.specs.Walk.{AreEntered, is_marked}
+use Rattle.toll_trace.proofs.Common.{AreEntered, is_marked}
 use Rattle.toll_trace.proofs.Walks.{entries_of}
 use Rattle.toll_trace.proofs.search.led_on.Given as goal
 

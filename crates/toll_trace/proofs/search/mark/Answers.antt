@@ -1,7 +1,6 @@
 use Rattle.std.proofs.Common.{get_or, take, arith}
-use Rattle.std.proofs.lemmas.List.Elements.{Contains-get_or}
+use Rattle.toll_trace.proofs.Common.{take_more, Contains-get_or}
 use Rattle.toll_trace.proofs.Marks.{marked_more}
-use Rattle.toll_trace.proofs.Walks.{with_read}
 use Rattle.toll_trace.proofs.search.mark.Goals as goal
 
 pub bounds-marks-number : goal.bounds-marks-number
@@ -12,5 +11,5 @@ loop-number-preserved c =
     let n = get_or c.args.numbers.now c.loop-number.number-index 0 in
     let below = c.requires n (Contains-get_or c.args.numbers.now c.loop-number.number-index 0 c.loop-number-test.true) in
     let sized = c.loop-number.invariant.sized in
-    rw (with_read c.args.numbers.now c.loop-number.number-index 0 c.loop-number-test.true)
+    rw (take_more c.args.numbers.now c.loop-number.number-index 0 c.loop-number-test.true)
     (marked_more c.args.marks.now c.loop-number.marks (take c.loop-number.number-index c.args.numbers.now) n (omega arith) c.loop-number.invariant)

@@ -1,5 +1,5 @@
 use Rattle.std.proofs.Common.{take}
-use Rattle.toll_trace.specs.Walk.{AreMarked}
+use Rattle.toll_trace.proofs.Common.{AreMarked}
 use Rattle.toll_trace.proofs.search.mark.Given as goal
 
 abbrev pub invariant-loop-number : goal.invariant-loop-number

@@ -1,8 +1,5 @@
 use Rattle.std.proofs.Common.{◌≡◌, ◌+◌, ◌<◌, ◌++◌, [], ◌∷◌, List, length, map, ap, ◌∙◌, sym, subst, arith}
-use Rattle.toll_trace.proofs.Common.{flat_map, nil_from_length, length-append, length-map, eqb-true, LotId}
-use Rattle.toll_trace.specs.declared.edge_index.EdgeIndex.{EdgeIndex}
-use Rattle.toll_trace.specs.Search.{IsLevel, is_found, step_at}
-use Rattle.toll_trace.specs.Walk.{AreLedTo, LeadThrough, all_steps}
+use Rattle.toll_trace.proofs.Common.{flat_map, nil_from_length, length-append, length-map, eqb-true, LotId, EdgeIndex, IsLevel, is_found, step_at, AreLedTo, LeadThrough, all_steps}
 use Rattle.toll_trace.proofs.Levels.{IsReached, count_unfound, reached_start, reached_more, trace_done, fewer_unfound, some_lots}
 use Rattle.toll_trace.proofs.Parts.{out_of_all}
 use Rattle.toll_trace.proofs.Walks.{level_first, level_next}

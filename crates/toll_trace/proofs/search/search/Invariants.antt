@@ -1,11 +1,6 @@
-use Rattle.std.proofs.Common.{◌≡◌, ◌<◌, List, length}
-use Rattle.std.specs.Prelude.{Contains}
-use Rattle.toll_trace.proofs.Common.{flat_map}
+use Rattle.std.proofs.Common.{◌≡◌, ◌<◌, List, length, Contains}
+use Rattle.toll_trace.proofs.Common.{flat_map, EdgeIndex, Part, is_found, IsLevel, IsWalked, LeadThrough, all_steps}
 use Rattle.toll_trace.specs.Common.{LotId}
-use Rattle.toll_trace.specs.declared.edge_index.EdgeIndex.{EdgeIndex}
-use Rattle.toll_trace.specs.declared.search.Part.{Part}
-use Rattle.toll_trace.specs.Search.{is_found, IsLevel}
-use Rattle.toll_trace.specs.Walk.{IsWalked, LeadThrough, all_steps}
 use Rattle.toll_trace.proofs.Levels.{IsReached, count_unfound}
 use Rattle.toll_trace.proofs.search.search.Given as goal
 

@@ -1,10 +1,8 @@
 use Rattle.std.proofs.Common.{◌≡◌, ◌+◌, ◌++◌, ◌∷◌, [], map, take, ap, ◌∙◌, subst}
 use Rattle.std.proofs.lemmas.Result.{IfOk-weaker}
-use Rattle.toll_trace.specs.Trace.{IsTrace}
-use Rattle.toll_trace.specs.Walk.{LeadThrough, all_steps}
-use Rattle.toll_trace.proofs.Common.{take_all}
+use Rattle.toll_trace.proofs.Common.{take_all, map_push, IsTrace, LeadThrough, all_steps}
 use Rattle.toll_trace.proofs.Walks.{with_item}
-use Rattle.toll_trace.proofs.Among.{ArePartsOf, among_trace, map_push, one_part_more}
+use Rattle.toll_trace.proofs.Among.{ArePartsOf, among_trace, one_part_more}
 use Rattle.toll_trace.proofs.several.trace_among.Goals as goal
 
 pub loop-graph-preserved : goal.loop-graph-preserved

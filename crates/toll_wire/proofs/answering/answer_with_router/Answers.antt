@@ -1,8 +1,5 @@
 use Rattle.std.proofs.Common.{None, inl, refl, subst, sym}
-use Rattle.toll_protocol.specs.declared.http_messages.failure.Failure.TheVariants.{Forbidden}
-use Rattle.toll_wire.specs.ReplyTexts.{text_of_failure}
-use Rattle.toll_wire.specs.Sayings.{By, Nobody}
-use Rattle.toll_wire.specs.Steps.{IsAnswered, IsFaultMet}
+use Rattle.toll_wire.proofs.Common.{text_of_failure, By, Nobody, IsAnswered, IsFaultMet, Forbidden}
 use Rattle.toll_wire.proofs.Served.{met_memory, uncalled}
 use Rattle.toll_wire.proofs.answering.answer_with_router.Goals as goal
 use Rattle.toll_wire.proofs.answering.answer_with_router.Goals.{in_default-via-in-Some+in_default, in_default-via-in_default}

@@ -1,10 +1,7 @@
 use Rattle.std.proofs.Common.{Some, true, false, subst, sym, ◌∙◌}
+use Rattle.toll_wire.proofs.Common.{text_of_failure, By, Fails, IsKeepStep, IsFaultMet, saying_steps}
 use Rattle.toll_answers.specs.Replies.{has_owner_key}
 use Rattle.toll_desk.proofs.OwnerPlans.{right_key, wrong_key}
-use Rattle.toll_wire.specs.ReplyTexts.{text_of_failure}
-use Rattle.toll_wire.specs.Sayings.{By, Fails}
-use Rattle.toll_desk.specs.Steps.{IsKeepStep}
-use Rattle.toll_wire.specs.Steps.{IsFaultMet, saying_steps}
 use Rattle.toll_wire.proofs.Served.{met_memory, met_reading, untold, served_refused}
 use Rattle.toll_wire.proofs.answering.refuse.Goals as goal
 

@@ -1,9 +1,7 @@
 use Rattle.std.proofs.Common.{Some, subst, sym}
-use Rattle.toll_desk.specs.Steps.{IsKeepStep}
+use Rattle.toll_wire.proofs.Common.{IsKeepStep, Asks, By, IsFaultMet, saying_steps}
 use Rattle.toll_desk.specs.Translations.{meaning_of_reply}
 use Rattle.toll_wire.specs.OutTexts.{text_if}
-use Rattle.toll_wire.specs.Sayings.{Asks, By}
-use Rattle.toll_wire.specs.Steps.{IsFaultMet, saying_steps}
 use Rattle.toll_wire.proofs.Served.{met_making, met_reading, untold, plan_told}
 use Rattle.toll_wire.proofs.answering.serve.Goals as goal
 

@@ -1,6 +1,6 @@
 use Rattle.std.proofs.Common.{subst, sym}
+use Rattle.toll_wire.proofs.Common.{AreAlone}
 use Rattle.toll_history.specs.History.{part}
-use Rattle.toll_wire.specs.Parts.{AreAlone}
 use Rattle.toll_wire.proofs.Determined.{one_alone}
 use Rattle.toll_wire.proofs.laws.runs_with_the_same_part_give_the_same_replies.Goals as goal
 

@@ -1,6 +1,5 @@
 use Rattle.std.proofs.Common.{sym, subst}
-use Rattle.toll_wire.specs.OfficeRuns.{IsEventServed}
-use Rattle.toll_wire.specs.declared.event.Answer.TheVariants.{Plant}
+use Rattle.toll_wire.proofs.Common.{IsEventServed, Plant}
 use Rattle.toll_wire.proofs.run.answer_event.Goals as goal
 
 pub returns-in-Plant : goal.returns-in-Plant

@@ -1,9 +1,5 @@
 use Rattle.std.proofs.Common.{◌≡◌, ◌+◌, List, [], ◌∷◌, ◌++◌, take, refl, sym, ap, ◌∙◌, subst, subst₂, arith}
-use Rattle.std.proofs.lemmas.List.{take_more, take_all}
-use Rattle.toll_wire.specs.declared.event.Event.{Event}
-use Rattle.toll_wire.specs.declared.event.Answer.{Answer}
-use Rattle.toll_history.proofs.RunLemmas.{run_more}
-use Rattle.toll_wire.specs.OfficeRuns.{AreServed, IsEventServed}
+use Rattle.toll_wire.proofs.Common.{Event, Answer, AreServed, IsEventServed, take_more, take_all, run_more}
 use Rattle.toll_wire.proofs.Serving.{events_honest, events_open, events_run, events_steps}
 use Rattle.toll_wire.proofs.run.run_events.Goals as goal
 

@@ -1,6 +1,6 @@
 -- The events so far were answered, one after another, and there is room for the others.
 use Rattle.std.proofs.Common.{◌≡◌, ◌≤◌, length, take, vec_len, vec_capacity}
-use Rattle.toll_wire.specs.OfficeRuns.{AreServed}
+use Rattle.toll_wire.proofs.Common.{AreServed}
 use Rattle.toll_wire.proofs.run.run_events.Given as goal
 
 abbrev pub invariant-loop-event : goal.invariant-loop-event

@@ -1,6 +1,5 @@
 use Rattle.std.proofs.Common.{◌≡◌, Err, rules, ap, ◌∙◌}
-use Rattle.toll_work.proofs.Common.{facts_of, verdict_of_result, Consumed, refused_first, accepted_first}
-use Rattle.toll_work.specs.ActualPlans.{use_checks, source_checks}
+use Rattle.toll_work.proofs.Common.{facts_of, verdict_of_result, Consumed, refused_first, accepted_first, use_checks, source_checks}
 use Rattle.toll_work.proofs.actuals.check_consumption.Goals as goal
 
 pub returns-in_err-check_use : goal.returns-in_err-check_use

@@ -1,6 +1,5 @@
 use Rattle.std.proofs.Common.{◌≡◌, Err, rules, ap, ◌∙◌}
-use Rattle.toll_work.proofs.Common.{verdict_of_result, Produced, refused_first}
-use Rattle.toll_work.specs.ActualPlans.{use_checks, target_checks}
+use Rattle.toll_work.proofs.Common.{verdict_of_result, Produced, refused_first, use_checks, target_checks}
 use Rattle.toll_work.proofs.actuals.check_production.Goals as goal
 
 pub returns-in_err-check_use : goal.returns-in_err-check_use

@@ -1,6 +1,5 @@
 use Rattle.std.proofs.Common.{◌≡◌, Err, rules, ap, ◌∙◌}
-use Rattle.toll_work.proofs.Common.{facts_of, verdict_of_result, recipe_of_order, refused_first}
-use Rattle.toll_work.specs.ActualPlans.{running_checks, recipe_checks_of}
+use Rattle.toll_work.proofs.Common.{facts_of, verdict_of_result, recipe_of_order, refused_first, running_checks, recipe_checks_of}
 use Rattle.toll_work.proofs.actuals.check_use.Goals as goal
 
 pub returns-in_err-recipe : goal.returns-in_err-recipe

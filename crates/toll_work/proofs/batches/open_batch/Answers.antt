@@ -1,5 +1,4 @@
-use Rattle.toll_work.proofs.Common.{IfOk-weaker, each_decided, puts_rows, facts_of}
-use Rattle.toll_work.specs.Plans.{opened_rows}
+use Rattle.toll_work.proofs.Common.{IfOk-weaker, each_decided, puts_rows, facts_of, opened_rows}
 use Rattle.toll_work.proofs.OpenLaw.{opening_decided, opening_keeps}
 use Rattle.toll_work.proofs.batches.open_batch.Goals as goal
 

@@ -1,8 +1,8 @@
 use Rattle.std.proofs.Common.{List, ◌≤◌, length, sym, subst, ◌∙◌}
+use Rattle.toll_work.proofs.Common.{MOST_MOVEMENTS}
 use Rattle.toll_base.specs.declared.movement.MoveRow.{MoveRow}
 use Rattle.toll_work.proofs.Sums.{length-filter_le}
 use Rattle.toll_work.proofs.views.view_in_slice.Goals as goal
-use Rattle.toll_base.specs.declared.capacity.TheConstants.{MOST_MOVEMENTS}
 
 pub lines-requires : goal.lines-requires
 lines-requires c =

@@ -1,5 +1,4 @@
-use Rattle.toll_work.proofs.Common.{facts_of, refused_decides}
-use Rattle.toll_work.specs.Voiding.{void_batch_checks}
+use Rattle.toll_work.proofs.Common.{facts_of, refused_decides, void_batch_checks}
 use Rattle.toll_work.proofs.voids.take_out.Goals as goal
 
 pub returns-in-Err : goal.returns-in-Err

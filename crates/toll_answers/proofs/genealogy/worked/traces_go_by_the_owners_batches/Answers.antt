@@ -1,7 +1,5 @@
-use Rattle.std.proofs.Common.{[], ◌∷◌, refl}
-use Rattle.std.specs.Prelude.{codes}
-use Rattle.toll_answers.proofs.Common.{IsStrictlySortedBy, house_name, acts, acme, Back, Forward}
-use Rattle.toll_answers.specs.Worked.{of_acme, of_house, house_material}
+use Rattle.std.proofs.Common.{[], ◌∷◌, refl, codes}
+use Rattle.toll_answers.proofs.Common.{IsStrictlySortedBy, house_name, acts, acme, Back, Forward, of_acme, of_house, house_material}
 use Rattle.toll_answers.proofs.DrawnHere.{trace_by_list}
 use Rattle.toll_answers.proofs.WorkedEdges.{into_product, product_drawn, in_house, house_drawn}
 use Rattle.toll_answers.proofs.genealogy.worked.traces_go_by_the_owners_batches.Goals as goal

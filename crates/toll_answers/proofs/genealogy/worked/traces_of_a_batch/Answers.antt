@@ -1,7 +1,5 @@
-use Rattle.std.proofs.Common.{[], ◌∷◌, refl}
-use Rattle.std.specs.Prelude.{codes}
-use Rattle.toll_answers.proofs.Common.{IsStrictlySortedBy, acts, acme, one_product, Back, Forward}
-use Rattle.toll_answers.specs.Worked.{of_acme, of_house}
+use Rattle.std.proofs.Common.{[], ◌∷◌, refl, codes}
+use Rattle.toll_answers.proofs.Common.{IsStrictlySortedBy, acts, acme, one_product, Back, Forward, of_acme, of_house}
 use Rattle.toll_answers.proofs.DrawnHere.{trace_of_a_level}
 use Rattle.toll_answers.proofs.WorkedEdges.{from_a, house_edge, to_listed, from_listed}
 use Rattle.toll_answers.proofs.genealogy.worked.traces_of_a_batch.Goals as goal

@@ -1,7 +1,5 @@
-use Rattle.std.proofs.Common.{[], ◌∷◌, refl}
-use Rattle.std.specs.Prelude.{codes}
-use Rattle.toll_answers.proofs.Common.{IsStrictlySortedBy, acts, acme, Back, Forward}
-use Rattle.toll_answers.specs.Worked.{of_acme, circle}
+use Rattle.std.proofs.Common.{[], ◌∷◌, refl, codes}
+use Rattle.toll_answers.proofs.Common.{IsStrictlySortedBy, acts, acme, Back, Forward, of_acme, circle}
 use Rattle.toll_answers.proofs.DrawnHere.{trace_by_list}
 use Rattle.toll_answers.proofs.WorkedEdges.{of_circle, circle_drawn}
 use Rattle.toll_answers.proofs.genealogy.worked.traces_of_a_circle.Goals as goal

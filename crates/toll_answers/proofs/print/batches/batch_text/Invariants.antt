@@ -1,6 +1,6 @@
 -- The lines so far.
 use Rattle.std.proofs.Common.{◌≡◌, take}
-use Rattle.toll_answers.specs.Texts.{batch_text}
+use Rattle.toll_answers.proofs.Common.{batch_text}
 use Rattle.toll_answers.proofs.print.batches.batch_text.Given as goal
 
 abbrev pub invariant-loop-line : goal.invariant-loop-line

@@ -1,7 +1,6 @@
 -- The lines so far.
 use Rattle.std.proofs.Common.{◌≡◌, take}
-use Rattle.std.specs.List.{filter_map}
-use Rattle.toll_answers.specs.Texts.{stock_text, shown_in}
+use Rattle.toll_answers.proofs.Common.{stock_text, shown_in, filter_map}
 use Rattle.toll_answers.proofs.print.stock.text_in_slice.Given as goal
 
 abbrev pub invariant-loop-row : goal.invariant-loop-row

@@ -1,9 +1,7 @@
 use Rattle.std.proofs.Common.{◌≡◌, ◌<◌, ◌^◌, true, is_some, length, get_or, ap, subst, sym, ◌∙◌, arith}
 use Rattle.std.proofs.lemmas.Grind.{common_steps}
-use Rattle.toll_answers.proofs.Common.{bytes_cmp, material_at, IsInKeyOrder, LotRow}
+use Rattle.toll_answers.proofs.Common.{bytes_cmp, material_at, IsInKeyOrder, LotRow, line_in, StockLine}
 use Rattle.toll_stock.proofs.OnHand.{on_hand_small}
-use Rattle.toll_answers.specs.InSlice.{line_in}
-use Rattle.toll_answers.specs.declared.views.stock.StockLine.{StockLine}
 use Rattle.toll_answers.proofs.StockLaw.{material_there}
 use Rattle.toll_answers.proofs.StockWalk.{hold_here, hold_behind}
 use Rattle.toll_answers.proofs.views.stock.lines_in_slice.Goals as goal

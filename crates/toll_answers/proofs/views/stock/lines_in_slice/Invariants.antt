@@ -1,5 +1,5 @@
 use Rattle.std.proofs.Common.{◌≡◌, map, take}
-use Rattle.toll_answers.specs.InSlice.{line_in}
+use Rattle.toll_answers.proofs.Common.{line_in}
 use Rattle.toll_answers.proofs.StockWalk.{AreInOrder, HoldFrom}
 use Rattle.toll_answers.proofs.views.stock.lines_in_slice.Given as goal
 

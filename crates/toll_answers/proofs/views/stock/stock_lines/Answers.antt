@@ -1,7 +1,5 @@
 use Rattle.std.proofs.Common.{sym, subst}
-use Rattle.toll_answers.proofs.Common.{IfOk-weaker, bytes_cmp, AreRowsGiven}
-use Rattle.toll_answers.specs.Views.{stock_line}
-use Rattle.toll_answers.specs.declared.views.stock.StockLine.{StockLine}
+use Rattle.toll_answers.proofs.Common.{IfOk-weaker, bytes_cmp, AreRowsGiven, stock_line, StockLine}
 use Rattle.toll_answers.proofs.StockLaw.{stock_lines_given}
 use Rattle.toll_answers.proofs.views.stock.stock_lines.Goals as goal
 

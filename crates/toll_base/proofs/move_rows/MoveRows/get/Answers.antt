@@ -1,10 +1,7 @@
 use Rattle.std.proofs.Common.{sym, ap, ◌∙◌}
-use Rattle.toll_base.proofs.Common.{nat_list_cmp_total}
+use Rattle.toll_base.proofs.Common.{nat_list_cmp_total, bytes_cmp, rows_at, row_at}
 use Rattle.toll_base.proofs.KeyOrder.{row_at_gap}
 use Rattle.toll_base.proofs.MovePlaces.{found_at}
-use Rattle.toll_base.specs.Bytes.{bytes_cmp}
-use Rattle.toll_base.specs.MoveRows.{rows_at}
-use Rattle.toll_base.specs.Table.{row_at}
 use Rattle.toll_base.proofs.move_rows.MoveRows.get.Goals as goal
 
 pub returns-in-Ok : goal.returns-in-Ok

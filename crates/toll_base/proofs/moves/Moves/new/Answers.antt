@@ -1,5 +1,5 @@
 use Rattle.std.proofs.Common.{refl}
-use Rattle.toll_base.specs.Table.{row_at}
+use Rattle.toll_base.proofs.Common.{row_at}
 use Rattle.toll_base.proofs.moves.Moves.new.Goals as goal
 
 pub invariant_of-result : goal.invariant_of-result

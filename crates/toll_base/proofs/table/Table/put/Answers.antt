@@ -1,5 +1,5 @@
 use Rattle.std.proofs.Common.{◌∙◌, ap}
-use Rattle.toll_base.specs.Table.{put_row}
+use Rattle.toll_base.proofs.Common.{put_row}
 use Rattle.toll_base.proofs.KeyOrder.{put_at, put_in_gap}
 use Rattle.toll_base.proofs.table.Table.put.Goals as goal
 

@@ -1,6 +1,6 @@
 use Rattle.std.proofs.Common.{◌∙◌, ap, sym, is_some}
+use Rattle.toll_base.proofs.Common.{row_at, put_row}
 use mathlib.Core.Bool.{false≢true}
-use Rattle.toll_base.specs.Table.{row_at, put_row}
 use Rattle.toll_base.proofs.KeyOrder.{put_at, row_at_gap}
 use Rattle.toll_base.proofs.table.Table.replace.Goals as goal
 

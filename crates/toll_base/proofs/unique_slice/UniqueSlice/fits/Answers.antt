@@ -1,6 +1,6 @@
 use Rattle.std.proofs.Common.{sym, subst, IsTrue, ◌↔◌}
+use Rattle.toll_base.proofs.Common.{KeepsRules}
 use Rattle.toll_base.specs.Slice.{with_row}
-use Rattle.toll_base.specs.SliceRules.{KeepsRules}
 use Rattle.toll_base.proofs.SliceFits.{fits_exact}
 use Rattle.toll_base.proofs.unique_slice.UniqueSlice.fits.Goals as goal
 

@@ -1,7 +1,5 @@
 use Rattle.std.proofs.Common.{◌≡◌, false, sym, subst, ◌∙◌}
-use Rattle.std.specs.List.{list_any}
-use Rattle.toll_keep.specs.Content.{content_after}
-use Rattle.toll_keep.specs.Remembered.{AreOf, AreCachedRows, is_addition}
+use Rattle.toll_keep.proofs.Common.{content_after, AreOf, AreCachedRows, is_addition, list_any}
 use Rattle.toll_keep.proofs.RememberedLemmas.{all_after, owners_stay, units_stay}
 use Rattle.toll_keep.proofs.DrawnStay.{graphs_left}
 use Rattle.toll_keep.proofs.cache.Cache.follow.Goals as goal

@@ -1,6 +1,5 @@
 use Rattle.std.proofs.Common.{◌≡◌, Err, rules, sym, subst, ◌∙◌}
-use Rattle.toll_keep.specs.Content.{content_after}
-use Rattle.toll_keep.specs.Remembered.{IsNothing, IsCacheOf}
+use Rattle.toll_keep.proofs.Common.{content_after, IsNothing, IsCacheOf}
 use Rattle.toll_keep.proofs.Around.{nothing_of, cached_nothing_stands, told_stands, goes_around}
 use Rattle.toll_keep.proofs.Outcomes.{of_ok, on_err_always}
 use Rattle.toll_keep.proofs.RememberedLemmas.{only_known_after}

@@ -1,6 +1,5 @@
-use Rattle.std.proofs.Common.{sym, subst}
-use Rattle.std.specs.Prelude.{IfOk}
-use Rattle.toll_trace.specs.Edges.{AreEdges, IsEdge}
+use Rattle.std.proofs.Common.{sym, subst, IfOk}
+use Rattle.toll_keep.proofs.Common.{AreEdges, IsEdge}
 use Rattle.toll_keep.proofs.Around.{tells_around, telling_stands}
 use Rattle.toll_keep.proofs.cached_keep.CachedKeepKeep.edges.Goals as goal
 

@@ -1,6 +1,5 @@
-use Rattle.std.proofs.Common.{◌≡◌, refl, sym, subst}
-use Rattle.std.specs.Prelude.{IfOk}
-use Rattle.toll_keep.specs.Content.{slice_of}
+use Rattle.std.proofs.Common.{◌≡◌, refl, sym, subst, IfOk}
+use Rattle.toll_keep.proofs.Common.{slice_of}
 use Rattle.toll_keep.proofs.Around.{tells_around, telling_stands}
 use Rattle.toll_keep.proofs.cached_keep.CachedKeepKeep.slice.Goals as goal
 

@@ -1,5 +1,5 @@
 use Rattle.std.proofs.Common.{sym, subst}
-use Rattle.toll_keep.specs.Holding.{GivesTrace}
+use Rattle.toll_keep.proofs.Common.{GivesTrace}
 use Rattle.toll_keep.proofs.Around.{tells_around, telling_stands}
 use Rattle.toll_keep.proofs.cached_keep.CachedKeepKeep.trace.Goals as goal
 

@@ -1,5 +1,4 @@
-use Rattle.std.proofs.Common.{◌≡◌, sym, subst}
-use Rattle.std.specs.Prelude.{IfOk}
+use Rattle.std.proofs.Common.{◌≡◌, sym, subst, IfOk}
 use Rattle.toll_keep.proofs.Around.{some_units, tells_around, telling_stands}
 use Rattle.toll_keep.proofs.cached_keep.CachedKeepKeep.units.Goals as goal
 

@@ -1,6 +1,5 @@
 use Rattle.std.proofs.Common.{ap, subst, ◌∙◌}
-use Rattle.toll_keep.specs.Holding.{AreGathered}
-use Rattle.toll_keep.specs.Slices.{IsOneEach}
+use Rattle.toll_keep.proofs.Common.{AreGathered, IsOneEach}
 use Rattle.toll_keep.proofs.AllOwners.{edges_of_some}
 use Rattle.toll_keep.proofs.mem_keep.MemKeep.everyones_edges.Goals as goal
 

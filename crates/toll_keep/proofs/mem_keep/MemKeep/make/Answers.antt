@@ -1,6 +1,6 @@
 use Rattle.std.proofs.Common.{sym, ap, subst, ◌∙◌}
+use Rattle.toll_keep.proofs.Common.{rows_in, IsOneEach}
 use Rattle.toll_keep.specs.Common.{Put, after_change}
-use Rattle.toll_keep.specs.Slices.{rows_in, IsOneEach}
 use Rattle.toll_keep.proofs.Contents.{same_content}
 use Rattle.toll_keep.proofs.Outcomes.{on_ok_weaker, either_way}
 use Rattle.toll_keep.proofs.Slicing.{one_each-put, rows_after}

@@ -1,7 +1,5 @@
 use Rattle.std.proofs.Common.{◌+◌, [], ◌∷◌, drop, sym, ap, ◌∙◌}
-use Rattle.std.proofs.lemmas.List.{at_drop_all}
-use Rattle.toll_keep.specs.Content.{content_after}
-use Rattle.toll_keep.specs.Slices.{content_of}
+use Rattle.toll_keep.proofs.Common.{at_drop_all, content_after, content_of}
 use Rattle.toll_keep.proofs.Changed.{next_left}
 use Rattle.toll_keep.proofs.StagedLemmas.{after_behind}
 use Rattle.toll_keep.proofs.mem_keep.MemKeep.make_all.Goals as goal

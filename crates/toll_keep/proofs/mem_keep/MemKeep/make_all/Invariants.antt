@@ -1,6 +1,5 @@
 use Rattle.std.proofs.Common.{◌≡◌, drop}
-use Rattle.toll_keep.specs.Content.{content_after}
-use Rattle.toll_keep.specs.Slices.{content_of}
+use Rattle.toll_keep.proofs.Common.{content_after, content_of}
 use Rattle.toll_keep.proofs.mem_keep.MemKeep.make_all.Given as goal
 
 -- With the changes to come, the content is the one after all changes.

@@ -1,5 +1,5 @@
 use Rattle.std.proofs.Common.{IfOk, position, sym, ap, subst, ◌∙◌}
-use Rattle.toll_trace.specs.Edges.{AreEdges, IsEdge}
+use Rattle.toll_keep.proofs.Common.{AreEdges, IsEdge}
 use Rattle.toll_keep.specs.Slices.{is_slice_of, rows_in}
 use Rattle.toll_keep.proofs.Slicing.{found_there, absent_there}
 use Rattle.toll_keep.proofs.mem_keep.MemKeep.owners_edges.Goals as goal

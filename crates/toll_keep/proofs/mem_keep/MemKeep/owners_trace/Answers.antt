@@ -1,5 +1,4 @@
-use Rattle.toll_trace.specs.Recorded.{Draws}
-use Rattle.toll_keep.specs.Slices.{content_of}
+use Rattle.toll_keep.proofs.Common.{Draws, content_of}
 use Rattle.toll_keep.proofs.Learning.{gives_drawn_trace}
 use Rattle.toll_keep.proofs.mem_keep.MemKeep.owners_trace.Goals as goal
 

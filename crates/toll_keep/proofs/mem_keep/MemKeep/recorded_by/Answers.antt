@@ -1,8 +1,5 @@
 use Rattle.std.proofs.Common.{◌↔◌, subst}
-use Rattle.std.proofs.lemmas.List.{take_all}
-use Rattle.toll_trace.specs.Recorded.{Draws}
-use Rattle.toll_keep.specs.Holding.{IsEdgeOfOne}
-use Rattle.toll_keep.specs.Slices.{content_of}
+use Rattle.toll_keep.proofs.Common.{Draws, IsEdgeOfOne, content_of, take_all}
 use Rattle.toll_keep.proofs.Learning.{drawn_none, drawn_more}
 use Rattle.toll_keep.proofs.mem_keep.MemKeep.recorded_by.Goals as goal
 

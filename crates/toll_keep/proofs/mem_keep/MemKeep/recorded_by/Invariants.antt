@@ -1,8 +1,5 @@
 use Rattle.std.proofs.Common.{◌↔◌, take}
-use Rattle.toll_trace.specs.Recorded.{Draws}
-use Rattle.toll_keep.proofs.Common.{Edge}
-use Rattle.toll_keep.specs.Holding.{IsEdgeOfOne}
-use Rattle.toll_keep.specs.Slices.{content_of}
+use Rattle.toll_keep.proofs.Common.{Edge, Draws, IsEdgeOfOne, content_of}
 use Rattle.toll_keep.proofs.mem_keep.MemKeep.recorded_by.Given as goal
 
 abbrev pub invariant-loop-owner : goal.invariant-loop-owner

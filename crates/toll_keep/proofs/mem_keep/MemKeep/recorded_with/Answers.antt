@@ -1,9 +1,5 @@
-use Rattle.std.proofs.Common.{◌↔◌, position, sym, ap, subst, ◌∙◌, IfOk}
-use Rattle.std.specs.Prelude.{◌⊎◌}
-use Rattle.toll_trace.specs.Edges.{IsEdge}
-use Rattle.toll_trace.specs.Recorded.{Draws}
-use Rattle.toll_keep.proofs.Common.{Edge}
-use Rattle.toll_keep.specs.Slices.{is_slice_of, rows_in}
+use Rattle.std.proofs.Common.{◌↔◌, position, sym, ap, subst, ◌∙◌, IfOk, ◌⊎◌}
+use Rattle.toll_keep.proofs.Common.{Edge, Draws, is_slice_of, rows_in, IsEdge}
 use Rattle.toll_keep.proofs.Slicing.{found_there, absent_there}
 use Rattle.toll_keep.proofs.mem_keep.MemKeep.recorded_with.Goals as goal
 

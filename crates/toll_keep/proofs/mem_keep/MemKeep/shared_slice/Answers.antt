@@ -1,6 +1,6 @@
 use Rattle.std.proofs.Common.{sym, ap, subst, ◌∙◌}
+use Rattle.toll_keep.proofs.Common.{content_of, rows_in, IsOneEach}
 use Rattle.std.proofs.lemmas.Result.{IfOk-from_err}
-use Rattle.toll_keep.specs.Slices.{content_of, rows_in, IsOneEach}
 use Rattle.toll_keep.proofs.Contents.{written_back, kept_still, known_slice}
 use Rattle.toll_keep.proofs.mem_keep.MemKeep.shared_slice.Goals as goal
 

@@ -1,6 +1,5 @@
 use Rattle.std.proofs.Common.{ap, subst, ◌∙◌}
-use Rattle.toll_keep.specs.Holding.{IsHolder, IsHolderAmong}
-use Rattle.toll_keep.specs.Slices.{IsOneEach}
+use Rattle.toll_keep.proofs.Common.{IsHolder, IsHolderAmong, IsOneEach}
 use Rattle.toll_keep.proofs.AllOwners.{holder_of_some}
 use Rattle.toll_keep.proofs.mem_keep.MemKeepKeep.holder.Goals as goal
 

@@ -1,8 +1,5 @@
-use Rattle.std.proofs.Common.{◌≡◌, ◌++◌, false, sym, ap, subst, ◌∙◌}
-use Rattle.std.specs.Prelude.{map}
-use Rattle.toll_keep.proofs.Common.{list_any, after_changes}
-use Rattle.toll_keep.specs.Content.{content_after}
-use Rattle.toll_keep.specs.Remembered.{AreOf, is_addition}
+use Rattle.std.proofs.Common.{◌≡◌, ◌++◌, false, sym, ap, subst, ◌∙◌, map}
+use Rattle.toll_keep.proofs.Common.{list_any, after_changes, content_after, AreOf, is_addition}
 use Rattle.toll_keep.proofs.Outcomes.{of_ok}
 use Rattle.toll_keep.proofs.StagedLemmas.{none_added, slices_behind}
 use Rattle.toll_keep.proofs.staged_changes.StagedChanges.stage.Goals as goal

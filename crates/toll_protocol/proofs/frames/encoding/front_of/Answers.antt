@@ -1,6 +1,6 @@
 use Rattle.std.proofs.Common.{◌≤◌, ◌∙◌, length, drop, sym, arith}
+use Rattle.toll_protocol.proofs.Common.{take_rest}
 use Rattle.std.proofs.lemmas.Grind.{common_steps}
-use Rattle.std.proofs.lemmas.List.{take_rest}
 use Rattle.toll_protocol.proofs.FrameLemmas.{claimed_frame}
 use Rattle.toll_protocol.proofs.frames.encoding.front_of.Goals as goal
 

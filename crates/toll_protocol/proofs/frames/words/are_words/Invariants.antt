@@ -1,7 +1,6 @@
 -- All are words if those that are left are.
-use Rattle.std.proofs.Common.{drop, map}
-use Rattle.std.specs.Prelude.{◌↔◌}
-use Rattle.toll_protocol.specs.Words.{AreWords}
+use Rattle.std.proofs.Common.{drop, map, ◌↔◌}
+use Rattle.toll_protocol.proofs.Common.{AreWords}
 use Rattle.toll_protocol.proofs.frames.words.are_words.Given as goal
 
 abbrev pub invariant-loop-word : goal.invariant-loop-word

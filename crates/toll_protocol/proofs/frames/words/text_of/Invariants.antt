@@ -1,6 +1,6 @@
 -- What was written, and what is left to write.
 use Rattle.std.proofs.Common.{◌≡◌, ◌++◌, drop, map}
-use Rattle.toll_protocol.specs.Words.{words_text}
+use Rattle.toll_protocol.proofs.Common.{words_text}
 use Rattle.toll_protocol.proofs.frames.words.text_of.Given as goal
 
 abbrev pub invariant-loop-word : goal.invariant-loop-word

@@ -1,7 +1,6 @@
 use Rattle.std.proofs.Common.{◌≡◌, ◌∙◌, ◌∷◌, ◌++◌, [], ap, sym, map, arith}
+use Rattle.toll_protocol.proofs.Common.{map-append, words_text}
 use Rattle.std.proofs.lemmas.Grind.{common_steps}
-use Rattle.std.proofs.lemmas.List.{map-append}
-use Rattle.toll_protocol.specs.Words.{words_text}
 use Rattle.toll_protocol.proofs.WordLemmas.{are_more, no_tail, tail_of, word_more}
 use Rattle.toll_protocol.proofs.frames.words.words_of.Goals as goal
 

@@ -1,6 +1,6 @@
 -- The words so far and the rest are the text. If the text is a list of words, the rest is some of them.
 use Rattle.std.proofs.Common.{◌≡◌, List, ℕ, ◌++◌, length, map}
-use Rattle.toll_protocol.specs.Words.{AreWords, words_text}
+use Rattle.toll_protocol.proofs.Common.{AreWords, words_text}
 use Rattle.toll_protocol.proofs.frames.words.words_of.Given as goal
 
 abbrev pub invariant-loop-word : goal.invariant-loop-word

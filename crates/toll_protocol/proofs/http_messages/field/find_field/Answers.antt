@@ -1,5 +1,5 @@
 use Rattle.std.proofs.Common.{◌∙◌, sym, ap}
-use Rattle.httparse.specs.Spans.{header_bytes}
+use Rattle.toll_protocol.proofs.Common.{header_bytes}
 use Rattle.toll_protocol.specs.Found.{seen_match}
 use Rattle.toll_protocol.proofs.FieldLemmas.{step_once, step_no, step_several, seen_present}
 use Rattle.toll_protocol.proofs.http_messages.field.find_field.Goals as goal

@@ -1,6 +1,5 @@
 use Rattle.std.proofs.Common.{◌≡◌, map, drop}
-use Rattle.httparse.specs.Spans.{header_bytes}
-use Rattle.toll_protocol.specs.Fields.{values_of, fields_named}
+use Rattle.toll_protocol.proofs.Common.{header_bytes, values_of, fields_named}
 use Rattle.toll_protocol.specs.Found.{seen_match}
 use Rattle.toll_protocol.proofs.FieldLemmas.{seen_with}
 use Rattle.toll_protocol.proofs.http_messages.field.find_field.Given as goal

@@ -1,7 +1,7 @@
 use Rattle.std.proofs.Common.{◌≡◌, ◌+◌, ℕ, drop, min, Some, None, if◌then◌else◌}
+use Rattle.toll_protocol.proofs.Common.{length_of}
 use Rattle.std.specs.Str.{all_ascii_digits}
 use Rattle.std.specs.Str.Parse.{digits_value_after}
-use Rattle.toll_protocol.specs.Fields.{length_of}
 use Rattle.toll_protocol.specs.Limits.{body_limit}
 use Rattle.toll_protocol.proofs.http_messages.field.length_of.Given as goal
 

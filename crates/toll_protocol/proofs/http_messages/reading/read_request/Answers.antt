@@ -1,7 +1,5 @@
-use Rattle.std.proofs.Common.{◌≡◌, ◌∙◌, ◌++◌, ℕ, List, sym, subst, ap, refl}
-use Rattle.std.specs.Io.KnownBytes.{Consumes, IsAtEnd}
-use Rattle.std.specs.Prelude.{◌⊎◌}
-use Rattle.toll_protocol.specs.Parsing.{IsSettled}
+use Rattle.std.proofs.Common.{◌≡◌, ◌∙◌, ◌++◌, ℕ, List, sym, subst, ap, refl, ◌⊎◌}
+use Rattle.toll_protocol.proofs.Common.{Consumes, IsAtEnd, IsSettled}
 use Rattle.toll_protocol.proofs.Onward.{reads_from_start}
 use Rattle.toll_protocol.proofs.Takes.{same_as_stream}
 use Rattle.toll_protocol.proofs.http_messages.reading.read_request.Goals as goal

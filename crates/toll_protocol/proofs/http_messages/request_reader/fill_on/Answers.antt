@@ -1,6 +1,5 @@
 use Rattle.std.proofs.Common.{◌≡◌, ◌∙◌, ◌≤◌, ◌++◌, ℕ, List, length, take, drop, rules, arith, subst}
-use Rattle.std.proofs.lemmas.List.{length-take-le}
-use Rattle.toll_protocol.specs.Parsing.{IsSettled}
+use Rattle.toll_protocol.proofs.Common.{length-take-le, IsSettled}
 use Rattle.toll_protocol.proofs.Fronts.{searched_more}
 use Rattle.toll_protocol.proofs.ReadLemmas.{reads_once_more}
 use Rattle.toll_protocol.proofs.StreamLemmas.{none_more_blocked, none_more_failed}

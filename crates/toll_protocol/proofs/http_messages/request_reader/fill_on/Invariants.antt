@@ -1,10 +1,8 @@
 -- The buffer was filled after the first bytes with what the reader gave, each time before it was settled. No read failed, and no prefix
 -- that was searched ends the head.
 use Rattle.std.proofs.Common.{◌≡◌, ◌≤◌, ◌-◌, ◌++◌, false, length, take, drop}
-use Rattle.std.specs.Io.KnownBytes.{Consumes}
-use Rattle.toll_protocol.specs.Parsing.{IsSettled}
+use Rattle.toll_protocol.proofs.Common.{Consumes, IsSettled, NoneBlocked, RecordsFailure}
 use Rattle.toll_protocol.specs.Filled.{IsFilled}
-use Rattle.toll_protocol.specs.Streams.{NoneBlocked, RecordsFailure}
 use Rattle.toll_protocol.proofs.ReadLemmas.{GaveWhile}
 use Rattle.toll_protocol.proofs.http_messages.request_reader.fill_on.Given as goal
 

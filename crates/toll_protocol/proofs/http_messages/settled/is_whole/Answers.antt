@@ -1,5 +1,5 @@
 use Rattle.std.proofs.Common.{List, ℕ, subst, sym}
-use Rattle.httparse.specs.Spans.{IsRequestAt}
+use Rattle.toll_protocol.proofs.Common.{IsRequestAt}
 use Rattle.toll_protocol.proofs.Fronts.{settled_by_body}
 use Rattle.toll_protocol.proofs.http_messages.settled.is_whole.Goals as goal
 

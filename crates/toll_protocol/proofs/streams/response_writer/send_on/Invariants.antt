@@ -1,7 +1,6 @@
 -- This was written after the first bytes, and no write failed.
 use Rattle.std.proofs.Common.{◌-◌, ◌≤◌, false, length}
-use Rattle.std.specs.Io.KnownBytes.{Appends}
-use Rattle.toll_protocol.specs.Streams.{NoneBlocked, RecordsFailure, bytes_between}
+use Rattle.toll_protocol.proofs.Common.{Appends, NoneBlocked, RecordsFailure, bytes_between}
 use Rattle.toll_protocol.proofs.streams.response_writer.send_on.Given as goal
 
 abbrev pub invariant-loop-written : goal.invariant-loop-written

@@ -1,7 +1,5 @@
-use Rattle.std.proofs.Common.{◌≡◌, ◌∙◌, arith, refl, subst}
-use Rattle.std.specs.Prelude.{Ok}
-use Rattle.toll_server.specs.Connections.{AddsNext}
-use Rattle.toll_server.specs.Networks.{after_accept}
+use Rattle.std.proofs.Common.{◌≡◌, ◌∙◌, arith, refl, subst, Ok}
+use Rattle.toll_server.proofs.Common.{AddsNext, after_accept}
 use Rattle.toll_server.specs.declared.network.Accepted.TheVariants.{Aborted, Connected}
 use Rattle.toll_server.specs.declared.network.NetworkFault.{NetworkFault}
 use Rattle.toll_server.proofs.AcceptLemmas.{aborted, aborted_counts, aborted_stands, all_asked, lost_newcomer, lost_stands, more_come, more_counts, more_stand, accept_reported, wanted, wanted_stands}

@@ -1,10 +1,7 @@
 -- The accepted owners and those still to accept add up, and all accepted connections are stored. The network still listens. Connections
 -- that are queued or have a reply stay, no other has a task or a place in the queue, and each stands under its key.
 use Rattle.std.proofs.Common.{◌≡◌, ◌≤◌}
-use Rattle.toll_server.specs.Accepting.{StandsStill}
-use Rattle.toll_server.specs.Connections.{KeepsQueue, KeepsSubmitted, KeepsTasks}
-use Rattle.toll_server.specs.Networks.{Tallies}
-use Rattle.toll_server.specs.declared.connections.AcceptState.TheVariants.{Open}
+use Rattle.toll_server.proofs.Common.{StandsStill, KeepsQueue, KeepsSubmitted, KeepsTasks, Tallies, Open}
 use Rattle.toll_server.proofs.AcceptLemmas.{Counts, HasCome}
 use Rattle.toll_server.proofs.connections.Connections.accept.Given as goal
 

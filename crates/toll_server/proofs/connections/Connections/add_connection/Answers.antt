@@ -1,6 +1,5 @@
 use Rattle.std.proofs.Common.{◌≡◌, None, Some, arith, inl, inr, refl, subst}
-use Rattle.slab.specs.Slab.{Updates, get}
-use Rattle.toll_server.specs.Connections.{AddsNext}
+use Rattle.toll_server.proofs.Common.{Updates, get, AddsNext}
 use Rattle.toll_server.proofs.connections.Connections.add_connection.Goals as goal
 
 pub returns-then-len-self-clause-added : goal.returns-then-len-self-clause-added

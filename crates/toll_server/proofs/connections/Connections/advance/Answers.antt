@@ -1,7 +1,7 @@
-use Rattle.std.proofs.Common.{◌∙◌, Option, None, inl, inr, refl, subst, sym}
+use Rattle.std.proofs.Common.{◌∙◌, None, inl, inr, refl, subst, sym}
+use Rattle.toll_server.proofs.Common.{StaysOrGoes, stays_after}
 use Rattle.toll_server.proofs.ConnectionLemmas.{heard_tasks, joined_at, replaced}
 use Rattle.toll_server.proofs.StandLemmas.{heard_at}
-use Rattle.toll_server.specs.Connections.{IsShed, StaysOrGoes, stays_after}
 use Rattle.toll_server.proofs.connections.Connections.advance.Goals as goal
 
 pub returns-clause-joins : goal.returns-clause-joins

@@ -1,10 +1,6 @@
-use Rattle.std.proofs.Common.{Option, None, Some, refl, ◌≡◌, ◌∙◌, ap, inl, inr, subst, sym}
-use Rattle.std.specs.Prelude.{IsSome, option_map}
+use Rattle.std.proofs.Common.{Option, None, Some, refl, ◌≡◌, ◌∙◌, ap, inl, inr, subst, sym, IsSome, option_map}
+use Rattle.toll_server.proofs.Common.{get, connection_behind, stays_after, last_poll, reply_in_state, Writes, deadline_after}
 use Rattle.toll_server.proofs.ConnectionLemmas.{turn_taken}
-use Rattle.slab.specs.Slab.{get}
-use Rattle.toll_server.specs.Connections.{connection_behind, stays_after}
-use Rattle.toll_server.specs.ConnectionStates.{last_poll, reply_in_state}
-use Rattle.toll_server.specs.Steps.{Writes, deadline_after}
 use Rattle.toll_server.proofs.StandLemmas.{fewer_requests, same_new, turn_requests}
 use Rattle.toll_server.proofs.TurnTimes.{no_reply, same_times, times_kept}
 use Rattle.toll_server.proofs.connections.Connections.take_turn.Goals as goal

@@ -1,5 +1,5 @@
 use Rattle.std.proofs.Common.{OnOk, IfErr, subst}
-use Rattle.toll_sql.specs.FromFiles.{IsLeftIn, IsUnclosed}
+use Rattle.toll_sql.proofs.Common.{IsLeftIn, IsUnclosed}
 use Rattle.toll_sql.proofs.opening.SqlKeep+FileStore+FileFrom+S.close.Goals as goal
 
 pub returns-clause-copied : goal.returns-clause-copied

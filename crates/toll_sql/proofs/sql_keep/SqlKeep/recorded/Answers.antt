@@ -1,14 +1,10 @@
 use Rattle.std.proofs.Common.{◌≡◌, ◌↔◌, ◌⊎◌, rules, Err, sym, subst}
+use Rattle.toll_sql.proofs.Common.{state, means, Draws, IsReading, reads_then, read_ok, read_fault, read_memory}
 use Rattle.std.proofs.lemmas.List.{take_all}
-use Rattle.sqlite.specs.Held.{state}
-use Rattle.toll_trace.specs.Recorded.{Draws}
 use Rattle.toll_trace.specs.Edges.{IsEdge}
-use Rattle.toll_keep.specs.CallEffects.{IsReading}
 use Rattle.toll_keep.specs.Holding.{IsEdgeOfOne}
 use Rattle.toll_keep.specs.declared.fault.KeepFault.TheVariants.{Memory}
-use Rattle.toll_keep.proofs.Calls.{reads_then, read_ok, read_fault, read_memory}
 use Rattle.toll_keep.proofs.Learning.{drawn_none, drawn_more}
-use Rattle.toll_sql.specs.Meant.{means}
 use Rattle.toll_sql.proofs.sql_keep.SqlKeep.recorded.Goals as goal
 
 pub loop-owner-init : goal.loop-owner-init

@@ -1,11 +1,9 @@
 use Rattle.std.proofs.Common.{◌↔◌, take}
-use Rattle.sqlite.specs.Held.{state}
+use Rattle.toll_sql.proofs.Common.{state, means, Draws}
 use Rattle.toll_base.specs.declared.lot.Edge.{Edge}
-use Rattle.toll_trace.specs.Recorded.{Draws}
 use Rattle.toll_keep.specs.Holding.{IsEdgeOfOne}
 use Rattle.toll_keep.specs.Meaning.{OverContent}
 use Rattle.toll_keep.specs.Reads.{HaveRead, IsContentKept}
-use Rattle.toll_sql.specs.Meant.{means}
 use Rattle.toll_sql.proofs.sql_keep.SqlKeep.recorded.Given as goal
 
 -- The calls so far were answered, and the records are those of the owners so far.

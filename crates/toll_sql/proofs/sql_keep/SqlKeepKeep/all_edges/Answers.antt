@@ -1,9 +1,7 @@
-use Rattle.sqlite.specs.Held.{state}
+use Rattle.std.proofs.Common.{[], IfOk}
+use Rattle.toll_sql.proofs.Common.{state, all_text, AreEdgesOf}
 use Rattle.toll_sql.proofs.EdgesShown.{moves_of_all}
 use Rattle.toll_sql.proofs.KeepLemmas.{read_out, unbegun}
-use Rattle.std.proofs.Common.{[], IfOk}
-use Rattle.toll_sql.specs.AskedTexts.{all_text}
-use Rattle.toll_sql.specs.EdgeRows.{AreEdgesOf}
 use Rattle.toll_sql.proofs.PassLemmas.{passing, told_out}
 use Rattle.toll_sql.proofs.sql_keep.SqlKeepKeep.all_edges.Goals as goal
 

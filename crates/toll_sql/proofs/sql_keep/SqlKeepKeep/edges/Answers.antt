@@ -1,8 +1,7 @@
-use Rattle.sqlite.specs.Held.{state}
+use Rattle.std.proofs.Common.{IfOk}
+use Rattle.toll_sql.proofs.Common.{state, AreOwnersEdges}
 use Rattle.toll_sql.proofs.EdgesShown.{moves_part}
 use Rattle.toll_sql.proofs.KeepLemmas.{read_out, unbegun}
-use Rattle.std.proofs.Common.{IfOk}
-use Rattle.toll_sql.specs.EdgeRows.{AreOwnersEdges}
 use Rattle.toll_sql.proofs.PassLemmas.{passing, told_out}
 use Rattle.toll_sql.proofs.sql_keep.SqlKeepKeep.edges.Goals as goal
 

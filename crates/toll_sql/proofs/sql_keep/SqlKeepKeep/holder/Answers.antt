@@ -1,7 +1,6 @@
 use Rattle.std.proofs.Common.{Err, ap}
-use Rattle.sqlite.specs.Held.{state}
+use Rattle.toll_sql.proofs.Common.{state, ReportsHolder}
 use Rattle.toll_sql.proofs.KeepLemmas.{read_out, unbegun}
-use Rattle.toll_sql.specs.HolderRows.{ReportsHolder}
 use Rattle.toll_sql.proofs.HolderShown.{no_holder}
 use Rattle.toll_sql.proofs.PassLemmas.{passing, told_out}
 use Rattle.toll_sql.proofs.sql_keep.SqlKeepKeep.holder.Goals as goal

@@ -1,10 +1,6 @@
-use Rattle.sqlite.specs.Held.{state}
-use Rattle.toll_sql.proofs.KeepLemmas.{read_out, unbegun}
 use Rattle.std.proofs.Common.{IfOk}
-use Rattle.toll_sql.specs.Encode.{owner_cells}
-use Rattle.toll_sql.specs.Shown.{AreReported}
-use Rattle.toll_sql.specs.Valid.{IsOwner}
-use Rattle.toll_sql.specs.declared.table_kind.TableKind.TheVariants.{Owners}
+use Rattle.toll_sql.proofs.Common.{state, owner_cells, AreReported, IsOwner, Owners}
+use Rattle.toll_sql.proofs.KeepLemmas.{read_out, unbegun}
 use Rattle.toll_sql.proofs.PassLemmas.{passing, told_out}
 use Rattle.toll_sql.proofs.sql_keep.SqlKeepKeep.owners.Goals as goal
 

@@ -1,9 +1,6 @@
-use Rattle.sqlite.specs.Held.{state}
+use Rattle.std.proofs.Common.{◌≡◌, None, IfOk, IfSome}
 use Rattle.toll_sql.proofs.KeepLemmas.{read_out, unbegun}
-use Rattle.std.proofs.Common.{◌≡◌, None, IfOk}
-use Rattle.std.specs.Prelude.{IfSome}
-use Rattle.toll_sql.proofs.Common.{AllByRecursion}
-use Rattle.toll_sql.specs.Shown.{AreRowsIn, IsReportedUnknown, tables_of_owners}
+use Rattle.toll_sql.proofs.Common.{AllByRecursion, state, AreRowsIn, IsReportedUnknown, tables_of_owners}
 use Rattle.toll_sql.proofs.PassLemmas.{passing, told_out}
 use Rattle.toll_sql.proofs.sql_keep.SqlKeepKeep.slice.Goals as goal
 

@@ -1,9 +1,6 @@
 use Rattle.std.proofs.Common.{◌≡◌, rules, Err, sym, subst}
-use Rattle.sqlite.specs.Held.{state}
-use Rattle.toll_keep.specs.CallEffects.{IsReading}
+use Rattle.toll_sql.proofs.Common.{state, means, IsReading, read_ok, read_fault, read_memory}
 use Rattle.toll_keep.specs.declared.fault.KeepFault.TheVariants.{Memory}
-use Rattle.toll_keep.proofs.Calls.{read_ok, read_fault, read_memory}
-use Rattle.toll_sql.specs.Meant.{means}
 use Rattle.toll_sql.proofs.sql_keep.SqlKeepKeep.trace.Goals as goal
 
 pub returns-in_err-begin-clause-reading : goal.returns-in_err-begin-clause-reading

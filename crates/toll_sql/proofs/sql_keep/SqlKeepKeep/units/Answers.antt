@@ -1,10 +1,6 @@
-use Rattle.sqlite.specs.Held.{state}
-use Rattle.toll_sql.proofs.KeepLemmas.{read_out, unbegun}
 use Rattle.std.proofs.Common.{IfOk}
-use Rattle.toll_sql.specs.Encode.{unit_cells}
-use Rattle.toll_sql.specs.Shown.{AreReported}
-use Rattle.toll_sql.specs.Valid.{IsUnit}
-use Rattle.toll_sql.specs.declared.table_kind.TableKind.TheVariants.{Units}
+use Rattle.toll_sql.proofs.Common.{state, unit_cells, AreReported, IsUnit, Units}
+use Rattle.toll_sql.proofs.KeepLemmas.{read_out, unbegun}
 use Rattle.toll_sql.proofs.PassLemmas.{passing, told_out}
 use Rattle.toll_sql.proofs.sql_keep.SqlKeepKeep.units.Goals as goal
 

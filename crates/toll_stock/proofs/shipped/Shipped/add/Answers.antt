@@ -1,7 +1,6 @@
 use Rattle.std.proofs.Common.{◌+◌, cond, sym, ap, ◌∙◌}
 use Rattle.std.specs.BTreeMap.{get}
-use Rattle.toll_stock.proofs.Common.{unwrap_or, bytes_cmp, same_bytes, is_some_where, same_bytes-exact}
-use Rattle.toll_stock.specs.LotTotals.{amount_of}
+use Rattle.toll_stock.proofs.Common.{unwrap_or, bytes_cmp, same_bytes, is_some_where, same_bytes-exact, amount_of}
 use Rattle.toll_stock.proofs.ShippedLots.{amount_put}
 use Rattle.toll_stock.proofs.shipped.Shipped.add.Goals as goal
 

@@ -1,8 +1,6 @@
 use Rattle.std.proofs.Common.{◌≡◌, ◌+◌, ◌*◌, ◌≤◌, length}
-use Rattle.toll_stock.proofs.Common.{Bytes, total}
-use Rattle.toll_stock.specs.LotTotals.{amount_of, shipped_by}
+use Rattle.toll_stock.proofs.Common.{Bytes, total, amount_of, shipped_by, MOST_MOVEMENTS}
 use Rattle.toll_stock.proofs.shipped.Shipped.of.Given as goal
-use Rattle.toll_base.specs.declared.capacity.TheConstants.{MOST_MOVEMENTS}
 
 -- With the movements to come, the amount of each lot is what all of them took.
 abbrev pub invariant-loop-row : goal.invariant-loop-row

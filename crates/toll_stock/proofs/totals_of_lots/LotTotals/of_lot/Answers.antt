@@ -1,7 +1,5 @@
 use Rattle.std.proofs.Common.{◌≡◌, Some, None, sym, ap, subst, ◌∙◌}
-use Rattle.toll_stock.proofs.Common.{lot_id, Slice, lot_at, on_hand, History, IsRowsOf, IsLawful}
-use Rattle.toll_stock.specs.LotTotals.{totals_given}
-use Rattle.toll_stock.specs.declared.stock.Totals.{Totals}
+use Rattle.toll_stock.proofs.Common.{lot_id, Slice, lot_at, on_hand, History, IsRowsOf, IsLawful, totals_given, Totals}
 use Rattle.toll_stock.proofs.TotalsLaw.{none_given, totals_are_given}
 use Rattle.toll_stock.proofs.totals_of_lots.LotTotals.of_lot.Goals as goal
 

@@ -1,6 +1,5 @@
 use Rattle.std.proofs.Common.{◌≡◌, length, subst, arith}
-use Rattle.toll_trace.proofs.Common.{LotId}
-use Rattle.toll_trace.specs.Numbers.{IsNumber}
+use Rattle.toll_trace.proofs.Common.{LotId, IsNumber}
 use Rattle.toll_trace.proofs.EdgeIndexLemmas.{edges_none, edges_more, edges_within, edges_joined, has_both}
 use Rattle.toll_trace.proofs.Walks.{item_of}
 use Rattle.toll_trace.proofs.edge_index.EdgeIndex.of_edges.Goals as goal

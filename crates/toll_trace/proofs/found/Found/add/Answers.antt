@@ -1,6 +1,5 @@
-use Rattle.toll_trace.proofs.Common.{is_eq, common_steps, lot_cmp}
 use Rattle.std.proofs.Common.{◌≡◌, true, cond, ◌++◌, ◌∷◌, [], ap, ◌∙◌, sym, arith}
-use Rattle.toll_trace.specs.Search.{step_at, is_found}
+use Rattle.toll_trace.proofs.Common.{is_eq, common_steps, lot_cmp, step_at, is_found}
 use Rattle.toll_trace.proofs.Levels.{is_found-push}
 use Rattle.toll_trace.proofs.found.Found.add.Goals as goal
 

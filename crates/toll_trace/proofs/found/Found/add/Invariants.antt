@@ -1,7 +1,6 @@
 use Rattle.std.proofs.Common.{◌≡◌, ◌++◌, map, take}
 use Rattle.std.specs.BTreeSet.{contains}
-use Rattle.toll_trace.proofs.Common.{LotId, lot_cmp}
-use Rattle.toll_trace.specs.Search.{step_at, is_found}
+use Rattle.toll_trace.proofs.Common.{LotId, lot_cmp, step_at, is_found}
 use Rattle.toll_trace.proofs.found.Found.add.Given as goal
 
 abbrev pub invariant-loop-lot : goal.invariant-loop-lot

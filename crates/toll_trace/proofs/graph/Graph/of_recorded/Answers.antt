@@ -1,10 +1,5 @@
-use Rattle.std.proofs.Common.{◌≡◌, ◌∙◌, arith}
-use Rattle.std.specs.Prelude.{Contains}
-use Rattle.std.proofs.lemmas.List.{with_items_is}
-use Rattle.toll_trace.proofs.Common.{IsPermutation, LotId}
-use Rattle.toll_trace.specs.Numbers.{HaveNumbers}
-use Rattle.toll_trace.specs.Places.{ChainSegment}
-use Rattle.toll_trace.specs.declared.way.Way.TheVariants.{Back, Forward}
+use Rattle.std.proofs.Common.{◌≡◌, ◌∙◌, arith, Contains}
+use Rattle.toll_trace.proofs.Common.{IsPermutation, LotId, with_items_is, HaveNumbers, ChainSegment, Back, Forward}
 use Rattle.toll_trace.proofs.Recording.{exits_below, graph_drawn, joined_moved, leads_passes}
 use Rattle.toll_trace.proofs.graph.Graph.of_recorded.Goals as goal
 

@@ -1,7 +1,6 @@
 use Rattle.std.proofs.Common.{inl, inr}
+use Rattle.toll_trace.proofs.Common.{IsEdge, IsGraph}
 use Rattle.std.proofs.lemmas.Result.{IfOk-weaker}
-use Rattle.toll_trace.specs.Edges.{IsEdge}
-use Rattle.toll_trace.specs.Graph.{IsGraph}
 use Rattle.toll_trace.specs.Recorded.{Draws}
 use Rattle.toll_trace.proofs.Recording.{graph_same}
 use Rattle.toll_trace.proofs.graph.Graph.of_slice.Goals as goal

@@ -1,7 +1,6 @@
 use Rattle.std.proofs.Common.{[], ◌∷◌}
+use Rattle.toll_trace.proofs.Common.{Leads, LeadAmong, IsTrace}
 use Rattle.std.proofs.lemmas.Result.{IfOk-weaker}
-use Rattle.toll_trace.specs.Graph.{Leads, LeadAmong}
-use Rattle.toll_trace.specs.Trace.{IsTrace}
 use Rattle.toll_trace.proofs.Among.{alone_trace}
 use Rattle.toll_trace.proofs.EdgeIndexLemmas.{trace_of_graph}
 use Rattle.toll_trace.proofs.graph.Graph.trace.Goals as goal

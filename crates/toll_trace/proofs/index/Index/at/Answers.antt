@@ -1,5 +1,4 @@
-use Rattle.std.proofs.Common.{ap, ◌∙◌, rules}
-use Rattle.std.specs.Prelude.{filter}
+use Rattle.std.proofs.Common.{ap, ◌∙◌, rules, filter}
 use Rattle.std.proofs.lemmas.List.Sorted.{IsPartitionPoint-from_clause}
 use Rattle.toll_trace.proofs.Runs.{run_below, up_to, at_key, found_run}
 use Rattle.toll_trace.proofs.index.Index.at.Goals as goal

@@ -1,7 +1,5 @@
 use Rattle.std.proofs.Common.{◌≡◌, ◌+◌, ◌++◌, map, length, ap, ◌∙◌, arith}
-use Rattle.toll_trace.proofs.Common.{Consumed, Produced}
-use Rattle.toll_trace.specs.Places.{placed_use}
-use Rattle.toll_trace.specs.Uses.{uses}
+use Rattle.toll_trace.proofs.Common.{Consumed, Produced, placed_use, uses}
 use Rattle.toll_trace.proofs.Recording.{all_numbered, recorded_more}
 use Rattle.toll_trace.proofs.recorded.Recorded.with.Goals as goal
 use Rattle.toll_trace.proofs.recorded.Recorded.with.Goals.{After-drop-branch-3}

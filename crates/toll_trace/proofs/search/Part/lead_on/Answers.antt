@@ -1,6 +1,5 @@
 use Rattle.std.proofs.Common.{◌∙◌, length, refl, ap, arith}
-use Rattle.std.proofs.lemmas.List.{with_items_is}
-use Rattle.toll_trace.specs.Walk.{AreMarked}
+use Rattle.toll_trace.proofs.Common.{with_items_is, AreMarked}
 use Rattle.toll_trace.proofs.Marks.{walked_marked}
 use Rattle.toll_trace.proofs.Walks.{led_below}
 use Rattle.toll_trace.proofs.search.Part.lead_on.Goals as goal

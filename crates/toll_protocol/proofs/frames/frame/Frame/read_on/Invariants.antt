@@ -1,6 +1,6 @@
 -- The bytes after those from before are what the reader gave, and no read failed.
 use Rattle.std.proofs.Common.{◌≡◌, ◌+◌, ◌-◌, false, length}
-use Rattle.toll_protocol.specs.Streams.{AppendsRead, NoneBlocked, RecordsFailure}
+use Rattle.toll_protocol.proofs.Common.{AppendsRead, NoneBlocked, RecordsFailure}
 use Rattle.toll_protocol.specs.declared.frames.encoding.TheConstants.{LENGTH_BYTES}
 use Rattle.toll_protocol.proofs.frames.frame.Frame.read_on.Given as goal
 

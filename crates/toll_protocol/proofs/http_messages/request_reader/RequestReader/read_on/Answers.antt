@@ -1,7 +1,5 @@
 use Rattle.std.proofs.Common.{◌≡◌, List, ℕ, ◌++◌, ◌∙◌, take, ap, subst, rules}
-use Rattle.toll_protocol.specs.Parsing.{IsSettled}
-use Rattle.toll_protocol.specs.Streams.{ReadsWhile}
-use Rattle.std.proofs.lemmas.List.{with_items_is, places}
+use Rattle.toll_protocol.proofs.Common.{IsSettled, ReadsWhile, with_items_is, places}
 use Rattle.std.specs.Vec.{with_items}
 use Rattle.toll_protocol.proofs.http_messages.request_reader.RequestReader.read_on.Goals as goal
 

@@ -1,9 +1,5 @@
 use Rattle.std.proofs.Common.{◌≡◌, [], drop, map, Some, sym, subst}
-use Rattle.std.proofs.lemmas.List.{drop_all}
-use Rattle.std.proofs.lemmas.Result.{on_ok_weaker}
-use Rattle.serde.specs.Event.{Logs, seq_begins}
-use Rattle.serde_json.specs.Events.{SendsItems}
-use Rattle.serde_json.specs.View.{items_of}
+use Rattle.toll_wire.proofs.Common.{on_ok_weaker, drop_all, Logs, seq_begins, SendsItems, items_of}
 use Rattle.toll_wire.proofs.Sending.{items_length}
 use Rattle.toll_wire.proofs.bodies.rows.RefSliceJsonValue.send.Goals as goal
 

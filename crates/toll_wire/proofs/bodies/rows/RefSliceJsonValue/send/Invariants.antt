@@ -1,8 +1,6 @@
 -- Whatever ends the rows that are left ends all of them.
 use Rattle.std.proofs.Common.{drop, map}
-use Rattle.serde.specs.Event.{Log}
-use Rattle.serde_json.specs.Events.{SendsItems}
-use Rattle.serde_json.specs.View.{items_of}
+use Rattle.toll_wire.proofs.Common.{Log, SendsItems, items_of}
 use Rattle.toll_wire.proofs.bodies.rows.RefSliceJsonValue.send.Given as goal
 
 abbrev pub invariant-loop-row : goal.invariant-loop-row

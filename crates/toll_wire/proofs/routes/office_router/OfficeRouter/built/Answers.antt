@@ -1,6 +1,5 @@
 use Rattle.std.proofs.Common.{IfSome, subst, sym, ap, ◌∙◌}
-use Rattle.std.specs.Option.{option_copied}
-use Rattle.toll_wire.specs.Routers.{IsOffice}
+use Rattle.toll_wire.proofs.Common.{option_copied, IsOffice}
 use Rattle.toll_wire.proofs.routes.office_router.OfficeRouter.built.Goals as goal
 use Rattle.toll_wire.proofs.routes.office_router.OfficeRouter.built.Goals.{then-is_none+in_ok-build+in-Some-1, then-is_none+in_ok-build+in-None-1, else-is_none}
 
