@@ -6,11 +6,13 @@ import resource
 import shutil
 import signal
 import subprocess
+import sys
 import tarfile
 import time
 
 import pytest
 from conftest import HILPOVEN, ROOT, Plant
+from hilpoven.papers import copies
 
 KILLED = ROOT / "plant" / "tests" / "killed.py"
 RECALL = ("papers", "recall", "HOUSE", "W-101")
@@ -184,9 +186,14 @@ def test_a_signal_leaves_nothing(at_work, number, after):
     assert left(at_work) == (["made"] if process.returncode == 0 else [])
 
 
-def test_no_key_is_in_a_copy(at_work, monkeypatch):
-    from hilpoven.papers import copies
+def test_a_signal_while_keys_are_replaced_is_no_fault_of_the_file(at_work, monkeypatch):
+    """SQLite would make a fault of what is raised in a function of Python that it calls."""
+    monkeypatch.setattr(copies.secrets, "token_hex", lambda size: sys.exit(128 + signal.SIGTERM))
+    done = at_work.run(*RECALL, at_work.folder / "made")
+    assert (done.status, done.err, left(at_work)) == (143, "", [])
 
+
+def test_no_key_is_in_a_copy(at_work, monkeypatch):
     seen = []
     taken = copies.version
 

@@ -135,9 +135,10 @@ def without_keys(path: str, file: str) -> Iterator[sqlite3.Connection]:
 def replace_keys(base: sqlite3.Connection) -> None:
     """Puts a random word in the place of each owner's key."""
     base.execute("PRAGMA secure_delete = ON")
-    base.create_function("another_key", 0, lambda: secrets.token_hex(16))
+    rows = base.execute("SELECT rowid FROM owners").fetchall()
     with base:
-        base.execute("UPDATE owners SET okey = another_key()")
+        # a signal that ends the program would be a fault of SQLite's in a function of Python that it calls
+        base.executemany("UPDATE owners SET okey = ? WHERE rowid = ?", [(secrets.token_hex(16), *row) for row in rows])
     base.execute("PRAGMA wal_checkpoint(TRUNCATE)")
 
 
