@@ -127,8 +127,9 @@ def beside(office: Any, owners: int, verb: str) -> Figures:
             words = [__file__, server.port, owners, verb, RATE, SECONDS, first]
             first += RATE * SECONDS
             with server.clients("/orders", owner=owner_name(owners - 1), pause=PAUSE, seconds=SECONDS) as seen:
-                answered = subprocess.run([sys.executable, *map(str, words)], check=True, stdout=subprocess.PIPE, text=True).stdout.split()
-            times[:] = [*times, *map(float, answered)]
+                done = subprocess.run([sys.executable, *map(str, words)], check=True, stdout=subprocess.PIPE, text=True)
+            answered = [*map(float, done.stdout.split())]
+            times.extend(answered)
             yield f"{name}: requests a second that changed a row", round(len(answered) / SECONDS)
             yield from ((f"{name}: {which}", seen[which]) for which in ("99 of 100", "slowest", "not answered 200"))
 

@@ -4,10 +4,13 @@ import os
 import pathlib
 import random
 import sqlite3
+import struct
 
 import pytest
 from following import built, follower_of, look, rows_of
-from hilpoven.standby import capture, wal
+from hypothesis import given, settings
+from hypothesis.strategies import binary, booleans
+from hilpoven.standby import capture, checksums, wal
 
 TABLE = "CREATE TABLE t (number INTEGER PRIMARY KEY, text TEXT NOT NULL)"
 
@@ -113,14 +116,47 @@ def read(folder: pathlib.Path, log: bytes) -> wal.Pages:
         return wal.read_on(descriptor, wal.beginning(descriptor))
 
 
-def test_checksums_are_those_of_sqlite_in_both_orders(tmp_path):
+def sums_by_words(content: bytes, order: str, sums: tuple[int, int] = (0, 0)) -> tuple[int, int]:
+    """The checksum, word by word as SQLite's page on its format has it."""
+    first, second = sums
+    for one, other in struct.iter_unpack(f"{order}2I", content):
+        first = (first + one + second) % 2**32
+        second = (second + other + first) % 2**32
+    return first, second
+
+
+def in_big_order(log: bytes, page_size: int) -> bytes:
+    """The same log as a machine writes it whose words have their high byte first."""
+    head = struct.pack(">I", wal.MAGIC | wal.BIG) + log[4:24]
+    sums = sums_by_words(head, ">")
+    parts = [head + struct.pack(">2I", *sums)]
+    for at in range(wal.HEADER, len(log) - page_size, wal.FRAME_HEAD + page_size):
+        fields, page = log[at : at + 8], log[at + wal.FRAME_HEAD : at + wal.FRAME_HEAD + page_size]
+        sums = sums_by_words(fields + page, ">", sums)
+        parts.append(fields + log[at + 8 : at + 16] + struct.pack(">2I", *sums) + page)
+    return b"".join(parts)
+
+
+@pytest.mark.parametrize("page_size", (512, 4096, 65_536))
+def test_checksums_are_those_of_sqlite_in_both_orders(tmp_path, page_size, monkeypatch):
     """The magic number says in which order words are summed; SQLite writes that of the machine."""
-    writer = Writer(tmp_path / "office.db", 2)
-    head = pathlib.Path(f"{writer.db}-wal").read_bytes()[:32]
-    assert head[:4] == b"\x37\x7f\x06\x82" and read(tmp_path, head).commits == 0
-    assert wal.started(b"\0\0\0\1\0\0\0\2", (0, 0), True) == (1, 3)
-    assert wal.started(b"\1\0\0\0\2\0\0\0", (0, 0), False) == (1, 3)
+    writer = Writer(tmp_path / "office.db", 2, page_size)
+    writer.base.execute("PRAGMA wal_autocheckpoint = 0")
+    for _ in range(6):
+        writer.put()
+    log = pathlib.Path(f"{writer.db}-wal").read_bytes()
     writer.base.close()
+    own, other = read(tmp_path, log), read(tmp_path, in_big_order(log, page_size))
+    assert log[:4] == b"\x37\x7f\x06\x82" and own.commits > 2 and read(tmp_path, log[: wal.HEADER]).commits == 0
+    assert (own.content, own.commits, own.end.frames) == (other.content, other.commits, other.end.frames)
+    monkeypatch.setattr(wal, "CHUNK", 3 * (page_size + wal.FRAME_HEAD))
+    assert read(tmp_path, log) == own and read(tmp_path, in_big_order(log, page_size)) == other
+
+
+@settings(deadline=None)
+@given(content=binary(min_size=8, max_size=400).map(lambda content: content[: len(content) // 8 * 8]), is_big=booleans())
+def test_a_checksum_is_that_of_its_words(content, is_big):
+    assert checksums.sums_of(content, is_big) == sums_by_words(content, ">" if is_big else "<")
 
 
 def test_frames_that_were_written_over_are_told_as_a_gap(tmp_path):

@@ -14,8 +14,7 @@ from dataclasses import dataclass, field, replace
 HEADER, FRAME_HEAD = 32, 24  # bytes
 MAGIC, BIG = 0x377F0682, 1  # the magic number; with this bit, the checksums read words with the high byte first
 FORMAT = 3_007_000
-CHUNK = 16  # frames that are read at a time
-MASK = 0xFFFFFFFF
+CHUNK = 1 << 20  # bytes that are read at a time, or one frame if that is more
 Sums = tuple[int, int]
 
 
@@ -65,42 +64,10 @@ class Pages:
         self.end, self.size, self.commits = later.end, later.size or self.size, self.commits + later.commits
 
 
-def added(content: bytes, sums: Sums, is_big: bool) -> Sums:
-    """SQLite's checksum over bytes, which are a multiple of 64, going on from these sums. Eight steps at a time: sums
-    are cut to 32 bits behind them."""
-    x, y = sums
-    order = ">16I" if is_big else "<16I"
-    for a0, b0, a1, b1, a2, b2, a3, b3, a4, b4, a5, b5, a6, b6, a7, b7 in struct.iter_unpack(order, content):
-        x += a0 + y
-        y += b0 + x
-        x += a1 + y
-        y += b1 + x
-        x += a2 + y
-        y += b2 + x
-        x += a3 + y
-        y += b3 + x
-        x += a4 + y
-        y += b4 + x
-        x += a5 + y
-        y += b5 + x
-        x += a6 + y
-        y += b6 + x
-        x = x + a7 + y & MASK
-        y = y + b7 + x & MASK
-    return x, y
-
-
-def started(head: bytes, sums: Sums, is_big: bool) -> Sums:
-    """The same over a few bytes, a multiple of eight."""
-    x, y = sums
-    for a, b in struct.iter_unpack(">2I" if is_big else "<2I", head):
-        x = x + a + y & MASK
-        y = y + b + x & MASK
-    return x, y
-
-
 def beginning(log: int) -> Position | None:
     """The place before the first frame of an open log; `None` where it has no header, as an empty one."""
+    from .checksums import sums_of  # which loads numpy
+
     head = os.pread(log, HEADER, 0)
     if len(head) < HEADER:
         return None
@@ -108,32 +75,30 @@ def beginning(log: int) -> Position | None:
     is_big, page_size = bool(magic & BIG), 65_536 if size == 1 else size
     if magic & ~BIG != MAGIC or form != FORMAT or page_size not in (1 << n for n in range(9, 17)):
         return None
-    if started(head[:24], (0, 0), is_big) != (first, second):
+    if sums_of(head[:24], is_big) != (first, second):
         return None
     return Position(checkpoint, (salts[0], salts[1]), page_size, is_big, 0, (first, second))
 
 
 def read_on(log: int, start: Position) -> Pages:
     """What an open log has of a generation behind a place, up to its last frame that commits."""
-    pages, open_pages = Pages(start), dict[int, bytes]()
-    size, offset, frames, sums = start.frame_size, start.offset, start.frames, start.sums
+    from .checksums import whole_frames
+
+    pages, place, size = Pages(start), start, start.frame_size
+    content: dict[int, bytes] = {}  # of a transaction that isn't committed yet
+    most = max(CHUNK // size, 1)
     while True:
-        chunk = os.pread(log, CHUNK * size, offset)
-        for at in range(0, len(chunk) - size + 1, size):
-            number, after, *rest = struct.unpack_from(">6I", chunk, at)
-            page = chunk[at + FRAME_HEAD : at + size]
-            if (rest[0], rest[1]) != start.salts or not number:
-                return pages
-            sums = added(page, started(chunk[at : at + 8], sums, start.is_big), start.is_big)
-            if sums != (rest[2], rest[3]):
-                return pages
-            open_pages[number], frames = page, frames + 1
+        chunk = os.pread(log, most * size, place.offset)
+        count = whole_frames(chunk, place)
+        for at in range(0, count * size, size):
+            number, after, _, _, *sums = struct.unpack_from(">6I", chunk, at)
+            place = replace(place, frames=place.frames + 1, sums=(sums[0], sums[1]))
+            content[number] = chunk[at + FRAME_HEAD : at + size]
             if after:
-                pages.add(Pages(replace(start, frames=frames, sums=sums), after, 1, open_pages))
-                open_pages = {}
-        if len(chunk) < CHUNK * size:
+                pages.add(Pages(place, after, 1, content))
+                content = {}
+        if count < most:
             return pages
-        offset += len(chunk)
 
 
 def has(log: int, place: Position) -> bool:
