@@ -74,6 +74,15 @@ def test_the_server_has_the_one_capability_that_a_low_port_needs():
     assert setting(text_of("office.env"), "PORT") and int(setting(text_of("office.env"), "PORT")[0]) < 1024
 
 
+def test_the_c_library_has_what_the_server_sets_of_it():
+    """It passes over a name that it doesn't know."""
+    (words,) = [line.partition("=")[2] for line in setting(text_of("toll@.service"), "Environment") if line.startswith("GLIBC_TUNABLES=")]
+    listed = subprocess.run(["/lib64/ld-linux-x86-64.so.2", "--list-tunables"], capture_output=True, text=True, env={"GLIBC_TUNABLES": words}).stdout
+    tunables = {name: int(value, 16) for name, value in re.findall(r"(?m)^(\S+): (0x[0-9a-f]+) ", listed)}
+    for name, _, value in (word.partition("=") for word in words.split(":")):
+        assert tunables[name] == int(value)
+
+
 def test_the_site_looks_for_companions_where_the_unit_puts_them_for_its_group():
     unit, (folder,) = text_of("toll-companion@.service"), re.findall(r"alias (/var/cache/\S+)/\$toll_companion\.json;", text_of("nginx.conf"))
     assert folder == f"{settings.COMPANIONS}/NAME" == settings.companions_of(settings.Settings(office="NAME"))
