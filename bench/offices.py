@@ -55,6 +55,7 @@ INSERT INTO batches SELECT 'OWNER-01', printf('O-%05d', 1 + (i - 1) / 99), 1 + (
   FROM n WHERE i <= 198;
 """
 ORDERS = "INSERT INTO orders SELECT owner, printf('X-%05d', i), 'R', 1, 0 FROM owners, n WHERE i <= ?"
+CHANGE = "INSERT INTO units VALUES ('U-OTHER')"
 MOVE = "INSERT INTO moves VALUES (?, ?, ?, ?, ?, ?, ?, ?, ?, ?, ?, ?, ?)"
 
 

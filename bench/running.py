@@ -1,13 +1,20 @@
 """The program over a file in memory, as commands and as a server, and what that takes."""
+import concurrent.futures
 import contextlib
+import itertools
 import json
 import math
+import os
+import re
 import resource
 import shlex
 import socket
+import sqlite3
+import struct
 import subprocess
 import sys
 import tempfile
+import threading
 import time
 from collections.abc import Callable, Iterable, Iterator
 from pathlib import Path
@@ -22,6 +29,9 @@ OWNER, LOT, ORDER = owner_name(0), offices.product(1, 0), "/orders/X-00001"
 STOCK, TRACE, RECALL = ("stock", OWNER), ("trace", HOUSE, WATER, "forward"), ("recall", HOUSE, WATER)
 TRACED, QUESTION, SCRIPT = f"/trace/forward/{LOT}", ("orders", HOUSE), ("script",)
 NEW_ORDER = '{{"order":"Y-{:05}","recipe":"R","batches":1}}'  # behind all that there are
+UNIT = Path(__file__).resolve().parent.parent / "packaging" / "toll@.service"
+RESET = struct.pack("ii", 1, 0)  # ends a connection without a wait, so that its port is free again
+Address = tuple[str, int] | str  # a port of this machine, or a path
 Asking = Iterator[dict[str, float]]
 Figures = Iterator[tuple[str, float]]  # seconds, or millions of instructions; whole numbers are counts
 REPORT = """done = function(summary, latency)
@@ -36,24 +46,56 @@ def shell(command: str) -> str:
     return subprocess.run(["sh", "-c", command], capture_output=True, text=True).stdout
 
 
+def tunables() -> dict[str, str]:
+    """What the server's unit sets of the C library."""
+    (value,) = re.findall(r"(?m)^Environment=GLIBC_TUNABLES=(.*)$", UNIT.read_text())
+    return {"GLIBC_TUNABLES": value}
+
+
 def processor_of_commands() -> float:
     """The seconds of processor that all commands took which have ended."""
     usage = resource.getrusage(resource.RUSAGE_CHILDREN)
     return usage.ru_utime + usage.ru_stime
 
 
+@contextlib.contextmanager
+def knocking(address: Address, count: int) -> Iterator[None]:
+    """A client that connects so many times a second, and closes each connection at once."""
+    has_ended, began = threading.Event(), time.monotonic()
+
+    def knock() -> None:
+        for number in itertools.count(1):
+            with socket.socket(socket.AF_UNIX if isinstance(address, str) else socket.AF_INET) as peer:
+                peer.setsockopt(socket.SOL_SOCKET, socket.SO_LINGER, RESET)
+                with contextlib.suppress(ConnectionError):
+                    peer.connect(address)
+            if has_ended.wait(max(0.0, began + number / count - time.monotonic())):
+                return
+
+    with concurrent.futures.ThreadPoolExecutor() as pool:
+        client = pool.submit(knock)
+        try:
+            yield
+        finally:
+            has_ended.set()
+        client.result()
+
+
 class Server:
     """A server of an office; if there is no program, Python's queries on the open file."""
 
-    def __init__(self, office: "Office") -> None:
+    def __init__(self, office: "Office", descriptors: int) -> None:
         self.office, self.program, self.base = office, office.program, beside.Base(office.db)
         self.counter = Callgrind(office.folder) if office.is_counted else None
         if self.program:
-            words = [str(self.program), "--db", office.db, "serve", "0", "1000000"]
+            words = ["prlimit", f"--nofile={descriptors}"] if descriptors else []
+            words += [str(self.program), "--db", office.db, "serve", "0", "1000000"]
             self.process = subprocess.Popen(self.counter.words(words) if self.counter else words,
-                                            stdout=subprocess.PIPE, stderr=subprocess.DEVNULL)
+                                            stdout=subprocess.PIPE, stderr=subprocess.DEVNULL,
+                                            env={**os.environ, **tunables()})
             assert self.process.stdout
             self.port = int(self.process.stdout.readline().split()[1])
+            self.address = ("127.0.0.1", self.port)
 
     def cost(self) -> float:
         """The seconds of processor that it has used, by the kernel's clock of the process; or its instructions."""
@@ -111,7 +153,7 @@ class Server:
         """Clients that connect and send nothing."""
         with contextlib.ExitStack() as stack:
             for _ in range(count):
-                stack.enter_context(socket.create_connection(("127.0.0.1", self.port)))
+                stack.enter_context(socket.create_connection(self.address))
             yield
 
     def beside_plant(self, name: str) -> Figures:
@@ -148,6 +190,11 @@ class Office:
         """Lays a copy of the file."""
         shell(f"rm -f {self.db}*; cp {self.base} {self.db}")
 
+    def change(self) -> None:
+        """Writes the file as another program does, so that a server opens it anew."""
+        with contextlib.closing(sqlite3.connect(self.db)) as base, base:
+            base.execute(offices.CHANGE)
+
     def write(self, lines: Iterable[str]) -> str:
         with tempfile.NamedTemporaryFile("w", dir=self.folder, delete=False) as file:
             file.writelines(lines)
@@ -175,10 +222,10 @@ class Office:
         return row, self.run(row, *words, stdin=stdin)
 
     @contextlib.contextmanager
-    def serve(self) -> Iterator[Server]:
-        """A server of a copy of the file."""
+    def serve(self, descriptors: int = 0) -> Iterator[Server]:
+        """A server of a copy of the file, with so many file descriptors, or as many as this program may have."""
         self.restore()
-        server = Server(self)
+        server = Server(self, descriptors)
         try:
             yield server
         finally:

@@ -5,9 +5,11 @@ import json
 import math
 import os
 import re
+import socket
 import sqlite3
 import subprocess
 import sys
+import time
 from collections.abc import Iterator
 from pathlib import Path
 
@@ -17,7 +19,7 @@ from conftest import ROOT, script
 sys.path.append(str(ROOT))
 from bench import beside, counting, offices  # noqa: E402
 from bench.offices import CONSUMED, HOUSE, PRODUCED, RECEIVED, WATER, Dense, Genealogy  # noqa: E402
-from bench.running import Figures, Office  # noqa: E402
+from bench.running import Figures, Office, knocking  # noqa: E402
 from bench.table import Column, Number, lines, measure, too_fast  # noqa: E402
 
 Output = pytest.CaptureFixture[str]
@@ -138,9 +140,27 @@ def test_columns_are_those_of_the_office() -> None:
     with sqlite3.connect(":memory:") as base:
         for table in TABLES:
             base.execute(table)
-        for text in (offices.DEFINITIONS, offices.DERIVED, offices.FULL, offices.RUNNING):
+        for text in (offices.DEFINITIONS, offices.DERIVED, offices.FULL, offices.RUNNING, offices.CHANGE):
             base.executescript(text)
         base.execute(offices.MOVE, next(Dense(10).moves("A")))
+
+
+# Clients that connect and send nothing
+
+@pytest.mark.parametrize("family", [socket.AF_INET, socket.AF_UNIX])
+def test_so_many_connections_come_in_a_second_until_the_end(tmp_path: Path, family: socket.AddressFamily) -> None:
+    with socket.socket(family) as door:
+        door.bind(("127.0.0.1", 0) if family == socket.AF_INET else f"{tmp_path}/door")
+        door.listen(100)
+        began = time.monotonic()
+        with knocking(door.getsockname(), 100):
+            for _ in range(20):
+                door.accept()[0].close()
+        assert time.monotonic() - began > 0.18
+        door.settimeout(0)
+        with pytest.raises(BlockingIOError):
+            for _ in range(100):
+                door.accept()
 
 
 # What is counted
