@@ -7,11 +7,10 @@ use Rattle.toll_base.specs.Lots.{lot_id}
 use Rattle.toll_answers.specs.declared.plant_cmd.PlantCmd.TheVariants.{Actual, Unread}
 use Rattle.toll_plant.specs.Commands.{actual_row, command_from}
 use Rattle.toll_plant.specs.Files.{Fields, command_in}
-use Rattle.toll_plant.specs.Imports.{commands_in}
+use Rattle.toll_plant.specs.Imports.{CanBeStaged, HasValidValues, commands_in}
 use Rattle.toll_plant.specs.Table.{actual_line}
 use Rattle.toll_plant.specs.Words.{command_read, command_with, values_read}
 use Rattle.toll_plant.specs.declared.argument.ArgumentValue.{ArgumentValue}
-use Rattle.toll_plant.specs.Imports.{CanBeStaged, HasValidValues}
 use Rattle.toll_plant.proofs.TableLemmas.{actual_makes, command_made, values_have}
 
 -- The command records a movement, or couldn't be read.

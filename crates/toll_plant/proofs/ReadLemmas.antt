@@ -1,7 +1,6 @@
 -- Values, read one by one.
-use Rattle.std.proofs.Common.{◌≡◌, ◌∙◌, List, [], ◌∷◌, ◌++◌, map, refl, sym, ap, append_assoc}
+use Rattle.std.proofs.Common.{◌≡◌, ◌∙◌, List, [], ◌∷◌, ◌++◌, map, refl, sym, ap, append_assoc, inl, inr}
 use Rattle.std.specs.Prelude.{◌⊎◌, Result, Ok, Err}
-use Rattle.std.proofs.Common.{inl, inr}
 use Rattle.toll_plant.proofs.Common.{append-nil, Bytes, Refusal}
 use Rattle.toll_plant.specs.Lines.{Argument}
 use Rattle.toll_plant.specs.Readings.{read_as}

@@ -8,8 +8,7 @@ use Rattle.toll_history.specs.Laws.{has_this_key}
 use Rattle.toll_history.specs.Movements.{movement_of, voided_in}
 use Rattle.toll_plant.specs.Files.{Fields}
 use Rattle.toll_plant.specs.Imports.{IsImport, commands_in}
-use Rattle.toll_plant.specs.Outcomes.{is_outcome_accepted}
-use Rattle.toll_plant.specs.Outcomes.{is_fault_outcome}
+use Rattle.toll_plant.specs.Outcomes.{is_fault_outcome, is_outcome_accepted}
 use Rattle.toll_plant.specs.declared.outcome.Outcome.{Outcome}
 use Rattle.toll_plant.specs.declared.outcome.Outcome.TheVariants.{Accepted, Repeated}
 
