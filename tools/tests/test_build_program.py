@@ -47,11 +47,12 @@ if verb == "lib" and is_built(name):
     sys.exit()
 note(f"begin {name} {words[words.index('--jobs') + 1]}")
 text = (here / "src" / ("main.rt" if verb == "run" else "lib.rt")).read_text()
-(told / f"pid-{name}").write_text(str(os.getpid()))
 (out / "incremental").mkdir(parents=True, exist_ok=True)
 with open(out / "incremental" / "kept.oantt.new", "w") as kept:
     kept.write(text)
 os.replace(out / "incremental" / "kept.oantt.new", out / "incremental" / "kept.oantt")
+(told / f"pid-{name}.new").write_text(str(os.getpid()))
+os.replace(told / f"pid-{name}.new", told / f"pid-{name}")  # from here on a test may end this
 time.sleep(float(text.partition("seconds ")[2].partition("\n")[0] or 0.1))
 if "wrong" in text:
     print("fn it::well: proved", f"src/lib.rt:3:1: error[unknown-name]: there is no {name}", "note: src/lib.rt:4:1: it is not proved that it returns", sep="\n")
@@ -460,7 +461,8 @@ if sys.argv[1] == "version":
 assert sys.argv[1] == "try" and (kit / "bin" / "rtlib.py").read_text() == "library" and (kit / "rlibs").is_dir()
 text = pathlib.Path("src/main.rt").read_text()
 assert all(pathlib.Path("..", it.partition(":")[0]).is_dir() for it in pathlib.Path("../../crates.txt").read_text().splitlines())
-(told / "pid-try").write_text(str(os.getpid()))
+(told / "pid-try.new").write_text(str(os.getpid()))
+os.replace(told / "pid-try.new", told / "pid-try")
 time.sleep(float(text.partition("seconds ")[2].partition("\n")[0] or 0))
 if "wrong" in text:
     sys.exit("src/main.rt:3:1: error[unknown-name]: there is no such thing")
