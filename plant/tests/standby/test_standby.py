@@ -293,7 +293,8 @@ def test_pieces_go_to_another_machine_and_wait_for_the_network(at_work, standby,
         for number in range(3):
             assert at_work.run("unit-add", f"U-{number}").out == "accepted\n"
             time.sleep(1.2)
-        assert number_in(target) == sent and "No route to host" in (at_work.folder / "follower.log").read_text()
+        assert eventually(lambda: "No route to host" in (at_work.folder / "follower.log").read_text())
+        assert number_in(target) == sent
         assert eventually(lambda: "still to be sent" in at_work.run("follow", "status").out)
         (tmp_path / "down").unlink()
         assert eventually(lambda: number_in(target) == number_in(at_work.folder / "follow") > sent, 40)
