@@ -17,8 +17,8 @@ const FRAME_HEADER_BYTES: usize = 24;
 
 const MOST_FRAME_BYTES: usize = FRAME_HEADER_BYTES + 65_536;
 
-/// How many bytes are read ahead, in which are the headers of four frames with pages of 4,096 bytes.
-const AHEAD_BYTES: usize = 16_384;
+/// How many bytes are read ahead: up to the header of the fourth frame, if pages have 4,096 bytes.
+const AHEAD_BYTES: usize = 3 * (FRAME_HEADER_BYTES + 4_096) + FRAME_HEADER_BYTES;
 
 /// The version of the format, which has not changed since SQLite 3.7.0.
 const VERSION: u32 = 3_007_000;
