@@ -8,6 +8,7 @@ import signal
 import subprocess
 import sys
 import tarfile
+import tempfile
 import time
 
 import pytest
@@ -49,6 +50,15 @@ def test_papers_are_for_their_user_alone(at_work):
     assert at_work.run(*RECALL, at_work.folder / "made", "--no-pdf").status == 0
     for path in [at_work.folder / "made", *(at_work.folder / "made").rglob("*")]:
         assert path.stat().st_mode & 0o077 == 0, path
+
+
+def test_papers_leave_no_temporary_files(at_work, monkeypatch):
+    """WeasyPrint makes a folder in each process that prints."""
+    temporary = at_work.folder / "temporary"
+    temporary.mkdir()
+    monkeypatch.setattr(tempfile, "tempdir", str(temporary))
+    assert at_work.run(*RECALL, at_work.folder / "made").status == 0
+    assert os.listdir(temporary) == []
 
 
 def test_a_tar_has_the_same_files(at_work):

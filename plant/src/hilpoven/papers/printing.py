@@ -1,10 +1,11 @@
 """Papers as HTML, as PDF and as CSV: each is one template, which a browser shows and WeasyPrint prints."""
+import contextlib
 import functools
 import importlib.util
 import os
 import pathlib
 import signal
-from collections.abc import Sequence
+from collections.abc import Iterator, Sequence
 from dataclasses import dataclass, field
 from typing import Any
 
@@ -90,7 +91,8 @@ def render(
 
 
 def write(documents: list[tuple[Document, str]], room: pathlib.Path, prints: bool) -> None:
-    """Writes papers with their footers below a folder."""
+    """Writes papers with their footers below a folder. Temporary files are beside it, in a folder that its caller
+    removes."""
     jobs = []
     for document, footer in documents:
         folder = room / document.folder
@@ -102,7 +104,20 @@ def write(documents: list[tuple[Document, str]], room: pathlib.Path, prints: boo
             long = document.long_tables()
             jobs.append(Job(document.page(footer, long), long, folder / f"{document.name}.pdf"))
     if jobs:
-        print_all(jobs)
+        with temporary_files_in(room.parent):
+            print_all(jobs)
+
+
+@contextlib.contextmanager
+def temporary_files_in(folder: pathlib.Path) -> Iterator[None]:
+    """Has temporary files made in a folder: WeasyPrint leaves a folder of fonts where a process ends at once."""
+    import tempfile
+
+    before, tempfile.tempdir = tempfile.tempdir, str(folder)
+    try:
+        yield
+    finally:
+        tempfile.tempdir = before
 
 
 def print_all(jobs: list[Job]) -> None:
