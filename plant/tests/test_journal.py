@@ -1,6 +1,7 @@
 """The journal: each line follows the one before, and what was changed, is missing or cut is found."""
 import contextlib
 import csv
+import datetime
 import io
 import json
 import multiprocessing
@@ -13,7 +14,7 @@ import time
 import tracemalloc
 
 import pytest
-from conftest import HILPOVEN, environment
+from conftest import HILPOVEN, environment, is_told
 from hilpoven.journal import log as journals
 from hilpoven.journal.log import Journal
 from hilpoven.journal.query import check
@@ -394,6 +395,25 @@ def test_who_and_word_find_what_they_name(at_work):
                      "K21,ACME,O-1,1,1,consumed,SALT,ACME,S-1,BAY1,1,102\n")
     at_work.run("import", sheet)
     assert [row["what"] for row in json.loads(at_work.run("journal", "--no-site", "--word", "K21", "--json").out)] == ["import sheet.csv"]
+
+
+@pytest.mark.parametrize("typed", ["TR-77,", "(TR-77)", "TR-77:", "'TR-77'", "W-1/TR-77", "of_TR-77; TR-77."])
+def test_a_word_is_found_whatever_marks_stand_beside_it(at_work, typed):
+    at_work.run("scrap", "ACME", "K9", "S-1", "BAY1", 5, 103, "--reason", f"as {typed} says", "--yes")
+    assert [row["what"].split()[:3] for row in json.loads(at_work.run("journal", "--no-site", "--word", "TR-77", "--json").out)] == [["scrap", "ACME", "K9"]]
+    assert at_work.run("journal", "--no-site", "--word", "TR-7", "--json").out == "[]\n"
+
+
+def test_a_time_that_the_journal_prints_is_one_to_look_from(at_work):
+    at_work.run("unit-add", "PRESS")
+    at_work.run("unit-add", "OVEN")
+    first, second = json.loads(at_work.run("journal", "--no-site", "--json").out)
+    assert json.loads(at_work.run("journal", "--no-site", "--json", "--since", second["time"]).out) == [second] or first["time"] == second["time"]
+    shifted = datetime.datetime.fromisoformat(second["time"]).astimezone(datetime.timezone(datetime.timedelta(hours=5))).isoformat(timespec="milliseconds")
+    assert second in json.loads(at_work.run("journal", "--no-site", "--json", "--since", shifted).out)
+    assert json.loads(at_work.run("journal", "--no-site", "--json", "--since", "2999-01-01").out) == []
+    for text in ("yesterday", "2026-13-01", "0001-01-01T00:00+23:00", ""):
+        assert is_told(at_work.run("journal", "--since", text), 2)
 
 
 def test_an_answer_that_cannot_be_noted_is_given_all_the_same(at_work):

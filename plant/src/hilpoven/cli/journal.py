@@ -16,8 +16,6 @@ from ..output.table import print_table
 from .groups import Group
 from .words import PATH, pass_context
 
-DAYS = ["%Y-%m-%d", "%Y-%m-%dT%H:%M", "%Y-%m-%dT%H:%M:%S", "%Y-%m-%d %H:%M"]
-
 
 def of_settings(context: Context, with_questions: bool) -> list[JournalEntry]:
     """What owners asked, as the logs of the settings have it; that one can't be read is told."""
@@ -32,19 +30,13 @@ def moment(text: str | None) -> str | None:
     """A time of Greenwich as the journal writes it, to be compared."""
     if text is None:
         return None
-    for form in DAYS:
-        try:
-            return (
-                datetime.strptime(text, form)
-                .replace(tzinfo=timezone.utc)
-                .isoformat(timespec="milliseconds")
-                .replace("+00:00", "Z")
-            )
-        except ValueError:
-            continue
-    raise Failure(
-        f"{text!r} is no time", WRONG_USE, "such as 2026-11-27, or 2026-11-27T14:30; times are those of Greenwich"
-    )
+    try:
+        time = datetime.fromisoformat(text)
+        time = time.astimezone(timezone.utc) if time.tzinfo else time.replace(tzinfo=timezone.utc)
+    except (ValueError, OverflowError):
+        advice = "such as 2026-11-27, or 2026-11-27T14:30; times are those of Greenwich where they name no zone"
+        raise Failure(f"{text!r} is no time", WRONG_USE, advice) from None
+    return time.isoformat(timespec="milliseconds").replace("+00:00", "Z")
 
 
 @click.group("journal", cls=Group, invoke_without_command=True)

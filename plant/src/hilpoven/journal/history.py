@@ -1,5 +1,4 @@
 """Who did what when, of the plant and of the owners, as `hilpoven journal` shows it."""
-import re
 from dataclasses import dataclass
 from typing import Any
 
@@ -8,6 +7,7 @@ from . import query
 
 COLUMNS = ["time", "who", "where", "what", "answer"]
 UNKNOWN = "asked, answer unknown"
+MARKS = ".,;:!?()[]{}<>\"'`"  # that stand around a word in a sentence
 
 
 @dataclass(frozen=True)
@@ -20,7 +20,7 @@ class JournalEntry:
     asked: str
     answer: str
     names: tuple[str, ...] = ()  # by which `--who` finds it
-    words: tuple[str, ...] = ()  # by which `--word` finds it
+    words: frozenset[str] = frozenset()  # by which `--word` finds it
 
 
 def of_plant(path: str, file: str) -> list[JournalEntry]:
@@ -83,9 +83,17 @@ def listed(entry: dict[str, Any], member: str) -> list[Any]:
     return value if isinstance(value, list) else []
 
 
-def words_of(entry: dict[str, Any]) -> tuple[str, ...]:
+def words_of(entry: dict[str, Any]) -> frozenset[str]:
     """The words of an entry, and those of the keys of a sheet that was imported."""
-    return tuple(f"{asked(entry)} {' '.join(map(str, listed(entry, 'keys')))}".split())
+    return words_in(f"{asked(entry)} {' '.join(map(str, listed(entry, 'keys')))}")
+
+
+def words_in(text: str) -> frozenset[str]:
+    """The words of a text: what stands between blanks, its parts between slashes, and all of these without the marks
+    around them, so that `TR-77` is a word of `(lot TR-77, ACME/B-1)`."""
+    typed = text.split()
+    words = {*typed, *(part for word in typed for part in word.split("/"))}
+    return frozenset(words | {word.strip(MARKS) for word in words} - {""})
 
 
 def answer_of(entry: dict[str, Any], answers: dict[str, dict[str, Any]]) -> str:
@@ -113,7 +121,7 @@ def of_owners(paths: list[str], with_questions: bool) -> list[JournalEntry]:
             request.request,
             str(request.status),
             (request.owner,),
-            tuple(re.split(r"[\s/]+", request.request)),
+            words_in(request.request),
         )
         for path in paths
         for request in sitelog.requests(path)
