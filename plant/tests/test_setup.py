@@ -35,6 +35,9 @@ class Trial(Machine):
         self.asked.append(words)
         if words[0] == "systemctl" and words[1].startswith("is-"):
             return Ran(0 if words[3] in self.active else 3, "")
+        if words[:2] == ["systemctl", "start"]:
+            self.back_up(re.fullmatch(r"toll-backup@(.*)\.service", words[2])[1])
+            return Ran(0, "")
         if words[0] == "systemctl":
             self.active.update(words[3:] if words[1] == "enable" else words[2:])
             return Ran(0, "")
@@ -42,6 +45,11 @@ class Trial(Machine):
             return self.nginx_says
         assert words[0] in ("mkdir", "chmod") and user == self.user
         return super().run(words)
+
+    def back_up(self, name):
+        """What the unit of backups does."""
+        os.makedirs(f"{self.data}/{name}/backup", mode=0o700, exist_ok=True)
+        self.hilpoven(name, "backup")
 
     def hilpoven(self, name, *words):
         umask = os.umask(0o077)
@@ -114,7 +122,7 @@ def contents(files):
 
 def test_an_office_with_its_site_and_an_owner_s_key(machine):
     done = given(machine, owner="ACME")
-    assert [step.is_new for step in done] == [True] * 7
+    assert [step.is_new for step in done] == [True] * 8
     env = pathlib.Path(machine.offices, "north.env")
     assert re.findall(r"^\w+=.*", env.read_text(), re.M) == ["PORT=802"] and env.stat().st_mode & 0o777 == 0o644  # 801 is taken
     folder = pathlib.Path(machine.data, "north")
@@ -152,7 +160,7 @@ def test_a_second_run_changes_nothing_and_says_so(machine):
     given(machine, owner="ACME")
     before, machine.asked[:] = files_of(machine), []
     done = given(machine, owner="ACME")
-    assert [(step.is_new, step.owner_key) for step in done] == [(False, "")] * 7 and files_of(machine) == before
+    assert [(step.is_new, step.owner_key) for step in done] == [(False, "")] * 8 and files_of(machine) == before
     assert {words[0] for words in machine.asked} == {"systemctl", "nginx"} and all(words[1].startswith("is-") or words == ["nginx", "-t"] for words in machine.asked)
 
 
@@ -161,7 +169,7 @@ def test_what_a_failure_left_is_gone_on_with(machine):
     with pytest.raises(Failure, match="toll@north.service doesn't answer at port 802"):
         given(machine)
     machine.__dict__["is_up"] = True
-    assert [step.is_new for step in given(machine)] == [False, False, False, False, False, True]
+    assert [step.is_new for step in given(machine)] == [False, False, False, False, False, True, True]
 
 
 def test_each_office_has_its_own_port_host_and_log(machine):
@@ -180,7 +188,7 @@ def test_another_host_or_certificate_replaces_what_setup_wrote(machine):
     given(machine)
     done = given(machine, host="new.north.example")
     text = pathlib.Path(machine.nginx, "conf.d", "toll_north.conf").read_text()
-    assert [step.is_new for step in done] == [False] * 5 + [True] and "server_name new.north.example;" in text and HOST not in text
+    assert [step.is_new for step in done] == [False] * 6 + [True] and "server_name new.north.example;" in text and HOST not in text
 
 
 def test_what_was_changed_by_hand_stays(machine):

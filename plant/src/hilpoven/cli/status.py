@@ -3,6 +3,7 @@ import sys
 
 import click
 
+from ..core import rights
 from ..core.context import Context
 from ..core.failure import printable
 from ..core.health import Health, health_of, metrics, pressing
@@ -66,6 +67,7 @@ def status(context: Context, prometheus: bool, is_whole: bool) -> None:
 
     Example: hilpoven status
     """
+    rights.become_owner(context.file)
     health = health_of(context)
     if prometheus:
         click.echo(metrics(health), nl=False)

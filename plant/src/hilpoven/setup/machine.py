@@ -154,6 +154,13 @@ class Machine:
                 return False
         return True
 
+    def has_files(self, folder: str) -> bool:
+        """Whether something is in a folder."""
+        try:
+            return bool(os.listdir(folder))
+        except FileNotFoundError:
+            return False
+
     def wait_for_server(self, port: int) -> bool:
         """Whether the server at a port comes to answer."""
         return comes(lambda: client.status_at(port) == FORBIDDEN)

@@ -107,6 +107,14 @@ def units(setup: Setup) -> Done:
     return Done(not was_right, f"{', '.join(names)}: enabled and active")
 
 
+def backup(setup: Setup) -> Done:
+    """The first backup, which the timer would make within the hour."""
+    folder, unit = setup.settings.backups, f"toll-backup@{setup.plan.name}.service"
+    if is_new := not setup.machine.has_files(folder):
+        setup.machine.must(["systemctl", "start", unit])
+    return Done(is_new, f"{folder}: the backups")
+
+
 def are_active(machine: Machine, units: list[str]) -> bool:
     """Whether units are enabled and active."""
     return all(machine.run(["systemctl", question, "--quiet", name]).status == 0 for question in IS for name in units)
@@ -175,6 +183,7 @@ STEPS: tuple[Callable[[Setup], Done | None], ...] = (
     office,
     settings,
     units,
+    backup,
     site_for_owners,
     owner,
 )
