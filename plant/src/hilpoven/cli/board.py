@@ -1,12 +1,12 @@
 """`hilpoven board`: a page for a screen in the plant."""
 import contextlib
-import datetime
 
 import click
 
 from ..core import paths
 from ..core.context import Context
 from ..papers import board_rows, copies, printing
+from ..records.days import now
 from .words import PATH, pass_context
 
 RELOADS, TURNS, STALE = 30, 8, 180  # seconds until it is read anew, until a list turns its page, and until it is old
@@ -31,17 +31,16 @@ def board(context: Context, target: str | None, force: bool) -> None:
     Example: hilpoven board --force --out /srv/board/board.html
     """
     with paths.target(target, force) if target else contextlib.nullcontext() as page:
-        now = datetime.datetime.now(datetime.timezone.utc)
+        now_in_plant = now(context.settings.time_zone)
         with copies.opened(context.office_to_export("board", is_seldom=False), context.journal()) as source:
             panels = board_rows.panels(source)
-        local = now.astimezone()
         text = printing.render(
             "board",
             {
                 "panels": panels,
                 "is_noted": any(row.is_noted for panel in panels for row in panel.rows),
-                "made_at": f"{local:%Y-%m-%d %H:%M}",
-                "seconds": int(now.timestamp()),
+                "made_at": f"{now_in_plant:%Y-%m-%d %H:%M}",
+                "seconds": int(now_in_plant.timestamp()),
                 "reloads": RELOADS,
                 "turns": TURNS,
                 "stale": STALE,

@@ -5,7 +5,7 @@ import sys
 import click
 
 from .. import HOUSE
-from ..core import forms, names
+from ..core import names
 from ..core.context import Context
 from ..core.failure import REFUSED, WRONG_USE, Failure
 from ..output.table import print_table
@@ -13,7 +13,7 @@ from ..records.days import day_of, today
 from ..years import steps
 from ..years.carrying import COMMAND, Work, has_owner, hindrances, prepared
 from ..years.carrying import carry_over as carry
-from .words import NAME, PATH, pass_context
+from .words import DAY, NAME, PATH, pass_context
 
 NEW = "next.db"
 MOST_ORDERS, MOST_GAUGES = 40, 12  # that are shown
@@ -98,7 +98,7 @@ def target_of(file: str, new: str | None) -> str:
 @click.option(
     "--day",
     metavar="DAY",
-    default="",
+    type=DAY,
     help="The day of the receipts that carry the stock over; today, as YYMMDD, by default.",
 )
 @click.option(
@@ -115,7 +115,7 @@ def target_of(file: str, new: str | None) -> str:
     help="An owner that leaves, and has nothing on hand; its rows stay in the earlier file.",
 )
 @pass_context
-def carry_over(context: Context, new: str | None, day: str, is_plan: bool, without: tuple[str, ...]) -> None:
+def carry_over(context: Context, new: str | None, day: int | None, is_plan: bool, without: tuple[str, ...]) -> None:
     """Continues in a new file that starts with the stock in the plant. Nothing that was recorded is lost.
 
     NEW, or next.db in the folder of the office's file, is the new file's name until it takes the name of the office's
@@ -125,13 +125,11 @@ def carry_over(context: Context, new: str | None, day: str, is_plan: bool, witho
 
     Example: hilpoven carry-over /var/lib/toll/next.db
     """
-    day = day or str(day_of(today(context.settings.time_zone)))
-    if fault := forms.DAY.fault(day):
-        raise Failure(f"DAY: `{day}` {fault}", WRONG_USE)
+    carried_on = day_of(today(context.settings.time_zone)) if day is None else day
     target = target_of(context.file, new)
     office = context.office_to_read() if is_plan else context.office()
     with prepared(
-        office, context.place, context.journal(), target, day, is_plan, tuple(dict.fromkeys(without))
+        office, context.place, context.journal(), target, str(carried_on), is_plan, tuple(dict.fromkeys(without))
     ) as work:
         note("the file is looked at")
         require_owners(work)

@@ -131,11 +131,12 @@ def follow_status(context: Context, folder: str | None) -> None:
 
     Example: hilpoven follow status
     """
+    from ..records.days import zone_of
     from ..standby import timeline
     from ..standby.lag import lag_of
 
     timeline.require_latest(context.file)
-    lag = lag_of(context.file, folder := folder or folder_of(context))
+    lag = lag_of(context.file, folder := folder or folder_of(context), zone_of(context.settings.time_zone))
     if lag is None:
         raise Failure(f"nobody follows into {folder}", WRONG_USE, "`hilpoven follow` does")
     for line in [*(f"ATTENTION: {fault}" for fault in lag.faults), *lag.lines]:

@@ -5,8 +5,7 @@ import click
 
 from ..core import asking
 from ..core.context import Context
-from ..core.failure import REFUSED, WRONG_USE, Failure, tell
-from ..core.forms import DAY
+from ..core.failure import REFUSED, Failure, tell
 from ..core.grammar import LINES
 from ..core.office import pass_on
 from ..journal import log
@@ -16,10 +15,10 @@ from ..register import making, quality
 from ..register.notes import Held, Judgement, Signed
 from ..register.recorders import recorders
 from ..register.store import Register
-from .words import FILLED_TEXT, WORD, LotCommand, pass_context
+from .words import DAY, FILLED_TEXT, WORD, LotCommand, pass_context
 
 RESULTS = {Signed: quality.LIMIT, Held: quality.LIMIT - 1}  # of the plant's own test
-day_option = click.option("--day", metavar="DAY", type=WORD, help="The day of it; today, as YYMMDD, by default.")
+day_option = click.option("--day", metavar="DAY", type=DAY, help="The day of it; today, as YYMMDD, by default.")
 
 
 @click.command(cls=LotCommand)
@@ -28,7 +27,7 @@ day_option = click.option("--day", metavar="DAY", type=WORD, help="The day of it
 @click.option("--reason", metavar="TEXT", type=FILLED_TEXT, help="What else there is to say.")
 @day_option
 @pass_context
-def sign(context: Context, owner: str, lot: str, reason: str | None, day: str | None) -> None:
+def sign(context: Context, owner: str, lot: str, reason: str | None, day: int | None) -> None:
     """Signs a lot for the plant, so that it may be released and go. It needs each of the lot's own tests within its
     limits, and a person who recorded none of the lot's results and movements.
 
@@ -55,7 +54,7 @@ def sign(context: Context, owner: str, lot: str, reason: str | None, day: str | 
 @click.option("--reason", metavar="TEXT", type=FILLED_TEXT, required=True, help="Why it stays.")
 @day_option
 @pass_context
-def hold(context: Context, owner: str, lot: str, reason: str, day: str | None) -> None:
+def hold(context: Context, owner: str, lot: str, reason: str, day: int | None) -> None:
     """Holds a lot, released or not, so that none of it is shipped or consumed until it is signed and released again.
 
     It is the result 0 of the test that the settings name below [quality], so toll itself refuses what would take it. A
@@ -68,11 +67,9 @@ def hold(context: Context, owner: str, lot: str, reason: str, day: str | None) -
     judge(context, asked, Held(owner, lot, day_given(context, day), reason))
 
 
-def day_given(context: Context, day: str | None) -> int:
-    """The day that is given, or today; fails if it can't be one."""
-    if day and (fault := DAY.fault(day)):
-        raise Failure(f"DAY: `{day}` {fault}", WRONG_USE)
-    return int(day) if day else day_of(today(context.settings.time_zone))
+def day_given(context: Context, day: int | None) -> int:
+    """The day that is given, or today."""
+    return day_of(today(context.settings.time_zone)) if day is None else day
 
 
 def require_passed(base: Base, register: Register, lot: Lot) -> None:

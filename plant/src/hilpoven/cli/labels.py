@@ -1,6 +1,5 @@
 """`hilpoven labels`: labels of sublots, which a scanner reads."""
 import contextlib
-import datetime
 import sys
 
 import click
@@ -9,6 +8,7 @@ from ..core import paths
 from ..core.context import Context
 from ..core.failure import WRONG_USE, Failure
 from ..papers import copies, labels as sublot_labels, printing
+from ..records.days import today
 from ..records.rows import LotId
 from .words import NAME, PATH, LotCommand, OneOf, pass_context
 
@@ -46,8 +46,8 @@ def labels(
     with paths.target(target, force) if target else contextlib.nullcontext() as file:
         office = context.office_to_export("labels", owner, lot, *sublot)
         with copies.opened(office, context.journal()) as source:
-            stock, today = sublot_labels.SIZES[size], datetime.date.today()
-            text = sublot_labels.page(source, LotId(owner, lot), sublot, stock, today)
+            stock, printed_on = sublot_labels.SIZES[size], today(context.settings.time_zone)
+            text = sublot_labels.page(source, LotId(owner, lot), sublot, stock, printed_on)
         pdf = printing.pdf_of(text)
         if file:
             file.give(pdf)

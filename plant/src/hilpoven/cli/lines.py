@@ -9,7 +9,7 @@ import click
 from ..core import asking, scanned
 from ..core.context import Context
 from ..core.failure import WRONG_USE, Failure, tell
-from ..core.grammar import MOVEMENTS, NEXT, OWNER_ADD, Line, in_capitals
+from ..core.grammar import MOVEMENTS, NEXT, OWNER_ADD, Line, in_capitals, in_days
 from .words import at_terminal
 
 if TYPE_CHECKING:
@@ -111,10 +111,10 @@ class LineCommand(click.Command):
             from . import prompting
 
             return prompting.completed(context, self.line, filled(values, words), given.get("decimals"))
-        typed = arranged(self.line, words, values)
-        if not at_terminal():
-            return typed
-        meant, notes = in_capitals(self.line, typed)
+        meant, notes = in_days(self.line, arranged(self.line, words, values))
+        if at_terminal():
+            meant, in_lower_case = in_capitals(self.line, meant)
+            notes = [*in_lower_case, *notes]
         tell("\n".join(notes))
         return meant
 

@@ -20,7 +20,7 @@ from ..register.notes import Judgement, Link, Note, NotLinked, Why, Withdrawal
 from . import day_checks, roles
 from .groups import Group
 from .lines import YES, YES_ABOUT
-from .words import FILLED_TEXT, TEXT, WORD, LotCommand, OneOf, pass_context
+from .words import DAY, FILLED_TEXT, TEXT, WORD, LotCommand, OneOf, pass_context
 
 COLUMNS = ["note", "time", "who", "owner", "what", "stands"]
 why_option = click.option(
@@ -98,7 +98,7 @@ def words_of(note: Link) -> list[str]:
 @click.argument("of_lot", metavar="OF-LOT", type=WORD)
 @click.argument("sublot", metavar="SUBLOT", type=WORD)
 @click.argument("amount", metavar="AMOUNT", type=WORD)
-@click.argument("day", metavar="DAY", type=WORD)
+@click.argument("day", metavar="DAY", type=DAY)
 @click.option(
     "--key", metavar="KEY", type=WORD, help="The key of the scrap, instead of one that is made of the values."
 )
@@ -114,7 +114,7 @@ def use(
     of_lot: str,
     sublot: str,
     amount: str,
-    day: str,
+    day: int,
     key: str | None,
     reason: str,
     is_meant: bool,
@@ -128,7 +128,7 @@ def use(
     Example: hilpoven use ACME O-1 1 HOUSE AF-1 CAN1 1 261127
     """
     number = batch_number(batch)
-    values = [owner, order, str(number), of_owner, of_lot, sublot, amount, day]
+    values = [owner, order, str(number), of_owner, of_lot, sublot, amount, str(day)]
     key = key or f"USE-{hashlib.sha256(' '.join(values).encode()).hexdigest()[:10].upper()}"
 
     def beside(context: Context, scrap: dict[str, str]) -> Beside:
@@ -139,7 +139,7 @@ def use(
             warning = expiry.warning(desk, context.settings.expiry.actual, LotId(of_owner, of_lot), scrap)
             return Beside(desk.members([note]), warning)
 
-    scrap = [of_owner, key, of_lot, sublot, amount, day]
+    scrap = [of_owner, key, of_lot, sublot, amount, str(day)]
     if not is_meant:
         day_checks.require_meant(context, LINES["scrap"], scrap)
     sys.exit(asking.run(context, LINES["scrap"], scrap, beside))

@@ -13,9 +13,10 @@ from ..papers import lot_card, recall_paper, settlement as owners_settlement, sh
 from ..papers import takeout as owners_takeout
 from ..papers.copies import Source
 from ..papers.printing import Document
+from ..records.days import today
 from ..records.rows import BatchId, LotId
 from .groups import Group
-from .words import PATH, LotCommand, pass_context
+from .words import DAY, PATH, LotCommand, pass_context
 
 papers_group = Group(
     "papers",
@@ -148,27 +149,25 @@ def lot_command(context: Context, owner: str, lot: str, **where: Any) -> None:
 def between(make: Callable[..., Any]) -> Callable[..., Any]:
     """The values of each paper about an owner between two days."""
     for option in (
-        click.option("--to", "last", metavar="DAY", required=True, help="The last day."),
-        click.option("--from", "first", metavar="DAY", required=True, help="The first day."),
+        click.option("--to", "last", metavar="DAY", type=DAY, required=True, help="The last day."),
+        click.option("--from", "first", metavar="DAY", type=DAY, required=True, help="The first day."),
         click.argument("owner", metavar="OWNER"),
     ):
         make = option(make)
     return make
 
 
-def days_of(first: str, last: str) -> tuple[int, int]:
-    """Two days; fails unless they are some, the first not behind the last."""
-    days = number_of("--from", first, forms.DAY), number_of("--to", last, forms.DAY)
-    if days[0] > days[1]:
-        raise Failure(f"--from: {days[0]} is behind --to, {days[1]}", WRONG_USE)
-    return days
+def require_order(first: int, last: int) -> None:
+    """Fails where the first of two days is behind the last."""
+    if first > last:
+        raise Failure(f"--from: {first} is behind --to, {last}", WRONG_USE)
 
 
 @papers_group.command()
 @between
 @paper
 @pass_context
-def settlement(context: Context, owner: str, first: str, last: str, **where: Any) -> None:
+def settlement(context: Context, owner: str, first: int, last: int, **where: Any) -> None:
     """Makes an owner's settlement: what its batches consumed and produced between two days, against what their recipes
     require, with yield, loss, and what the contract allows (`describe recipe`).
 
@@ -178,28 +177,24 @@ def settlement(context: Context, owner: str, first: str, last: str, **where: Any
     Example: hilpoven papers settlement ACME --from 261101 --to 261130 settlement
     """
     check(owner=owner)
-    days = days_of(first, last)
-    name = f"settlement-{owner}-{days[0]}-{days[1]}"
-    give(context, name, lambda source: owners_settlement.documents(source, owner, *days), **where)
+    require_order(first, last)
+    name = f"settlement-{owner}-{first}-{last}"
+    give(context, name, lambda source: owners_settlement.documents(source, owner, first, last), **where)
 
 
 @papers_group.command()
 @between
 @paper
 @pass_context
-def statement(context: Context, owner: str, first: str, last: str, **where: Any) -> None:
+def statement(context: Context, owner: str, first: int, last: int, **where: Any) -> None:
     """Makes an owner's statement: receipts, uses, shipments and stock of each lot, between two days.
 
     Example: hilpoven papers statement ACME --from 261101 --to 261130 statement
     """
     check(owner=owner)
-    days = days_of(first, last)
-    give(
-        context,
-        f"statement-{owner}-{days[0]}-{days[1]}",
-        lambda source: owners_statement.documents(source, owner, *days),
-        **where,
-    )
+    require_order(first, last)
+    name = f"statement-{owner}-{first}-{last}"
+    give(context, name, lambda source: owners_statement.documents(source, owner, first, last), **where)
 
 
 @papers_group.command()
@@ -213,7 +208,8 @@ def takeout(context: Context, owner: str, **where: Any) -> None:
     Example: hilpoven papers takeout ACME --tar > acme.tar
     """
     check(owner=owner)
-    give(context, f"takeout-{owner}", lambda source: owners_takeout.documents(source, owner), **where)
+    day = today(context.settings.time_zone)
+    give(context, f"takeout-{owner}", lambda source: owners_takeout.documents(source, owner, day), **where)
 
 
 def number_of(name: str, word: str, form: forms.Form) -> int:

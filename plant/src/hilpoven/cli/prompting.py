@@ -8,7 +8,7 @@ from ..core import scanned, snapshot
 from ..core.context import Context
 from ..core.failure import WRONG_USE, Failure, printable, tell, tell_line
 from ..core.forms import Form
-from ..core.grammar import MOVEMENTS, NEXT, Line, in_capitals, written
+from ..core.grammar import MOVEMENTS, NEXT, Line, in_capitals, in_days, written
 from ..output.table import formatted
 from ..records.choices import Choice, Place
 from ..records.days import date_of, day_of, today
@@ -227,9 +227,10 @@ class Dialogue:
     def take_one(self, value: str, word: str) -> bool:
         """Whether a word is taken for a value; otherwise what is wrong with it is told."""
         line = self.line._replace(values=(value,))
-        (word,), notes = in_capitals(line, [word])
+        (word,), in_lower_case = in_capitals(line, [word])
+        (word,), as_dates = in_days(line, [word])
         fault = self.fault(value, word)
-        tell(f"{value}: {fault}" if fault else "\n".join([*notes, self.remark(value, word)]))
+        tell(f"{value}: {fault}" if fault else "\n".join([*in_lower_case, *as_dates, self.remark(value, word)]))
         if not fault:
             self.values[value] = word
         return not fault

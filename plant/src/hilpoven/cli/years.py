@@ -6,9 +6,8 @@ from dataclasses import replace
 
 import click
 
-from ..core import forms
 from ..core.context import Context
-from ..core.failure import REFUSED, WRONG_USE, Failure, printable, tell
+from ..core.failure import REFUSED, Failure, printable, tell
 from ..core.office import Office
 from ..output.exports import as_csv
 from ..output.table import Row, Value, print_table
@@ -25,7 +24,7 @@ from ..register.standing import standing_over_all
 from ..years import history
 from ..years.history import History
 from .groups import Group
-from .words import LotCommand, pass_context
+from .words import DAY, LotCommand, pass_context
 
 years_group = Group(
     "years",
@@ -182,21 +181,19 @@ def lot_card(context: Context, owner: str, lot: str, file: str, is_json: bool) -
 
 @years_group.command("statement")
 @click.argument("owner", metavar="OWNER")
-@click.option("--from", "first", metavar="DAY", default=str(statements.FIRST_DAY), help="From this day on.")
-@click.option("--to", "last", metavar="DAY", default=str(statements.LAST_DAY), help="Up to this day.")
+@click.option("--from", "first", metavar="DAY", type=DAY, default=statements.FIRST_DAY, help="From this day on.")
+@click.option("--to", "last", metavar="DAY", type=DAY, default=statements.LAST_DAY, help="Up to this day.")
 @csv_option
 @pass_context
-def statement(context: Context, owner: str, first: str, last: str, is_csv: bool) -> None:
+def statement(context: Context, owner: str, first: int, last: int, is_csv: bool) -> None:
     """Shows receipts, uses, shipments and stock of each of an owner's lots between two days, over all files.
 
     Example: hilpoven years statement ACME --from 261101 --to 261130
     """
-    for name, day in (("--from", first), ("--to", last)):
-        if fault := forms.DAY.fault(day):
-            raise Failure(f"{name}: `{day}` {fault}", WRONG_USE)
-    with history.opened(context.office_to_export("years", "statement", owner, first, last), owner) as whole:
+    words = "years", "statement", owner, str(first), str(last)
+    with history.opened(context.office_to_export(*words), owner) as whole:
         require_owner(whole.base, owner)
-        read = statements.read_statement(whole.base, owner, int(first), int(last))
+        read = statements.read_statement(whole.base, owner, first, last)
         print_statement(read, is_csv)
         print_overdrafts(read, is_csv)
         links = statements.links_in(whole.base, read, links_of(context, whole))

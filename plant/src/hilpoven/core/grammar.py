@@ -141,6 +141,23 @@ def in_capitals(line: Line, words: list[str]) -> tuple[list[str], list[str]]:
     return meant, notes
 
 
+def in_days(line: Line, words: list[str]) -> tuple[list[str], list[str]]:
+    """The words with the day in the place of a date that stands for one, and a sentence for each that is read so."""
+    days = [date_as_day(word) if line.form(value) is forms.DAY else None for value, word in zip(line.values, words)]
+    meant = [word if day is None else str(day) for word, day in zip(words, days)]
+    notes = [f"{value}: {word} is {day}" for value, word, day in zip(line.values, words, days) if day is not None]
+    return meant, notes
+
+
+def date_as_day(word: str) -> int | None:
+    """The day that stands for a date; `None` where a word is none."""
+    if word.isdecimal():
+        return None
+    from ..records.days import day_in
+
+    return day_in(word)
+
+
 def faults(line: Line, words: list[str]) -> list[str]:
     """What is wrong with each word that can't be a value, by the value's name."""
     wrong = []

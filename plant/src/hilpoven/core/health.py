@@ -9,6 +9,7 @@ from datetime import date, datetime
 
 from .. import HOUSE
 from ..output.table import formatted
+from ..records.days import today, zone_of
 from ..records.gauge import FULL, Gauge, gauges
 from ..register import drills, standing
 from ..register.drills import Drill
@@ -30,6 +31,7 @@ class Health:
 
     full: list[Gauge] = field(default_factory=list)
     full_by: dict[Gauge, date] = field(default_factory=dict)  # at the pace of the last months
+    soon_full: list[Gauge] = field(default_factory=list)  # those of them that are full within the next months
     lines: list[str] = field(default_factory=list)
     suspects: list[Suspect] = field(default_factory=list)  # receipts that look as if a trace ended there
     drill: Drill | None = None  # that is under way
@@ -52,7 +54,7 @@ def check_file(context: Context, health: Health) -> None:
         office = context.office_to_read()
         with snapshot.copied(office) as copy:
             with contextlib.closing(sqlite3.connect(copy)) as base:
-                came = check_tables(base, context.file, health)
+                came = check_tables(base, context.file, health, today(context.settings.time_zone))
                 unread = check_notes(context, base, health)
                 short = keys.short_keys(base)
             if not server.greeting(context.file):
@@ -95,14 +97,16 @@ def require_opening(office: Office, copy: str) -> None:
         raise Failure(f"toll doesn't open {office.file}: {answer.error.strip() or 'it ended without an answer'}")
 
 
-def check_tables(base: sqlite3.Connection, file: str, health: Health) -> chain.Carried | None:
-    """Reads how full the tables of a copy are; gives where they came from. Fails where a page of them is damaged."""
+def check_tables(base: sqlite3.Connection, file: str, health: Health, day: date) -> chain.Carried | None:
+    """Reads how full the tables of a copy are on a day, and soon will be; gives where they came from. Fails where a page
+    of them is damaged."""
     snapshot.require_office(base, file)
     damage = base.execute("PRAGMA quick_check(1)").fetchone()[0]
     if damage != "ok":
         raise Failure(f"SQLite finds {file} damaged: {damage.splitlines()[-1]}")
     health.full = gauges(base)
-    health.full_by = pace.full_by(base, health.full, date.today())
+    health.full_by = pace.full_by(base, health.full, day)
+    health.soon_full = [gauge for gauge, when in health.full_by.items() if pace.is_soon(when, day)]
     return chain.came_from(base)
 
 
@@ -121,9 +125,7 @@ def check_earlier(context: Context, came: chain.Carried | None, health: Health) 
 
 def pressing(health: Health) -> list[Gauge]:
     """What is nearly full, or will be soon."""
-    return [
-        gauge for gauge in health.full if gauge.percent >= FULL or pace.is_soon(health.full_by.get(gauge), date.today())
-    ]
+    return [gauge for gauge in health.full if gauge.percent >= FULL or gauge in health.soon_full]
 
 
 def described(gauge: Gauge, when: date | None) -> str:
@@ -191,7 +193,7 @@ def check_companions(context: Context, health: Health) -> None:
 def check_standby(context: Context, health: Health) -> None:
     """Looks how far a standby is behind, if the settings have one or somebody follows."""
     folder = folder_of(context.file, context.settings.follow.to)
-    lag = health.standby = lag_of(context.file, folder)
+    lag = health.standby = lag_of(context.file, folder, zone_of(context.settings.time_zone))
     if lag is None:
         if context.settings.follow.to:
             health.attention.append(f"standby: nobody follows to {context.settings.follow.to}")

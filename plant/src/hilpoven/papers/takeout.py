@@ -1,12 +1,12 @@
 """All that the office has of one owner, as tables that it can take along."""
 from collections.abc import Iterator
+from datetime import date
 
 from .. import HOUSE
 from ..core.failure import REFUSED, Failure
 from ..output.table import Row as ListRow
 from ..records.answers import OrderLine, rows_of
 from ..records.balance import balances, require_closed
-from ..records.days import format_day, last_day_within
 from ..records.noted import NOTED
 from ..records.rows import lots_of, moves_of, read_lots, require_owner, sublots_of
 from ..records.tables import LISTINGS
@@ -40,8 +40,8 @@ OWNER = columns("name:text address:text")
 CONTENTS = columns("file:text rows:number what:text")
 
 
-def documents(source: Source, owner: str) -> list[Document]:
-    """The tables of an owner, with a page that lists them."""
+def documents(source: Source, owner: str, when: date) -> list[Document]:
+    """The tables of an owner on a day, with a page that lists them."""
     require_owner(source.base, owner)
     if owner == HOUSE:
         raise Failure(f"{HOUSE} is the plant itself: a backup has all of it", REFUSED)
@@ -51,7 +51,7 @@ def documents(source: Source, owner: str) -> list[Document]:
     contents = Sheet(
         "contents", CONTENTS, [(f"{sheet.name}.csv", len(sheet.rows), ABOUT[sheet.name]) for sheet in sheets]
     )
-    title = f"All of {owner}, {format_day(last_day_within(0))}"
+    title = f"All of {owner}, {when}"
     values = {"owner": owner, "facts": {"owner": owner, **facts_of(register, owner)}}
     return [Document("takeout", False, title, [*sheets, contents], values, is_across=False)]
 

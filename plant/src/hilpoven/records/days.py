@@ -28,9 +28,14 @@ def zone_of(name: str) -> tzinfo | None:
     return ZoneInfo(name) if name else None
 
 
+def now(zone: str = "") -> datetime:
+    """The time that it is in a time zone; in that of the machine if none is named."""
+    return datetime.now(zone_of(zone)).astimezone(zone_of(zone))
+
+
 def today(zone: str = "") -> date:
     """The date that it is in a time zone; in that of the machine if none is named."""
-    return datetime.now(zone_of(zone)).date()
+    return now(zone).date()
 
 
 def format_day(day: int) -> str:

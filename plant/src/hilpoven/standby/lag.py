@@ -3,6 +3,7 @@ import contextlib
 import os
 import time
 from dataclasses import dataclass
+from datetime import datetime, tzinfo
 
 from ..core.failure import Failure
 from . import capture, chain, remote, state
@@ -29,12 +30,13 @@ class Lag:
     is_silent: bool
     seconds: float
     commands: int | None
+    zone: tzinfo | None = None  # in which times are told; the machine's if there is none
 
     @property
     def lines(self) -> list[str]:
         """What is told of it."""
         state, pieces = self.state, "pieces" if self.state.unsent != 1 else "piece"
-        at = time.strftime("%Y-%m-%d %H:%M:%S", time.localtime(state.at))
+        at = f"{datetime.fromtimestamp(state.at, self.zone):%Y-%m-%d %H:%M:%S}"
         count = "an unknown number of" if self.commands is None else f"{self.commands:,}"
         of = "command or request" if self.commands == 1 else "commands and requests"
         lines = [f"{self.seconds:.1f} seconds behind: {count} {of} in no piece; piece {state.piece} is of {at}"]
@@ -48,20 +50,20 @@ class Lag:
         return [*([silent] if self.is_silent else []), *([self.state.fault] if self.state.fault else [])]
 
 
-def lag_of(file: str, folder: str) -> Lag | None:
-    """How far the pieces in a folder are behind an office's file, which may be on another machine; `None` if nobody
-    follows into it."""
+def lag_of(file: str, folder: str, zone: tzinfo | None = None) -> Lag | None:
+    """How far the pieces in a folder are behind an office's file, which may be on another machine, told in a time zone;
+    `None` if nobody follows into it."""
     follower_state = state.load(folder)
     if follower_state is None:
         return None
     if not follower_state.is_silent:
-        return Lag(follower_state, False, follower_state.behind, follower_state.commits)
+        return Lag(follower_state, False, follower_state.behind, follower_state.commits, zone)
     if not os.path.exists(file):
-        return Lag(follower_state, True, follower_state.behind, follower_state.commits)
+        return Lag(follower_state, True, follower_state.behind, follower_state.commits, zone)
     new = commits_since(file, folder)
     since = [follower_state.unsent_since] if follower_state.unsent_since else []
     since += [follower_state.waiting or follower_state.looked] if new != 0 else []
-    return Lag(follower_state, True, time.time() - min(since) if since else 0.0, new)
+    return Lag(follower_state, True, time.time() - min(since) if since else 0.0, new, zone)
 
 
 def commits_since(file: str, folder: str) -> int | None:
