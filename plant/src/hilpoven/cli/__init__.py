@@ -2,6 +2,7 @@
 import os
 import sys
 from functools import partial
+from io import TextIOWrapper
 from typing import Any, NoReturn, TextIO
 
 import click
@@ -101,6 +102,15 @@ class Commands(Group):
             raise Failure(f"a word has more than {MOST_LETTERS:,} letters", WRONG_USE)
         return super().parse_args(ctx, args)
 
+    def resolve_command(
+        self, ctx: click.Context, args: list[str]
+    ) -> tuple[str | None, click.Command | None, list[str]]:
+        """Finds the subcommand of the first word; `help` before it asks for its help."""
+        if args == ["help"]:
+            click.echo(ctx.get_help())
+            ctx.exit()
+        return super().resolve_command(ctx, [*args[1:], "--help"] if args[0] == "help" else args)
+
     def main(self, *words: Any, **options: Any) -> Any:
         """Runs a command. Words that are told back are shown escaped, those of a wrong use too."""
         if COMPLETION in os.environ and rights.is_member():
@@ -168,11 +178,14 @@ def main() -> None:
 
 def hold_streams() -> None:
     """Gives a closed standard stream its descriptor, at which nothing can be read or written, before a file of the
-    office gets it."""
+    office gets it; and has letters escaped that the character set of the terminal lacks."""
     for number, (name, mode, unusable) in enumerate(STREAMS):
         if getattr(sys, name) is None:
             os.dup2(os.open(os.devnull, unusable), number)
             setattr(sys, name, open(number, mode, closefd=False))
+    for stream in (sys.stdout, sys.stderr):
+        if isinstance(stream, TextIOWrapper):
+            stream.reconfigure(errors="backslashreplace")
 
 
 def silence(stream: TextIO) -> None:

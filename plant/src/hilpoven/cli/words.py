@@ -9,13 +9,12 @@ from typing import TYPE_CHECKING, Any
 
 import click
 
-from ..core import scanned
+from ..core import rights, scanned
 from ..core.context import Context
 from ..core.failure import printable
 from ..core.forms import DAY as DAY_FORM
 from ..core.forms import TEXT as TEXT_FORM
 from ..core.forms import name_fault
-from ..core.rights import require_operator
 
 if TYPE_CHECKING:
     from click.shell_completion import CompletionItem
@@ -23,9 +22,6 @@ if TYPE_CHECKING:
 MOST_TOLD = 40  # letters of a text that is none
 INSTEAD = {
     "db": "--office NAME names the office",
-    "path": "`-` is the sheet on standard input: hilpoven import - < SHEET",
-    "counted_sheet": "`-` is the sheet on standard input: hilpoven count import - < SHEET",
-    "source": "`-` is the sheet on standard input: hilpoven to-csv - < SHEET",
     "folder": "papers go to standard output by --tar; backups and pieces are in the folders of the settings",
     "to": "the settings say where pieces go",
     "site_logs": "the logs are those of the settings",
@@ -55,8 +51,16 @@ class Operators(click.ParamType):
         """Fails for a member who gives it; the name of a sheet may be `-`, which is standard input."""
         if param and not (self.is_sheet and value == "-"):
             word = param.opts[0] if isinstance(param, click.Option) else param.make_metavar().strip("[]")
-            require_operator(word, INSTEAD.get(param.name or "", ""))
+            rights.require_operator(word, self.instead(param.name or "", str(value)))
+        if self.is_sheet and value != "-":
+            rights.note_sheet(str(value))
         return self.of.convert(value, param, ctx)
+
+    def instead(self, name: str, value: str) -> str:
+        """What a member gives in place of the value of a parameter."""
+        if self.is_sheet:
+            return f"a sheet comes through standard input: {rights.command_as(rights.user(), value)}"
+        return INSTEAD.get(name, "")
 
     def get_metavar(self, param: click.Parameter) -> str | None:
         """What stands for it in the help."""
@@ -122,12 +126,14 @@ class Date(click.ParamType):
 
     def convert(self, value: Any, param: click.Parameter | None, ctx: click.Context | None) -> int:
         """The day; fails if it is no date."""
-        from ..records.days import date_of
+        from ..records.days import date_of, day_in
 
         word = str(value)
+        if (day := day_in(word)) is not None:
+            return day
         if word.isascii() and word.isdecimal() and len(word) == 6 and date_of(int(word)):
             return int(word)
-        self.fail(f"`{printable(word[:MOST_TOLD])}` is no date; a date is YYMMDD, such as 271127", param, ctx)
+        self.fail(f"`{printable(word[:MOST_TOLD])}` is no date; a date is written 2027-11-27 or 271127", param, ctx)
 
 
 class Percent(click.ParamType):

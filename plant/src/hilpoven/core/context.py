@@ -5,7 +5,7 @@ from dataclasses import dataclass, field, replace
 from typing import TYPE_CHECKING
 
 from . import rights, settings as site
-from .failure import WRONG_USE, Failure
+from .failure import Failure
 from .office import SUPERSEDED, Office, require_file
 from .settings import Settings
 
@@ -31,11 +31,7 @@ class Context:
         """The office's file, without links on its way, which are looked at once."""
         named = self.db or self.settings.file
         if not named:
-            raise Failure(
-                "no file is named",
-                WRONG_USE,
-                f'give it by --db FILE before the command, or by file = ".." in {site.PATH}',
-            )
+            raise site.unnamed_office()
         return os.path.realpath(named)
 
     def office(self) -> Office:

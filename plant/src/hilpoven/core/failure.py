@@ -1,15 +1,24 @@
 """What ends a command of the plant, told in a line and an exit status."""
+import re
 import sys
 
 REFUSED, WRONG_USE, FAULT = 1, 2, 3  # the statuses have the meanings that `toll` gives them
+# Letters of Unicode's property Default_Ignorable_Code_Point that Python counts as printable, and the empty Braille
+# pattern: nobody sees them.
+INVISIBLE = re.compile(
+    "[\u034f\u115f\u1160\u17b4\u17b5\u180b-\u180d\u180f\u2800\u3164\ufe00-\ufe0f\uffa0\U000e0100-\U000e01ef]"
+)
+
+
+def is_visible(text: str) -> bool:
+    """Whether each letter of a text is seen as it stands: none is a control character, a byte that is no UTF-8, or a
+    character that nobody sees or that changes the order of others."""
+    return text.isprintable() and not INVISIBLE.search(text)
 
 
 def printable(text: str) -> str:
-    """A text in one line without what a terminal obeys: control characters, bytes that are no UTF-8, and characters
-    that nobody sees or that change the order of others are escaped, as Python writes them."""
-    return (
-        text if text.isprintable() else "".join(letter if letter.isprintable() else escaped(letter) for letter in text)
-    )
+    """A text in one line, whose letters that aren't visible are escaped, as Python writes them."""
+    return text if is_visible(text) else "".join(letter if is_visible(letter) else escaped(letter) for letter in text)
 
 
 def escaped(character: str) -> str:

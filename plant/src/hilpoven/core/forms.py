@@ -3,6 +3,8 @@ import re
 from collections.abc import Callable
 from typing import NamedTuple
 
+from .failure import is_visible
+
 MOST_VALUE = 1_000_000_000
 MOST_DIGITS = 10
 MOST_LETTERS = 200  # of a text
@@ -29,7 +31,7 @@ def listed(words: list[str] | tuple[str, ...], last: str = "and") -> str:
 def quoted(letter: str) -> str:
     """A letter as it is told: what can't be seen has a name."""
     names = {" ": "a blank", "\t": "a tab", "\n": "a line end", "\r": "a carriage return", "\u00a0": "a hard blank"}
-    return names.get(letter) or (f"`{letter}`" if letter.isprintable() else f"U+{ord(letter):04X}")
+    return names.get(letter) or (f"`{letter}`" if is_visible(letter) else f"U+{ord(letter):04X}")
 
 
 def others(word: str, allowed: str) -> list[str]:
@@ -96,7 +98,7 @@ def no_number(word: str) -> str:
     if re.fullmatch(r"[0-9]+[.,][0-9]+", word):
         return "has decimals"
     if re.fullmatch(r"[0-9]{1,4}[-./][0-9]{1,2}[-./][0-9]{1,4}", word):
-        return "is a date, and a day is a number, such as 261127"
+        return "is a date in a form that isn't read; a day is a number such as 261127 or a date such as 2026-11-27"
     if match := re.fullmatch(r"[0-9]+\s*([A-Za-z]+)", word):
         return f"has {quoted(match[1])} behind the number; the measure is the material's"
     if re.fullmatch(r"(-|M)[0-9]+", word):
@@ -118,9 +120,9 @@ def text_fault(word: str) -> str:
     """What is wrong with a text of the plant's own, such as a reason."""
     if len(word) > MOST_LETTERS:
         return f"has {len(word):,} letters; a text has at most {MOST_LETTERS}"
-    if word.isprintable():
+    if is_visible(word):
         return ""
-    strange = [quoted(letter) for letter in dict.fromkeys(word) if not letter.isprintable()]
+    strange = [quoted(letter) for letter in dict.fromkeys(word) if not is_visible(letter)]
     return f"has {listed(strange)}; a text is one line that can be printed"
 
 

@@ -23,7 +23,7 @@ def opened(file: str) -> int:
             return create(file)
         return os.open(name_of(file), os.O_RDWR | os.O_CLOEXEC)
     except OSError as error:
-        raise Failure(f"{name_of(file)} can't be opened: {error.strerror}", advice=advice(file)) from error
+        raise Failure(f"{name_of(file)} can't be opened: {error.strerror}", advice=advice(file, error)) from error
 
 
 def create(file: str) -> int:

@@ -100,7 +100,7 @@ def advice_of_absent(file: str) -> str:
     try:
         names = [name for name in os.listdir(folder) if name.endswith(".db")]
     except OSError as error:
-        return f"{folder} can't be looked at: {error.strerror}; {advice(file)}"
+        return "; ".join(filter(None, [f"{folder} can't be looked at: {error.strerror}", advice(file, error)]))
     import difflib
 
     near = difflib.get_close_matches(os.path.basename(file), names, 1) or (names if len(names) == 1 else [])
@@ -110,4 +110,4 @@ def advice_of_absent(file: str) -> str:
 
 def no_rights(file: str, error: OSError) -> Failure:
     """What is told where a file can't be read and written."""
-    return Failure(f"{file} can't be opened: {error.strerror}", FAULT, advice(file))
+    return Failure(f"{file} can't be opened: {error.strerror}", FAULT, advice(file, error))

@@ -89,10 +89,18 @@ def remove_left(parent: str) -> None:
     with contextlib.suppress(PermissionError):
         left = [os.path.join(parent, name) for name in os.listdir(parent) if name.startswith(PREFIX)]
     for folder in left:
-        with contextlib.suppress(OSError), held(folder):
-            state = os.stat(folder, follow_symlinks=False)
-            if state.st_uid == os.geteuid() and state.st_mtime < time.time() - LEFT_SINCE:
-                remove(folder)
+        with contextlib.suppress(OSError):
+            # one that was just made isn't taken, since who made it is about to hold it
+            if is_old(folder):
+                with held(folder):
+                    if is_old(folder):
+                        remove(folder)
+
+
+def is_old(folder: str) -> bool:
+    """Whether a folder is this user's, and nothing came into it or went for so long that a kill may have left it."""
+    state = os.stat(folder, follow_symlinks=False)
+    return state.st_uid == os.geteuid() and state.st_mtime < time.time() - LEFT_SINCE
 
 
 def sync(path: str) -> None:

@@ -233,9 +233,7 @@ def table_of(path: str, name: str, table: Any) -> Any:
 
 def unread(path: str, error: OSError) -> Failure:
     """What is told of settings that can't be read."""
-    return Failure(
-        f"{path} can't be read: {error.strerror}", advice=advice(path) if isinstance(error, PermissionError) else ""
-    )
+    return Failure(f"{path} can't be read: {error.strerror}", advice=advice(path, error))
 
 
 def offices() -> list[str]:
@@ -244,6 +242,20 @@ def offices() -> list[str]:
         return sorted(file_name.removesuffix(".env") for file_name in os.listdir(OFFICES) if file_name.endswith(".env"))
     except OSError:
         return []
+
+
+def unnamed_office() -> Failure:
+    """What is told where no office is named: how it is, by the name of one where the machine has several."""
+    if names := offices():
+        return Failure(
+            "no office is named, and this machine has several",
+            WRONG_USE,
+            f"`hilpoven --office {names[0]} ..` is for {names[0]}; there are: {', '.join(names)}\n"
+            f'office = "{names[0]}" in {PATH} makes it the one that is meant without --office',
+        )
+    return Failure(
+        "no file is named", WRONG_USE, f'give it by --db FILE before the command, or by file = ".." in {PATH}'
+    )
 
 
 def only_office() -> str:

@@ -31,7 +31,7 @@ def lines_of(path: str) -> Iterator[bytes]:
     except FileNotFoundError:
         return
     except OSError as error:
-        raise Failure(f"the journal {path} can't be read: {error.strerror}", advice=advice(path)) from error
+        raise Failure(f"the journal {path} can't be read: {error.strerror}", advice=advice(path, error)) from error
 
 
 @dataclass

@@ -9,9 +9,10 @@ from ..core.failure import printable
 from .table import Row, Shown, Value
 
 # What a spreadsheet leaves as it is: a text that begins with a letter, a whole number, a time;
-# but for months and truths.
+# but for months and truths, in English and in German.
 PLAIN = re.compile(r"[^\W\d_].*|0|[1-9][0-9]{0,8}|[0-9-]{10}T[0-9:.]+Z", re.DOTALL)
-TAKEN = re.compile(r"(jan|feb|mar|apr|may|jun|jul|aug|sep|oct|nov|dec)[a-z]*[ ./-]*[0-9]|(true|false)$", re.IGNORECASE)
+MONTHS = "jan|jän|feb|mar|mär|mrz|apr|may|mai|jun|jul|aug|sep|oct|okt|nov|dec|dez"
+TAKEN = re.compile(rf"({MONTHS})[^\W\d_]*[ ./-]*[0-9]|(true|false|wahr|falsch)$", re.IGNORECASE)
 
 
 def as_formula(text: str) -> str:

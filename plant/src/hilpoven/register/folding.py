@@ -142,7 +142,7 @@ def opened(path: str) -> Iterator[int | None]:
         yield None
         return
     except OSError as error:
-        raise Failure(f"the journal {path} can't be read: {error.strerror}", advice=advice(path)) from error
+        raise Failure(f"the journal {path} can't be read: {error.strerror}", advice=advice(path, error)) from error
     try:
         yield descriptor
     except OSError as error:
