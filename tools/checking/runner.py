@@ -23,6 +23,20 @@ MEMORY_BESIDE = 2.5 * GB  # bytes that the proofs leave to a part, where there i
 LOWERED = 5  # the niceness of what runs beside the proofs and needs no program
 MOST_LINES = 400  # that are printed of a part as soon as it failed
 LAST_LINES = 40  # that are printed of it once more at the end, since a log may be cut at its front
+MAKERS = (PROOFS, UNPROVED)  # which are run once: what tried the program meanwhile tried an older one
+# How a fault's line begins: that of pytest, of what tries the page or the packages, and of node; else one that names a file's line.
+FAULTS = [re.compile(r"(?:FAILED |ERROR |WRONG: |\s*(?=not ok ))(.*)"), re.compile(r"(?=[\w./-]+:\d+:)(.*)")]
+LONGEST_FAULT = 160  # letters
+
+
+def plain(line):
+    """A line without what moves a terminal's cursor."""
+    return "".join(letter if letter.isprintable() or letter == "\t" else "?" for letter in line)
+
+
+def indented(text):
+    """The lines of what a part printed. The lines that aren't indented are the gate's own."""
+    return [f"    {plain(line)}" for line in text.splitlines()]
 
 
 class Ended(NamedTuple):
@@ -31,17 +45,25 @@ class Ended(NamedTuple):
     seconds: float
     is_ok: bool
     printed: str = ""
+    is_second: bool = False  # whether it had failed before, and was run once more
 
     def tell(self):
-        print(f"{self.name:20} {self.seconds:6.0f} s  {'ok' if self.is_ok else 'FAILED'}", flush=True)
+        outcome = f"{'ok' if self.is_ok else 'FAILED'}{', run once more, alone' if self.is_second else ''}"
+        print(f"{self.name:20} {self.seconds:6.0f} s  {outcome}", flush=True)
         if not self.is_ok:
             self.print_output(MOST_LINES)
 
     def print_output(self, most):
         """Prints the last lines of what the part printed."""
-        lines = self.printed.rstrip().splitlines()
+        lines = indented(self.printed.rstrip())
         left = [f"    .. {len(lines) - most} lines before these"] if len(lines) > most else []
-        print(*left, *(f"    {line}" for line in lines[-most:]), sep="\n", flush=True)
+        print(*left, *lines[-most:], sep="\n", flush=True)
+
+    def first_fault(self):
+        """The first line that tells a fault, or the last one."""
+        lines = [line for line in map(plain, self.printed.splitlines()) if line.strip()]
+        faults = [fault[1] for beginning in FAULTS for fault in map(beginning.match, lines) if fault]
+        return (faults or lines[-1:] or ["no output"])[0].strip()[:LONGEST_FAULT]
 
 
 class Runner:
@@ -110,15 +132,25 @@ class Runner:
     def pass_on(self, stream, on_line):
         for line in stream:
             with self.lock:
-                print(line, end="", flush=True)
+                print(*indented(line), sep="\n", flush=True)
             on_line(line)
 
     def note(self, ended):
         with self.lock:
             if self.is_over:
                 return
-            self.ended.append(ended)
-            ended.tell()
+            self.ended.append(ended._replace(is_second=any(earlier.name == ended.name for earlier in self.ended)))
+            self.ended[-1].tell()
+
+    def failures(self):
+        """How the parts ended that haven't passed, each time."""
+        passed = {ended.name for ended in self.ended if ended.is_ok}
+        return [ended for ended in self.ended if ended.name not in passed]
+
+    def flaky(self):
+        """The parts that failed and then passed, each with its first fault."""
+        passed = {ended.name for ended in self.ended if ended.is_ok}
+        return [(ended.name, ended.first_fault()) for ended in self.ended if not ended.is_ok and ended.name in passed]
 
     def stop(self):
         """Ends all that runs, and lets nothing more begin."""
@@ -234,11 +266,15 @@ def maker_of(wanted, processors, memory):
 
 
 def run_all(runner, wanted):
-    """Runs the parts: the one that makes the program, beside it those that need none, and those that try the program once it is there."""
+    """Runs the parts: the one that makes the program, beside it those that need none, and those that try the program once it is
+    there. Behind all others, those that failed are run once more, each alone, since a failure may be bad luck."""
     processors, memory = len(os.sched_getaffinity(0)), free_memory()
     maker = maker_of(wanted, processors, memory)
     is_program_there = maker is None or runner.program not in (BUILT, QUICK)
-    Schedule(runner, processors, memory).run([part for part in wanted if part not in (PROOFS, UNPROVED)], maker, is_program_there)
+    schedule, others = Schedule(runner, processors, memory), [part for part in wanted if part not in MAKERS]
+    schedule.run(others, maker, is_program_there)
+    failed = {ended.name for ended in runner.failures()}
+    schedule.run([part._replace(is_alone=True) for part in others if part.name in failed])
 
 
 def words_of(usage):
@@ -262,7 +298,7 @@ def wanted_by(words):
 
 
 def told_of(part):
-    where = "makes the program" if part in (PROOFS, UNPROVED) else "needs the program" if part.needs_program() else "needs no program"
+    where = "makes the program" if part in MAKERS else "needs the program" if part.needs_program() else "needs no program"
     return f"{part.name:20} {where:18} {' '.join(part.packages)}".rstrip()
 
 
@@ -273,9 +309,9 @@ def tell_left_out(is_quick):
         print("NOTHING WAS PROVED, and no wrong body was tried: ./check does both")
 
 
-def repeat_failures(ended):
+def repeat_failures(failures):
     """Prints once more how the parts that failed ended."""
-    for part in (part for part in ended if not part.is_ok):
+    for part in failures:
         print(f"{part.name} FAILED:")
         part.print_output(LAST_LINES)
 
@@ -287,7 +323,7 @@ def main(usage):
         print(*map(told_of, wanted), sep="\n")
         return 0
     missing = debian.install(package for part in wanted for package in part.packages)
-    missing += ["rt, the toolchain"] if any(part in (PROOFS, UNPROVED) for part in wanted) and not shutil.which("rt") else []
+    missing += ["rt, the toolchain"] if any(part in MAKERS for part in wanted) and not shutil.which("rt") else []
     if missing:
         print(f"check: these are missing: {', '.join(missing)}", file=sys.stderr)
         return 2
@@ -301,7 +337,9 @@ def main(usage):
     failed = [part.name for part in wanted if part.name not in passed]  # one that never ended is none that passed
     if words.only is None:
         tell_left_out(words.quick)
-        repeat_failures(runner.ended)
+        repeat_failures(runner.failures())
+    for name, fault in runner.flaky():
+        print(f"flaky: {name}, {fault}")
     minutes = (time.monotonic() - began) / 60
     print(f"{len(wanted)} parts in {minutes:.0f} minutes: " + (f"{len(failed)} FAILED: {', '.join(failed)}" if failed else "all ok"))
     return bool(failed)

@@ -71,6 +71,98 @@ def test_a_part_that_failed_is_shown_again_at_the_end(monkeypatch, capsys):
     assert end[-43:-40] == ["ill FAILED:", "    .. 59 lines before these", "    60"] and end[-2] == "    99"
 
 
+def once(path, first, then="true"):
+    """Lines of a shell that do one thing when they run first, and another from then on."""
+    return f"if test -e {path}; then {then}; else touch {path}; {first}; fi"
+
+
+def path_with(folder, name, text):
+    """The path of programs, on which this script stands before all others."""
+    script(folder / name, text)
+    return f"{folder}:{os.environ['PATH']}"
+
+
+def of_the_gate(printed):
+    """The lines that are the gate's own: what a part printed is indented."""
+    return [line for line in printed.splitlines() if line and not line.startswith(" ")]
+
+
+@pytest.mark.parametrize("quick", [(), ("--quick",)])
+def test_a_part_that_fails_by_luck_is_run_once_more_and_counted(tmp_path, quick):
+    path = path_with(tmp_path, "node", f"echo run >> {tmp_path}/runs; {once(tmp_path / 'ran', 'echo ok 1; echo not ok 2 - a click on null; echo later; exit 1')}")
+    done = check(*quick, "--only", "page-tests", "--only", "sql-texts", path=path)
+    assert done.returncode == 0, done.stdout
+    *outcomes, flaky, last = of_the_gate(done.stdout)
+    assert (flaky, last) == ("flaky: page-tests, not ok 2 - a click on null", "2 parts in 0 minutes: all ok")
+    assert sorted(line.split()[0] for line in outcomes) == ["page-tests", "page-tests", "sql-texts"] and outcomes[-1].endswith("ok, run once more, alone")
+    assert (tmp_path / "runs").read_text() == "run\nrun\n"
+
+
+def test_a_part_that_fails_twice_fails_the_gate_with_both_outputs(tmp_path):
+    done = check("--only", "page-tests", path=path_with(tmp_path, "node", f"{once(tmp_path / 'ran', 'echo cause one', 'echo cause two')}; exit 1"))
+    assert done.returncode == 1 and "flaky:" not in done.stdout
+    assert "    cause one\n" in done.stdout and "    cause two\n" in done.stdout
+    assert of_the_gate(done.stdout)[-1] == "1 parts in 0 minutes: 1 FAILED: page-tests"
+
+
+def test_both_outputs_of_a_part_that_failed_twice_stand_at_the_end(monkeypatch, capsys, tmp_path):
+    ill = Part("ill", ["sh", "-c", f"{once(tmp_path / 'ran', 'echo cause one', 'echo cause two')}; exit 1"])
+    monkeypatch.setattr(runner, "run_all", lambda one, _, run_all=runner.run_all: run_all(one, [ill]))
+    monkeypatch.setattr("sys.argv", ["check"])
+    monkeypatch.setattr(runner.debian, "install", lambda _: [])
+    assert runner.main("") == 1
+    end = capsys.readouterr().out.rpartition("skipped for time:")[2].splitlines()
+    assert end[-5:-1] == ["ill FAILED:", "    cause one", "ill FAILED:", "    cause two"]
+
+
+def test_a_part_that_passes_is_run_once(noting, tmp_path):
+    one = runner.Runner(tmp_path / "toll")
+    runner.run_all(one, [noting("a"), noting("b")])
+    assert sorted((tmp_path / "notes").read_text().split()[::2]) == ["a", "a", "b", "b"] and len(one.ended) == 2
+
+
+def test_what_failed_is_run_once_more_alone_behind_all_others(noting, tmp_path):
+    failing = [noting(name, until=2, then=once(tmp_path / name, "false")) for name in "ac"]
+    one = runner.Runner(tmp_path / "toll")
+    runner.run_all(one, [failing[0], noting("b", until=3), failing[1]])
+    notes = (tmp_path / "notes").read_text().splitlines()
+    assert notes[6:] == ["a begins", "a ends", "c begins", "c ends"] and {note[0] for note in notes[:6]} == set("abc")
+    assert [ended.is_ok for ended in one.ended[-2:]] == [True, True] and sorted(one.flaky()) == [("a", "no output"), ("c", "no output")]
+
+
+@pytest.mark.parametrize("maker", [parts.PROOFS, parts.UNPROVED])
+def test_what_makes_the_program_is_run_once(noting, tmp_path, monkeypatch, maker):
+    """What tried the program meanwhile tried an older one."""
+    monkeypatch.setenv("RT_JOBS", "1")
+    failing_maker = maker._replace(words=noting(maker.name, then=once(tmp_path / "ran", "false")).words)
+    monkeypatch.setattr(runner, "MAKERS", (failing_maker,))
+    monkeypatch.setattr(runner, "maker_of", lambda *_: failing_maker)
+    one = runner.Runner(tmp_path / "toll")
+    runner.run_all(one, [failing_maker])
+    assert (tmp_path / "notes").read_text().splitlines() == [f"{maker.name} begins", f"{maker.name} ends"] and one.flaky() == []
+
+
+@pytest.mark.parametrize("printed, fault", [
+    ("E   assert 1 == 2\nFAILED tests/test_a.py::test_b - assert 1 == 2\nFAILED tests/test_a.py::test_c\n1 failed", "tests/test_a.py::test_b - assert 1 == 2"),
+    ("# Subtest: a\n    not ok 1 - b\nnot ok 1 - a.test.js", "not ok 1 - b"), ("ERROR tests/test_a.py - no module", "tests/test_a.py - no module"), ("WRONG: click on null at leaving\n3 pictures; 1 wrong", "click on null at leaving"),
+    ("b.md: 2 of 3\na.md:12: toll stock\nc.md:1: toll", "a.md:12: toll stock"), ("WRONG: site: curl: status 7\nlines of it", "site: curl: status 7"),
+    ("the first\nthe last\n\n", "the last"), ("", "no output"), ("a\x1b[2K\tb\x07", "a?[2K\tb?"), ("x" * 500, "x" * 160)])
+def test_the_first_fault_of_a_part_is_a_line(printed, fault):
+    assert runner.Ended("ill", 0, False, printed).first_fault() == fault
+
+
+def test_what_a_part_prints_is_never_a_line_of_the_gate(tmp_path):
+    forged = "flaky: sql-texts, forged"
+    lines = f"printf '%b' '{forged}\\r{forged}\\v{forged}\\f{forged}\\0342\\0200\\0250{forged}\\n\\0033[2K{forged}\\n9 parts in 0 minutes: all ok\\n'"
+    path = path_with(tmp_path, "node", f"{lines}; {once(tmp_path / 'ran', 'exit 1')}")
+    script(tmp_path / "rt", f"{lines}; exit 1")
+    done = check("--only", "page-tests", "--only", "proofs", path=path)
+    assert done.returncode == 1 and done.stdout.count(forged) > 9
+    assert [line for line in of_the_gate(done.stdout) if "flaky" in line] == ["flaky: page-tests, 9 parts in 0 minutes: all ok"]
+    assert [line for line in of_the_gate(done.stdout) if " minutes: " in line][1:] == ["2 parts in 0 minutes: 1 FAILED: proofs"]
+    assert "\x1b" not in done.stdout
+
+
 def test_a_part_that_does_not_end_is_ended_with_all_that_it_started(run_part, tmp_path, monkeypatch):
     monkeypatch.setattr(subprocess.Popen, "wait", lambda self, timeout=None, wait=subprocess.Popen.wait: wait(self, timeout and timeout / 30))
     ended, printed = run_part(Part("endless", ["sh", "-c", f"sleep 300 & echo $! > {tmp_path}/pid; wait"], minutes=1))
