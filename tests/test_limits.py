@@ -73,6 +73,23 @@ def is_open(peer: socket.socket) -> bool:
         peer.settimeout(SOON)
 
 
+def refuses(server: Server) -> bool:
+    """Whether nothing listens at the server's port any more."""
+    try:
+        server.connect().close()
+    except ConnectionRefusedError:
+        return True
+    return False
+
+
+def eventually(holds: Callable[[], bool]) -> bool:
+    """Whether it comes to hold before the server drops who sends nothing."""
+    ends = time.monotonic() + DROPPED_AFTER - 2
+    while not (is_so := holds()) and time.monotonic() < ends:
+        time.sleep(0.01)
+    return is_so
+
+
 @pytest.fixture(scope="module")
 def office(tmp_path_factory: pytest.TempPathFactory) -> pathlib.Path:
     """The file of an owner with 5,000 lots and a dense genealogy, and one with few orders."""
@@ -190,9 +207,6 @@ def test_a_client_that_never_ends_its_request_does_not_keep_a_server_from_its_en
     server = serve(count=3)
     with server.connect(b"G"):
         assert server.ask(request("/orders")).startswith(b"HTTP/1.1 200") and server.ask(request("/orders"))
-        with pytest.raises(ConnectionRefusedError):
-            for _ in range(100):  # the port closes as soon as the last has connected
-                server.connect().close()
-                time.sleep(0.01)
-        assert not os.path.exists(f"{server.db}.sock")  # which closes with the port
+        assert eventually(lambda: refuses(server))  # the port closes as soon as the last has connected
+        assert eventually(lambda: not os.path.exists(f"{server.db}.sock"))  # which closes with the port
         assert server.process.wait(DROPPED_AFTER + SOON) == 0

@@ -1,4 +1,5 @@
 """No room, no rights, no WeasyPrint, a stop at any moment: one line, nothing half made, and no copy of the file is left."""
+import fcntl
 import importlib.util
 import os
 import pathlib
@@ -140,10 +141,9 @@ def test_without_rights_nothing_is_made(reachable):
 
 
 def test_a_lock_that_is_taken_is_told(at_work):
-    with subprocess.Popen(["flock", f"{at_work.db}.lock", "sleep", "60"]) as holder:
-        time.sleep(0.3)
+    with open(f"{at_work.db}.lock", "a") as lock:
+        fcntl.flock(lock, fcntl.LOCK_EX)
         done = at_work.run(*RECALL, at_work.folder / "made", options=("--wait", "0"))
-        subprocess.run(["kill", *subprocess.run(["pgrep", "-P", str(holder.pid)], capture_output=True, text=True).stdout.split(), str(holder.pid)], check=True)
     assert done.status == 3 and "somebody else has the lock" in done.err and len(lines_of(done.err)) == 1 and left(at_work) == []
 
 
