@@ -166,6 +166,21 @@ class Browser:
             has_hit = self.js(HAS_HIT)
         return has_hit
 
+    def click_by_script(self, css):
+        """Clicks an element that may be behind a question, where no pointer comes to it."""
+        until(unless_missed(lambda: self.js("arguments[0].click(); return true", self.element(css))), f"{css} is clicked by a script")
+
+    def focus(self, css):
+        """Gives an element the focus, wherever it is: also one out of sight."""
+        script = "const wanted = document.querySelector(arguments[0]); wanted?.focus(); return wanted !== null && document.activeElement === wanted"
+        until(lambda: self.js(script, css), f"{css} has the focus")
+
+    def into_sight(self, css, text=None):
+        """Scrolls until an element, of this text where one is given, is in the middle."""
+        script = """const wanted = [...document.querySelectorAll(arguments[0])].find(element => arguments[1] === null || element.textContent === arguments[1]);
+            wanted?.scrollIntoView({block: 'center'}); return wanted !== undefined"""
+        until(lambda: self.js(script, css, text), f"{css} {text or ''} is there")
+
     def type(self, css, text):
         until(unless_missed(lambda: self._type(self.find(css), text)), f"{css} has {text!r}")
 

@@ -69,6 +69,8 @@ class Clicks:
         if key != f"{owner}KEY1":
             return self.knock(owner, key)
         self.window_of(owner)
+        # so that what is told is told of this request
+        self.b.js("document.querySelectorAll('.notice .close').forEach(button => button.click())")
         request = " ".join(filter(None, [owner, method, target, body]))
         if method == "POST":
             doing = self.post(owner, target, body and json.loads(body), status, answered)
@@ -133,8 +135,7 @@ class Clicks:
         return self.says(confirmation if status == 200 else str(answered["code"]))
 
     def says(self, words):
-        until(lambda: self.b.text("#told") + self.b.text("#wrong"), "something is told")
-        return words in self.b.text("#told") + self.b.text("#wrong")
+        return words in until(lambda: self.b.text("#told") + self.b.text("#wrong"), f"something is told: {words}")
 
     def look(self, method, target, status, answered):
         """Whether all names and amounts of a reply are seen."""
@@ -150,7 +151,7 @@ class Clicks:
             wanted = ["There is no such page" if first == "nowhere" else "You have no lot"]
         if first == "trace":
             self.t.pictured()
-            self.b.js("document.querySelector('details').open = true")
+            until(lambda: self.b.js("const table = document.querySelector('details'); if (table) table.open = true; return table !== null"), "the table is there")
         until(lambda: all(word in self.b.text() for word in wanted), lambda: f"{target} shows {wanted}: {self.b.text()[:500]!r}")
         return True
 

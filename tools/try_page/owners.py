@@ -215,7 +215,7 @@ def open_question(t):
     small, other = t.office, Office(TOLL, t.folder / "third.db", t.office_port)
     other.plants("owner-add ACME OTHERKEY1")
     t.serve(other)
-    b.js("arguments[0].click()", b.element("[data-key=again]"))
+    b.click_by_script("[data-key=again]")
     b.heading("Log in")
     b.gone("dialog")
     t.serve(small)

@@ -134,8 +134,7 @@ class Trial:
 
     def cancel(self, order):
         """Clicks an order's Cancel, which is there when its row has been in sight for a moment."""
-        self.browser.js("""[...document.querySelectorAll('tbody tr')].find(row => row.cells[0].textContent === arguments[0])
-            .scrollIntoView({block: 'center'})""", order)
+        self.browser.into_sight("tbody tr > :first-child", order)
         self.browser.click(f"button[data-key=cancel-{order}]")
 
     def place(self, order, recipe, batches):
