@@ -510,6 +510,33 @@ def test_a_longer_head_is_refused(site, stub, path, fields, status):
     assert (reply.status, reply.value()) == (status, {"error": "BadRequest"}) and len(stub.heads) == before
 
 
+@pytest.fixture
+def slow_site(stub, tmp_path):
+    """A site that lets an address ask once a second, after the first 20 requests."""
+    proxy = Proxy(tmp_path, stub.server_port, changes=[(r"rate=50r/s", "rate=1r/s")])
+    proxy.start()
+    yield proxy
+    proxy.end()
+
+
+# Requests that are refused before it is known what they ask for: by their line, by a field, and by their form.
+REFUSED = {414: b"GET /stock?" + b"q" * 3000 + b" HTTP/1.1\r\nHost: localhost\r\n\r\n", 400: b"GET /stock HTTP/1.1\r\nHost: localhost\r\nlong: " + b"x" * 9000 + b"\r\n\r\n",
+           505: b"GET /stock HTTP/2.0\r\nHost: localhost\r\n\r\n"}
+
+
+@pytest.mark.parametrize("status", REFUSED)
+def test_what_is_refused_at_once_is_limited_too(slow_site, status):
+    """Otherwise anybody fills the disk of the logs: each refusal is a line there."""
+    began = time.monotonic()
+    replies = at_once(lambda _: sent(slow_site, REFUSED[status])[0], 50)
+    statuses = [int(reply.split()[1]) for reply in replies]
+    most = 22 + time.monotonic() - began  # one, those that may wait, and one each second
+    assert set(statuses) == {status, 429} and statuses.count(status) <= most, statuses
+    assert {reply.partition(b"\r\n\r\n")[2] for reply in replies if b" 429 " in reply[:20]} == {b'{"error":"TooManyRequests"}'}
+    assert all(b"\r\nRetry-After: 1\r\n" in reply for reply in replies if b" 429 " in reply[:20])
+    assert max(map(len, (slow_site.folder / "unauthenticated-toll.log").read_text().splitlines())) < 300
+
+
 # Wrong keys
 
 def guess(site, address, owner, key=WRONG_KEY):
