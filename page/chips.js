@@ -18,7 +18,7 @@ const SHAPES = {
 /** The tone and the shape of each word. */
 const WORDS = {
   released: ["good", "tick"], quarantined: ["wait", "diamond"], rejected: ["bad", "cross"],
-  open: ["live", "ring"], cancelled: ["calm", "dash"], closed: ["calm", "square"],
+  open: ["live", "ring"], finished: ["good", "tick"], cancelled: ["calm", "dash"], closed: ["calm", "square"],
   idle: ["calm", "ring"], running: ["live", "play"], restarting: ["live", "play"], complete: ["good", "tick"],
   pausing: ["wait", "bars"], paused: ["wait", "bars"], holding: ["wait", "bars"], held: ["wait", "bars"],
   stopping: ["calm", "square"], stopped: ["calm", "square"], aborting: ["bad", "cross"], aborted: ["bad", "cross"],

@@ -3,7 +3,7 @@
  * so that no spreadsheet takes a name such as 1E5, 1-2 or MARCH1 for a number or a date.
  */
 
-import { html } from "./dom.js";
+import { html, unseen } from "./dom.js";
 
 // what a spreadsheet holds exactly
 const MOST_DIGITS = 15;
@@ -37,7 +37,7 @@ function save(name, text) {
   setTimeout(() => URL.revokeObjectURL(address), 10_000);
 }
 
-/** A button that gives the rows as a file; `rows` is asked when it is clicked. */
-export const downloadButton = (page, subject, columns, rows) => html("button", {
-  type: "button", class: "quiet", "data-key": `csv-${subject}`, click: () => save(nameOf(page.who.owner, subject), csvOf(columns, rows())),
-}, "Download CSV");
+/** A button that gives the rows as a file, which is called by `file`; `noun` says what they are. `rows` is asked when it is clicked. */
+export const downloadButton = (page, { file, noun }, columns, rows) => html("button", {
+  type: "button", class: "quiet", "data-key": `csv-${file}`, click: () => save(nameOf(page.who.owner, file), csvOf(columns, rows())),
+}, "Download CSV", unseen(` of the ${noun}`));

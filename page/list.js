@@ -7,6 +7,9 @@ import { count, number } from "./values.js";
 const FIRST_PART = 60;
 const PART = 150;
 
+/** The most rows of a table that is printed although it is folded on the screen: some four sheets. */
+export const MOST_PRINTED = 100;
+
 /** The option of a choice that hides nothing. */
 const ALL = "all";
 
@@ -66,6 +69,7 @@ export class Finder {
   #count = html("p", { class: "count", role: "status" });
   #beyond = html("div", { class: "beyond-list", role: "status" });
   #heads = new Map();
+  #table;
   #drawing = null;
   #asking = null;
   #query;
@@ -74,8 +78,9 @@ export class Finder {
     this.#page = page;
     this.#given = given;
     this.#query = Object.fromEntries(page.route.query);
-    const download = downloadButton(page, given.file, given.columns, () => this.#rows());
-    this.element = html("div", { class: "finder" }, this.#fields(), html("div", { class: "line" }, this.#count, download), this.#beyond, this.#table());
+    const download = downloadButton(page, { file: given.file, noun: given.nouns[1] }, given.columns, () => this.#rows());
+    this.#table = this.#drawTable();
+    this.element = html("div", { class: "finder" }, this.#fields(), html("div", { class: "line" }, this.#count, download), this.#beyond, this.#table);
     this.#draw();
   }
 
@@ -123,7 +128,7 @@ export class Finder {
     return html("label", { class: "choice sort-by" }, "Sort by", html("select", { name: "sort", "data-key": "sort", change }, options));
   }
 
-  #table() {
+  #drawTable() {
     for (const column of this.#given.columns) {
       const sorts = column.compare && html("button", { type: "button", class: "sort", click: () => this.#sortBy(column.name) }, column.title);
       this.#heads.set(column.name, head(column, sorts ?? column.title));
@@ -161,7 +166,7 @@ export class Finder {
     return this.#given.rows.filter(row => this.#given.search(row).toUpperCase().includes(wanted) && chosen.every(([choice, option]) => choice.of(row) === option));
   }
 
-  /** What the usual option hides, with a button that shows it; and what there is elsewhere where nothing is found. */
+  /** What the usual option hides, or that nothing fits, with a button that shows it; and what there is elsewhere where nothing is found. */
   #tellBeyond(rows) {
     const hiding = (this.#given.choices ?? []).find(choice => choice.usual && !this.#query[choice.name]);
     const hidden = hiding ? this.#matching(this.#given.choices.filter(choice => choice !== hiding)).length - rows.length : 0;
@@ -169,9 +174,29 @@ export class Finder {
       this.element.querySelector(`select[name="${hiding.name}"]`).value = ALL;
       this.#set(hiding.name, ALL);
     };
-    this.#beyond.replaceChildren(...(hidden > 0
-      ? [html("p", { class: "soft" }, `${number(hidden)} more: ${hiding.usual.hides}. `, html("button", { type: "button", class: "small", "data-key": "beyond", click: show }, "Show them"))] : []));
-    this.#askElsewhere(rows.length + hidden === 0 && (this.#query.search ?? "").toUpperCase());
+    const isNone = rows.length + hidden === 0 && this.#given.rows.length > 0;
+    const more = () => html("p", { class: "soft" }, `${number(hidden)} more: ${hiding.usual.hides}. `, html("button", { type: "button", class: "small", "data-key": "beyond", click: show }, "Show them"));
+    this.#beyond.replaceChildren(...(hidden > 0 ? [more()] : isNone ? [this.#nothing()] : []));
+    this.#askElsewhere(isNone && (this.#query.search ?? "").toUpperCase());
+  }
+
+  /** That no row fits, with a button that shows all. */
+  #nothing() {
+    const { nouns, rows } = this.#given;
+    return html("p", {}, `No ${nouns[0]} fits what you searched and chose. `,
+      html("button", { type: "button", class: "small", "data-key": "all-rows", click: () => this.#showAll() }, rows.length === 1 ? `Show the ${nouns[0]}` : `Show all ${count(rows.length, ...nouns)}`));
+  }
+
+  /** Takes the search and all choices back. */
+  #showAll() {
+    for (const { name, usual } of this.#given.choices ?? []) {
+      this.#query[name] = usual ? ALL : "";
+      this.element.querySelector(`select[name="${name}"]`).value = this.#query[name];
+    }
+    const search = this.element.querySelector("input[name=search]");
+    search.value = "";
+    this.#set("search", "");
+    search.focus();
   }
 
   #askElsewhere(text) {
@@ -179,7 +204,7 @@ export class Finder {
     if (!text || !this.#given.elsewhere) return;
     this.#asking = setTimeout(() => this.#page.fill(this.#beyond, async () => {
       const answer = await this.#given.elsewhere(text);
-      if (answer && (this.#query.search ?? "").toUpperCase() === text) this.#beyond.replaceChildren(answer);
+      if (answer && (this.#query.search ?? "").toUpperCase() === text) this.#beyond.append(answer);
     }), TYPING);
   }
 
@@ -201,6 +226,7 @@ export class Finder {
     const all = this.#given.rows.length;
     const whole = all === 0 ? `No ${this.#given.nouns[1]} yet.` : count(all, ...this.#given.nouns);
     this.#count.textContent = rows.length === all ? whole : `${number(rows.length)} of ${whole}`;
+    this.#table.hidden = rows.length === 0;
     this.#tellBeyond(rows);
     this.drawn = inParts(this.#body, rows, row => line(this.#given.columns, row, this.#given.classOf?.(row)), AbortSignal.any([this.#drawing.signal, this.#page.signal]));
   }

@@ -5,6 +5,7 @@ import { Companion } from "./companion.js";
 import { drawContact, introduce } from "./contact.js";
 import { html } from "./dom.js";
 import { IdleWatch } from "./idle.js";
+import { MOST_PRINTED } from "./list.js";
 import { failed, tell, waits, warnIdle } from "./notices.js";
 import { isActing, Page } from "./page.js";
 import { read, toHome, toOrders, toStock } from "./router.js";
@@ -110,7 +111,7 @@ async function viewOf(page) {
   } catch (error) {
     if (page.signal.aborted) return null;
     if (error instanceof Forbidden) return sendAway();
-    return { title: [TITLES[page.route.view], page.route.name].filter(Boolean).join(" "), body: failed(error, () => show()) };
+    return { title: [TITLES[page.route.view], page.route.name].filter(Boolean).join(" "), body: failed(error, () => show()), isUnread: true };
   }
 }
 
@@ -118,7 +119,7 @@ function draw(page, view, anew) {
   const heading = html("h1", { tabindex: -1 }, view.title, view.mark && [" ", view.mark]);
   const focused = anew ? document.activeElement?.dataset?.key : null;
   at("view").replaceChildren(
-    html("div", { class: "head" }, html("div", {}, view.upward && html("p", { class: "upward" }, view.upward), heading), page.who && readAt(page.who)),
+    html("div", { class: "head" }, html("div", {}, view.upward && html("p", { class: "upward" }, view.upward), heading), page.who && readAt(page.who, view)),
     ...[view.body].flat(Infinity).filter(Boolean));
   at("content").removeAttribute("aria-busy");
   document.title = `${view.title} - Hilpoven`;
@@ -126,10 +127,10 @@ function draw(page, view, anew) {
   (key || (view.focus ?? heading)).focus({ preventScroll: true });
 }
 
-/** Whose view it is and when it was read, which stands on paper too. */
-function readAt({ owner }) {
+/** Whose view it is and when it was read, or couldn't be, which stands on paper too. */
+function readAt({ owner }, { isUnread = false }) {
   const now = new Date();
-  return html("p", { class: "read" }, `${owner}, read on ${now.toLocaleDateString("sv")} at ${now.toLocaleTimeString("sv")}`,
+  return html("p", { class: "read" }, `${owner}, ${isUnread ? "not read: tried" : "read"} on ${now.toLocaleDateString("sv")} at ${now.toLocaleTimeString("sv")}`,
     html("span", { id: "newer", role: "status" }),
     html("button", { type: "button", class: "quiet", "data-key": "again", click: readAgain }, "Read again"));
 }
@@ -188,10 +189,10 @@ at("skip").addEventListener("click", event => {
   at("content").focus();
 });
 
-// All of a page is printed, what is folded too.
+// What is folded is printed too, but for long tables, which are printed where somebody has unfolded them.
 let opened = [];
 addEventListener("beforeprint", () => {
-  opened = [...document.querySelectorAll("details:not([open])")];
+  opened = [...document.querySelectorAll("details:not([open])")].filter(details => !(details.dataset.rows > MOST_PRINTED));
   opened.forEach(details => { details.open = true; });
 });
 addEventListener("afterprint", () => opened.forEach(details => { details.open = false; }));

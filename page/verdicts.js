@@ -45,6 +45,18 @@ export function heldBy(lot) {
   return lot?.held && !isReason ? `The plant holds it since ${day(lot.held.day)}${noted(lot.held.text)}.` : "";
 }
 
+/** The words of the plant's own test, by which its quality holds (0) and signs (1) a lot. */
+const JUDGEMENTS = new Map([[0, "held by the plant"], [1, "signed by the plant"]]);
+
+/**
+ * What the plant's quality says by a result of its own test; undefined of other results. The companion leaves this test out
+ * of the material's `tests`, and says of the lot that the plant signed or holds it.
+ */
+export function judgementOf(lot, tests, { test, value }) {
+  const isListed = tests?.some(row => row.test === test) ?? true;
+  return !isListed && (lot?.signed || lot?.held) ? JUDGEMENTS.get(value) : undefined;
+}
+
 const HOLD = "plant-hold";
 const OF_TESTS = { missing: MISSING, below: BELOW, above: ABOVE };
 

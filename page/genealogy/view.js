@@ -52,7 +52,7 @@ export class Genealogy {
       records?.links.length > 0 && html("span", { class: "soft" }, "Dashed arrows are noted by the plant, and aren't recorded consumption."));
     this.element = html("section", { class: "card genealogy-card" },
       html("h2", {}, "Where it comes from and where it went"),
-      this.#words.direct, html("p", { class: "soft" }, this.#words.summary), this.#tools, this.#sign, this.#frame.element, legend, this.#words.table);
+      this.#words.direct, html("p", { class: "soft" }, this.#words.summary), this.#tools, this.#sign, this.#frame.element, legend, this.#words.table, this.#words.unprinted);
     this.#narrow.addEventListener("change", () => { this.drawn = this.#redraw(); }, { signal: page.signal });
     this.drawn = this.#redraw();
   }
@@ -92,7 +92,8 @@ export class Genealogy {
       this.drawn = this.#redraw();
     });
     const asked = this.#frame.isLarge && does("asked", `Show ${this.#words.name}`, () => this.#frame.show());
-    this.#tools.replaceChildren(...[further, all, fewer, folded, asked].flat().filter(Boolean));
+    const scrolls = this.#frame.isLarge && html("p", { class: "soft scrolls" }, "The picture is larger than its place: scroll it to see the rest.");
+    this.#tools.replaceChildren(...[further, all, fewer, folded, asked, scrolls].flat().filter(Boolean));
   }
 
   async #redraw() {

@@ -3,7 +3,7 @@
 import { chip } from "../chips.js";
 import { downloadButton } from "../csv.js";
 import { html, link } from "../dom.js";
-import { table } from "../list.js";
+import { MOST_PRINTED, table } from "../list.js";
 import { amount, count, number, PLANT } from "../values.js";
 import { linksOf } from "./links.js";
 import { directOf, lotsOf } from "./lots.js";
@@ -32,6 +32,11 @@ export class Words {
     const sum = trace => (trace.length > 1 ? `${count(trace.length - 1, "lot")} over ${count(trace.at(-1).steps, "step")}` : "none");
     const sources = back[0].owner === PLANT ? "" : `Made of: ${sum(back)}. `;
     return `${sources}Went into: ${sum(forward)}. Arrows lead from a lot to what it went into.`;
+  }
+
+  /** What stands on paper in place of a folded table that is too long to be printed unasked. */
+  get unprinted() {
+    return this.table.dataset.rows > MOST_PRINTED && html("p", { class: "on-paper" }, "The table of the lots isn't printed. Unfold it before you print, to have it on paper.");
   }
 
   showTable() {
@@ -82,8 +87,8 @@ export class Words {
       { title: "Disposition", cell: row => word(row) && chip(word(row)), values: { Disposition: row => lineOf(row)?.disposition } },
       ...(this.#records ? [{ title: "Made by", cell: batchOf, values: { Batch: batchOf } }] : []),
     ];
-    return html("details", {}, html("summary", {}, "The same as a table"),
-      html("div", { class: "buttons" }, downloadButton(this.#page, `${this.name}-genealogy`, columns, () => rows)),
+    return html("details", { "data-rows": rows.length }, html("summary", {}, "The same as a table"),
+      html("div", { class: "buttons" }, downloadButton(this.#page, { file: `${this.name}-genealogy`, noun: "genealogy" }, columns, () => rows)),
       table({ caption: "The lots of the genealogy, with their fewest steps", signal: this.#page.signal, rows, columns }));
   }
 }

@@ -1,6 +1,6 @@
 import assert from "node:assert/strict";
 import test from "node:test";
-import { ABOVE, BELOW, blocksOf, heldBy, limits, measured, MISSING, PASSES, verdict, verdictsOf } from "../verdicts.js";
+import { ABOVE, BELOW, blocksOf, heldBy, judgementOf, limits, measured, MISSING, PASSES, verdict, verdictsOf } from "../verdicts.js";
 
 const DENSITY = { test: "DENSITY", low: 1100, high: 1250 };
 const PH = { test: "PH", low: 600, high: 800, unit: "pH", decimals: 2 };
@@ -44,4 +44,11 @@ test("a lot that the plant holds by its word alone is said to be held, once", ()
   assert.equal(heldBy({ held: { day: 261128, text: "mixed up." }, release: { possible: true } }), "The plant holds it since 2026-11-28: mixed up.");
   assert.equal(heldBy({ held: { day: 103 } }), "The plant holds it since 103.");
   assert.deepEqual([heldBy({ held: { day: 103 }, release: { possible: false, why: [{ reason: "plant-hold" }] } }), heldBy({}), heldBy(undefined)], ["", "", ""]);
+});
+
+test("a result of the plant's own test is what its quality says, in words", () => {
+  const said = (value, lot = { signed: { day: 261128 } }, tests = [DENSITY]) => judgementOf(lot, tests, result("QA", value));
+  assert.deepEqual([said(1), said(0), said(0, { held: { day: 103 } })], ["signed by the plant", "held by the plant", "held by the plant"]);
+  // another value, a test of the owner's, a lot of which the plant says nothing, and one of which nothing is known
+  assert.deepEqual([said(2), said(-1), said("1"), judgementOf({ signed: { day: 1 } }, [DENSITY], result("DENSITY", 1)), said(1, {}), judgementOf(undefined, [DENSITY], result("QA", 1)), judgementOf({ signed: { day: 1 } }, undefined, result("QA", 1))], Array(7).fill(undefined));
 });

@@ -13,7 +13,7 @@ function rejectButton(page, name) {
   return html("button", {
     type: "button", class: "danger", "data-key": "reject",
     click: async ({ currentTarget: button }) => {
-      const text = "This is for good. A rejected lot is never released again, and nothing leaves it.";
+      const text = "Nobody can undo a rejection. The lot can never be released again, and the plant ships and consumes nothing of it.";
       if (await ask(page.signal, { title: `Reject lot ${name}?`, text, yes: "Reject the lot" })) await reject(button);
     },
   }, "Reject…");

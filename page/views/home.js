@@ -3,6 +3,7 @@
 import { chip } from "../chips.js";
 import { fact, html, link } from "../dom.js";
 import { table } from "../list.js";
+import { FINISHED, OPEN, statusIn } from "../order-status.js";
 import { toHome, toLot, toOrder, toOrders, toPlantLot, toStock } from "../router.js";
 import { amount, count, day, number } from "../values.js";
 import { blocksOf, heldBy } from "../verdicts.js";
@@ -27,7 +28,7 @@ export async function home(page) {
       html("section", { class: "card" }, traceField(page)),
       records ? needs(waiting, records) : quarantine(waiting),
       records ? news(page, records, new Map(lots.map(row => [row.lot, row.measure]))) : null,
-      standing(lots, orders),
+      standing(lots, orders, records),
     ],
   };
 }
@@ -123,8 +124,10 @@ function news(page, records, measures) {
 
 // What there is
 
-function standing(lots, orders) {
-  const open = orders.filter(row => row.status === "open").length;
+/** How many orders and lots there are. Which orders are finished is known by a companion alone. */
+function standing(lots, orders, records) {
+  const statuses = orders.map(order => statusIn(records, order));
+  const tally = (title, status) => fact(title, link(toOrders({ status }), number(statuses.filter(each => each === status).length)));
   return html("section", { class: "card facts" },
-    html("dl", {}, fact("Open orders", link(toOrders({ status: "open" }), number(open))), fact("Lots", link(toStock(), number(lots.length)))));
+    html("dl", {}, tally("Open orders", OPEN), records && tally("Finished orders", FINISHED), fact("Lots", link(toStock(), number(lots.length)))));
 }

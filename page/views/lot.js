@@ -7,13 +7,13 @@ import { Genealogy } from "../genealogy/view.js";
 import { table } from "../list.js";
 import { toOrder, toStock } from "../router.js";
 import { amount, day, number } from "../values.js";
-import { blocksOf, heldBy, limits, measured, verdict, verdictsOf } from "../verdicts.js";
+import { blocksOf, heldBy, judgementOf, limits, measured, verdict, verdictsOf } from "../verdicts.js";
 import { deciding } from "./deciding.js";
 
 const MEANINGS = {
   quarantined: "In quarantine: nothing is shipped or consumed out of this lot until you release it.",
   released: "Released: the plant may ship it, and consume it in your batches. You may still reject it.",
-  rejected: "Rejected for good: nothing is shipped or consumed out of this lot any more.",
+  rejected: "Rejected, which nobody can undo: nothing is shipped or consumed out of this lot any more.",
 };
 
 export async function lot(page) {
@@ -30,7 +30,7 @@ export async function lot(page) {
     body: [
       facts(page, askedLot, records, tests),
       html("div", { class: "two" },
-        tests?.length > 0 && testsPart(page, askedLot, tests), results(page, askedLot, tests, records?.lot(askedLot.lot)?.bounds), sublots(page, askedLot), records && shipments(page, askedLot, records)),
+        tests?.length > 0 && testsPart(page, askedLot, tests), results(page, askedLot, tests, records?.lot(askedLot.lot)), sublots(page, askedLot), records && shipments(page, askedLot, records)),
       place,
     ],
   };
@@ -91,7 +91,7 @@ function origin(from) {
 function part(page, { title, file, rows, columns, none, note }) {
   const shown = () => [table({ caption: title, rows, columns }), note];
   return html("section", { class: "card" },
-    html("div", { class: "line" }, html("h2", {}, title), rows.length > 0 && downloadButton(page, file, columns, () => rows)),
+    html("div", { class: "line" }, html("h2", {}, title), rows.length > 0 && downloadButton(page, { file, noun: title.toLowerCase() }, columns, () => rows)),
     rows.length === 0 ? html("p", { class: "soft" }, none) : shown());
 }
 
@@ -114,7 +114,7 @@ const testsPart = (page, askedLot, tests) => part(page, {
 const sublots = (page, askedLot) => part(page, {
   title: "Sublots",
   file: `${askedLot.lot}-sublots`,
-  none: "It has none.",
+  none: "The lot has no sublot.",
   rows: askedLot.sublots,
   columns: [
     { title: "Sublot", cell: sublot => sublot.sublot, values: { Sublot: sublot => sublot.sublot } },
@@ -126,20 +126,24 @@ const sublots = (page, askedLot) => part(page, {
 const SIGNS = { below: "<", above: ">" };
 
 /** All results, as they came. The last of each test is the one that counts for the release. */
-function results(page, askedLot, tests, bounds = []) {
+function results(page, askedLot, tests, row) {
+  const bounds = row?.bounds ?? [];
   const counts = new Set(new Map(askedLot.results.map(result => [result.test, result])).values());
   const word = result => (counts.has(result) ? "counts" : "earlier");
   const testOf = row => tests?.find(test => test.test === row.test);
-  const bound = row => SIGNS[bounds.find(each => each.test === row.test && each.value === row.value && each.day === row.day)?.bound] ?? "";
-  const value = row => `${bound(row)}${testOf(row) ? measured(testOf(row), row.value) : number(row.value)}`;
-  const passing = { title: "Verdict", cell: row => testOf(row) && verdict(testOf(row), row.value), values: { Verdict: row => testOf(row) && verdict(testOf(row), row.value) } };
+  const bound = result => SIGNS[bounds.find(each => each.test === result.test && each.value === result.value && each.day === result.day)?.bound] ?? "";
+  const judgement = result => judgementOf(row, tests, result);
+  const value = result => (judgement(result) ? null : `${bound(result)}${testOf(result) ? measured(testOf(result), result.value) : number(result.value)}`);
+  const verdictOf = result => judgement(result) ?? (testOf(result) && verdict(testOf(result), result.value));
+  const passing = { title: "Verdict", cell: verdictOf, values: { Verdict: verdictOf } };
+  const test = result => [result.test, judgement(result) && html("small", { class: "soft" }, " the plant's own test")];
   return part(page, {
     title: "Results",
     file: `${askedLot.lot}-results`,
-    none: "None was recorded.",
+    none: "The plant has recorded no result of this lot yet.",
     rows: askedLot.results,
     columns: [
-      { title: "Test", cell: result => result.test, values: { Test: result => result.test } },
+      { title: "Test", cell: test, values: { Test: result => result.test } },
       { title: "Value", number: true, cell: value, values: { Value: result => result.value } },
       { title: "Day", number: true, cell: result => day(result.day), values: { Day: result => result.day } },
       ...(tests ? [passing] : []),
@@ -153,7 +157,7 @@ function results(page, askedLot, tests, bounds = []) {
 const shipments = (page, askedLot, records) => part(page, {
   title: "Shipments",
   file: `${askedLot.lot}-shipments`,
-  none: "None was recorded.",
+  none: "The plant has recorded no shipment of this lot.",
   rows: records.shipmentsOf(askedLot.lot).filter(row => !row.voided),
   columns: [
     { title: "Recipient", cell: row => (row.to ? records.partyOf(row.to) : html("span", { class: "soft" }, "not noted")), values: { Recipient: row => row.to } },

@@ -5,6 +5,7 @@ import { chip } from "../chips.js";
 import { downloadButton } from "../csv.js";
 import { fact, html, link } from "../dom.js";
 import { table } from "../list.js";
+import { OPEN, statusIn, statusOf } from "../order-status.js";
 import { toLot, toOrders, toStock } from "../router.js";
 import { count, number, PLANT } from "../values.js";
 import { batchOf, cancelButton } from "./cancelling.js";
@@ -25,13 +26,15 @@ export async function order(page) {
   const [opened, closed] = [html("span", {}, "…"), html("span", {}, "…")];
   const acts = html("div", { class: "buttons" });
   const batches = html("div", { class: "batches" });
+  const status = html("span", {}, chip(statusIn(records, askedOrder)));
   const drawn = page.fill(batches, async () => {
     const read = await drawBatches(page, records, askedOrder, batches);
     opened.textContent = `${read.length} of ${askedOrder.batches}`;
     closed.textContent = `${read.filter(batch => batch.closed).length} of ${askedOrder.batches}`;
-    if (read.length > 0) acts.append(downloadButton(page, askedOrder.order, COLUMNS, () => rowsOf(read)));
+    status.replaceChildren(chip(statusOf(askedOrder, n => read[n - 1]?.closed === true)));
+    if (read.length > 0) acts.append(downloadButton(page, { file: askedOrder.order, noun: "batches" }, COLUMNS, () => rowsOf(read)));
     else {
-      const isOpen = askedOrder.status === "open";
+      const isOpen = askedOrder.status === OPEN;
       batches.append(html("p", { class: "card soft" }, isOpen ? "The plant has opened no batch of it yet." : "No batch of it was opened."));
       if (isOpen) acts.append(cancelButton(page, askedOrder.order));
     }
@@ -39,7 +42,7 @@ export async function order(page) {
   return {
     upward: link(toOrders(), "Orders"),
     title: `Order ${askedOrder.order}`,
-    mark: chip(askedOrder.status),
+    mark: status,
     drawn,
     body: [
       html("section", { class: "card facts" },

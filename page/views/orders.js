@@ -4,11 +4,12 @@ import { chip } from "../chips.js";
 import { html, link, unseen } from "../dom.js";
 import { Finder } from "../list.js";
 import { tell } from "../notices.js";
+import { OPEN, statusIn, STATUSES } from "../order-status.js";
 import { toOrder } from "../router.js";
 import { compareNames, MOST_BATCHES, NAME_TYPED, number } from "../values.js";
 import { CancelButtons } from "./cancelling.js";
 import { drafted } from "./draft.js";
-import { fieldAtFault, outcome, standing } from "./placing.js";
+import { fieldAtFault, outcome, recipesOffered, standing } from "./placing.js";
 
 /** A phone's width, as in style.css: the form is folded. */
 const NARROW = "(max-width: 40rem)";
@@ -16,7 +17,8 @@ const NARROW = "(max-width: 40rem)";
 const byOrder = (a, b) => compareNames(a.order, b.order);
 
 export async function orders(page) {
-  const { orders: rows } = await page.get("/orders");
+  const [{ orders: placed }, records] = await Promise.all([page.get("/orders"), page.records()]);
+  const rows = placed.map(order => ({ ...order, status: statusIn(records, order) }));
   const buttons = new CancelButtons(page);
   const finder = new Finder(page, {
     caption: "Orders",
@@ -24,24 +26,23 @@ export async function orders(page) {
     file: "orders",
     rows,
     search: order => `${order.order} ${order.recipe}`,
-    choices: [{ name: "status", title: "Status", options: ["open", "cancelled"], of: order => order.status }],
+    choices: [{ name: "status", title: "Status", options: STATUSES, of: order => order.status }],
     columns: [
       { name: "order", title: "Order", cell: order => link(toOrder(order.order), order.order), compare: byOrder, values: { Order: order => order.order } },
       { name: "recipe", title: "Recipe", cell: order => order.recipe, compare: (a, b) => compareNames(a.recipe, b.recipe) || byOrder(a, b), values: { Recipe: order => order.recipe } },
       { name: "batches", title: "Batches", number: true, cell: order => number(order.batches), compare: (a, b) => a.batches - b.batches || byOrder(a, b), values: { Batches: order => order.batches } },
       { name: "status", title: "Status", cell: order => chip(order.status), compare: (a, b) => compareNames(a.status, b.status) || byOrder(a, b), values: { Status: order => order.status } },
-      { name: "acts", title: unseen("What can be done"), acts: true, cell: order => order.status === "open" && buttons.place(order.order) },
+      { name: "acts", title: unseen("What can be done"), acts: true, cell: order => order.status === OPEN && buttons.place(order.order) },
     ],
   });
   return {
     title: "Orders",
-    body: [newOrder(page, rows), html("section", { class: "card" }, html("h2", { class: "unseen" }, "All orders"), finder.element)],
+    body: [newOrder(page, recipesOffered(records, rows), records), html("section", { class: "card" }, html("h2", { class: "unseen" }, "All orders"), finder.element)],
     drawn: finder.drawn,
   };
 }
 
-function newOrder(page, rows) {
-  const recipes = [...new Set(rows.map(order => order.recipe))].sort(compareNames);
+function newOrder(page, recipes, records) {
   const draft = drafted();
   const name = field({ name: "order", title: "1 to 16 letters, digits and -" });
   const recipe = field({ name: "recipe", title: "1 to 16 letters, digits and -", list: "recipes" });
@@ -69,9 +70,12 @@ function newOrder(page, rows) {
   draft.fill(form);
   return html("section", { class: "card" },
     html("details", { class: "fold", open: draft.isBegun || !matchMedia(NARROW).matches },
-      html("summary", {}, html("h2", {}, "New order")), form),
+      html("summary", {}, html("h2", {}, "New order")), form, recipes.length === 0 && html("p", { class: "soft" }, noRecipes(records))),
     html("datalist", { id: "recipes" }, recipes.map(known => html("option", { value: known }))));
 }
+
+/** What is said where no recipe can be offered. */
+const noRecipes = records => (records ? "The plant has defined no recipe for you yet." : "Ask the plant for the names of your recipes.");
 
 /** What a field has so that a redrawn view finds it again, and that an old notice goes when it is checked. */
 const CHECKED = name => ({ "data-key": `new-${name}`, invalid: () => tell("") });

@@ -1,6 +1,7 @@
 /** Placing an order, and what is told of it: whether it is new, was there before, or was cancelled. */
 
 import { Refused } from "../api.js";
+import { compareNames } from "../values.js";
 
 const UNKNOWN_ORDER = 18;
 const UNKNOWN_RECIPE = 13;
@@ -25,6 +26,9 @@ export function outcome({ order, recipe, batches, status }, before) {
   if (before) return { text: `Order ${order} was placed before: ${content}. It counts once.`, tone: "wait" };
   return { text: `Order ${order} is placed: ${content}.`, tone: "good" };
 }
+
+/** The names of the recipes that are offered: those that the companion tells, and those of earlier orders. */
+export const recipesOffered = (records, orders) => [...new Set([...(records?.recipes ?? []), ...orders].map(({ recipe }) => recipe))].sort(compareNames);
 
 /** The field that is at fault where an order is refused. */
 export const fieldAtFault = refusal => (refusal.code === UNKNOWN_RECIPE ? "recipe" : "order");

@@ -199,6 +199,100 @@ def progress(t):
         b.heading("Lot B-1")
 
 
+def finished(t):
+    """An order all of whose batches are closed stands apart, and its own view needs no companion for that."""
+    with companion_offered(t) as b:
+        b.wait("Finished orders")
+        statuses = lambda: b.js("return [...document.querySelectorAll('tbody tr')].map(row => [row.cells[0].textContent, row.cells[3].textContent])")
+        b.click(".facts a[href='#/orders?status=finished']")
+        b.heading("Orders")
+        t.expect(statuses() == [["O-2", "finished"]], f"finished orders are {statuses()}")
+        t.shot("58-finished", "an order all of whose batches are closed is finished")
+        b.choose("select[name=status]", "open")
+        until(lambda: statuses() and "O-2" not in dict(statuses()), "open orders are others")
+        records, _ = t.downloaded("csv-orders")
+        t.expect({record["Status"] for record in records} == {'="open"'}, f"the file of open orders has {records}")
+        t.to_orders()
+        b.wait("finished")
+    t.browser.click("button", "Read again")
+    t.to_order("O-2")
+    b.wait("1 of 1")
+    until(lambda: "finished" in b.text("h1"), "the order's own batches say that it is finished")
+    t.to_order("O-1")
+    b.wait("5 of 6")
+    t.expect("open" in b.text("h1"), f"an order that goes on is {b.text('h1')!r}")
+
+
+def newcomer(t):
+    """An owner who never ordered anything is offered the recipes that the plant defined."""
+    b = t.browser
+    t.office.plants(
+        """owner-add NEWCO NEWCOKEY1
+        material-add NEWCO SYRUP kg
+        recipe-add NEWCO SYRUP-1 1
+        require NEWCO SYRUP-1 1 produced NEWCO SYRUP 10"""
+    )
+    offered = lambda: b.js("return [...document.querySelectorAll('#recipes option')].map(option => option.value)")
+    t.entered("NEWCO")
+    b.wait("No orders yet.")
+    t.expect(offered() == [] and "Ask the plant for the names of your recipes." in b.text(), "nothing says whom to ask")
+    recipe = {"recipe": "SYRUP-1", "segments": 1, "lines": []}
+    t.companions.write(t.office, "NEWCO", lambda value: value.update(recipes=[recipe]))
+    try:
+        b.click("button", "Read again")
+        until(lambda: offered() == ["SYRUP-1"], "the recipe is offered")
+        t.expect("Ask the plant" not in b.text(), "the plant is to be asked for what is offered")
+        t.shot("59-newcomer", "the first order of an owner: recipes are offered")
+    finally:
+        t.companions.clear()
+    b.click("#who button", "Log off")
+    b.heading("Log in")
+
+
+def judged(t):
+    """Results of the plant's own test are words."""
+    t.office.plants(
+        """material-add ACME GLUE kg
+        test-add ACME GLUE ADHESION 1 9
+        test-add ACME GLUE QA 1 1
+        receive ACME GLUE1 GLUE G-1 BAY1 100 101
+        result ACME G-1 ADHESION 5 101
+        result ACME G-1 QA 0 101
+        result ACME G-1 QA 1 102"""
+    )
+
+    def without_own(value):
+        glue = next(row for row in value["materials"] if row["material"] == "GLUE")
+        glue["tests"] = [test for test in glue["tests"] if test["test"] != "QA"]
+        next(row for row in value["lots"] if row["lot"] == "G-1")["signed"] = {"day": dated(102)}
+
+    with companion_offered(t, without_own) as b:
+        t.to_lot("G-1")
+        t.pictured()
+        rows = b.js(
+            """const part = [...document.querySelectorAll('section')].find(each => each.querySelector('h2')?.textContent === 'Results');
+            return [...part.querySelectorAll('tbody tr')].map(row => [...row.cells].map(cell => cell.textContent))"""
+        )
+        own = "QA the plant's own test"
+        wanted = [
+            ["ADHESION", "5", "101", "passes", "counts"],
+            [own, "", "101", "held by the plant", "earlier"],
+            [own, "", "102", "signed by the plant", "counts"],
+        ]
+        t.expect(rows == wanted, f"the results are {rows}")
+        records, _ = t.downloaded("csv-G-1-results")
+        t.expect(
+            [(record["Value"], record["Verdict"]) for record in records][1:]
+            == [("0", '="held by the plant"'), ("1", '="signed by the plant"')],
+            f"the file of the results has {records}",
+        )
+        t.expect(
+            "The plant has recorded no shipment of this lot." in b.text() and "None was recorded" not in b.text(),
+            "it isn't said of what there is none",
+        )
+        t.shot("60-judged", "a lot that the plant's quality held and then signed")
+
+
 def noted(t):
     """A link that the plant noted is drawn apart."""
     link = {

@@ -53,11 +53,17 @@ function contrasts() {
   return { least, wrong };
 }
 
-/** Whatever is used has a name, tables have captions and heads, and there is one heading of the first level. */
+/** Whatever is used has a name, each button its own, tables have captions and heads, and there is one heading of the first level. */
 function names() {
   const wrong = [];
   for (const field of document.querySelectorAll("input, select")) if (!field.labels?.length || words(field.labels[0]) === "") wrong.push(`the field ${field.name} has no label`);
   for (const control of document.querySelectorAll("button, a, summary, [role=button]")) if (words(control) === "" && !control.getAttribute("aria-label")) wrong.push(`a ${control.tagName} has no name`);
+  const named = new Map();
+  for (const button of document.querySelectorAll("button:not(.sort)")) {
+    const name = button.getAttribute("aria-label") ?? button.textContent.trim();
+    named.set(name, (named.get(name) ?? 0) + 1);
+  }
+  for (const [name, buttons] of named) if (buttons > 1) wrong.push(`${buttons} buttons are called "${name}"`);
   for (const table of document.querySelectorAll("table")) if (!table.caption || !table.tHead) wrong.push("a table has no caption or no heads");
   for (const region of document.querySelectorAll("[role=img], [role=region], section[aria-label], nav")) if (!region.getAttribute("aria-label")) wrong.push(`a ${region.tagName} has no name`);
   for (const selector of ["h1", "main", "header", "nav"]) if (document.querySelectorAll(selector).length === 0) wrong.push(`there is no ${selector}`);
@@ -98,7 +104,7 @@ function heads() {
     const row = table.tBodies[0]?.rows[0];
     if (!row || !isSeen(row) || getComputedStyle(row).gridAutoFlow === "row" && getComputedStyle(row).display === "grid") continue;
     for (const head of table.tHead.rows[0].cells) {
-      if (!head.matches(".number")) continue;
+      if (!head.matches(".number") || row.cells[head.cellIndex].textContent === "") continue;
       const apart = rightOf(head.querySelector("button")?.firstChild ?? head) - rightOf(row.cells[head.cellIndex]);
       if (Math.abs(apart) > 1) wrong.push(`the head "${words(head)}" ends ${apart.toFixed(1)} px from its numbers`);
     }
@@ -112,6 +118,12 @@ function inSight() {
   const isWithin = box => box.left >= Math.max(0, place.left) - 1 && box.right <= Math.min(innerWidth, place.right) + 1 && box.top >= place.top - 1 && box.bottom <= place.bottom + 1;
   return [...document.querySelectorAll(".genealogy .box")].filter(box => isWithin(box.querySelector(".outline").getBoundingClientRect())).map(box => box.dataset.id);
 }
+
+/** How much of the picture's width is out of sight; how far from the left of its place a box begins; and whether it is scrolled as far as it can be. */
+const placed = () => document.querySelector(".picture");
+const rest = () => placed().scrollWidth - placed().clientWidth;
+const begins = id => document.querySelector(`.genealogy [data-id="${id}"] .outline`).getBoundingClientRect().left - placed().getBoundingClientRect().left;
+const scrolled = () => placed().scrollLeft >= rest() - 1;
 
 /** Edges of the picture pass behind no box, boxes don't overlap, and texts stay within their boxes. */
 function drawing() {

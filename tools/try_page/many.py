@@ -5,6 +5,7 @@ from . import fillings
 from .browser import PATIENCE, until
 from .site import Office
 from .trial import TOLL
+from .ways import sheets
 
 # a person waits about so long for something to come up, in milliseconds
 FIRST_DRAW, LONGEST_TASK = 1000, 200
@@ -95,7 +96,7 @@ def far(t):
     """A list that is scrolled far down is there again after going back."""
     b = t.browser
     at = scroll_far(b, LOTS)
-    b.js("[...document.querySelectorAll('tbody a')].find(link => link.getBoundingClientRect().top > 200).click()")
+    until(lambda: b.js(CLICK_IN_SIGHT), "a lot in sight is clicked")
     until(lambda: b.text("h1").startswith("Lot "), "a lot")
     b.back()
     b.heading("Stock")
@@ -113,6 +114,8 @@ def far(t):
     t.shot("36-far-down", "an order far down the list was cancelled: the list stays where it was, and what was done is seen", whole=False)
 
 
+CLICK_IN_SIGHT = """const link = [...document.querySelectorAll('tbody a')].find(each => each.getBoundingClientRect().top > 200);
+link?.click(); return link !== undefined"""
 # A button in the middle of the window: to click it moves nothing.
 IN_SIGHT = """const inSight = ({top, bottom}) => top > 200 && bottom < innerHeight - 200;
 return [...document.querySelectorAll('[data-key^=cancel]')].find(button => inSight(button.getBoundingClientRect()))?.dataset.key"""
@@ -135,6 +138,7 @@ def folds(t):
     picture = t.pictured()
     print(f"a genealogy of 2,190 lots: {picture['boxes']} boxes after {time.monotonic() - begun:.1f} s, as fast as the proxy lets it ask", flush=True)
     t.check_drawing("S-1")
+    t.expect(on_paper(t, "S-1") <= 3, f"a lot with a folded table of 2,190 lots is printed on {on_paper(t, 'S-1')} sheets")
     t.expect(picture["boxes"] == 3 and "fold/forward" in str(picture["edges"]) and group_of(b).startswith("14 DRUM"), f"{picture['boxes']} boxes are shown at first, {group_of(b)}")
     t.shot("37-folded", "a lot that went into 2,200 others: a box for the first of them, which are alike, and one for the rest")
     b.click("[data-key=more-forward]")
@@ -144,7 +148,7 @@ def folds(t):
     t.expect(t.pictured()["boxes"] == 3, "300 lots that are alike need more than a box")
     unfold(t, 300)
     t.check_sight("S-1 with 300 others", "ACME/S-1")
-    b.js("document.querySelector('.picture').scrollIntoView({block: 'center'})")
+    b.into_sight(".picture")
     t.shot("37-unfolded", "the same with 300 lots, each unfolded: what was asked for is in sight", whole=False)
     b.js("document.querySelector('.picture').scrollTo(0, 0)")
     b.click("[data-key=asked]")
@@ -152,6 +156,13 @@ def folds(t):
     b.click("[data-key=refold]")
     until(lambda: t.pictured()["boxes"] == picture["boxes"] and group_of(b).startswith("14 DRUM"), "fewer lots are shown")
     chain(t)
+
+
+def on_paper(t, lot):
+    """How many sheets a lot is printed on."""
+    file = t.pictures / f"39-paper-{lot}.pdf"
+    t.browser.printed(file)
+    return sheets(file)
 
 
 def group_of(b):
@@ -165,7 +176,7 @@ def unfold(t, lots):
     while b.seen(".genealogy .group"):
         before = t.pictured()["boxes"]
         # by a key: the box may be out of sight
-        b.js("document.querySelector('.genealogy .group').focus()")
+        b.focus(".genealogy .group")
         b.press("enter")
         until(lambda: t.pictured()["boxes"] > before, "lots of the group are shown")
         if before < 60:
@@ -181,6 +192,7 @@ def chain(t):
     before = t.pictured()
     made_of = ("ACME/C-16", "ACME/C-15", "ACME/SU-1", "ACME/Y-16", "HOUSE/W-1")
     t.check_drawing("C-16")
+    t.expect(2 <= on_paper(t, "C-16") <= 4, f"a lot whose picture is too wide for a sheet is printed on {on_paper(t, 'C-16')} sheets, with its table")
     t.check_sight("C-16", *made_of, "ACME/C-17")
     t.expect("C-15, SU-1, Y-16, W-1 (the plant's)" in b.text(".direct"), f"above the picture stands {b.text('.direct')!r}")
     t.shot("38-folded-by-steps", "a lot in the middle of a chain of 32: the nearest steps, and a box for those behind")
@@ -192,7 +204,7 @@ def chain(t):
     t.check_drawing("C-16, wholly unfolded")
     t.check_sight("C-16, wholly unfolded", *made_of, "ACME/C-17")
     once(t, "ACME/SU-1", "HOUSE/W-1")
-    b.js("document.querySelector('.picture').scrollIntoView({block: 'center'})")
+    b.into_sight(".picture")
     t.shot("38-unfolded", "the whole chain: what was asked for is in sight, with all that it was made of", whole=False)
     batches(t)
 
@@ -217,7 +229,7 @@ def batches(t):
         t.check_drawing("S-1 by batches")
         t.check_sight("S-1 by batches", "ACME/S-1", *groups)
         t.shot("44-by-batches", "2,189 lots of eleven batches: a box for each batch, all in sight")
-        b.js("document.querySelector(`[data-id='${arguments[0]}']`).focus()", groups[0])
+        b.focus(f"[data-id='{groups[0]}']")
         b.press("enter")
         until(lambda: t.pictured()["boxes"] == fillings.BATCHES + 1 + 30, "30 lots of a batch are shown")
         t.check_drawing("S-1, a batch unfolded")

@@ -108,10 +108,12 @@ def away(t):
     t.office.end()
     b.click("#nav a", "Stock")
     until(lambda: b.seen("button", "Ask again"), "the page gives up", patience=240)
+    t.expect("ACME, not read: tried on 20" in b.text(".read"), f"a view that couldn't be read says {b.text('.read')!r}")
     t.shot("22-gave-up", "the office was away for a minute: the page says so, and asks again by a click", whole=False)
     t.office.serve()
     b.click("button", "Ask again")
     b.find("tbody a")
+    t.expect("ACME, read on 20" in b.text(".read"), f"a view that was read says {b.text('.read')!r}")
 
 
 def answer(status, kind, body, length=None):

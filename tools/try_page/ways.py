@@ -1,4 +1,5 @@
 """Other ways to the page than a click: going back, keys, a phone's width, paper."""
+import re
 import shutil
 import subprocess
 
@@ -41,7 +42,7 @@ def keyboard(t):
     if b.js("return sessionStorage.length") > 0:
         b.click("#who button")
     b.heading("Log in")
-    b.js("document.querySelector('input[name=owner]').focus()")
+    b.focus("input[name=owner]")
     b.write("ACME")
     b.press("tab")
     b.write("ACMEKEY1")
@@ -150,7 +151,7 @@ def folded(t, name):
 
 def narrow(t, name, caption):
     b = t.browser
-    b.js("document.querySelector('tbody tr:last-child').scrollIntoView({block: 'center'})")
+    b.into_sight("tbody tr:last-child")
     b.find("button[data-key^=cancel]")
     t.shot(f"27-{name}-orders", f"{caption}: the orders")
     b.click("#nav a", "Stock")
@@ -161,6 +162,10 @@ def narrow(t, name, caption):
     t.pictured()
     t.check_sight("BL-1", "ACME/BL-1")
     t.shot(f"29-{name}-lot", f"{caption}: a lot; the picture begins at the asked lot")
+    if t.looks("rest()") > 0:
+        t.expect("scroll it to see the rest" in b.text(".tools"), f"{caption}: nothing says that the picture is scrolled")
+        begins, ends = t.looks("begins('ACME/BL-1')"), t.looks("scrolled()")
+        t.expect(0 <= begins < 24 or ends, f"{caption}: before the asked lot {begins} px of the picture are in sight")
     b.click("#nav a", "Orders")
     b.heading("Orders")
     b.click("tbody a", "O-1")
@@ -168,6 +173,11 @@ def narrow(t, name, caption):
     t.shot(f"30-{name}-order", f"{caption}: an order with its batches")
     b.click("#nav a", "Orders")
     b.heading("Orders")
+
+
+def sheets(file):
+    """How many sheets a printed view has."""
+    return len(re.findall(rb"/Type /Page\b", file.read_bytes()))
 
 
 def paper(t):
@@ -180,6 +190,7 @@ def paper(t):
         lead()
         b.printed(t.pictures / f"{name}.pdf")
         t.expect((t.pictures / f"{name}.pdf").read_bytes().startswith(b"%PDF"), f"{name} is no PDF")
+        t.expect(sheets(t.pictures / f"{name}.pdf") <= 2, f"{name} has {sheets(t.pictures / f'{name}.pdf')} sheets")
         if shutil.which("pdftoppm"):
             subprocess.run(["pdftoppm", "-png", "-r", "80", "-f", "1", "-l", "1", "-singlefile", t.pictures / f"{name}.pdf", t.pictures / name], check=True)
             t.shots.append((name, caption))
