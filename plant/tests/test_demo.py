@@ -20,6 +20,7 @@ from hilpoven.demo import week
 from hilpoven.demo.week import Week, dated, working_days
 
 NOTHING_LEFT = 20  # seconds
+ENDED = "hilpoven: the demo is ended: nothing is served, and all of the sample week is removed"
 KEYS_ALONE = "owner add ACME --random\nowner add BOLT --random\nowner add CERES --random\n"  # a week that is short
 
 
@@ -154,8 +155,20 @@ def test_nothing_is_left_where_it_ends_while_the_week_is_made(program, tmp_path)
     process = subprocess.Popen([HILPOVEN, "demo"], stderr=subprocess.PIPE, text=True, env=environment(TOLL=program, TMPDIR=tmp_path))
     assert eventually(lambda: glob.glob(f"{tmp_path}/*/office.db"))
     process.terminate()
-    assert process.wait(PATIENCE) == 128 + signal.SIGTERM and "Traceback" not in process.communicate()[1]
+    printed = process.communicate(timeout=PATIENCE)[1]
+    assert process.returncode == 128 + signal.SIGTERM and "Traceback" not in printed
+    assert printed.splitlines()[-1] == ENDED
     assert eventually(lambda: not os.listdir(tmp_path) and not users_of(str(tmp_path)), NOTHING_LEFT)
+
+
+def test_the_address_and_the_keys_stand_last_and_the_end_is_told(program, tmp_path):
+    how = {"stdout": subprocess.PIPE, "stderr": subprocess.STDOUT, "text": True, "env": environment(TOLL=program, TMPDIR=tmp_path)}
+    with subprocess.Popen([ROOT / "demo" / "page"], **how) as process:
+        lines = [process.stdout.readline() for _ in range(11)]
+        process.send_signal(signal.SIGINT)
+        left = process.communicate(timeout=PATIENCE)[0]
+    assert [line.split("/")[0].split()[0] for line in lines[-4:]] == ["http:", "ACME", "BOLT", "CERES"], lines
+    assert (process.returncode, left) == (130, f"{ENDED}\n") and not os.listdir(tmp_path)
 
 
 def test_a_port_that_is_taken_is_told(program, tmp_path, monkeypatch):

@@ -89,7 +89,8 @@ class Browser:
         finally:
             line.close()
         if isinstance(value, dict) and "error" in value:
-            kind = Missed if value["error"] in MISSED else Failed
+            is_missed = value["error"] in MISSED or path.endswith("/print") and value["error"] == "timeout"
+            kind = Missed if is_missed else Failed
             raise kind(f"{method} {path}: {value['error']}: {value['message'].splitlines()[0]}")
         return value
 
@@ -270,7 +271,10 @@ class Browser:
         pathlib.Path(file).write_bytes(base64.b64decode(data))
 
     def printed(self, file):
-        pathlib.Path(file).write_bytes(base64.b64decode(self.ask("POST", "/print", page={"width": 21.0, "height": 29.7}, background=False)))
+        """Prints the page into a file of PDF. chromedriver waits ten seconds for that, so a busy machine may need another try."""
+        sheet = {"width": 21.0, "height": 29.7}
+        printed = until(unless_missed(lambda: self.ask("POST", "/print", page=sheet, background=False)), f"{file} is printed")
+        pathlib.Path(file).write_bytes(base64.b64decode(printed))
 
     def log(self):
         """What the browser's console was told since it was asked last."""

@@ -138,7 +138,7 @@ def folds(t):
     picture = t.pictured()
     print(f"a genealogy of 2,190 lots: {picture['boxes']} boxes after {time.monotonic() - begun:.1f} s, as fast as the proxy lets it ask", flush=True)
     t.check_drawing("S-1")
-    t.expect(on_paper(t, "S-1") <= 3, f"a lot with a folded table of 2,190 lots is printed on {on_paper(t, 'S-1')} sheets")
+    on_paper(t, "S-1", 1, 3)  # without the table of 2,190 lots, which is folded
     t.expect(picture["boxes"] == 3 and "fold/forward" in str(picture["edges"]) and group_of(b).startswith("14 DRUM"), f"{picture['boxes']} boxes are shown at first, {group_of(b)}")
     t.shot("37-folded", "a lot that went into 2,200 others: a box for the first of them, which are alike, and one for the rest")
     b.click("[data-key=more-forward]")
@@ -158,11 +158,11 @@ def folds(t):
     chain(t)
 
 
-def on_paper(t, lot):
-    """How many sheets a lot is printed on."""
+def on_paper(t, lot, fewest, most):
+    """Prints a lot, which has to take so many sheets."""
     file = t.pictures / f"39-paper-{lot}.pdf"
     t.browser.printed(file)
-    return sheets(file)
+    t.expect(fewest <= sheets(file) <= most, f"{lot} is printed on {sheets(file)} sheets")
 
 
 def group_of(b):
@@ -192,7 +192,7 @@ def chain(t):
     before = t.pictured()
     made_of = ("ACME/C-16", "ACME/C-15", "ACME/SU-1", "ACME/Y-16", "HOUSE/W-1")
     t.check_drawing("C-16")
-    t.expect(2 <= on_paper(t, "C-16") <= 4, f"a lot whose picture is too wide for a sheet is printed on {on_paper(t, 'C-16')} sheets, with its table")
+    on_paper(t, "C-16", 2, 4)  # with the table of 51 lots, since the picture is too wide for a sheet
     t.check_sight("C-16", *made_of, "ACME/C-17")
     t.expect("C-15, SU-1, Y-16, W-1 (the plant's)" in b.text(".direct"), f"above the picture stands {b.text('.direct')!r}")
     t.shot("38-folded-by-steps", "a lot in the middle of a chain of 32: the nearest steps, and a box for those behind")

@@ -49,9 +49,13 @@ def demo(context: Context, port: int) -> None:
     """
     rights.require_operator("demo", "it needs nobody's rights: hilpoven demo")
     program = program_of(context.settings)
-    with temporary() as folder, week_in(folder, program) as week, listening(week, port) as listener:
-        show(week, listener.port, program)
-        listener.serve_forever()
+    try:
+        with temporary() as folder, week_in(folder, program) as week, listening(week, port) as listener:
+            show(week, listener.port, program)
+            listener.serve_forever()
+    except SystemExit:  # by a signal
+        tell_line("hilpoven: the demo is ended: nothing is served, and all of the sample week is removed")
+        raise
 
 
 def program_of(settings: site.Settings) -> str:
@@ -112,16 +116,16 @@ def listening(week: Week, port: int) -> Listener:
 
 
 def show(week: Week, port: int, program: str) -> None:
-    """Prints the page's address and the owners' keys, and what else can be tried."""
-    unproved = "   (the quick build: NOTHING of it is proved)" if program.endswith(QUICK) else ""
-    tell_line("hilpoven: log in with a name and its key; Ctrl-C ends this and removes all of it")
-    click.echo(f"http://127.0.0.1:{port}/owner/{unproved}")
-    for owner, key in week.keys.items():
-        click.echo(f"{owner} {key}")
-    sys.stdout.flush()
+    """Prints what can be tried on the plant's side, and last the page's address and the owners' keys."""
     typed = "hilpoven" if shutil.which("hilpoven") == sys.argv[0] else shlex.quote(sys.argv[0])
     settings = shlex.quote(os.path.join(week.folder, SETTINGS))
     tell_line("hilpoven: the plant's side, in another terminal, for example:")
     tell_line(f"  export HILPOVEN_SETTINGS={settings}")
     for words in EXAMPLES:
         tell_line(f"  {typed} {words}")
+    unproved = "   (the quick build: NOTHING of it is proved)" if program.endswith(QUICK) else ""
+    tell_line("hilpoven: the page is served; log in with a name and its key. Ctrl-C ends this and removes all of it")
+    click.echo(f"http://127.0.0.1:{port}/owner/{unproved}")
+    for owner, key in week.keys.items():
+        click.echo(f"{owner} {key}")
+    sys.stdout.flush()
