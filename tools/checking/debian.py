@@ -2,6 +2,7 @@
 import os
 import shutil
 import subprocess
+import sys
 
 APT = ["apt-get", "-q", "-o", "DPkg::Lock::Timeout=600"]
 
@@ -20,12 +21,12 @@ def missing_of(packages):
 PROGRAMS = {"git": "git", "nodejs": "node", "gcc": "gcc", "curl": "curl", "nginx-light": "nginx", "chromium": "chromium", "libreoffice-calc": "soffice", "sqlite3": "sqlite3"}
 
 
-def install(packages):
-    """Installs what is missing, where this is root; tells what is missing still."""
+def install(packages, name="check", to=sys.stdout):
+    """Installs what is missing, where this is root, and tells that in the name of whatever needs it; gives what is missing still."""
     missing = missing_of(packages)
     if not missing or os.geteuid() or not shutil.which("apt-get"):
         return missing
-    print(f"check: apt-get installs {' '.join(missing)}", flush=True)
+    print(f"{name}: apt-get installs {' '.join(missing)}", file=to, flush=True)
     quiet = {"stdin": subprocess.DEVNULL, "stdout": subprocess.DEVNULL, "stderr": subprocess.DEVNULL, "env": {**os.environ, "DEBIAN_FRONTEND": "noninteractive"}}
     subprocess.run([*APT, "update"], **quiet)
     subprocess.run([*APT, "-y", "--no-install-recommends", "install", *missing], **quiet)

@@ -400,6 +400,26 @@ def test_it_waits_for_another_rt_in_a_crate(repository):
     assert out == "ran script\n" and err.count("toll: another rt works in crates/mid_a, and what needs that waits for it\n") == 1
 
 
+# A crate is given back while a process of this build's has just begun, and doesn't run its own program yet.
+FORKING = """
+crate = type("Place", (), {"folder": Path(sys.argv[1])})
+with alone_in([crate]) as before:
+    child = os.fork()
+    if child == 0:
+        time.sleep(300)
+with alone_in([crate]) as after:
+    print("free" if before is None and after is None else "another rt works there")
+os.kill(child, signal.SIGKILL)
+os._exit(0)
+"""
+
+
+def test_a_process_that_has_just_begun_keeps_no_crate(tmp_path):
+    (tmp_path / "program.py").write_text((ROOT / "tools/build-program").read_text().replace("sys.exit(main())\n", FORKING))
+    done = subprocess.run(["/usr/bin/python3", "-u", tmp_path / "program.py", tmp_path], capture_output=True, text=True, timeout=PATIENCE)
+    assert (done.stdout, done.stderr) == ("free\n", "")
+
+
 def test_it_tells_how_far_it_is_and_how_long_it_may_take(repository):
     repository.write("wide", "seconds 1.5\n")
     repository.write("mid_a", "fn it\n" * 3000)
@@ -530,5 +550,28 @@ def test_an_unproved_build_that_a_signal_ends_leaves_nothing(unproved):
     assert eventually(lambda: (unproved.notes / "pid-try").exists())
     process.send_signal(signal.SIGTERM)
     assert process.wait(20) == 143 and not (unproved.quick / "building").exists() and not (unproved.quick / "toll").exists()
+    assert process.communicate()[1].endswith("toll: the compiling was ended, and nothing of it is left: there is no out/quick/toll, and the next one begins anew\n")
     child = int((unproved.notes / "pid-try").read_text())
     assert eventually(lambda: not os.path.exists(f"/proc/{child}"))
+
+
+def test_an_unproved_build_that_is_ended_leaves_the_one_from_before(unproved):
+    assert unproved.build("--unproved").returncode == 0
+    unproved.write("toll", "seconds 300\n")
+    (unproved.notes / "pid-try").unlink()
+    process = unproved.start("--unproved", program="tools/build-program")
+    assert eventually(lambda: (unproved.notes / "pid-try").exists())
+    process.send_signal(signal.SIGINT)
+    assert "nothing of it is left: out/quick/toll is the one from before, and" in process.communicate(timeout=20)[1]
+    assert (unproved.quick / "toll").read_text().endswith("fn it\n")
+
+
+def test_an_unproved_build_tells_what_it_compiles_and_how_far_it_is(unproved):
+    unproved.write("toll", "seconds 1\n" + "fn it\n" * 30000)
+    clang = unproved.rt.resolve().parent.parent / "toolchain" / "bin" / "clang"
+    clang.write_text(clang.read_text().replace("words = sys.argv[1:]", "import time\nwords = sys.argv[1:]\ntime.sleep(1)"))
+    lines = unproved.build("--unproved", "--every", "0.2").err.splitlines()[:-1]
+    steps = [r"step 1 of 2, 7 crates of 30,0\d\d lines become one module", "step 2 of 2, the module is optimized"]
+    beginning, end = "toll: compiling out/quick/toll, of which nothing is proved: ", r": \d+ seconds so far, (some \d+ minutes|about a minute) to go"
+    steps_named = [next((at for at, step in enumerate(steps, 1) if re.fullmatch(beginning + step + end, line)), line) for line in lines]
+    assert set(steps_named) == {1, 2} and steps_named == sorted(steps_named) and lines[0].endswith("0 seconds so far, some 7 minutes to go"), lines

@@ -138,7 +138,6 @@ def folds(t):
     picture = t.pictured()
     print(f"a genealogy of 2,190 lots: {picture['boxes']} boxes after {time.monotonic() - begun:.1f} s, as fast as the proxy lets it ask", flush=True)
     t.check_drawing("S-1")
-    on_paper(t, "S-1", 1, 3)  # without the table of 2,190 lots, which is folded
     t.expect(picture["boxes"] == 3 and "fold/forward" in str(picture["edges"]) and group_of(b).startswith("14 DRUM"), f"{picture['boxes']} boxes are shown at first, {group_of(b)}")
     t.shot("37-folded", "a lot that went into 2,200 others: a box for the first of them, which are alike, and one for the rest")
     b.click("[data-key=more-forward]")
@@ -228,6 +227,7 @@ def batches(t):
         groups = [f"group/BIG/{number} | DRUM, quarantined" for number in range(1, fillings.BATCHES + 1)]
         t.check_drawing("S-1 by batches")
         t.check_sight("S-1 by batches", "ACME/S-1", *groups)
+        on_paper(t, "S-1", 1, 3)  # without the table of 2,190 lots, which is folded
         t.shot("44-by-batches", "2,189 lots of eleven batches: a box for each batch, all in sight")
         b.focus(f"[data-id='{groups[0]}']")
         b.press("enter")
