@@ -23,6 +23,10 @@ ROOT = pathlib.Path(__file__).resolve().parent.parent.parent
 TOLL = os.environ.get("TOLL", "")
 HILPOVEN = ROOT / "plant" / "bin" / "hilpoven"
 PATIENCE = 60  # seconds
+# The machine's time zone, whatever it is otherwise: hours ahead of UTC, no whole number of them, and with summer time.
+ZONE = "Pacific/Chatham"
+os.environ["TZ"] = ZONE
+time.tzset()
 
 compileall.compile_dir(ROOT / "plant" / "src", quiet=1)  # on a full disk, Python would leave a part of what it compiles
 sys.path.insert(0, str(ROOT / "plant" / "src"))

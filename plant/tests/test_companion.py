@@ -1,4 +1,5 @@
 """The command `companion`: when it writes which files, for whom they can be read, and what it leaves alone."""
+import calendar
 import contextlib
 import json
 import os
@@ -209,7 +210,7 @@ def test_each_version_has_another_second(at_work, folder):
 def test_made_is_since_when_it_says_so(at_work, folder):
     refresh(at_work, folder)
     first = companion_of(folder)["made"]
-    assert abs(time.mktime(time.strptime(first, "%Y-%m-%dT%H:%M:%SZ")) - time.timezone - time.time()) < 60
+    assert abs(calendar.timegm(time.strptime(first, "%Y-%m-%dT%H:%M:%SZ")) - time.time()) < 60
     time.sleep(1.1)
     at_work.toll("receive", "BOLT", "K9", "PIGMENT", "P-1", "BAY2", 1, 104)
     refresh(at_work, folder)

@@ -32,6 +32,11 @@ def days_of(zone, give):
     return text, {str(before), str(datetime.datetime.now(zoneinfo.ZoneInfo(zone)).date())}
 
 
+def test_the_machine_of_the_tests_has_another_time_than_utc():
+    printed = subprocess.run(["date", "+%z"], capture_output=True, text=True, check=True).stdout
+    assert printed in ("+1245\n", "+1345\n") and time.timezone == -45900 and time.daylight
+
+
 def test_the_board_has_the_time_of_the_plant(far_off):
     page, days = days_of(AHEAD, lambda: far_off.run("board").out)
     assert set(re.findall(r"\d{4}-\d\d-\d\d(?= \d\d:\d\d)", page)) & days

@@ -13,7 +13,7 @@ from collections.abc import Callable
 from concurrent.futures import ThreadPoolExecutor
 
 import pytest
-from conftest import HILPOVEN, PATIENCE, Plant, command, copied, environment, forked, script
+from conftest import HILPOVEN, PATIENCE, ZONE, Plant, command, copied, environment, forked, script
 from hilpoven.cli.prompting import Dialogue
 from hilpoven.core import settings as site
 from hilpoven.core.context import Context
@@ -503,9 +503,9 @@ def test_today_is_the_plant_s_day(at_work, zone):
 
 def test_enter_is_today_where_days_are_dates(plant):
     plant.lay("owner-add ACME ACMEKEY1\nmaterial-add ACME SALT kg\ntest-add ACME SALT PH 1 9\nreceive ACME K1 SALT S-1 BAY1 5 261127")
-    days = [day_in("UTC")]
-    status, _ = typed(plant, "result ACME S-1 PH 5", [("DAY (0 to 9,999,999) [", ""), (CONFIRM, "")], env={"TZ": "UTC"})
-    days.append(day_in("UTC"))
+    days = [day_in(ZONE)]
+    status, _ = typed(plant, "result ACME S-1 PH 5", [("DAY (0 to 9,999,999) [", ""), (CONFIRM, "")])
+    days.append(day_in(ZONE))
     (day,), = plant.rows("SELECT day FROM results")
     assert status == 0 and str(day) in days
 

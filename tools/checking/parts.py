@@ -95,7 +95,8 @@ rm -rf "$folder"
 exit "$status"
 """
 PLANT_NEEDS = ("python3-pytest", "python3-hypothesis", "python3-click", "python3-jinja2", "weasyprint", "graphviz", "python3-openpyxl",
-               "python3-numpy", "python3-odf", "python3-segno", "poppler-utils", "zbar-tools", "man-db", "openssl", "rsync", "sqlite3")
+               "python3-numpy", "python3-odf", "python3-segno", "poppler-utils", "zbar-tools", "man-db", "openssl", "rsync", "sqlite3",
+               "tzdata")
 # The Build-Depends of debian/control.
 BUILD_NEEDS = ("debhelper", "dh-python", "dpkg-dev", "git", "pybuild-plugin-pyproject", "python3-all", "python3-click", "python3-jinja2",
                "python3-numpy", "python3-odf", "python3-openpyxl", "python3-setuptools")
