@@ -1,13 +1,14 @@
 """`hilpoven sign` and `hold`: what the plant's quality says of a lot."""
+import contextlib
 import sys
+from collections.abc import Iterator
 
 import click
 
-from ..core import asking
+from ..core import asking, lock
 from ..core.context import Context
 from ..core.failure import REFUSED, Failure, tell
 from ..core.grammar import LINES
-from ..core.office import pass_on
 from ..journal import log
 from ..records.days import day_of, today
 from ..records.rows import Base, Lot, LotId, require_lot, tests_of
@@ -15,9 +16,11 @@ from ..register import making, quality
 from ..register.notes import Held, Judgement, Signed
 from ..register.recorders import recorders
 from ..register.store import Register
+from . import roles
 from .words import DAY, FILLED_TEXT, WORD, LotCommand, pass_context
 
 RESULTS = {Signed: quality.LIMIT, Held: quality.LIMIT - 1}  # of the plant's own test
+WORDS = {Signed: "sign", Held: "hold"}  # the commands
 day_option = click.option("--day", metavar="DAY", type=DAY, help="The day of it; today, as YYMMDD, by default.")
 
 
@@ -36,16 +39,20 @@ def sign(context: Context, owner: str, lot: str, reason: str | None, day: int | 
 
     Example: hilpoven sign ACME B-1
     """
-    with making.desk(context) as desk:
+    note = Signed(owner, lot, day_given(context, day), reason or "")
+    with desk_alone(context, note) as desk:
         asked = require_lot(desk.base, LotId(owner, lot))
         register = context.register(desk.base)
         status = quality.statuses(desk.base, register, asked.id).get(asked.id)
-        if status and status.state == quality.State.SIGNED:
-            click.echo(f"lot {asked.id} is {status.text} already")
-            return
-        require_passed(desk.base, register, asked)
-        require_another_person(context, desk, asked.id)
-    judge(context, asked, Signed(owner, lot, day_given(context, day), reason or ""))
+        is_signed = status is not None and status.state == quality.State.SIGNED
+        if not is_signed:
+            require_passed(desk.base, register, asked)
+            require_another_person(context, desk, asked.id)
+            recorded = record(context, desk, asked, note)
+    if status and is_signed:
+        click.echo(f"lot {asked.id} is {status.text} already")
+    else:
+        report(context, recorded)
 
 
 @click.command(cls=LotCommand)
@@ -62,9 +69,21 @@ def hold(context: Context, owner: str, lot: str, reason: str, day: int | None) -
 
     Example: hilpoven hold ACME B-1 --reason 'metal in drum 7'
     """
-    with making.desk(context) as desk:
-        asked = require_lot(desk.base, LotId(owner, lot))
-    judge(context, asked, Held(owner, lot, day_given(context, day), reason))
+    note = Held(owner, lot, day_given(context, day), reason)
+    with desk_alone(context, note) as desk:
+        recorded = record(context, desk, require_lot(desk.base, LotId(owner, lot)), note)
+    report(context, recorded)
+
+
+@contextlib.contextmanager
+def desk_alone(context: Context, note: Judgement) -> Iterator[making.Desk]:
+    """Reads a copy of an office's file while nobody else records in it, for whoever has the role now. What is looked at
+    then stays so until the note is recorded. A hold goes on beside others who record for long: nothing stops it."""
+    office = context.office()
+    with lock.alone(office.file, office.wait, is_urgent=isinstance(note, Held)):
+        roles.require(context, WORDS[type(note)])
+        with making.desk(context) as desk:
+            yield desk
 
 
 def day_given(context: Context, day: int | None) -> int:
@@ -90,22 +109,23 @@ def require_another_person(context: Context, desk: making.Desk, lot: LotId) -> N
         raise Failure(f"{who} recorded results or movements of lot {lot}", REFUSED, advice)
 
 
-def judge(context: Context, lot: Lot, note: Judgement) -> None:
+def record(context: Context, desk: making.Desk, lot: Lot, note: Judgement) -> asking.Given | str:
     """Records what quality says of a lot: as the result of the plant's own test, if the lot's material has it, and
-    otherwise as a note alone."""
-    with making.desk(context) as desk:
-        test = context.settings.quality.test
-        words = {"test": test, "owner": lot.id.owner, "material": lot.material}
-        is_tested, members = desk.base.execute(quality.HAS_TEST, words).fetchone() is not None, desk.all_members([note])
-    if is_tested:
-        line = LINES["result"]
-        values = [*lot.id, test, str(RESULTS[type(note)]), str(note.day)]
-        answer = asking.given(context, desk.office, line, values, **members)
-        pass_on(answer)
-        asking.explain(desk.office, line, values, answer)
-        sys.exit(answer.status)
-    reason = ["--reason", note.reason] if note.reason else []
-    word = "sign" if isinstance(note, Signed) else "hold"
-    name = desk.record([word, *lot.id, *reason, "--day", str(note.day)], note)
-    click.echo(f"noted {name}")
-    tell("The lot's material hasn't the plant's own test, so hilpoven alone goes by this, and toll doesn't.")
+    otherwise as a note alone. What was given to `toll`, or the name of the note."""
+    test = context.settings.quality.test
+    words = {"test": test, "owner": lot.id.owner, "material": lot.material}
+    if desk.base.execute(quality.HAS_TEST, words).fetchone() is None:
+        reason = ["--reason", note.reason] if note.reason else []
+        return desk.record([WORDS[type(note)], *lot.id, *reason, "--day", str(note.day)], note)
+    values = [*lot.id, test, str(RESULTS[type(note)]), str(note.day)]
+    answer = asking.given(context, desk.office, LINES["result"], values, **desk.all_members([note]))
+    return asking.Given(values, [], "", answer)
+
+
+def report(context: Context, recorded: asking.Given | str) -> None:
+    """Prints what came of it, and ends with its status."""
+    if isinstance(recorded, str):
+        click.echo(f"noted {recorded}")
+        tell("The lot's material hasn't the plant's own test, so hilpoven alone goes by this, and toll doesn't.")
+    else:
+        sys.exit(asking.report(context, LINES["result"], recorded))

@@ -14,7 +14,7 @@ from ..core.nearest import nearest
 from ..output.exports import as_csv, as_json
 from ..output.table import Row, counted, print_table
 from ..records.rows import LotId, require_owner
-from ..register import expiry, file, making, quality
+from ..register import expiry, file, making
 from ..register.movements import facts_of
 from ..register.notes import Judgement, Link, Note, NotLinked, Why, Withdrawal
 from . import day_checks, roles
@@ -135,21 +135,13 @@ def use(
         note = Link(owner, "", order, number, of_owner, of_lot, Why.USE, int(amount), reason)
         with making.desk(context) as desk:
             desk.require_link(note)
-            require_not_held(desk, context, note.contained)
             warning = expiry.warning(desk, context.settings.expiry.actual, LotId(of_owner, of_lot), scrap)
-            return Beside(desk.members([note]), warning)
+            return Beside(desk.members([note]), warning, is_use=True)
 
     scrap = [of_owner, key, of_lot, sublot, amount, str(day)]
     if not is_meant:
         day_checks.require_meant(context, LINES["scrap"], scrap)
     sys.exit(asking.run(context, LINES["scrap"], scrap, beside))
-
-
-def require_not_held(desk: making.Desk, context: Context, lot: LotId) -> None:
-    """Fails if the plant holds a lot, so that no batch uses it: `toll` lets it be scrapped."""
-    status = quality.statuses(desk.base, context.register(desk.base), lot).get(lot)
-    if status and status.state == quality.State.HELD:
-        raise Failure(f"lot {lot} is {status.text}", REFUSED, f"`hilpoven sign {lot.owner} {lot.name}` lets it be used")
 
 
 note_group = Group(

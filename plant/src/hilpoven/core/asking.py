@@ -3,7 +3,7 @@ from collections.abc import Callable
 from typing import TYPE_CHECKING, Any, NamedTuple
 
 from .. import HOUSE
-from . import meanings
+from . import lock, meanings
 from .context import Context
 from .failure import WRONG_USE, Failure, printable, tell
 from .grammar import OWNER_ADD, Line, faults, unsayable, written
@@ -19,10 +19,12 @@ TAKES = ("ship", "actual")  # the commands by which a lot leaves, or is consumed
 
 
 class Beside(NamedTuple):
-    """What stands in the journal beside a line that is asked, and what is told once it is accepted."""
+    """What stands in the journal beside a line that is asked, what is told once it is accepted, and whether it is a scrap
+    of what a batch uses, which a hold stops."""
 
     members: dict[str, Any] = {}
     hint: str = ""
+    is_use: bool = False
 
 
 class Given(NamedTuple):
@@ -53,7 +55,7 @@ def give(context: Context, line: Line, typed: list[str], beside: MakeBeside | No
         raise Failure(f"{line.name} can't be asked so", WRONG_USE, advice)
     office = context.office()
     noted = Beside() if wrong or beside is None else beside(context, dict(zip(line.values, words)))
-    return Given(words, wrong, noted.hint, asked(context, office, line, words, **noted.members))
+    return Given(words, wrong, noted.hint, asked(context, office, line, words, is_use=noted.is_use, **noted.members))
 
 
 def report(context: Context, line: Line, given: Given) -> int:
@@ -87,26 +89,30 @@ def asked(
     words: list[str],
     journal: "Journal | None" = None,
     ask: Callable[[list[str]], Answer] | None = None,
+    is_use: bool = False,
     **members: Any,
 ) -> Answer:
     """What `toll` answers; of a command it stands in the journal before it is asked, with what more there is to note,
-    and behind. What an earlier file of the office has already isn't asked, nor what the plant's quality stops."""
+    and behind. What an earlier file of the office has already isn't asked, nor what the plant's quality stops, which is
+    looked at while nobody signs or holds a lot."""
     if known := known_earlier(office, line, words):
         if "notes" in members and not known.status:
             (journal or context.journal()).note(office.file, [line.name, *words], **members)
         return known
     if line.is_question:
         return office.ask_patiently([line.name, *words])
-    if stopped := stopped_by_quality(context, line, words):
-        return stopped
-    return given(context, office, line, words, journal, ask, **members)
+    with lock.recording(office.file, office.wait):
+        if stopped := stopped_by_quality(context, line, words, is_use):
+            return stopped
+        return given(context, office, line, words, journal, ask, **members)
 
 
-def stopped_by_quality(context: Context, line: Line, words: list[str]) -> Answer | None:
+def stopped_by_quality(context: Context, line: Line, words: list[str], is_use: bool) -> Answer | None:
     """What is answered in place of `toll` to what the plant's quality stops; mostly `None`."""
     values = dict(zip(line.values, words))
-    is_judged = line.name in TAKES or line.name == "result" and values["TEST"] == context.settings.quality.test
-    return context.stops.answer(line, values) if is_judged else None
+    is_own_test = line.name == "result" and values["TEST"] == context.settings.quality.test
+    is_judged = line.name in TAKES or is_use or is_own_test
+    return context.stops.answer(line, values, is_use) if is_judged else None
 
 
 def given(
@@ -118,7 +124,8 @@ def given(
     ask: Callable[[list[str]], Answer] | None = None,
     **members: Any,
 ) -> Answer:
-    """What `toll` answers to a command, which stands in the journal before and behind."""
+    """What `toll` answers to a command, which stands in the journal before and behind. The caller holds the office, as
+    one of those who record or alone (`lock.recording`)."""
     journal = journal or context.journal()
     blotted = [BLOTTED if line.name == OWNER_ADD and name == "KEY" else word for name, word in zip(line.values, words)]
     entry = journal.asked(office.file, [line.name, *blotted], **members)
@@ -148,9 +155,7 @@ def explain(office: Office, line: Line, words: list[str], answer: Answer) -> Non
     elif fault:
         tell(meanings.explained("faults", fault, values))
         if fault == "Locked":
-            from .lock import holders
-
-            tell(holders(office.file))
+            tell(lock.holders(lock.name_of(office.file)))
     if line.name == OWNER_ADD and answer.output == "accepted\n":
         tell(
             "Its key stood on a command line, where others may have seen it: "

@@ -84,7 +84,7 @@ class Context:
 
     @functools.cached_property
     def stops(self) -> "Stops":
-        """What of the plant's lots is refused before `toll` is asked, which is looked at once."""
+        """What of the plant's lots is refused before `toll` is asked."""
         from ..register.stops import Stops
 
         return Stops(self)

@@ -1,4 +1,5 @@
-"""The lock of an office's file, FILE.lock, under which nobody else works on it."""
+"""The lock of an office's file, FILE.lock, under which nobody else works on it, and how commands of the plant record in
+it: many at a time, or one alone."""
 import contextlib
 import fcntl
 import os
@@ -9,6 +10,7 @@ from .failure import Failure
 from .rights import advice
 
 PAUSE = 0.05  # seconds between two tries
+BLINK = 0.005  # the same of what is held for milliseconds
 
 
 def name_of(file: str) -> str:
@@ -42,7 +44,7 @@ def held(file: str, wait: float) -> Iterator[None]:
     try:
         while not try_lock(descriptor):
             if time.monotonic() >= ends:
-                raise Failure(f"somebody else has the lock of {file}", advice=holders(file))
+                raise Failure(f"somebody else has the lock of {file}", advice=holders(name_of(file)))
             time.sleep(PAUSE)
         yield
     finally:
@@ -58,10 +60,65 @@ def try_lock(descriptor: int) -> bool:
     return True
 
 
-def holders(file: str) -> str:
-    """Who has the lock, as far as the system tells it."""
+@contextlib.contextmanager
+def recording(file: str, wait: float) -> Iterator[None]:
+    """Records in an office's file, beside others who do. Fails where somebody records alone for long, who waits for
+    FILE.lock twice at most.
+
+    The file itself is held for that, of which `toll` knows nothing: it takes FILE.lock for each line.
+    """
+    with contextlib.ExitStack() as stack:
+        if not hold_soon(stack, file, fcntl.LOCK_SH, 3 * wait):
+            raise Failure("a lot is being signed or held, so nothing is recorded meanwhile", advice=holders(file))
+        yield
+
+
+@contextlib.contextmanager
+def alone(file: str, wait: float, is_urgent: bool = False) -> Iterator[None]:
+    """Records in an office's file alone, so that nothing is recorded between what is looked at and what is recorded of
+    it. Where others record for longer than `wait` seconds it fails, or goes on beside them if it is urgent."""
+    with contextlib.ExitStack() as stack:
+        if not hold_soon(stack, file, fcntl.LOCK_EX, wait) and not is_urgent:
+            raise Failure("others are recording, so nothing can be looked at alone", advice=holders(file))
+        yield
+
+
+def hold_soon(stack: contextlib.ExitStack, file: str, kind: int, wait: float) -> bool:
+    """Holds an office's file until the end of a stack; whether that was possible within so many seconds. The file's
+    folder is held while somebody waits: so nobody begins to record before somebody who waits to be alone."""
+    ends = time.monotonic() + wait
+    with contextlib.ExitStack() as turn:
+        for holding, path in ((turn, os.path.dirname(file)), (stack, file)):
+            while not hold(holding, path, kind):
+                if time.monotonic() >= ends:
+                    return False
+                time.sleep(BLINK)
+    return True
+
+
+def hold(stack: contextlib.ExitStack, path: str, kind: int) -> bool:
+    """Holds a file or a folder until the end of a stack; whether nobody is in the way, and no other has its name
+    meanwhile."""
+    with contextlib.ExitStack() as tried:
+        try:
+            descriptor = os.open(path, os.O_RDONLY | os.O_CLOEXEC)
+        except OSError as error:
+            raise Failure(f"{path} can't be opened: {error.strerror}", advice=advice(path, error)) from error
+        tried.callback(os.close, descriptor)
+        try:
+            fcntl.flock(descriptor, kind | fcntl.LOCK_NB)
+            is_same = os.path.samestat(os.stat(path), os.fstat(descriptor))
+        except (BlockingIOError, FileNotFoundError):
+            return False
+        if is_same:
+            stack.push(tried.pop_all())
+        return is_same
+
+
+def holders(path: str) -> str:
+    """Who holds a file, as far as the system tells it."""
     try:
-        inode = os.stat(name_of(file)).st_ino
+        inode = os.stat(path).st_ino
         with open("/proc/locks") as locks:
             rows = [line.split() for line in locks]
     except OSError:

@@ -12,7 +12,7 @@ from contextlib import contextmanager
 from dataclasses import dataclass, field
 from typing import Any
 
-from ..core import asking, client, meanings, scratch, snapshot
+from ..core import asking, client, lock, meanings, scratch, snapshot
 from ..core.context import Context
 from ..core.failure import FAULT, REFUSED, Failure, printable, tell, tell_line
 from ..core.grammar import LINES
@@ -75,12 +75,13 @@ class Import:
         """Gives actuals by `toll import`, in parts, each noted in the journal with its keys."""
         took = 0.0
         records = earlier.left_of(self.office, self.sheet.records, self.note, self.advance)
-        records = self.context.stops.left_of(records, self.note, self.advance)
         with scratch.folder(tempfile.gettempdir()) as folder:
             for part in chunks(records, lambda: took):
                 begun = time.monotonic()
-                if not self.give_part(part, os.path.join(folder, "actuals.csv")):
-                    return
+                with lock.recording(self.office.file, self.office.wait):
+                    left = self.context.stops.left_of(part, self.note, self.advance)
+                    if left and not self.give_part(left, os.path.join(folder, "actuals.csv")):
+                        return
                 took = time.monotonic() - begun
 
     def give_part(self, part: list[Record], path: str) -> bool:
