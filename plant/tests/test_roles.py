@@ -7,6 +7,7 @@ from click.testing import CliRunner
 from conftest import Told
 from hilpoven.cli import hilpoven, roles
 from hilpoven.core import on_behalf, rights, settings as site
+from hilpoven.journal import log
 
 # Users and groups that each Debian has: daemon, 1, is in the group daemon, and man, 6, in the group man.
 DAEMON, MAN = 1, 6
@@ -92,6 +93,33 @@ def test_a_note_is_withdrawn_by_whoever_may_make_it(at_work, role):
         done = by(at_work, DAEMON, "note", "withdraw", name, "--reason", "wrong")
         assert done.status == 2 and f"is for the members of man alone, by the role {role} of the settings" in done.err and at_work.lines()[-1]["id"] == name
         assert by(at_work, MAN, "note", "withdraw", name, "--reason", "wrong").out.startswith("noted ")
+
+
+REASONS = {"quality": ["reject W-101"], "record": ["scrap ACME K9 S-1 BAY1 5 103", "do ACME O-1 1 hold"]}
+
+
+@pytest.mark.parametrize("role, text", [*((role, text) for role in ("master_data", "quality") for text in WITHDRAWN[role]), *((role, f"{text} --reason wet") for role in REASONS for text in REASONS[role])])
+def test_a_withdrawal_needs_the_role_of_the_note_that_it_changes_in_the_end(at_work, role, text):
+    """MAN has the role and records; DAEMON only records, or, of a note of a recorder, only judges."""
+    settle(at_work, **({role: ["man"]} if role != "record" else {"record": ["man"], "quality": ["daemon"]}))
+    assert by(at_work, MAN, *text.split()).status == 0
+    name = next(line["id"] for line in at_work.lines() if "notes" in line)
+    for depth in range(4):
+        lines = at_work.lines()
+        done = by(at_work, DAEMON, "note", "withdraw", name, "--reason", f"not so {depth}")
+        assert done.status == 2 and f"for the members of man alone, by the role {role} of the settings" in done.err and at_work.lines() == lines, (depth, done)
+        done = by(at_work, MAN, "note", "withdraw", name, "--reason", f"so {depth}")
+        assert done.status == 0, (depth, done)
+        name = done.out.split()[1]
+
+
+def test_a_withdrawal_of_what_isn_t_there_is_withdrawn_by_nobody(at_work):
+    settle(at_work, quality=["man"])
+    journal = log.Journal(str(at_work.journal), str(at_work.db))
+    note = {"kind": "withdrawal", "owner": "ACME", "of": "0123456789abcdef", "reason": "no"}
+    name = journal.note(str(at_work.db), ["note", "withdraw"], notes=[note])
+    done = by(at_work, DAEMON, "note", "withdraw", name, "--reason", "no")
+    assert done.status == 1 and "there is no note 0123456789abcdef" in done.err
 
 
 @pytest.mark.parametrize("user", [DAEMON, "4294967294", "99999999999999999999", "x", "-1", "", "6 ", "06x"])

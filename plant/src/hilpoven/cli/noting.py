@@ -169,8 +169,9 @@ def withdraw(context: Context, name: str, reason: str) -> None:
             raise Failure(f"there is no note {name}", REFUSED, nearest(name, names, "notes"))
         if status.fault:
             raise Failure(f"note {name} doesn't stand: {status.fault}", REFUSED)
-        roles.require_to_withdraw(context, status.note.KIND)
-        if isinstance(status.note, Judgement):
+        changed = changed_by(desk, status.note)
+        roles.require_to_withdraw(context, changed)
+        if isinstance(changed, Judgement):
             advice = "`hilpoven sign` or `hilpoven hold` says what holds now"
             raise Failure(f"note {name} is a signature or a hold, which nobody withdraws", REFUSED, advice)
         same = [
@@ -180,6 +181,18 @@ def withdraw(context: Context, name: str, reason: str) -> None:
         ]
         notes = [Withdrawal(status.note.owner, of, reason) for of in (name, *same)]
         click.echo(f"noted {desk.record(['note', 'withdraw', name, '--reason', reason], *notes)}")
+
+
+def changed_by(desk: making.Desk, note: Note) -> Note:
+    """The note that holds or doesn't by another one: itself, or what a withdrawal, of a withdrawal or not, is about in
+    the end. Fails where that isn't there."""
+    notes = {status.noted.name: status.note for status in desk.statuses}
+    while isinstance(note, Withdrawal):
+        named = notes.pop(note.of, None)
+        if named is None:
+            raise Failure(f"there is no note {note.of}, which was withdrawn", REFUSED)
+        note = named
+    return note
 
 
 @note_group.command("not-linked")

@@ -1,6 +1,12 @@
 """Which role each subcommand belongs to. Those of no role change nothing, and every member may give them."""
+from typing import TYPE_CHECKING
+
 from ..core.context import Context
+from ..core.grammar import LINES
 from ..core.rights import require_role
+
+if TYPE_CHECKING:
+    from ..register.note import Note
 
 COMMANDS = {
     "record": (
@@ -30,8 +36,17 @@ def require(context: Context, command: str) -> None:
         require_role(command, role, getattr(context.settings.roles, role))
 
 
-def require_to_withdraw(context: Context, kind: str) -> None:
-    """Fails for a member whose groups have not the role of the command that makes the notes of a kind."""
-    if command := NOTED_BY.get(kind):
+def require_to_withdraw(context: Context, note: "Note") -> None:
+    """Fails for a member whose groups have not the role of the command that makes such a note."""
+    if command := maker_of(note):
         role = ROLES[command]
         require_role(f"note withdraw of what `{command}` notes", role, getattr(context.settings.roles, role))
+
+
+def maker_of(note: "Note") -> str:
+    """The command that makes such a note; empty where it is of the role of `note withdraw`."""
+    from ..register.notes import Reason
+
+    if isinstance(note, Reason):
+        return note.command if note.command in LINES else "do"
+    return NOTED_BY.get(note.KIND, "")

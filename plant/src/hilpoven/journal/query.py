@@ -1,7 +1,8 @@
 """What a journal says: its entries about a file, and whether each of its lines follows the one before it."""
 import os
+import re
 from collections import Counter
-from collections.abc import Iterator
+from collections.abc import Iterator, Sequence
 from dataclasses import dataclass, field
 from itertools import chain, pairwise
 from typing import Any
@@ -63,12 +64,15 @@ class Files:
         return names
 
 
-def entries(path: str, file: str, having: str = "") -> list[dict[str, Any]]:
-    """The entries of a journal that are whole and about a file, and all answers; or only those that have a member, for
-    which no other line of a long journal is read but the last one that names a file."""
+def entries(path: str, file: str, having: str = "", texts: Sequence[str] = ()) -> list[dict[str, Any]]:
+    """The entries of a journal that are whole and about a file, and all answers; or only those that have a member, or
+    whose lines have one of these texts, for which no other line of a long journal is read but the last one that names
+    a file."""
     chosen, files, last = [], Files(), b""
+    wanted = [*texts, *([f'"{having}": '] if having else [])]
+    is_wanted = re.compile("|".join(map(re.escape, [*wanted, '"moved"'])).encode()).search if wanted else None
     for line in lines_of(path):
-        if having and f'"{having}": '.encode() not in line and b'"moved"' not in line:
+        if is_wanted and not is_wanted(line):
             last = line if b'"file": ' in line else last
         elif entry := entry_of(line):
             files.note(entry)

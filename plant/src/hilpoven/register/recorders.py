@@ -9,6 +9,9 @@ from ..journal.log import Journal
 from ..records.rows import Base, LotId
 from ..years.earlier import KINDS, lot_of
 
+# What a line has besides the lot's name that may say who recorded something of it: by a sheet, or by a void; and an
+# answer that a command was refused.
+OTHERS = ('"keys": [', '"void"', f'"status": {REFUSED},')
 KEYS = "SELECT owner || ' ' || mkey FROM moves WHERE lot_owner = ? AND lot = ?"
 
 
@@ -17,7 +20,7 @@ def recorders(journal: Journal, bases: Iterable[Base], lot: LotId, plants_test: 
     Whoever was refused recorded nothing; of a command without an answer that isn't known, and it counts."""
     keys = {str(key) for base in bases for key, in base.execute(KEYS, lot)}
     by_sheet, by_line = set[str](), dict[str, str]()  # the latter by the name of the journal's line
-    for entry in query.entries(journal.path, journal.file):
+    for entry in query.entries(journal.path, journal.file, texts=[f'"{lot.name}"', *OTHERS]):
         if entry.get("event") == "asked" and is_about(entry, lot, keys, plants_test):
             if "keys" in entry:
                 by_sheet.add(str(entry.get("login")))
