@@ -1,4 +1,5 @@
-"""Days that can't be meant are asked about at a terminal; elsewhere nothing is done, unless --yes says they are."""
+"""What may not be meant, such as a day, is asked about at a terminal; elsewhere nothing is done, unless --yes says that it
+is."""
 from ..core.context import Context
 from ..core.failure import REFUSED, Failure
 from ..core.grammar import NEXT, Line, faults, written
@@ -16,11 +17,18 @@ def require_meant(context: Context, line: Line, typed: list[str]) -> None:
         today(context.settings.time_zone)
     ):
         return
-    from . import day_doubts, terminal
+    from . import day_doubts
 
     if why := day_doubts.doubt_of(context, line, values):
-        if not at_terminal():
-            raise Failure(f"DAY: {why}; nothing is done", REFUSED, f"if it is meant: {ADVICE}")
-        with terminal.asking():
-            if not terminal.agrees(f"DAY: {why}. Is it meant?", False):
-                raise terminal.Declined
+        require_agreed(f"DAY: {why}")
+
+
+def require_agreed(doubt: str) -> None:
+    """Fails unless somebody at a terminal says that a thing is meant of which there is a doubt."""
+    if not at_terminal():
+        raise Failure(f"{doubt}; nothing is done", REFUSED, f"if it is meant: {ADVICE}")
+    from . import terminal
+
+    with terminal.asking():
+        if not terminal.agrees(f"{doubt[0].upper()}{doubt[1:]}. Is it meant?", False):
+            raise terminal.Declined

@@ -13,8 +13,9 @@ from ..core.grammar import LINES
 from ..core.nearest import nearest
 from ..output.exports import as_csv, as_json
 from ..output.table import Row, counted, print_table
+from ..records.measures import as_number
 from ..records.rows import LotId, require_owner
-from ..register import expiry, file, making
+from ..register import expiry, file, making, usable
 from ..register.movements import facts_of
 from ..register.notes import Judgement, Link, Note, NotLinked, Why, Withdrawal
 from . import day_checks, roles
@@ -22,6 +23,7 @@ from .groups import Group
 from .lines import YES, YES_ABOUT
 from .words import DAY, FILLED_TEXT, TEXT, WORD, LotCommand, OneOf, pass_context
 
+USE_ABOUT = f"{YES_ABOUT} Takes a lot that isn't released, and a closed batch, too."
 COLUMNS = ["note", "time", "who", "owner", "what", "stands"]
 why_option = click.option(
     "--why", type=OneOf([why.value for why in Why]), required=True, help="Why the one contains some of the other."
@@ -103,7 +105,7 @@ def words_of(note: Link) -> list[str]:
     "--key", metavar="KEY", type=WORD, help="The key of the scrap, instead of one that is made of the values."
 )
 @reason_option
-@click.option(f"--{YES}", "is_meant", is_flag=True, help=YES_ABOUT)
+@click.option(f"--{YES}", "is_meant", is_flag=True, help=USE_ABOUT)
 @pass_context
 def use(
     context: Context,
@@ -123,18 +125,22 @@ def use(
     of OF-LOT.
 
     OF-LOT is OWNER's or HOUSE's. If an actual can record it, use `actual` instead. The same words again are `repeated`;
-    a second use of the same amount on the same day takes a --key of its own.
+    a second use of the same amount on the same day takes a --key of its own. It says so if the lot isn't released, is
+    rejected or failed a test, or if the batch is closed, and does nothing then without --yes. Of a lot that is held no
+    batch uses anything.
 
     Example: hilpoven use ACME O-1 1 HOUSE AF-1 CAN1 1 261127
     """
     number = batch_number(batch)
-    values = [owner, order, str(number), of_owner, of_lot, sublot, amount, str(day)]
+    values = [owner, order, str(number), of_owner, of_lot, sublot, as_number(amount), str(day)]
     key = key or f"USE-{hashlib.sha256(' '.join(values).encode()).hexdigest()[:10].upper()}"
 
     def beside(context: Context, scrap: dict[str, str]) -> Beside:
         note = Link(owner, "", order, number, of_owner, of_lot, Why.USE, int(amount), reason)
         with making.desk(context) as desk:
             desk.require_link(note)
+            if not is_meant and (doubts := usable.doubts(desk, note, scrap["KEY"])):
+                day_checks.require_agreed("; ".join(doubts))
             warning = expiry.warning(desk, context.settings.expiry.actual, LotId(of_owner, of_lot), scrap)
             return Beside(desk.members([note]), warning, is_use=True)
 

@@ -10,6 +10,7 @@ MOST_DECIMALS = 9
 MOST_QUOTED = 40  # letters of a text that is no value
 GROUP = ","  # between thousands, as people read a number
 MEASURED = re.compile(r"(-|M)?([0-9]+)(?:\.([0-9]+))?")
+NUMBER = re.compile(r"M?[0-9]+")
 WITH_COMMA = re.compile(r"(-|M)?[0-9]+,[0-9]+")
 
 
@@ -74,3 +75,9 @@ def value_word(value: int) -> str:
 def value_of(word: str) -> int:
     """The value that a word of `toll` says."""
     return int(word.replace("M", "-", 1))
+
+
+def as_number(word: str) -> str:
+    """An amount, a day or a value of `toll` as it stands in each sheet and line that says the same: `007` is 7. A word
+    that is none stays as it is."""
+    return value_word(value_of(word)) if NUMBER.fullmatch(word) else word

@@ -19,8 +19,8 @@ from ..register.store import Register
 from .descriptions import facts_of_test, shown_result
 from .genealogy import Genealogy
 from .measures import shown
-from .rows import BatchId, LotId, read_batches, read_moves
-from .schema import BATCH_NAME, CLOSED, IS_ACTUAL, IS_INCOMING, IS_OUTGOING, STANDING, VOID, Kind, Role, State
+from .rows import BatchId, LotId, lots_of, read_batches, read_moves
+from .schema import BATCH_NAME, CLOSED, IS_ACTUAL, IS_INCOMING, IS_OUTGOING, STANDING, VOID, Disposition, Kind, Role, State
 from .schema import REQUIREMENTS, TESTS
 from .tables import LISTINGS
 
@@ -141,8 +141,10 @@ def lot(base: Base, owner: str, name: str, register: Register = NOTHING_NOTED) -
     heads, rows = with_facts(*overview.tables["ledger"], register.facts)
     overview.tables["ledger"] = [head.replace("_", " ") for head in heads], rows
     overview.add_filled("who has it", RECIPIENT_COLUMNS, recipients(base, LotId(owner, name), register))
-    overview.add_links(Genealogy(base, register.links).links_about(LotId(owner, name)))
+    genealogy = Genealogy(base, register.links)
+    overview.add_links(genealogy.links_about(LotId(owner, name)))
     overview.remarks = release_of(owner, name, str(facts["disposition"]), tests, register)
+    overview.remarks += rejected_in(base, genealogy.links_in(LotId(owner, name)))
     return overview
 
 
@@ -220,6 +222,13 @@ def release_of(owner: str, name: str, disposition: str, tests: list[Row], regist
         return ["Missing for its release:", *missing]
     how = f": `hilpoven release {name}`" if owner == HOUSE else f", which {owner} gives over HTTP"
     return [f"Nothing is missing for its release{how}."]
+
+
+def rejected_in(base: Base, links: list[Link]) -> list[str]:
+    """What is told of the lots that a lot contains by links and that are rejected."""
+    lots = lots_of(base, {link.contained for link in links})
+    rejected = sorted(lot.id for lot in lots.values() if lot.disposition == Disposition.REJECTED)
+    return [f"It contains some of lot {lot}, which is rejected." for lot in rejected]
 
 
 ACTUALS = f"""
