@@ -102,7 +102,7 @@ def test_a_workbook_is_read_back_as_it_was_made(office):
     assert office.rows("SELECT owner, kind, amount, day FROM moves WHERE mkey LIKE 'COUNT-%'") == [("BOLT", 3, 10, 261120)]
 
 
-def one(office: Plant, **cells: object) -> str:
+def one(_: Plant | None, **cells: object) -> str:
     """A sheet of one sublot with these cells."""
     row = {"owner": "ACME", "lot": "L-0", "sublot": "S0", "on_hand": 100, "counted": 93, "reason": "wet", "day": 261120, **cells}
     out = io.StringIO()
@@ -160,3 +160,96 @@ def test_a_crash_between_two_differences_records_none_twice(office):
     journal.write_text("\n".join(kept) + "\n")  # as if it had been killed behind toll and before the answers were noted
     assert office.run("count", "import", "-", stdin=sheet).out.startswith("400 sublots: 393 as on hand, 7 there already")
     assert len(office.rows("SELECT 1 FROM moves WHERE mkey LIKE 'COUNT-%'")) == 7
+
+
+# What was found before
+
+PILE = {"owner": "ACME", "lot": "L-0", "sublot": "S0", "on_hand": 100, "reason": "weighed", "day": 261121}
+
+
+def pile(*rows: dict[str, object]) -> str:
+    """A sheet of these rows, each of which is that of the pile with these cells."""
+    head, *_ = one(None, **PILE).splitlines()
+    return "\n".join([head, *(one(None, **{**PILE, **row}).splitlines()[1] for row in rows)]) + "\n"
+
+
+@pytest.fixture
+def found(office) -> Plant:
+    """An office in which a count found 5 more of L-0 in S0."""
+    done = office.run("count", "import", "-", stdin=one(office, counted=105, reason="weighed"))
+    assert "receive 5 into L-0-C): accepted" in done.out
+    return office
+
+
+def on_hand(office: Plant) -> dict[str, int]:
+    """What the pile consists of."""
+    return dict(office.rows("SELECT lot, amount FROM sublots WHERE owner = 'ACME' AND sublot = 'S0' AND amount > 0 AND lot LIKE 'L-0%'"))
+
+
+def counts(office: Plant, *rows: dict[str, object]) -> list[str]:
+    """What the rows of a sheet of the pile come to, which is recorded; and nothing of it once more, by the same sheet."""
+    sheet = pile(*rows)
+    done, after = office.run("count", "import", "-", stdin=sheet), on_hand(office)
+    again = office.run("count", "import", "-", stdin=sheet)
+    assert again.status == 0 and "0 recorded" in again.out and on_hand(office) == after, again
+    return done.out.splitlines()
+
+
+def test_the_next_count_of_a_pile_finds_nothing(found):
+    fresh = found.run("count", "sheet", "ACME", "--day", "261121").out
+    sheet = sheet_with(fresh, {("ACME", "L-0", "S0"): (105, "weighed again"), ("ACME", "L-0-C", "S0"): ("", "")})
+    before = found.content()
+    done = found.run("count", "import", "-", stdin=sheet)
+    assert done.status == 0 and done.out.endswith("0 recorded, 1 not counted, 0 refused\n") and found.content() == before, done
+    done = found.run("count", "import", "-", stdin=one(found, counted=105, reason="weighed by another", day=261125))  # without the find's row
+    assert done.out == "1 sublot: 1 as on hand, 0 there already, 0 recorded, 0 not counted, 0 refused\n" and found.content() == before
+
+
+C = {"lot": "L-0-C", "on_hand": 5}
+
+
+@pytest.mark.parametrize("rows, texts, left", [
+    ([{"counted": 105}, {**C, "counted": 0}], [], {"L-0": 100, "L-0-C": 5}),
+    ([{"counted": 100}, {**C, "counted": 5}], [], {"L-0": 100, "L-0-C": 5}),
+    ([{"counted": 100}, {**C, "counted": ""}], [], {"L-0": 100, "L-0-C": 5}),
+    ([{**C, "counted": 0}, {"counted": 105}], [], {"L-0": 100, "L-0-C": 5}),
+    ([{"counted": 107}], ["107 counted with 5 found before, 100 on hand: receive 2 into L-0-C2"], {"L-0": 100, "L-0-C": 5, "L-0-C2": 2}),
+    ([{"counted": 107}, {**C, "counted": ""}], ["107 counted with 5 found before, 100 on hand: receive 2 into L-0-C2"], {"L-0": 100, "L-0-C": 5, "L-0-C2": 2}),
+    ([{"counted": 107}, {**C, "counted": 0}], ["receive 2 into L-0-C2"], {"L-0": 100, "L-0-C": 5, "L-0-C2": 2}),
+    ([{"counted": 105}, {**C, "counted": 5}], ["105 counted, 100 on hand: receive 5 into L-0-C2"], {"L-0": 100, "L-0-C": 5, "L-0-C2": 5}),
+    ([{"counted": 102}, {**C, "counted": 0}], ["ACME L-0-C S0: 0 counted besides 2 with its lot, 5 on hand: scrap 3"], {"L-0": 100, "L-0-C": 2}),
+    ([{"counted": 103}], [], {"L-0": 100, "L-0-C": 5}),  # the find's own row wasn't counted
+    ([{"counted": 92}, {**C, "counted": 0}], ["100 on hand: scrap 8", "0 counted, 5 on hand: scrap 5"], {"L-0": 92}),
+    ([{"counted": 92}], ["scrap 8"], {"L-0": 92, "L-0-C": 5}),
+    ([{"counted": "0105"}, {**C, "counted": "00"}], [], {"L-0": 100, "L-0-C": 5})])
+def test_what_was_found_before_is_counted_with_its_lot_or_by_itself(found, rows, texts, left):
+    *told, _ = counts(found, *rows)
+    assert len(told) == len(texts) and all(text in line for text, line in zip(texts, told)), told
+    assert on_hand(found) == left
+
+
+def test_a_find_of_a_find_lies_there_too(found):
+    assert "receive 3 into L-0-C-C" in counts(found, {**C, "counted": 8})[0]
+    assert counts(found, {"counted": 108}) == ["1 sublot: 1 as on hand, 0 there already, 0 recorded, 0 not counted, 0 refused"]
+    assert "with 8 found before, 100 on hand: receive 1 into L-0-C2" in counts(found, {"counted": 109})[0]
+
+
+def test_a_find_elsewhere_or_of_another_correction_is_a_pile_of_its_own(found):
+    assert found.run("split", "ACME", "K960", "L-0-C", "S0", "S1", 5, 261121).status == 0
+    assert "105 counted, 100 on hand: receive 5 into L-0-C2" in counts(found, {"counted": 105})[0]
+    assert found.run("receive", "ACME", "K961", "SALT", "M-1", "S4", 7, 261121, "--of", "L-1", "--why", "correction").status == 0
+    assert "111 counted, 104 on hand: receive 7 into L-1-C" in counts(found, {"lot": "L-1", "sublot": "S4", "on_hand": 104, "counted": 111})[0]
+
+
+def test_a_find_that_moved_since_the_sheet_was_made_is_counted_again(found):
+    sheet = pile({"counted": 105}, {**C, "counted": 0})
+    assert found.run("scrap", "ACME", "K960", "L-0-C", "S0", 1, 261121).status == 0
+    done = found.run("count", "import", "-", stdin=sheet)
+    assert "ACME L-0-C, which was found there, moved since the sheet was made: count it again" in done.out and on_hand(found) == {"L-0": 100, "L-0-C": 4}
+
+
+@pytest.mark.parametrize("cells", [{"counted": "0107"}, {"counted": "107", "on_hand": "0100"}, {"counted": "107", "day": "0261121"}])
+def test_numbers_written_otherwise_are_the_same_difference(office, cells):
+    assert "receive 7 into L-0-C" in office.run("count", "import", "-", stdin=pile({"counted": 107})).out
+    done = office.run("count", "import", "-", stdin=pile(cells))
+    assert done.out == "1 sublot: 0 as on hand, 1 there already, 0 recorded, 0 not counted, 0 refused\n"

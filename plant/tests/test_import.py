@@ -351,3 +351,16 @@ def test_seventeen_thousand_actuals_go_in_but_for_three(program, tmp_path):
     again = plant.run("import", path)
     assert again.out.splitlines()[-1] == "17,000 actuals: 0 accepted, 16,997 there already, 1 refused, 2 can't be read; nothing was new"
     assert took < 60
+
+
+@pytest.mark.parametrize("again", [("007", "103"), ("7", "0103"), ("0000000007", "103"), ("7", "103")])
+def test_a_result_is_there_already_however_its_numbers_are_written(at_work, again):
+    rows = [("PH", "007", "103"), ("DENSITY", "01200", "103"), ("PH", "-5", "103"), ("PH", "M005", "104")]
+    sheet = "owner,lot,test,value,day\n" + "".join(f"ACME,B-1,{','.join(row)}\n" for row in rows)
+    assert at_work.run("import", "--what", "results", "-", stdin=sheet).out.startswith("4 results: 4 accepted")
+    assert at_work.run("import", "--what", "results", "-", stdin=sheet).out.startswith("4 results: 0 accepted, 4 there already")
+    other = f"owner,lot,test,value,day\nACME,B-1,PH,{','.join(again)}\nACME,B-1,DENSITY,1200,103\nACME,B-1,PH,M5,103\nACME,B-1,PH,-005,104\n"
+    assert at_work.run("import", "--what", "results", "-", stdin=other).out.startswith("4 results: 0 accepted, 4 there already")
+    twice = "owner,lot,test,value,day\nACME,B-1,PH,8,105\nACME,B-1,PH,08,105\n"
+    assert at_work.run("import", "--what", "results", "-", stdin=twice).out.startswith("2 results: 1 accepted, 1 there already")
+    assert at_work.rows("SELECT test, value, day FROM results WHERE lot = 'B-1' AND day > 102 ORDER BY day, value") == [("PH", -5, 103), ("PH", 7, 103), ("DENSITY", 1200, 103), ("PH", -5, 104), ("PH", 8, 105)]

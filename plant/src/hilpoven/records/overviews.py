@@ -20,7 +20,19 @@ from .descriptions import facts_of_test, shown_result
 from .genealogy import Genealogy
 from .measures import shown
 from .rows import BatchId, LotId, lots_of, read_batches, read_moves
-from .schema import BATCH_NAME, CLOSED, IS_ACTUAL, IS_INCOMING, IS_OUTGOING, STANDING, VOID, Disposition, Kind, Role, State
+from .schema import (
+    BATCH_NAME,
+    CLOSED,
+    IS_ACTUAL,
+    IS_INCOMING,
+    IS_OUTGOING,
+    STANDING,
+    VOID,
+    Disposition,
+    Kind,
+    Role,
+    State,
+)
 from .schema import REQUIREMENTS, TESTS
 from .tables import LISTINGS
 

@@ -1,10 +1,11 @@
 """A count of stock: the sheet on which it is written, and what a counted sheet says of the office.
 
-A difference is recorded once, however often its sheet is imported: its key is made of all that its row says.
+A difference is recorded once, however often its sheet is imported: its key is made of all that its row says. What an
+earlier count found of a lot lies with it, so whoever counts the lot may count that with it.
 """
 import hashlib
 import io
-from collections import Counter
+from collections import Counter, defaultdict
 from collections.abc import Iterable
 from dataclasses import dataclass, field
 from enum import Enum
@@ -14,7 +15,9 @@ from ..core.failure import Failure
 from ..core.forms import name_fault
 from ..core.grammar import LINES, Line
 from ..output.exports import as_cell, as_formula, csv_of
+from ..records.measures import as_number
 from ..records.rows import Base, LotId, lots_of, sublots_of
+from ..records.schema import Kind
 from ..register.making import Desk
 from ..register.notes import Link, Reason, Why
 from ..register.standing import HAS_KEY, HAS_LOT
@@ -23,9 +26,14 @@ from .sheet import Finding, Record, Sheet
 COLUMNS = ("owner", "lot", "sublot", "material", "measure", "disposition", "on_hand", "counted", "reason", "day")
 BESIDE = ("material", "measure", "disposition")  # columns that are for who counts, and aren't read
 NAMES = ("owner", "lot", "sublot", "material")
+FRONT = "COUNT-"  # of the keys by which differences are recorded
+NUMBERS = ("on_hand", "counted", "day")
 HELD = """
 SELECT s.owner, s.lot, s.sublot FROM sublots AS s JOIN lots AS l USING (owner, lot)
 WHERE s.amount > 0 AND (:owner IS NULL OR owner = :owner) AND (:material IS NULL OR l.material = :material)
+"""
+IS_FOUND = f"""
+SELECT 1 FROM moves WHERE owner = ? AND mkey >= '{FRONT}' AND mkey < '{FRONT}Z' AND lot = ? AND kind = {Kind.RECEIVE:d}
 """
 MOST_NAMES = 9  # lots of what was found of one lot
 WIDTHS = {"reason": 40, "counted": 14}
@@ -50,6 +58,7 @@ class Difference:
     line: Line
     words: list[str]
     note: Link | Reason
+    apart: "Apart"
 
     @property
     def text(self) -> str:
@@ -59,7 +68,21 @@ class Difference:
         amount = int(self.words[self.line.values.index("AMOUNT")])
         into = f" into {self.words[self.line.values.index('LOT')]}" if self.line.name == "receive" else ""
         counted, on_hand = int(noted["counted"]), int(values["on_hand"])
-        return f"{where}: {counted:,} counted, {on_hand:,} on hand: {self.line.name} {amount:,}{into}"
+        return f"{where}: {counted:,} counted{self.apart}, {on_hand:,} on hand: {self.line.name} {amount:,}{into}"
+
+
+@dataclass
+class Apart:
+    """How much of what was counted in a sublot is what earlier counts found there; how much of such a find was counted
+    with its lot; and the find in the sheet that moved since, if one did."""
+
+    found: int = 0
+    elsewhere: int = 0
+    moved: LotId | None = None
+
+    def __str__(self) -> str:
+        found = f" with {self.found:,} found before" if self.found else ""
+        return f"{found}{f' besides {self.elsewhere:,} with its lot' if self.elsewhere else ''}"
 
 
 @dataclass
@@ -121,8 +144,9 @@ def compare(desk: Desk, sheet: Sheet) -> Count:
     lots = {LotId(record.values["owner"], record.values["lot"]) for record in sheet.records}
     known, held = lots_of(desk.base, lots), sublots_of(desk.base, lots)
     taken: set[LotId] = set()
+    apart = counted_apart(desk, sheet.records)
     for record in sheet.records:
-        place = LotId(record.values["owner"], record.values["lot"]), record.values["sublot"]
+        place = place_of(record)
         fault = "it is in a row before this one, too" if place in seen else ""
         seen.add(place)
         fault = fault or ("" if place[0] in known else f"there is no lot {place[0]}")
@@ -130,7 +154,7 @@ def compare(desk: Desk, sheet: Sheet) -> Count:
             count.refused.append(Finding(record.row, sheet.places["lot"], fault, "lot"))
             continue
         try:
-            result = of_row(desk, record, held.get(place, 0), known[place[0]].material, taken)
+            result = of_row(desk, record, held.get(place, 0), known[place[0]].material, taken, apart[place])
         except Failure as failure:
             count.refused.append(Finding(record.row, sheet.places["counted"], failure.message, "counted"))
             continue
@@ -142,6 +166,51 @@ def compare(desk: Desk, sheet: Sheet) -> Count:
     return count
 
 
+def place_of(record: Record) -> Sublot:
+    """The sublot of a row."""
+    return LotId(record.values["owner"], record.values["lot"]), record.values["sublot"]
+
+
+def counted_apart(desk: Desk, records: Iterable[Record]) -> dict[Sublot, Apart]:
+    """What earlier counts found in each sublot, and was counted with its lot: as much as is counted beyond what is on
+    hand there, and as the find's own row lacks or leaves blank, or as it has on hand where the sheet lacks its row."""
+    rows, finds = {place_of(record): record for record in records}, finds_of(desk)
+    held, apart = sublots_of(desk.base, {lot for lots in finds.values() for lot in lots}), defaultdict[Sublot, Apart](
+        Apart
+    )
+    for (lot, sublot), record in rows.items():
+        beyond = int(record.noted.get("counted", 0)) - int(record.values["on_hand"])
+        places = sorted(((find, sublot) for find in finds.get(lot, [])), key=lambda place: place not in rows)
+        for place in places if beyond > 0 else []:
+            own, now = rows.get(place), held.get(place, 0)
+            with_lot = min(beyond, max(0, (missing_in(own) if own else now) - apart[place].elsewhere))
+            apart[lot, sublot].found += with_lot
+            apart[place].elsewhere += with_lot
+            beyond -= with_lot
+            if with_lot and own and now != int(own.values["on_hand"]) and not is_recorded(desk.base, own):
+                apart[lot, sublot].moved = place[0]
+    return apart
+
+
+def missing_in(record: Record) -> int:
+    """How much of what a row has on hand isn't counted in it."""
+    return int(record.values["on_hand"]) - int(record.noted.get("counted", 0))
+
+
+def finds_of(desk: Desk) -> dict[LotId, list[LotId]]:
+    """The lots into which counts received what they found of each lot, with what was found of these in turn."""
+    direct = defaultdict[LotId, list[LotId]](list)
+    for link in desk.register.links:
+        if link.why == Why.CORRECTION and link.lot and desk.has(IS_FOUND, link.owner, link.lot):
+            direct[link.contained].append(LotId(link.owner, link.lot))
+    finds: dict[LotId, list[LotId]] = {}
+    for lot in list(direct):
+        finds[lot] = list(dict.fromkeys(direct[lot]))
+        for find in finds[lot]:
+            finds[lot] += [other for other in direct.get(find, []) if other not in (lot, *finds[lot])]
+    return finds
+
+
 def left_out(base: Base, materials: set[tuple[str, str]], seen: set[Sublot]) -> list[Sublot]:
     """The sublots of these materials that hold something and aren't in the sheet."""
     rows = [(LotId(*lot), sublot) for *lot, sublot in base.execute(HELD, {"owner": None, "material": None})]
@@ -149,52 +218,54 @@ def left_out(base: Base, materials: set[tuple[str, str]], seen: set[Sublot]) -> 
     return sorted(row for row in rows if (row[0].owner, lots[row[0]].material) in materials and row not in seen)
 
 
-def of_row(desk: Desk, record: Record, now: int, material: str, taken: set[LotId]) -> Outcome | Difference:
+def of_row(
+    desk: Desk, record: Record, now: int, material: str, taken: set[LotId], apart: Apart
+) -> Outcome | Difference:
     """What a row says; fails if its sublot has moved since the sheet was made, or if it has no reason."""
     values, noted = record.values, record.noted
     if "counted" not in noted:
         return Outcome.BLANK
-    counted, on_hand = int(noted["counted"]), int(values["on_hand"])
-    if counted == on_hand:
-        return Outcome.SAME
-    key = key_of(record)
-    if desk.has(HAS_KEY, values["owner"], key):
+    if desk.has(HAS_KEY, values["owner"], key := key_of(record)):
         return Outcome.THERE
-    if counted == now:
+    counted, on_hand = int(noted["counted"]) - apart.found + apart.elsewhere, int(values["on_hand"])
+    if apart.moved:
+        raise Failure(f"{apart.moved}, which was found there, moved since the sheet was made: count it again")
+    if counted in (on_hand, now):
         return Outcome.SAME
     if on_hand != now:
         raise Failure(f"{now:,} is on hand now, and {on_hand:,} was when the sheet was made: count it again")
     if "reason" not in noted:
         raise Failure(f"{counted:,} counted and {on_hand:,} on hand: a difference needs a reason")
-    return difference_of(desk, record, key, material, taken)
+    return difference_of(desk, record, key, material, taken, apart)
 
 
 def is_recorded(base: Base, record: Record) -> bool:
     """Whether a row records nothing, or tables have its key."""
-    if record.noted.get("counted", record.values["on_hand"]) == record.values["on_hand"]:
+    if as_number(record.noted.get("counted", record.values["on_hand"])) == as_number(record.values["on_hand"]):
         return True
     return base.execute(HAS_KEY, (record.values["owner"], key_of(record))).fetchone() is not None
 
 
 def key_of(record: Record) -> str:
-    """The key by which a difference is recorded: the same one of the same row."""
-    cells = [*record.values.values(), record.noted["counted"]]
-    return f"COUNT-{hashlib.sha256(' '.join(cells).encode()).hexdigest()[:10].upper()}"
+    """The key by which a difference is recorded: the same one of the same row, however its numbers are written."""
+    values = {**record.values, "counted": record.noted["counted"]}
+    cells = [as_number(cell) if name in NUMBERS else cell for name, cell in values.items()]
+    return f"{FRONT}{hashlib.sha256(' '.join(cells).encode()).hexdigest()[:10].upper()}"
 
 
-def difference_of(desk: Desk, record: Record, key: str, material: str, taken: set[LotId]) -> Difference:
+def difference_of(desk: Desk, record: Record, key: str, material: str, taken: set[LotId], apart: Apart) -> Difference:
     """How a difference is recorded: what is missing is scrapped; what was found is received into a new lot, which is
     linked to the counted one."""
     values, reason = record.values, record.noted["reason"]
     owner, lot, sublot, day = values["owner"], values["lot"], values["sublot"], values["day"]
-    amount = int(record.noted["counted"]) - int(values["on_hand"])
+    amount = int(record.noted["counted"]) - apart.found + apart.elsewhere - int(values["on_hand"])
     if amount < 0:
         words = [owner, key, lot, sublot, str(-amount), day]
-        return Difference(record, LINES["scrap"], words, Reason(owner, "scrap", reason, key=key))
+        return Difference(record, LINES["scrap"], words, Reason(owner, "scrap", reason, key=key), apart)
     new = new_lot(desk, LotId(owner, lot), key, taken)
     link = Link(owner, new, "", 0, owner, lot, Why.CORRECTION, None, reason)
     desk.require_link(link, is_new=True)
-    return Difference(record, LINES["receive"], [owner, key, material, new, sublot, str(amount), day], link)
+    return Difference(record, LINES["receive"], [owner, key, material, new, sublot, str(amount), day], link, apart)
 
 
 def new_lot(desk: Desk, lot: LotId, key: str, taken: set[LotId]) -> str:

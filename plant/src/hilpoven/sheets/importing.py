@@ -19,6 +19,8 @@ from ..core.grammar import LINES
 from ..core.office import Answer, Office
 from ..journal import log as journals
 from ..output.table import counted
+from ..records.measures import value_of
+from ..register.facts import ResultId
 from ..years import earlier
 from .sheet import Record, Sheet, text_of
 from .values import ACTUALS, RECEIPTS, RESULTS, SHIPMENTS
@@ -111,7 +113,7 @@ class Import:
         with client.asker(self.office, len(self.sheet.records)) as ask, journal.series():
             for record in self.sheet.records:
                 words = [record.values[value_name.lower()] for value_name in line.values]
-                if tuple(words) in standing:
+                if self.sheet.kind == RESULTS and result_of(record) in standing:
                     self.note(record, THERE)
                 else:
                     beside = self.beside.get(record.row, {})
@@ -122,7 +124,7 @@ class Import:
                         return
                     self.note(record, (answer.output or answer.error).strip())
                     if self.sheet.kind == RESULTS and not answer.status:
-                        standing.add(tuple(words))
+                        standing.add(result_of(record))
                 self.advance(1)
 
     def report(self, kind: str) -> int:
@@ -164,10 +166,11 @@ class Import:
 
     def recorded(self, records: list[Record]) -> int:
         """How many of these records the file has, whatever was answered."""
-        is_results = self.sheet.kind == RESULTS
-        names = list(self.sheet.kind.columns) if is_results else ["owner", "key"]
-        standing = standing_results(self.office) if is_results else standing_keys(self.office)
-        return sum(tuple(record.values[name] for name in names) in standing for record in records)
+        if self.sheet.kind == RESULTS:
+            results = standing_results(self.office)
+            return sum(result_of(record) in results for record in records)
+        keys = standing_keys(self.office)
+        return sum((record.values["owner"], record.values["key"]) in keys for record in records)
 
 
 def name_of(record: Record) -> str:
@@ -196,14 +199,16 @@ def fitting(records: list[Record]) -> list[Record]:
     return records
 
 
-def standing_results(office: Office) -> set[tuple[str, ...]]:
-    """All results, in the words that give them."""
+def result_of(record: Record) -> ResultId:
+    """Which result a row is: its value and its day are numbers, however they are written."""
+    values = record.values
+    return values["owner"], values["lot"], values["test"], value_of(values["value"]), int(values["day"])
+
+
+def standing_results(office: Office) -> set[ResultId]:
+    """All results."""
     with snapshot.opened(office) as base:
-        rows = base.execute(
-            "SELECT owner, lot, test, CASE WHEN value < 0 THEN 'M' || -value ELSE '' || value END, '' || day "
-            "FROM results"
-        )
-        return {tuple(row) for row in rows}
+        return set(base.execute("SELECT owner, lot, test, value, day FROM results"))
 
 
 def standing_keys(office: Office) -> set[tuple[str, ...]]:
