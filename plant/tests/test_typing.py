@@ -600,3 +600,78 @@ def test_a_member_completes_as_the_command_and_names_no_path(at_work, laid, tmp_
         assert at_work.as_member("complete", len(words) - 1, *words) == (0, names, "")
     at_work.folder.chmod(0o777)
     assert at_work.as_member("complete", 2, "hilpoven", "stock", "A").out == "\n"
+
+
+# The customer of a shipment, and keys that aren't meant
+
+SHIP: list[Step] = [("SUBLOT [TANK]: ", ""), ("holds): ", "5"), ("DAY (", "103")]
+
+
+def parties_of(plant: Plant) -> None:
+    """Has HOUSE have two customers and a supplier."""
+    for name, role in (("NORD", "customer"), ("SUED", "customer"), ("SPAS", "supplier")):
+        assert plant.run("party", "add", "HOUSE", name, "--name", f"{name.title()} GmbH", "--role", role).status == 0
+
+
+def facts_of(plant: Plant) -> list[dict]:
+    """What the journal has beside shipments."""
+    return [note for line in plant.lines() for note in line.get("notes", []) if note["kind"] == "movement"]
+
+
+def settle(plant: Plant, text: str) -> dict[str, str]:
+    """Settings that say this, by their variable."""
+    path = plant.folder / "settings.toml"
+    path.write_text(text)
+    return {"HILPOVEN_SETTINGS": str(path)}
+
+
+def test_a_shipment_that_is_asked_asks_for_its_customer_before_its_lot(settled):
+    parties_of(settled)
+    status, text = typed(settled, "ship HOUSE", [("TO (the customer; Enter alone for none): ", "2"), ("LOT [W-101]: ", ""), *SHIP, ("[next]: ", ""), (CONFIRM, "")])
+    assert status == 0 and "  1  NORD  Nord GmbH\n  2  SUED  Sued GmbH\n" in text and "SPAS" not in text
+    assert "hilpoven ship HOUSE next W-101 TANK 5 103 --to SUED\n" in text
+    assert facts_of(settled) == [{"kind": "movement", "owner": "HOUSE", "key": "K2", "party": "SUED"}]
+    assert max(map(len, text.splitlines())) <= 80
+
+
+def test_a_customer_may_be_left_out_and_is_asked_again_by_its_name(settled):
+    parties_of(settled)
+    steps: list[Step] = [("TO (", "nodr"), "TO: there is no party NODR of HOUSE. Nearest of the customers of HOUSE: NORD.", ("TO (", "spas"), "SPAS of HOUSE is a supplier, and no customer",
+                         ("TO (", "N ORD"), "TO: `N ORD` has a blank", ("TO (", ""), ("LOT [W-101]: ", ""), *SHIP, ("[next]: ", ""), "hilpoven ship HOUSE next W-101 TANK 5 103\n"]
+    assert typed(settled, "ship HOUSE", [*steps, (CONFIRM, "")])[0] == 0 and facts_of(settled) == []
+    status, text = typed(settled, "ship HOUSE", [*steps, (CONFIRM, "to"), ("TO (", "nord"), "--to NORD\n", (CONFIRM, ""), ("Is this another one?", "y")])
+    assert status == 0 and [facts["party"] for facts in facts_of(settled)] == ["NORD"], text
+
+
+def test_a_customer_that_is_given_isn_t_asked_for(settled):
+    parties_of(settled)
+    status, text = typed(settled, "ship HOUSE --to SUED", [("LOT [W-101]: ", ""), *SHIP, ("[next]: ", ""), "--to SUED\n", (CONFIRM, "")])
+    assert status == 0 and "TO (" not in text and facts_of(settled)[0]["party"] == "SUED"
+    status, text = typed(settled, "ship HOUSE --to SPAS", ["TO: SPAS of HOUSE is a supplier, and no customer", ("TO (", INTERRUPT)])
+    assert status == 130 and len(facts_of(settled)) == 1
+
+
+def test_an_owner_without_customers_is_asked_for_none(settled):
+    parties_of(settled)
+    assert "TO (" not in typed(settled, "ship ACME", [("LOT [S-1]: ", INTERRUPT)])[1]
+
+
+def test_a_required_customer_is_asked_for_first_and_never_left_out(settled):
+    env = settle(settled, "[require]\nrecipient = true\n")
+    status, text = typed(settled, "ship HOUSE", env=env)
+    assert status == 1 and "LOT" not in text and "there are no customers of HOUSE, and the settings require each shipment's recipient" in text.replace("\n  ", " ")
+    parties_of(settled)
+    status, text = typed(settled, "ship HOUSE", [("TO (the customer): ", ""), "TO: is empty", ("TO (the customer): ", "1"), ("LOT [W-101]: ", ""), *SHIP, ("[next]: ", ""), (CONFIRM, "")], env=env)
+    assert status == 0 and facts_of(settled)[0]["party"] == "NORD", text
+
+
+@pytest.mark.parametrize("mistyped", ["SPAS", "nex", "NXET", "stop", "-", "Nord"])
+def test_a_key_without_a_digit_is_asked_about(settled, mistyped):
+    steps: list[Step] = [(f"KEY: {mistyped.upper()} has no digit. Is it meant? [y/N] ", "")] if mistyped != "-" else ["KEY: `-` begins with `-`"]
+    status, text = typed(settled, "scrap HOUSE --lot W-101 --sublot TANK --amount 5 --day 103", [("[next]: ", mistyped), *steps, ("[next]: ", "NEXT"), (CONFIRM, "")])
+    assert status == 0 and asked_of(settled) == ["scrap HOUSE K2 W-101 TANK 5 103"], text
+
+
+def test_a_key_without_a_digit_may_be_meant(settled):
+    status, text = typed(settled, "scrap HOUSE --lot W-101 --sublot TANK --amount 5 --day 103", [("[next]: ", "corr"), ("KEY: CORR has no digit. Is it meant? [y/N] ", "y"), "KEY: corr is read as CORR", (CONFIRM, "")])
+    assert status == 0 and asked_of(settled) == ["scrap HOUSE CORR W-101 TANK 5 103"], text

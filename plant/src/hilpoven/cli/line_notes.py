@@ -44,6 +44,7 @@ class LineNotes:
     beside: Callable[[Context, Values, Given], Beside]
     read: Callable[[Context, Line, list[str], Given], Typed] = as_typed
     about: str = ""
+    asks_for_customer: bool = False  # beside the values that are asked at a terminal
 
 
 def link_options() -> list[click.Option]:
@@ -197,7 +198,10 @@ LINE_NOTES: dict[str, LineNotes] = {
         receipt_options, "receive ACME K9 BRINE B-1R BAY1 400 261127 --of B-1 --why return", beside_receipt
     ),
     "ship": LineNotes(
-        shipment_options, "ship ACME K7 B-1 TOTE2 480 261127 --to NORD --document 'LS 4711'", beside_shipment
+        shipment_options,
+        "ship ACME K7 B-1 TOTE2 480 261127 --to NORD --document 'LS 4711'",
+        beside_shipment,
+        asks_for_customer=True,
     ),
     "scrap": with_reason("scrap", "scrap HOUSE K3 W-102 TANK 50 261127 --reason 'tank was rinsed'"),
     "void": with_reason("void", "void ACME K2 --reason 'typed twice'"),

@@ -9,7 +9,7 @@ import click
 from ..core import asking, scanned
 from ..core.context import Context
 from ..core.failure import WRONG_USE, Failure, tell
-from ..core.grammar import MOVEMENTS, NEXT, OWNER_ADD, Line, in_capitals, in_days
+from ..core.grammar import MOVEMENTS, NEXT, OWNER_ADD, TO, Line, in_capitals, in_days
 from .words import at_terminal
 
 if TYPE_CHECKING:
@@ -102,7 +102,7 @@ class LineCommand(click.Command):
 
     def typed(self, context: Context, words: list[str], named: dict[str, Any], given: dict[str, Any]) -> list[str]:
         """The values in the line's order. A label's text fills three of them. At a terminal those that are missing are
-        asked for, and names that were typed in lower case are read in capitals."""
+        asked for, with the customer of a shipment, and names that were typed in lower case are read in capitals."""
         named = with_today(context, self.line, named)
         values, words = scanned.filled(self.line.name, named_in(self.line, named), words)
         is_asked = len(words) < len(scanned.missing_of(values)) and self.line.name != OWNER_ADD and at_terminal()
@@ -110,7 +110,10 @@ class LineCommand(click.Command):
             require_options(self.line, words)
             from . import prompting
 
-            return prompting.completed(context, self.line, filled(values, words), given.get("decimals"))
+            beside = {TO: given["party"]} if self.notes and self.notes.asks_for_customer else None
+            asked = prompting.completed(context, self.line, filled(values, words), given.get("decimals"), beside)
+            given.update({"party": asked.customer} if beside else {})
+            return asked.words
         meant, notes = in_days(self.line, arranged(self.line, words, values))
         if at_terminal():
             meant, in_lower_case = in_capitals(self.line, meant)

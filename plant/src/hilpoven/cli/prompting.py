@@ -3,18 +3,21 @@ end."""
 import sqlite3
 from contextlib import ExitStack
 from dataclasses import dataclass, field, replace
+from typing import NamedTuple
 
 from ..core import scanned, snapshot
 from ..core.context import Context
-from ..core.failure import WRONG_USE, Failure, printable, tell, tell_line
+from ..core.failure import REFUSED, WRONG_USE, Failure, printable, tell, tell_line
 from ..core.forms import Form
-from ..core.grammar import MOVEMENTS, NEXT, Line, in_capitals, in_days, written
+from ..core.grammar import MOVEMENTS, NEXT, TO, Line, in_capitals, in_days, written
+from ..core.nearest import nearest
 from ..output.table import formatted
 from ..records.choices import Choice, Place
 from ..records.days import date_of, day_of, today
 from ..records.measures import form_of, limits_text, whole_of
 from ..register import describing
 from ..register.kinds import split_sign
+from ..register.movements import GETS, party_fault
 from ..register.store import Register
 from . import terminal
 from .lines import quoted
@@ -26,6 +29,13 @@ LATEST_DAY = "SELECT day FROM moves ORDER BY rowid DESC LIMIT 1"
 MEASURED = {"VALUE", "LOW", "HIGH"}  # values of a test
 CONFIRM = "Enter gives it, n drops it, the name of a value asks it again: "
 Values = dict[str, str]
+
+
+class Completed(NamedTuple):
+    """The values of a line in its order, and the customer that was asked for besides; `None` if there is none."""
+
+    words: list[str]
+    customer: str | None = None
 
 
 class Tables:
@@ -90,6 +100,8 @@ class Question:
 
     def meant(self, typed: str) -> str:
         """The word that is meant by what was typed: what Enter stands for, the choice of a number, or the word."""
+        if self.default == NEXT and typed.lower() == NEXT:
+            return NEXT
         numbered = {str(number): choice.name for number, choice in enumerate(self.choices, 1) if self.has_numbers}
         return numbered.get(typed, typed) or self.default
 
@@ -113,8 +125,10 @@ class Dialogue:
         listed = [Choice(word) for word in form.choices]
         if value == "DAY":
             return Question(place, form, default=self.today())
-        if value == "KEY" and self.line.name in MOVEMENTS:
+        if self.is_new_key(value):
             return Question(place, form, default=NEXT)
+        if value == TO:
+            return self.question_of_customer(place)
         if base is None:
             return Question(place, form, listed)
         choices = place.fitting(base) or listed
@@ -122,6 +136,48 @@ class Dialogue:
             choices = [replace(choice, about=self.limits_of(base, choice.name)) for choice in choices]
         is_only = len(choices) == 1 and not place.may_be_new
         return Question(place, form, choices, choices[0].name if is_only else "", self.limit(base, place))
+
+    def is_new_key(self, value: str) -> bool:
+        """Whether a value is the key of a new movement."""
+        return value == "KEY" and self.line.name in MOVEMENTS
+
+    @property
+    def needs_customer(self) -> bool:
+        """Whether the settings require that a shipment names its customer."""
+        return self.context.settings.require.recipient
+
+    @property
+    def called_customers(self) -> str:
+        """What the owner's customers are called."""
+        return f"customers of {self.values['OWNER']}"
+
+    @property
+    def customers(self) -> list[str]:
+        """The owner's parties that get shipments."""
+        base = self.tables.base
+        parties = self.tables.register(base).parties if base else {}
+        names = [name for owner, name in parties if owner == self.values["OWNER"]]
+        return sorted(name for name in names if not party_fault(parties, self.values["OWNER"], name, GETS))
+
+    def question_of_customer(self, place: Place) -> Question:
+        """What is asked for the customer of a shipment, which may be nobody unless the settings require one."""
+        base, customers = self.tables.base, self.customers
+        parties = self.tables.register(base).parties if base else {}
+        choices = [Choice(name, parties[self.values["OWNER"], name].name) for name in customers]
+        default = customers[0] if self.needs_customer and len(customers) == 1 else ""
+        limit = "the customer" if self.needs_customer else "the customer; Enter alone for none"
+        return Question(place, self.form(TO), choices, default, limit)
+
+    def asks_for_customer(self) -> bool:
+        """Whether the customer of a shipment is asked for: not if the owner has none. Fails if one is required then,
+        before more is asked."""
+        if self.customers or self.tables.base is None:
+            return bool(self.customers) or self.needs_customer
+        if self.needs_customer:
+            owner = self.values["OWNER"]
+            why = f"{self.line.name}: there are no {self.called_customers}, and the settings require each shipment's recipient"
+            raise Failure(why, REFUSED, f"`hilpoven party add {owner} PARTY --name .. --role customer` adds one")
+        return False
 
     def form(self, value: str) -> Form:
         """The form of a value; where its test has decimals, that of what was measured."""
@@ -157,7 +213,7 @@ class Dialogue:
 
     def fault(self, value: str, word: str) -> str:
         """What is told against a word; what isn't there is looked for once more in the tables as they are now."""
-        if value == "KEY" and word == NEXT and self.line.name in MOVEMENTS:
+        if self.is_new_key(value) and word == NEXT or value == TO and not word and not self.needs_customer:
             return ""
         number = split_sign(word)[1] if value == "VALUE" else word
         typed = number if self.decimals(value) else written_value(self.line, value, number)
@@ -175,6 +231,9 @@ class Dialogue:
         most = place.most(base)
         if most is not None and int(word) > most:
             return called(word, f"is more than {self.values['SUBLOT']} holds: {formatted(most)}")
+        if value == TO:
+            fault = party_fault(self.tables.register(base).parties, self.values["OWNER"], word, GETS)
+            return f"{fault}. {nearest(word, self.customers, self.called_customers)}" if fault else ""
         if fault := place.unknown(base, word) or place.taken(base, word):
             return called(word, fault)
         return self.not_of_result(base, {**self.values, value: word}) if self.line.name == "result" else ""
@@ -254,14 +313,24 @@ class Dialogue:
         names = [choice.name for choice in question.choices]
         if self.tables.base:
             names += [place for place in question.place.places(self.tables.base) if place not in names]
-        while not self.take(value, question.meant(terminal.ask(question.prompt, names))):
+        while not self.take_meant(value, question.meant(terminal.ask(question.prompt, names))):
             pass
+
+    def take_meant(self, value: str, word: str) -> bool:
+        """The same of a word that was typed at a prompt. A key without a digit may be meant for another prompt, or be a
+        mistyped `next`, so it is asked about."""
+        is_odd = self.is_new_key(value) and word != NEXT and not any(map(str.isdecimal, word))
+        if not is_odd or self.form(value).fault(word.upper()):
+            return self.take(value, word)
+        return terminal.agrees(f"KEY: {word.upper()} has no digit. Is it meant?", False) and self.take(value, word)
 
     def complete(self, given: dict[str, str | None]) -> None:
         """Takes the values that are given, and asks for those that are missing or wrong."""
         self.given = dict(given)
         for value in in_order(self.line):
             word = self.given.pop(value, None)
+            if value == TO and word is None and not self.asks_for_customer():
+                word = ""
             if value not in self.values and (word is None or not self.take(value, word)):
                 self.ask(value)
 
@@ -275,7 +344,9 @@ class Dialogue:
     def confirm(self) -> None:
         """Shows the line, and asks until it is to be given; Enter alone gives it. A question is shown alone."""
         while True:
-            tell_line(f"hilpoven {self.line.name} {' '.join(quoted(self.values[name]) for name in self.line.values)}")
+            words = [self.values[name] for name in self.line.values if name != TO]
+            customer = ["--to", self.values[TO]] if self.values.get(TO) else []
+            tell_line(f"hilpoven {self.line.name} {' '.join(map(quoted, [*words, *customer]))}")
             if self.line.is_question:
                 return
             answer = terminal.ask(CONFIRM, self.line.values).upper()
@@ -302,11 +373,18 @@ def in_order(line: Line) -> list[str]:
     return sorted(line.values, key=lambda value: (value == "KEY", value != "OWNER"))
 
 
-def completed(context: Context, line: Line, given: dict[str, str | None], decimals: int | None = None) -> list[str]:
+def completed(
+    context: Context,
+    line: Line,
+    given: dict[str, str | None],
+    decimals: int | None = None,
+    beside: dict[str, str | None] | None = None,
+) -> Completed:
     """The values of a line in its order, of which those that are missing or wrong are asked for. A test that is added
-    may have decimals."""
+    may have decimals, and the customer of a shipment is asked for beside its values, if one may be given."""
+    asked = line._replace(values=("OWNER", *(beside or {}), *(name for name in line.values if name != "OWNER")))
     with ExitStack() as stack, terminal.asking():
-        dialogue = Dialogue(context, line, Tables(context, stack), decimals)
-        dialogue.complete(given)
+        dialogue = Dialogue(context, asked if beside else line, Tables(context, stack), decimals)
+        dialogue.complete({**given, **(beside or {})})
         dialogue.confirm()
-    return [dialogue.values[value_name] for value_name in line.values]
+    return Completed([dialogue.values[name] for name in line.values], dialogue.values.get(TO) or None)

@@ -33,6 +33,8 @@ FORMS: dict[str, Form] = {
     "WAY": forms.WAY,
     "COMMAND": forms.COMMAND,
 }
+TO = "TO"  # the customer of a shipment, which is asked for beside the values of the line
+FORMS[TO] = forms.NAME
 OWNER_ADD = "owner-add"
 MOVEMENTS = {"receive", "split", "ship", "scrap", "actual"}  # the lines whose KEY is that of a new movement
 NEXT = "next"  # in place of such a KEY: the next free one
