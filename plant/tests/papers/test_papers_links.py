@@ -58,7 +58,7 @@ result ACME BU-3 PH 7 261105
 ship ACME S2 BU-3 T3 905 261106
 """
 NOTES = [
-    ("use", "ACME", "O-1", 1, "HOUSE", "AF-1", "CAN", 1, 261102, "--reason", "it foamed"),
+    ("use", "ACME", "O-1", 1, "HOUSE", "AF-1", "CAN", 1, 261102, "--reason", "it foamed", "--yes"),
     ("receive", "ACME", "K9", "BU", "BU-2-RW", "T2", 940, 261104, "--of", "BU-2", "--why", "rework"),
     ("receive", "ACME", "K10", "BU", "BU-1R", "T4", 400, 261107, "--of", "BU-1", "--why", "return", "--reason", "drums leaked"),
 ]

@@ -109,7 +109,7 @@ actual K40 ACME O-1 2 1 consumed SALT ACME S-1 BAY1 150 112
 def test_a_settlement_tells_losses_rework_and_returns(at_work):
     at_work.lay(WEEK)
     for words in (("receive", "ACME", "K50", "BRINE", "B-1R", "TOTE1", 40, 112, "--of", "B-1", "--why", "return"), ("describe", "recipe", "ACME", "BRINE-10", "--allowance", "1.5"),
-                  ("use", "ACME", "RW-1", 1, "ACME", "B-1", "TOTE2", 10, 111)):
+                  ("use", "ACME", "RW-1", 1, "ACME", "B-1", "TOTE2", 10, 111, "--yes")):
         assert at_work.run(*words).status == 0, words
     assert at_work.run("papers", "settlement", "ACME", "--from", 101, "--to", 112, at_work.folder / "made", "--no-pdf").status == 0
     tables = {name: figures.read_csv(at_work.folder / "made" / f"{name}.csv") for name in ("recipes", "products", "received", "going_on", "links")}

@@ -123,7 +123,7 @@ def test_in_the_next_file_the_plants_command_finds_what_came_over(carried):
 
 CORRECTED = {  # the lines of "I recorded it wrongly" at which a trace would end: what is typed, the lot that is recalled, and what its recall has to have
     "produced too little": (["receive ACME C1 BRINE B-1C TOTE9 20 103 --of B-1 --why correction"], "ACME S-1", {"B-1", "B-1C"}),
-    "consumed another lot": (["receive ACME C1 SALT S-2 BAY9 50 103", "use ACME O-1 1 ACME S-2 BAY9 5 103"], "ACME S-2", {"B-1"}),
+    "consumed another lot": (["receive ACME C1 SALT S-2 BAY9 50 103", "use ACME O-1 1 ACME S-2 BAY9 5 103 --yes"], "ACME S-2", {"B-1"}),
     "consumed too much": (["receive ACME C1 SALT S-1C BAY9 50 103 --of S-1 --why correction"], "ACME S-1", {"B-1", "S-1C"}),
     "received too little": (["receive ACME C1 SALT S-1B BAY9 50 103 --of S-1 --why correction"], "ACME S-1", {"B-1", "S-1B"}),
     "received as a wrong lot that was used since": (
