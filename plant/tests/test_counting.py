@@ -174,7 +174,7 @@ def pile(*rows: dict[str, object]) -> str:
 
 
 @pytest.fixture
-def found(office) -> Plant:
+def recounted(office) -> Plant:
     """An office in which a count found 5 more of L-0 in S0."""
     done = office.run("count", "import", "-", stdin=one(office, counted=105, reason="weighed"))
     assert "receive 5 into L-0-C): accepted" in done.out
@@ -195,14 +195,14 @@ def counts(office: Plant, *rows: dict[str, object]) -> list[str]:
     return done.out.splitlines()
 
 
-def test_the_next_count_of_a_pile_finds_nothing(found):
-    fresh = found.run("count", "sheet", "ACME", "--day", "261121").out
+def test_the_next_count_of_a_pile_finds_nothing(recounted):
+    fresh = recounted.run("count", "sheet", "ACME", "--day", "261121").out
     sheet = sheet_with(fresh, {("ACME", "L-0", "S0"): (105, "weighed again"), ("ACME", "L-0-C", "S0"): ("", "")})
-    before = found.content()
-    done = found.run("count", "import", "-", stdin=sheet)
-    assert done.status == 0 and done.out.endswith("0 recorded, 1 not counted, 0 refused\n") and found.content() == before, done
-    done = found.run("count", "import", "-", stdin=one(found, counted=105, reason="weighed by another", day=261125))  # without the find's row
-    assert done.out == "1 sublot: 1 as on hand, 0 there already, 0 recorded, 0 not counted, 0 refused\n" and found.content() == before
+    before = recounted.content()
+    done = recounted.run("count", "import", "-", stdin=sheet)
+    assert done.status == 0 and done.out.endswith("0 recorded, 1 not counted, 0 refused\n") and recounted.content() == before, done
+    done = recounted.run("count", "import", "-", stdin=one(recounted, counted=105, reason="weighed by another", day=261125))  # without the find's row
+    assert done.out == "1 sublot: 1 as on hand, 0 there already, 0 recorded, 0 not counted, 0 refused\n" and recounted.content() == before
 
 
 C = {"lot": "L-0-C", "on_hand": 5}
@@ -222,30 +222,30 @@ C = {"lot": "L-0-C", "on_hand": 5}
     ([{"counted": 92}, {**C, "counted": 0}], ["100 on hand: scrap 8", "0 counted, 5 on hand: scrap 5"], {"L-0": 92}),
     ([{"counted": 92}], ["scrap 8"], {"L-0": 92, "L-0-C": 5}),
     ([{"counted": "0105"}, {**C, "counted": "00"}], [], {"L-0": 100, "L-0-C": 5})])
-def test_what_was_found_before_is_counted_with_its_lot_or_by_itself(found, rows, texts, left):
-    *told, _ = counts(found, *rows)
-    assert len(told) == len(texts) and all(text in line for text, line in zip(texts, told)), told
-    assert on_hand(found) == left
+def test_what_was_found_before_is_counted_with_its_lot_or_by_itself(recounted, rows, texts, left):
+    *texts_of_rows, _ = counts(recounted, *rows)
+    assert len(texts_of_rows) == len(texts) and all(text in line for text, line in zip(texts, texts_of_rows)), texts_of_rows
+    assert on_hand(recounted) == left
 
 
-def test_a_find_of_a_find_lies_there_too(found):
-    assert "receive 3 into L-0-C-C" in counts(found, {**C, "counted": 8})[0]
-    assert counts(found, {"counted": 108}) == ["1 sublot: 1 as on hand, 0 there already, 0 recorded, 0 not counted, 0 refused"]
-    assert "with 8 found before, 100 on hand: receive 1 into L-0-C2" in counts(found, {"counted": 109})[0]
+def test_a_find_of_a_find_lies_there_too(recounted):
+    assert "receive 3 into L-0-C-C" in counts(recounted, {**C, "counted": 8})[0]
+    assert counts(recounted, {"counted": 108}) == ["1 sublot: 1 as on hand, 0 there already, 0 recorded, 0 not counted, 0 refused"]
+    assert "with 8 found before, 100 on hand: receive 1 into L-0-C2" in counts(recounted, {"counted": 109})[0]
 
 
-def test_a_find_elsewhere_or_of_another_correction_is_a_pile_of_its_own(found):
-    assert found.run("split", "ACME", "K960", "L-0-C", "S0", "S1", 5, 261121).status == 0
-    assert "105 counted, 100 on hand: receive 5 into L-0-C2" in counts(found, {"counted": 105})[0]
-    assert found.run("receive", "ACME", "K961", "SALT", "M-1", "S4", 7, 261121, "--of", "L-1", "--why", "correction").status == 0
-    assert "111 counted, 104 on hand: receive 7 into L-1-C" in counts(found, {"lot": "L-1", "sublot": "S4", "on_hand": 104, "counted": 111})[0]
+def test_a_find_elsewhere_or_of_another_correction_is_a_pile_of_its_own(recounted):
+    assert recounted.run("split", "ACME", "K960", "L-0-C", "S0", "S1", 5, 261121).status == 0
+    assert "105 counted, 100 on hand: receive 5 into L-0-C2" in counts(recounted, {"counted": 105})[0]
+    assert recounted.run("receive", "ACME", "K961", "SALT", "M-1", "S4", 7, 261121, "--of", "L-1", "--why", "correction").status == 0
+    assert "111 counted, 104 on hand: receive 7 into L-1-C" in counts(recounted, {"lot": "L-1", "sublot": "S4", "on_hand": 104, "counted": 111})[0]
 
 
-def test_a_find_that_moved_since_the_sheet_was_made_is_counted_again(found):
+def test_a_find_that_moved_since_the_sheet_was_made_is_counted_again(recounted):
     sheet = pile({"counted": 105}, {**C, "counted": 0})
-    assert found.run("scrap", "ACME", "K960", "L-0-C", "S0", 1, 261121).status == 0
-    done = found.run("count", "import", "-", stdin=sheet)
-    assert "ACME L-0-C, which was found there, moved since the sheet was made: count it again" in done.out and on_hand(found) == {"L-0": 100, "L-0-C": 4}
+    assert recounted.run("scrap", "ACME", "K960", "L-0-C", "S0", 1, 261121).status == 0
+    done = recounted.run("count", "import", "-", stdin=sheet)
+    assert "ACME L-0-C, which was found there, moved since the sheet was made: count it again" in done.out and on_hand(recounted) == {"L-0": 100, "L-0-C": 4}
 
 
 @pytest.mark.parametrize("cells", [{"counted": "0107"}, {"counted": "107", "on_hand": "0100"}, {"counted": "107", "day": "0261121"}])

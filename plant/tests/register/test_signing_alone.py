@@ -45,17 +45,17 @@ def begun(plant, login, *words, program=None, stdin=subprocess.DEVNULL) -> subpr
     return subprocess.Popen([HILPOVEN], stdin=stdin, stdout=subprocess.PIPE, stderr=subprocess.PIPE, text=True, preexec_fn=child)
 
 
-def told(process) -> tuple[int, str]:
+def ended(process) -> tuple[int, str]:
     """How a process ended, and what it told."""
     out, err = process.communicate(timeout=PATIENCE)
     return process.returncode, out + err
 
 
 def waiting_at(plant, words):
-    """A program in place of `toll` that waits at these words, until there is a file `go`; then there is a file `there`."""
-    there, go = plant.folder / "there", plant.folder / "go"
-    return script(plant.folder / "slow-toll", f'''case "$*" in *"{words}"*) touch {there}; while ! test -e {go}; do sleep 0.02; done ;; esac
-exec {plant.program} "$@"'''), there, go
+    """A program in place of `toll` that waits at these words, until there is a file `go`; then there is a file `reached`."""
+    reached, go = plant.folder / "reached", plant.folder / "go"
+    return script(plant.folder / "slow-toll", f'''case "$*" in *"{words}"*) touch {reached}; while ! test -e {go}; do sleep 0.02; done ;; esac
+exec {plant.program} "$@"'''), reached, go
 
 
 def doing_at(plant, words, login, *command):
@@ -72,7 +72,7 @@ def test_no_sheet_signs_a_lot_that_comes_while_it_is_read(office, by):
     busy = doing_at(office, "result ACME P-8 PH 5 104", "anna", "receive ACME K20 PASTE P-9 BAY1 5 103")
     sheet = office.folder / "sheet.csv"
     sheet.write_text(RESULTS + "ACME,P-9,QA,1,103\nACME,P-8,PH,5,104\nACME,P-9,PH,7,103\nACME,P-9,QA,1,104\nACME,P-9,QA,1,104\n")
-    status, text = told(begun(office, "anna", "import", "--what", "results", sheet, program=busy))
+    status, text = ended(begun(office, "anna", "import", "--what", "results", sheet, program=busy))
     assert (office.folder / "between").read_text() == "accepted\n"
     assert signatures(office) == [] and status == 1 and text.count("QA): refused by hilpoven: QA is the test by which the plant signs and holds") == 3, text
     assert "2 accepted, 0 there already, 3 refused" in text
@@ -90,7 +90,7 @@ def test_no_sheet_of_many_rows_signs_one_by_the_server_that_it_begins(office, by
     process.stdin = None
     assert eventually(lambda: len(office.lines()) > 20)
     assert by(office, "anna", "receive", "ACME", "K20", "PASTE", "P-9", "BAY1", 5, 103).out == "accepted\n"
-    status, text = told(process)
+    status, text = ended(process)
     assert status == 1 and signatures(office) == [] and "401 accepted, 0 there already, 6 refused" in text, text
 
 
@@ -125,66 +125,66 @@ def test_another_test_of_its_name_is_recorded_when_its_lot_is_there(office):
 # What is looked at, and what is recorded of it
 
 def test_nothing_is_recorded_between_the_look_at_a_lot_and_its_signature(office, by):
-    slow, there, go = waiting_at(office, "result ACME P-8 QA 1")
+    slow, reached, go = waiting_at(office, "result ACME P-8 QA 1")
     signing = begun(office, "bert", "sign", "ACME", "P-8", "--day", 103, program=slow)
-    assert eventually(there.exists)
+    assert eventually(reached.exists)
     others = [begun(office, "cora", *words.split()) for words in ("result ACME P-8 PH 99 104", "scrap ACME K21 P-8 BAY1 1 104", "sign ACME P-8")]
     with pytest.raises(subprocess.TimeoutExpired):
         others[0].wait(1.5)
     assert office.rows("SELECT test, value FROM results WHERE lot = 'P-8'") == [("PH", 7)] and all(other.poll() is None for other in others)
     go.touch()
-    assert told(signing) == (0, "accepted\n")
-    assert [told(other)[0] for other in others] == [0, 0, 0]  # the signature is there already
+    assert ended(signing) == (0, "accepted\n")
+    assert [ended(other)[0] for other in others] == [0, 0, 0]  # the signature is there already
     assert office.rows("SELECT test, value FROM results WHERE lot = 'P-8' ORDER BY rowid") == [("PH", 7), ("QA", 1), ("PH", 99)]
 
 
 def test_a_signature_waits_for_what_is_being_recorded_and_sees_it(office, by):
-    slow, there, go = waiting_at(office, "result ACME P-8 PH 99")
+    slow, reached, go = waiting_at(office, "result ACME P-8 PH 99")
     recording = begun(office, "cora", "result", "ACME", "P-8", "PH", 99, 104, program=slow)
-    assert eventually(there.exists)
+    assert eventually(reached.exists)
     signing = begun(office, "bert", "sign", "ACME", "P-8")
     with pytest.raises(subprocess.TimeoutExpired):
         signing.wait(1.5)
     go.touch()
-    assert told(recording) == (0, "accepted\n")
-    status, text = told(signing)
+    assert ended(recording) == (0, "accepted\n")
+    status, text = ended(signing)
     assert status == 1 and "no result within the limits of PH" in text and signatures(office) == []
 
 
 def test_a_sheet_of_actuals_that_is_on_its_way_counts_for_its_login(office, by):
-    slow, there, go = waiting_at(office, " import ")
+    slow, reached, go = waiting_at(office, " import ")
     sheet = office.folder / "actuals.csv"
     sheet.write_text(ACTUALS + "K20,ACME,O-1,1,2,produced,BRINE,ACME,B-1,TOTE1,5,103\n")
     assert by(office, "cora", "result", "ACME", "B-1", "PH", 7, 103).status == 0
     recording = begun(office, "anna", "import", sheet, program=slow)
-    assert eventually(there.exists)
+    assert eventually(reached.exists)
     signing = begun(office, "anna", "sign", "ACME", "B-1")
     with pytest.raises(subprocess.TimeoutExpired):
         signing.wait(1.5)
     go.touch()
-    assert told(recording)[0] == 0
-    assert "anna recorded results or movements of lot ACME B-1" in told(signing)[1]
+    assert ended(recording)[0] == 0
+    assert "anna recorded results or movements of lot ACME B-1" in ended(signing)[1]
 
 
 def test_who_can_t_wait_is_told_and_records_nothing(office, by):
-    slow, there, go = waiting_at(office, "result ACME P-8 QA 1")
+    slow, reached, go = waiting_at(office, "result ACME P-8 QA 1")
     signing = begun(office, "bert", "sign", "ACME", "P-8", program=slow)
-    assert eventually(there.exists)
+    assert eventually(reached.exists)
     done = office.run("--wait", 0.2, "result", "ACME", "P-8", "PH", 8, 104)
     assert done.status == 3 and done.out == "" and "a lot is being signed or held" in done.err
     go.touch()
-    assert told(signing)[0] == 0 and office.rows("SELECT value FROM results WHERE test = 'PH' AND lot = 'P-8'") == [(7,)]
+    assert ended(signing)[0] == 0 and office.rows("SELECT value FROM results WHERE test = 'PH' AND lot = 'P-8'") == [(7,)]
 
 
 def test_a_hold_isn_t_stopped_by_a_sheet_that_stands_still(office, by):
-    slow, there, go = waiting_at(office, "result ACME P-8 PH 5 104")
+    slow, reached, go = waiting_at(office, "result ACME P-8 PH 5 104")
     recording = begun(office, "anna", "result", "ACME", "P-8", "PH", 5, 104, program=slow)
-    assert eventually(there.exists)
+    assert eventually(reached.exists)
     assert by(office, "bert", "--wait", 0.2, "sign", "ACME", "P-8").status == 3
     assert by(office, "bert", "--wait", 0.2, "hold", "ACME", "P-8", "--reason", "metal").out == "accepted\n"
     assert by(office, "bert", "--wait", 0.2, "hold", "ACME", "S-1", "--reason", "wet").out.startswith("noted ")
     go.touch()
-    assert told(recording) == (0, "accepted\n") and signatures(office) == [("P-8", 0)]
+    assert ended(recording) == (0, "accepted\n") and signatures(office) == [("P-8", 0)]
 
 
 # Holds that are a note alone
@@ -206,7 +206,7 @@ def test_no_shipment_of_a_sheet_goes_out_behind_a_hold(released, by, count):
     assert eventually(lambda: len(released.lines()) > before + 6)
     assert by(released, "bert", "hold", "ACME", "S-5", "--reason", "wet").out.startswith("noted ")
     gone = released.rows("SELECT count(*) FROM moves WHERE lot = 'S-5' AND kind = 2")
-    status, text = told(process)
+    status, text = ended(process)
     assert released.rows("SELECT count(*) FROM moves WHERE lot = 'S-5' AND kind = 2") == gone and 0 < gone[0][0] < count
     assert status == 1 and f"{gone[0][0]} accepted, 0 there already, {count - gone[0][0]} refused" in text, text
     again = by(released, "anna", "import", "--what", "shipments", "-", stdin=sheet)
@@ -226,23 +226,23 @@ def test_a_row_goes_again_once_its_lot_is_signed(released, by):
     sheet = released.folder / "sheet.csv"
     sheet.write_text(SHIPMENTS + "ACME,K29,S-5,BAY5,1,103\nACME,K30,W-9,BAY5,1,103\nACME,K31,S-5,BAY5,1,103\n")
     process = begun(released, "anna", "import", "--what", "shipments", sheet, program=busy)
-    text = told(process)[1]
+    text = ended(process)[1]
     assert released.rows("SELECT mkey FROM moves WHERE lot = 'S-5' AND kind = 2") == [], text
 
 
 def test_no_part_of_a_sheet_of_actuals_goes_out_behind_a_hold(released, by):
-    slow, there, go = waiting_at(released, " import ")
+    slow, reached, go = waiting_at(released, " import ")
     sheet = released.folder / "actuals.csv"
     sheet.write_text(ACTUALS + "".join(f"K{1000 + number},ACME,O-1,1,1,consumed,SALT,ACME,S-5,BAY5,1,103\n" for number in range(1200)))
     recording = begun(released, "anna", "import", sheet, program=slow)
-    assert eventually(there.exists)  # the first part is on its way
+    assert eventually(reached.exists)  # the first part is on its way
     holding = begun(released, "bert", "hold", "ACME", "S-5", "--reason", "wet")
     with pytest.raises(subprocess.TimeoutExpired):
         holding.wait(1.5)
     go.touch()
-    assert told(holding)[0] == 0
+    assert ended(holding)[0] == 0
     gone, = released.rows("SELECT count(*) FROM moves WHERE lot = 'S-5' AND kind = 4")
-    status, text = told(recording)
+    status, text = ended(recording)
     assert released.rows("SELECT count(*) FROM moves WHERE lot = 'S-5' AND kind = 4") == [gone] and 0 < gone[0] <= 500, text
     assert text.count("refused by hilpoven: lot S-5 of ACME is held: wet") == 700
 

@@ -106,7 +106,7 @@ def record(context: Context, office: Office, count: Count, members: dict[int, di
     journal = context.journal()
     with client.asker(office, len(count.differences)) as ask, journal.series():
         for each in count.differences:
-            row_members = {"row": each.record.row, **members[each.record.row]}
+            row_members: dict[str, Any] = {"row": each.record.row, **members[each.record.row]}
             answer = asking.asked(context, office, each.line, each.words, journal, ask, **row_members)
             if answer.status == FAULT:
                 return answer.error.strip() or "toll ended without an answer"

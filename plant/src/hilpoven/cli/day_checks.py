@@ -1,5 +1,5 @@
-"""What may not be meant, such as a day, is asked about at a terminal; elsewhere nothing is done, unless --yes says that it
-is."""
+"""What may not be meant, such as a day, is asked about at a terminal; elsewhere nothing is done, unless --yes says that
+it is."""
 from ..core.context import Context
 from ..core.failure import REFUSED, Failure
 from ..core.grammar import NEXT, Line, faults, written

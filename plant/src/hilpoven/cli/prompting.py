@@ -174,9 +174,9 @@ class Dialogue:
         if self.customers or self.tables.base is None:
             return bool(self.customers) or self.needs_customer
         if self.needs_customer:
-            owner = self.values["OWNER"]
-            why = f"{self.line.name}: there are no {self.called_customers}, and the settings require each shipment's recipient"
-            raise Failure(why, REFUSED, f"`hilpoven party add {owner} PARTY --name .. --role customer` adds one")
+            why = f"there are no {self.called_customers}, and the settings require each shipment's recipient"
+            advice = f"`hilpoven party add {self.values['OWNER']} PARTY --name .. --role customer` adds one"
+            raise Failure(f"{self.line.name}: {why}", REFUSED, advice)
         return False
 
     def form(self, value: str) -> Form:

@@ -19,8 +19,8 @@ TAKES = ("ship", "actual")  # the commands by which a lot leaves, or is consumed
 
 
 class Beside(NamedTuple):
-    """What stands in the journal beside a line that is asked, what is told once it is accepted, and whether it is a scrap
-    of what a batch uses, which a hold stops."""
+    """What stands in the journal beside a line that is asked, what is told once it is accepted, and whether it is a
+    scrap of what a batch uses, which a hold stops."""
 
     members: dict[str, Any] = {}
     hint: str = ""

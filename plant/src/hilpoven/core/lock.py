@@ -99,20 +99,22 @@ def hold_soon(stack: contextlib.ExitStack, file: str, kind: int, wait: float) ->
 def hold(stack: contextlib.ExitStack, path: str, kind: int) -> bool:
     """Holds a file or a folder until the end of a stack; whether nobody is in the way, and no other has its name
     meanwhile."""
-    with contextlib.ExitStack() as tried:
-        try:
-            descriptor = os.open(path, os.O_RDONLY | os.O_CLOEXEC)
-        except OSError as error:
-            raise Failure(f"{path} can't be opened: {error.strerror}", advice=advice(path, error)) from error
-        tried.callback(os.close, descriptor)
-        try:
-            fcntl.flock(descriptor, kind | fcntl.LOCK_NB)
-            is_same = os.path.samestat(os.stat(path), os.fstat(descriptor))
-        except (BlockingIOError, FileNotFoundError):
-            return False
-        if is_same:
+    try:
+        descriptor = os.open(path, os.O_RDONLY | os.O_CLOEXEC)
+    except OSError as error:
+        raise Failure(f"{path} can't be opened: {error.strerror}", advice=advice(path, error)) from error
+    tried = contextlib.ExitStack()
+    tried.callback(os.close, descriptor)
+    try:
+        fcntl.flock(descriptor, kind | fcntl.LOCK_NB)
+        if os.path.samestat(os.stat(path), os.fstat(descriptor)):
             stack.push(tried.pop_all())
-        return is_same
+            return True
+    except (BlockingIOError, FileNotFoundError):
+        pass
+    finally:
+        tried.close()
+    return False
 
 
 def holders(path: str) -> str:

@@ -1,5 +1,5 @@
-"""Why a batch may not be meant to use some of a lot besides its recipe: `toll` records that as a scrap, whatever the lot
-and the batch are like."""
+"""Why a batch may not be meant to use some of a lot besides its recipe: `toll` records that as a scrap, whatever the
+lot and the batch are like."""
 from ..records.rows import Base, BatchId, Lot, batches_of, lots_of, tests_of
 from ..records.schema import Disposition
 from . import quality

@@ -76,13 +76,13 @@ class Apart:
     """How much of what was counted in a sublot is what earlier counts found there; how much of such a find was counted
     with its lot; and the find in the sheet that moved since, if one did."""
 
-    found: int = 0
+    finds: int = 0
     elsewhere: int = 0
     moved: LotId | None = None
 
     def __str__(self) -> str:
-        found = f" with {self.found:,} found before" if self.found else ""
-        return f"{found}{f' besides {self.elsewhere:,} with its lot' if self.elsewhere else ''}"
+        finds = f" with {self.finds:,} found before" if self.finds else ""
+        return f"{finds}{f' besides {self.elsewhere:,} with its lot' if self.elsewhere else ''}"
 
 
 @dataclass
@@ -184,7 +184,7 @@ def counted_apart(desk: Desk, records: Iterable[Record]) -> dict[Sublot, Apart]:
         for place in places if beyond > 0 else []:
             own, now = rows.get(place), held.get(place, 0)
             with_lot = min(beyond, max(0, (missing_in(own) if own else now) - apart[place].elsewhere))
-            apart[lot, sublot].found += with_lot
+            apart[lot, sublot].finds += with_lot
             apart[place].elsewhere += with_lot
             beyond -= with_lot
             if with_lot and own and now != int(own.values["on_hand"]) and not is_recorded(desk.base, own):
@@ -227,7 +227,7 @@ def of_row(
         return Outcome.BLANK
     if desk.has(HAS_KEY, values["owner"], key := key_of(record)):
         return Outcome.THERE
-    counted, on_hand = int(noted["counted"]) - apart.found + apart.elsewhere, int(values["on_hand"])
+    counted, on_hand = int(noted["counted"]) - apart.finds + apart.elsewhere, int(values["on_hand"])
     if apart.moved:
         raise Failure(f"{apart.moved}, which was found there, moved since the sheet was made: count it again")
     if counted in (on_hand, now):
@@ -258,7 +258,7 @@ def difference_of(desk: Desk, record: Record, key: str, material: str, taken: se
     linked to the counted one."""
     values, reason = record.values, record.noted["reason"]
     owner, lot, sublot, day = values["owner"], values["lot"], values["sublot"], values["day"]
-    amount = int(record.noted["counted"]) - apart.found + apart.elsewhere - int(values["on_hand"])
+    amount = int(record.noted["counted"]) - apart.finds + apart.elsewhere - int(values["on_hand"])
     if amount < 0:
         words = [owner, key, lot, sublot, str(-amount), day]
         return Difference(record, LINES["scrap"], words, Reason(owner, "scrap", reason, key=key), apart)

@@ -43,7 +43,7 @@ class Import:
     context: Context
     office: Office
     sheet: Sheet
-    source: dict[str, str]
+    source: dict[str, Any]
     advance: Callable[[int], None]
     beside: dict[int, dict[str, Any]] = field(default_factory=dict)
     counts: Counter[str] = field(default_factory=Counter)
