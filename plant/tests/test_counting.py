@@ -241,8 +241,9 @@ def test_a_find_elsewhere_or_of_another_correction_is_a_pile_of_its_own(recounte
     assert "111 counted, 104 on hand: receive 7 into L-1-C" in counts(recounted, {"lot": "L-1", "sublot": "S4", "on_hand": 104, "counted": 111})[0]
 
 
-def test_a_find_that_moved_since_the_sheet_was_made_is_counted_again(recounted):
-    sheet = pile({"counted": 105}, {**C, "counted": 0})
+@pytest.mark.parametrize("counted", [0, ""])
+def test_a_find_that_moved_since_the_sheet_was_made_is_counted_again(recounted, counted):
+    sheet = pile({"counted": 105}, {**C, "counted": counted})
     assert recounted.run("scrap", "ACME", "K960", "L-0-C", "S0", 1, 261121).status == 0
     done = recounted.run("count", "import", "-", stdin=sheet)
     assert "ACME L-0-C, which was found there, moved since the sheet was made: count it again" in done.out and on_hand(recounted) == {"L-0": 100, "L-0-C": 4}

@@ -180,8 +180,10 @@ def test_a_hold_isn_t_stopped_by_a_sheet_that_stands_still(office, by):
     slow, reached, go = waiting_at(office, "result ACME P-8 PH 5 104")
     recording = begun(office, "anna", "result", "ACME", "P-8", "PH", 5, 104, program=slow)
     assert eventually(reached.exists)
-    assert by(office, "bert", "--wait", 0.2, "sign", "ACME", "P-8").status == 3
-    assert by(office, "bert", "--wait", 0.2, "hold", "ACME", "P-8", "--reason", "metal").out == "accepted\n"
+    done = by(office, "bert", "--wait", 0.2, "sign", "ACME", "P-8")
+    assert done.status == 3 and f"it is held by process {recording.pid} (" in done.err
+    done = by(office, "bert", "--wait", 0.2, "hold", "ACME", "P-8", "--reason", "metal")
+    assert done.out == "accepted\n" and "What they began may come behind it: `hilpoven show lot ACME P-8`" in done.err
     assert by(office, "bert", "--wait", 0.2, "hold", "ACME", "S-1", "--reason", "wet").out.startswith("noted ")
     go.touch()
     assert ended(recording) == (0, "accepted\n") and signatures(office) == [("P-8", 0)]

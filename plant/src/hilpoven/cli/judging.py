@@ -80,10 +80,12 @@ def desk_alone(context: Context, note: Judgement) -> Iterator[making.Desk]:
     """Reads a copy of an office's file while nobody else records in it, for whoever has the role now. What is looked at
     then stays so until the note is recorded. A hold goes on beside others who record for long: nothing stops it."""
     office = context.office()
-    with lock.alone(office.file, office.wait, is_urgent=isinstance(note, Held)):
+    with lock.alone(office.file, office.wait, is_urgent=isinstance(note, Held)) as is_alone:
         roles.require(context, WORDS[type(note)])
         with making.desk(context) as desk:
             yield desk
+    if not is_alone:
+        tell(f"Others are recording for long. What they began may come behind it: `hilpoven show lot {note.lot_id}`")
 
 
 def day_given(context: Context, day: int | None) -> int:

@@ -74,13 +74,15 @@ def recording(file: str, wait: float) -> Iterator[None]:
 
 
 @contextlib.contextmanager
-def alone(file: str, wait: float, is_urgent: bool = False) -> Iterator[None]:
+def alone(file: str, wait: float, is_urgent: bool = False) -> Iterator[bool]:
     """Records in an office's file alone, so that nothing is recorded between what is looked at and what is recorded of
-    it. Where others record for longer than `wait` seconds it fails, or goes on beside them if it is urgent."""
+    it. Where others record for longer than `wait` seconds it fails, or goes on beside them if it is urgent; whether it
+    is alone."""
     with contextlib.ExitStack() as stack:
-        if not hold_soon(stack, file, fcntl.LOCK_EX, wait) and not is_urgent:
+        is_alone = hold_soon(stack, file, fcntl.LOCK_EX, wait)
+        if not is_alone and not is_urgent:
             raise Failure("others are recording, so nothing can be looked at alone", advice=holders(file))
-        yield
+        yield is_alone
 
 
 def hold_soon(stack: contextlib.ExitStack, file: str, kind: int, wait: float) -> bool:

@@ -187,9 +187,14 @@ def counted_apart(desk: Desk, records: Iterable[Record]) -> dict[Sublot, Apart]:
             apart[lot, sublot].finds += with_lot
             apart[place].elsewhere += with_lot
             beyond -= with_lot
-            if with_lot and own and now != int(own.values["on_hand"]) and not is_recorded(desk.base, own):
+            if with_lot and own and now != int(own.values["on_hand"]) and not has_key(desk, own):
                 apart[lot, sublot].moved = place[0]
     return apart
+
+
+def has_key(desk: Desk, record: Record) -> bool:
+    """Whether the difference of a row that was counted is recorded."""
+    return "counted" in record.noted and desk.has(HAS_KEY, record.values["owner"], key_of(record))
 
 
 def missing_in(record: Record) -> int:
@@ -225,7 +230,7 @@ def of_row(
     values, noted = record.values, record.noted
     if "counted" not in noted:
         return Outcome.BLANK
-    if desk.has(HAS_KEY, values["owner"], key := key_of(record)):
+    if has_key(desk, record):
         return Outcome.THERE
     counted, on_hand = int(noted["counted"]) - apart.finds + apart.elsewhere, int(values["on_hand"])
     if apart.moved:
@@ -236,7 +241,7 @@ def of_row(
         raise Failure(f"{now:,} is on hand now, and {on_hand:,} was when the sheet was made: count it again")
     if "reason" not in noted:
         raise Failure(f"{counted:,} counted and {on_hand:,} on hand: a difference needs a reason")
-    return difference_of(desk, record, key, material, taken, apart)
+    return difference_of(desk, record, key_of(record), material, taken, apart)
 
 
 def is_recorded(base: Base, record: Record) -> bool:
