@@ -17,7 +17,7 @@ from ..records.measures import as_number
 from ..records.rows import LotId, require_owner
 from ..register import expiry, file, making, usable
 from ..register.movements import facts_of
-from ..register.notes import Judgement, Link, Note, NotLinked, Why, Withdrawal
+from ..register.notes import Judgement, Link, Note, NotLinked, RowsLost, Why, Withdrawal
 from . import day_checks, roles
 from .groups import Group
 from .lines import YES, YES_ABOUT
@@ -173,13 +173,15 @@ def withdraw(context: Context, name: str, reason: str) -> None:
         if status is None or status.note is None:
             names = [known.noted.name for known in desk.statuses]
             raise Failure(f"there is no note {name}", REFUSED, nearest(name, names, "notes"))
-        if status.fault:
+        if status.fault and not status.is_lost:
             raise Failure(f"note {name} doesn't stand: {status.fault}", REFUSED)
         changed = changed_by(desk, status.note)
         roles.require_to_withdraw(context, changed)
         if isinstance(changed, Judgement):
             advice = "`hilpoven sign` or `hilpoven hold` says what holds now"
             raise Failure(f"note {name} is a signature or a hold, which nobody withdraws", REFUSED, advice)
+        if isinstance(status.note, RowsLost):
+            raise Failure(f"note {name} is what a restore noted, which nobody withdraws", REFUSED)
         same = [
             other.noted.name
             for other in desk.statuses

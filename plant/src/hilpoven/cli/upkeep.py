@@ -15,7 +15,7 @@ from ..core.office import has_bytes
 from ..journal import query
 from ..journal.log import Journal
 from ..records import accepted
-from ..register import file as register, reports
+from ..register import file as register, lost, reports
 from .words import MOST_TOLD, PATH, Operators, pass_context
 
 
@@ -157,8 +157,9 @@ def restore(context: Context, backup: str | None, is_foreign: bool, moment: floa
         rights.require_operator("--foreign")
     rights.become_owner(context.file)
     subject, aside = restored(context, backup, is_foreign) if moment is None else restored_at(context, moment)
-    register.notes_of(context.journal())  # made anew: what was there is aside
     click.echo(printable(f"{subject} is in place" + (f"; what was there is in {aside}" if aside else "")))
+    for line in lost.lines_of(lost.note_lost(context)):
+        click.echo(line)
 
 
 def restored(context: Context, backup: str | None, is_foreign: bool) -> tuple[str, str]:
@@ -189,12 +190,13 @@ def verify(context: Context) -> None:
 
     Example: hilpoven verify
     """
-    office, wrong = context.office_to_read(), []
+    office, wrong, lost_rows = context.office_to_read(), list[str](), list[str]()
     checked = query.check(context.journal().path, file=context.file)  # before the copy, which has all that it says
     rows = [] if checked.wrong else accepted.added_rows(query.entries(context.journal().path, context.file))
     with snapshot.copied(office) as copy:
         with contextlib.closing(sqlite3.connect(copy)) as base:
             wrong += backups.checked_tables(base) or accepted.lacking(base, rows)
+            lost_rows = [] if wrong else lost.report(context.journal(), base)
         answer = office.ask(["stock", "HOUSE"], copy)
     if answer.status:
         wrong.append(f"toll doesn't open it: {answer.error.strip()}")
@@ -205,7 +207,7 @@ def verify(context: Context) -> None:
         f"journal: {checked.lines} lines, {len(checked.unanswered)} without an answer"
         f"{'' if checked.wrong else '; it is whole'}"
     )
-    unlike = verify_register(context)
+    unlike = verify_register(context, lost_rows)
     changed: list[str] = []
     if os.path.isdir(folder := context.settings.backups):
         count, changed = backups.changed(context.file, folder, context.journal())
@@ -214,9 +216,10 @@ def verify(context: Context) -> None:
     sys.exit(FAULT if wrong else REFUSED if checked.wrong or changed or unlike else 0)
 
 
-def verify_register(context: Context) -> bool:
-    """Prints whether the register is what the journal gives, where either has notes; whether it isn't."""
+def verify_register(context: Context, lost_rows: list[str]) -> bool:
+    """Prints whether the register is what the journal gives, where either has notes, and which notes lost what they were
+    noted of; whether it isn't."""
     report = reports.verified(context.journal())
-    for line in report.lines:
+    for line in [*report.lines, *lost_rows]:
         click.echo(f"register: {printable(line)}")
     return report.is_wrong

@@ -100,6 +100,8 @@ def among(column: str, codes: Iterable[Code]) -> str:
     return f"{column} IN ({', '.join(f'{code:d}' for code in codes)})"
 
 
+# What a movement records, without its owner and its key.
+MOVE_COLUMNS = "kind, lot_owner, lot, sublot, target, material, ord, number, segment, amount, day"
 IS_INCOMING, IS_OUTGOING = among("m.kind", INCOMING), among("m.kind", OUTGOING)
 IS_ACTUAL = among("m.kind", ACTUAL_OF.values())
 STANDING = "NOT EXISTS (SELECT 1 FROM voids AS v WHERE v.owner = m.owner AND v.mkey = m.mkey)"

@@ -62,7 +62,7 @@ def drills_of(journal: Journal, base: Base) -> list[Drill]:
 def lot_over_all(drill: Drill, journal: Journal, newest: Base, whole: Base | None) -> LotId:
     """What the lot of a drill is called in the newest file of an office, or over all its files."""
     with reader_of(journal, newest, whole) as reader:
-        return LotId(drill.lot.owner, reader.lot(drill.begun.after, *drill.lot))
+        return LotId(drill.lot.owner, reader.lot(drill.begun, *drill.lot))
 
 
 def under_way(drills: list[Drill]) -> Drill | None:

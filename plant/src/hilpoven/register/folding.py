@@ -12,6 +12,7 @@ from ..core.rights import advice
 from ..journal.history import who
 from ..journal.log import FLAGS, Journal, entry_of, hash_of
 from ..journal.query import Files
+from .meant import MEANT, Row, rows_in
 
 MARK = b'"notes": [{"'  # what each line with a note has, and a text never has: there a quote stands behind a backslash
 MOVED, TOLD, FILE = b'"moved"', b'"event": "told"', b'"file": '
@@ -34,6 +35,7 @@ class Noted:
     words: tuple[str, ...]  # of the command
     is_own: bool  # whether its line is about nothing else; otherwise it belongs to what the line asks
     value: Any
+    meant: tuple[Row, ...] | None = ()  # the rows that it means, as far as its line has them; `None` if they are none
 
 
 @dataclass(frozen=True)
@@ -85,6 +87,8 @@ def notes_in(entry: dict[str, Any]) -> Iterator[Noted]:
     line, values, words = str(entry.get("id")), entry.get("notes"), entry.get("words")
     if entry.get("event") not in ("note", "asked") or not LINE.fullmatch(line) or not isinstance(values, list):
         return
+    meant = entry.get(MEANT, [[]] * len(values))
+    is_each = isinstance(meant, list) and len(meant) == len(values)
     for number, value in enumerate(values, 1):
         yield Noted(
             line if number == 1 else f"{line}.{number}",
@@ -96,6 +100,7 @@ def notes_in(entry: dict[str, Any]) -> Iterator[Noted]:
             tuple(map(str, words)) if isinstance(words, list) else (),
             entry["event"] == "note",
             value,
+            rows_in(meant[number - 1]) if is_each else None,
         )
 
 
@@ -167,6 +172,8 @@ def as_text(noted: Noted) -> str:
 
 
 def from_text(text: str) -> Noted:
-    """The note of such a text; fails with ValueError or TypeError if it is none."""
-    name, line, time, name_of_doer, file, after, words, is_own, value = json.loads(text)
-    return Noted(name, line, time, name_of_doer, file, after, tuple(words), is_own, value)
+    """The note of such a text; fails with ValueError or TypeError if it is none. Earlier versions wrote none that has the
+    rows that it means."""
+    name, line, time, name_of_doer, file, after, words, is_own, value, *meant = json.loads(text)
+    rows = rows_in(meant[0]) if meant and meant != [[]] else None if meant == [None] else ()
+    return Noted(name, line, time, name_of_doer, file, after, tuple(words), is_own, value, rows)

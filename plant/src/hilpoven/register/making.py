@@ -20,6 +20,8 @@ from . import file
 from .folding import AFTER
 from .movements import GETS, RETURNS, SENDS, Parties, Task, require_party
 from .facts import MovementFacts
+from .meant import MEANT
+from .named_rows import RowReader
 from .notes import Link, Note, Party, Why, to_json
 from .standing import HAS_BATCH, HAS_LOT, Status, files_of, standing as standing_notes, statuses
 from .store import Register
@@ -113,8 +115,19 @@ class Desk:
         return self.all_members(new) if new else {}
 
     def all_members(self, notes: Sequence[Note]) -> dict[str, Any]:
-        """What stands in the line of the journal that has these notes."""
-        return {"notes": [to_json(note) for note in notes], **({AFTER: self.after} if self.after else {})}
+        """What stands in the line of the journal that has these notes: also the rows that they mean, so that they are
+        about no later rows of the same names."""
+        meant = [self.rows.rows(note) for note in notes]
+        return {
+            "notes": [to_json(note) for note in notes],
+            **({MEANT: meant} if any(meant) else {}),
+            **({AFTER: self.after} if self.after else {}),
+        }
+
+    @functools.cached_property
+    def rows(self) -> RowReader:
+        """What reads the rows that notes mean."""
+        return RowReader(self.bases)
 
     @functools.cached_property
     def after(self) -> str:

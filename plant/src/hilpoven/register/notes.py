@@ -100,6 +100,21 @@ class Withdrawal(Note):
 
 
 @dataclass(frozen=True)
+class RowsLost(Note):
+    """A restore put a file in place that hasn't the rows that these notes mean: they stand for no later rows of the same
+    names. The last one counts."""
+
+    KIND = "rows-lost"
+    lost: tuple[str, ...] = ()  # the names of the notes
+
+    @property
+    def sentence(self) -> str:
+        """How many, and which first."""
+        more = f" and {len(self.lost) - FIRST_LOST:,} more" if len(self.lost) > FIRST_LOST else ""
+        return f"rows lost by a restore: those of {', '.join(self.lost[:FIRST_LOST]) or 'no note'}{more}"
+
+
+@dataclass(frozen=True)
 class DrillStart(Note):
     """A drill begins: what became of a lot is to be found, as in a recall."""
 
@@ -195,12 +210,13 @@ def because(reason: str) -> str:
 
 DESCRIPTIONS = (OwnerFacts, MaterialFacts, RecipeFacts, TestFacts, LotFacts, ResultFacts)
 ALL: tuple[type[Note], ...] = (
-    *(Link, Party, MovementFacts, NotLinked, Withdrawal, DrillStart, DrillEnd, Signed, Held, Reason),
+    *(Link, Party, MovementFacts, NotLinked, Withdrawal, RowsLost, DrillStart, DrillEnd, Signed, Held, Reason),
     *DESCRIPTIONS,
 )
 KINDS = {kind.KIND: kind for kind in ALL}
 # The members that a note of each kind may have, and whether it has to have them.
 KNOWN = {kind: {member.name: member.default is MISSING for member in fields(kind)} for kind in ALL}
+FIRST_LOST = 5  # notes that are named where many lost their rows
 MOST_ALLOWANCE = 1_000  # tenths of a percent
 MAY_BE_ZERO = {"value", "day"}  # members of which 0 says something
 
@@ -284,6 +300,10 @@ def read_member(name: str, value: Any) -> Any:
         if not isinstance(value, list):
             raise ValueError("roles are a list")
         return tuple(map(Role, value))
+    if name == "lost":
+        if not isinstance(value, list) or not all(map(MEMBERS["of"], value)):
+            raise ValueError("the names of notes are a list")
+        return tuple(value)
     if not MEMBERS.get(name, is_text)(value):
         raise ValueError(f"{name} is none")
     return value

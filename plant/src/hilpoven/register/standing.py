@@ -7,6 +7,7 @@ import contextlib
 import sqlite3
 from collections.abc import Callable, Iterator, Sequence
 from dataclasses import dataclass, replace
+from typing import NamedTuple
 
 from .. import HOUSE
 from ..core.grammar import LINES, faults
@@ -20,22 +21,21 @@ from ..years.history import History
 from . import file
 from .facts import LotFacts, MaterialFacts, MovementFacts, OwnerFacts, RecipeFacts, ResultFacts, TestFacts, joined
 from .folding import Folded, Noted
-from .notes import Judgement, Link, NotLinked, Note, Party, Reason, Withdrawal, from_json
+from .meant import NAMED, is_in, query_of
+from .notes import Held, Judgement, Link, NotLinked, Note, Party, Reason, RowsLost, Withdrawal, from_json
 from .store import Judged, Register
 
 Base = sqlite3.Connection
-HAS_LOT = "SELECT 1 FROM lots WHERE owner = ? AND lot = ?"
-HAS_BATCH = "SELECT 1 FROM batches WHERE owner = ? AND ord = ? AND number = ?"
-HAS_KEY = "SELECT 1 FROM moves WHERE owner = ? AND mkey = ?"
+HAS_LOT, HAS_BATCH, HAS_KEY = NAMED["lots"], NAMED["batches"], NAMED["moves"]
 MADE = "SELECT lot FROM lots WHERE owner = ? AND ord = ? AND number = ?"
-HAS_ORDER = "SELECT 1 FROM orders WHERE owner = ? AND ord = ?"
 HAS_RESULT = "SELECT 1 FROM results WHERE owner = ? AND lot = ? AND test = ? AND value = ? AND day = ?"
 HAS_TEST = "SELECT 1 FROM tests WHERE owner = ? AND material = ? AND test = ? AND low = ? AND high = ?"
 IS_REJECTED = f"SELECT 1 FROM lots WHERE owner = '{HOUSE}' AND lot = ? AND disposition = {Disposition.REJECTED:d}"
 IS_CANCELLED = f"SELECT 1 FROM orders WHERE owner = '{HOUSE}' AND ord = ? AND cancelled = 1"
 NUMBERS = {"VALUE", "DAY", "LOW", "HIGH"}
 # Which name nothing that a file has, or what all files of an office have in common.
-OF_ALL_FILES = (Party, Withdrawal, OwnerFacts, MaterialFacts, RecipeFacts, TestFacts)
+OF_ALL_FILES = (Party, Withdrawal, RowsLost, OwnerFacts, MaterialFacts, RecipeFacts, TestFacts)
+BY_RESTORE = "its row was lost by a restore"
 AGAIN = "SELECT called FROM again WHERE kind = ? AND file = ? AND owner = ? AND name = ?"
 
 
@@ -47,6 +47,14 @@ class OfficeFile:
     base: Base
 
 
+class Fault(NamedTuple):
+    """Why a note doesn't stand, empty if it does; and whether that is only because the office hasn't the row that it
+    means."""
+
+    why: str = ""
+    is_lost: bool = False
+
+
 @dataclass(frozen=True)
 class Status:
     """A note of the journal, what it is (`None` if it can't be read), and why it doesn't stand (empty if it does)."""
@@ -54,6 +62,7 @@ class Status:
     noted: Noted
     note: Note | None
     fault: str = ""
+    is_lost: bool = False  # whether it would stand if the office had the row that it means
 
 
 @contextlib.contextmanager
@@ -69,36 +78,54 @@ def files_of(journal: Journal, newest: Base) -> Iterator[list[OfficeFile]]:
         yield [*files, OfficeFile(after, newest)]
 
 
-def statuses(folded: Folded, journal: Journal, files: Sequence[OfficeFile]) -> list[Status]:
-    """Each note about an office's file, and whether it stands, in the order in which they were noted."""
-    by_after = {office_file.after: office_file for office_file in files}
+def statuses(
+    folded: Folded, journal: Journal, files: Sequence[OfficeFile], lost: frozenset[str] | None = None
+) -> list[Status]:
+    """Each note about an office's file, and whether it stands, in the order in which they were noted. The notes whose
+    rows were lost are those that the last restore noted, where none are given."""
     newest_first: list[Status] = []
     withdrawn: dict[str, tuple[str, str]] = {}
     for noted in reversed(folded.belonging(journal)):
         note = from_json(noted.value)
-        fault = "can't be read" if note is None else fault_of(noted, note, folded, by_after.get(noted.after))
+        fault = Fault("can't be read") if note is None else fault_of(noted, note, folded, files, lost or frozenset())
         is_withdrawn = note and withdrawn.get(noted.name, ("",))[0] == note.owner
         if is_withdrawn and not isinstance(note, Judgement):
-            fault = f"withdrawn: {withdrawn[noted.name][1]}"
-        if isinstance(note, Withdrawal) and not fault:
+            fault = Fault(f"withdrawn: {withdrawn[noted.name][1]}")
+        if isinstance(note, Withdrawal) and not fault.why:
             withdrawn[note.of] = (note.owner, note.reason)
-        newest_first.append(Status(noted, note, fault))
+        if isinstance(note, RowsLost) and lost is None:
+            lost = frozenset(note.lost)
+        newest_first.append(Status(noted, note, *fault))
     return newest_first[::-1]
 
 
-def fault_of(noted: Noted, note: Note, folded: Folded, office_file: OfficeFile | None) -> str:
-    """Why a note doesn't stand that nobody withdrew; empty if it does."""
-    if noted.is_own and (office_file or isinstance(note, OF_ALL_FILES)):
-        return ""
-    if office_file is None:
-        return "about a file that isn't in use"
+def fault_of(noted: Noted, note: Note, folded: Folded, files: Sequence[OfficeFile], lost: frozenset[str]) -> Fault:
+    """Why a note doesn't stand that nobody withdrew. What stops a lot counts again once the office has the lot again,
+    also where a restore lost it."""
+    at = next((at for at, office_file in enumerate(files) if office_file.after == noted.after), None)
+    if at is None and not isinstance(note, OF_ALL_FILES):
+        return Fault("about a file that isn't in use", True)
+    if not noted.is_own and (fault := fault_of_command(noted, folded, files[at].base if at is not None else None)).why:
+        return fault
+    if noted.meant is None:
+        return Fault("what it means can't be read")
+    known = files if at is None else files[: at + 1]
+    if not all(any(is_in(office_file.base, row) for office_file in reversed(known)) for row in noted.meant):
+        return Fault("the row that it means isn't there", True)
+    return Fault(BY_RESTORE, True) if noted.name in lost and not isinstance(note, Held) else Fault()
+
+
+def fault_of_command(noted: Noted, folded: Folded, base: Base | None) -> Fault:
+    """Why a note doesn't stand that belongs to a command: `toll` refused that, or the office hasn't what it recorded."""
+    if base is None:
+        return Fault("about a file that isn't in use", True)
     is_done = folded.answers.get(noted.line)
     if is_done is False:
-        return "its command was refused"
-    is_there = is_recorded(office_file.base, noted.words)
+        return Fault("its command was refused")
+    is_there = is_recorded(base, noted.words)
     if is_there is None:
-        return "" if is_done else "its command has no answer"
-    return "" if is_there else f"its {kind_of(noted.words)} isn't there"
+        return Fault() if is_done else Fault("its command has no answer")
+    return Fault() if is_there else Fault(f"its {kind_of(noted.words)} isn't there", is_done is True)
 
 
 @dataclass(frozen=True)
@@ -179,32 +206,34 @@ class Reader:
     files: Sequence[OfficeFile]
     naming: Naming
 
-    def place(self, after: str, sql: str, *words: str | int) -> int | None:
-        """The file that a name means: the newest one up to the note's own in which a query finds it."""
-        own = next(at for at, office_file in enumerate(self.files) if office_file.after == after)
+    def place(self, noted: Noted, table: str, *names: str | int) -> int | None:
+        """The file that a name means in a note: the newest one up to the note's own that has the row that was meant, or,
+        where the note doesn't say which, one of that name."""
+        own = next(at for at, office_file in enumerate(self.files) if office_file.after == noted.after)
+        sql, words = query_of(noted.meant or (), table, names)
         return next((at for at in range(own, -1, -1) if self.files[at].base.execute(sql, words).fetchone()), None)
 
-    def lot(self, after: str, owner: str, lot: str) -> str:
+    def lot(self, noted: Noted, owner: str, lot: str) -> str:
         """What a lot is called."""
-        at = self.place(after, HAS_LOT, owner, lot)
+        at = self.place(noted, "lots", owner, lot)
         return "" if at is None else self.naming("lot", at, owner, lot)
 
-    def key(self, after: str, owner: str, key: str) -> str:
+    def key(self, noted: Noted, owner: str, key: str) -> str:
         """What the key of a movement is called."""
-        at = self.place(after, HAS_KEY, owner, key)
+        at = self.place(noted, "moves", owner, key)
         return "" if at is None else self.naming("key", at, owner, key)
 
-    def links(self, after: str, link: Link) -> Iterator[Link]:
+    def links(self, noted: Noted, link: Link) -> Iterator[Link]:
         """A link as it is read: that of a batch of another file is one of each lot that it made there."""
-        of_lot = self.lot(after, link.of_owner, link.of_lot)
+        of_lot = self.lot(noted, link.of_owner, link.of_lot)
         if not of_lot:
             return
         link = replace(link, of_lot=of_lot)
         if link.lot:
-            lot = self.lot(after, link.owner, link.lot)
+            lot = self.lot(noted, link.owner, link.lot)
             yield from [replace(link, lot=lot)] if lot else []
             return
-        at = self.place(after, HAS_BATCH, link.owner, link.order, link.batch)
+        at = self.place(noted, "batches", link.owner, link.order, link.batch)
         if at is None:
             return
         order = self.naming("order", at, link.owner, link.order)
@@ -217,7 +246,6 @@ class Reader:
 
     def add(self, register: Register, noted: Noted, note: Note) -> None:
         """Adds a note that stands, other than a link."""
-        after = noted.after
         match note:
             case Party():
                 register.parties[note.owner, note.party] = note
@@ -233,26 +261,26 @@ class Reader:
                 test = note.owner, note.material, note.test
                 register.tests[test] = joined(register.tests.get(test), note)
             case MovementFacts() | NotLinked():
-                if key := self.key(after, note.owner, note.key):
+                if key := self.key(noted, note.owner, note.key):
                     add_of_movement(register, replace(note, key=key))
             case LotFacts() | ResultFacts():
-                if lot := self.lot(after, note.owner, note.lot):
+                if lot := self.lot(noted, note.owner, note.lot):
                     add_of_lot(register, replace(note, lot=lot))
             case Judgement():
-                if lot := self.lot(after, note.owner, note.lot):
+                if lot := self.lot(noted, note.owner, note.lot):
                     judged = register.judged.setdefault(LotId(note.owner, lot), [])
                     judged.append(Judged(replace(note, lot=lot), noted.is_own))
             case Reason():
-                if reason := self.reason(after, note):
+                if reason := self.reason(noted, note):
                     register.reasons.append(reason)
 
-    def reason(self, after: str, note: Reason) -> Reason | None:
+    def reason(self, noted: Noted, note: Reason) -> Reason | None:
         """A reason as it is read; `None` if what it is about isn't there."""
         if note.lot:
-            return replace(note, lot=lot) if (lot := self.lot(after, note.owner, note.lot)) else None
+            return replace(note, lot=lot) if (lot := self.lot(noted, note.owner, note.lot)) else None
         if note.key:
-            return replace(note, key=key) if (key := self.key(after, note.owner, note.key)) else None
-        at = self.place(after, HAS_ORDER, note.owner, note.order)
+            return replace(note, key=key) if (key := self.key(noted, note.owner, note.key)) else None
+        at = self.place(noted, "orders", note.owner, note.order)
         order = "" if at is None else self.naming("order", at, note.owner, note.order)
         return replace(note, order=order) if order else None
 
@@ -290,7 +318,7 @@ def read(journal: Journal, newest: Base, whole: Base | None = None) -> Register:
     with reader_of(journal, newest, whole) as reader:
         for status in statuses(folded, journal, reader.files):
             if isinstance(status.note, Link) and not status.fault:
-                links.update(dict.fromkeys(reader.links(status.noted.after, status.note)))
+                links.update(dict.fromkeys(reader.links(status.noted, status.note)))
             elif status.note and not status.fault:
                 reader.add(register, status.noted, status.note)
     register.links.extend(links)

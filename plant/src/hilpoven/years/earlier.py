@@ -12,10 +12,10 @@ from ..core.failure import REFUSED
 from ..core.grammar import LINES, Line
 from ..core.office import Answer, Office
 from ..records.schema import INCOMING, ON_HAND, Kind
+from ..records.schema import MOVE_COLUMNS as MOVE_COLUMNS
 from ..sheets.sheet import Record
 from . import chain
 
-MOVE_COLUMNS = "kind, lot_owner, lot, sublot, target, material, ord, number, segment, amount, day"
 MOVE = f"SELECT {MOVE_COLUMNS} FROM moves WHERE owner = ? AND mkey = ?"
 VOIDED = "SELECT 1 FROM voids WHERE owner = ? AND mkey = ?"
 LOT = f"SELECT ord, number, {ON_HAND} FROM lots AS l WHERE owner = ? AND lot = ?"
