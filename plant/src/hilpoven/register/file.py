@@ -11,8 +11,9 @@ import sqlite3
 import stat
 import time
 from collections.abc import Iterator
+from dataclasses import dataclass
 
-from ..core import lock, rights, scratch
+from ..core import lock, rights, scratch, snapshot
 from ..core.failure import REFUSED, Failure, tell
 from ..journal.log import FLAGS, Journal
 from . import folding
@@ -46,6 +47,17 @@ def path_of(file: str) -> str:
     return f"{file}{END}"
 
 
+@dataclass(frozen=True)
+class Known:
+    """What a register had when this process read it last: its stamp, and how far the journal was folded."""
+
+    stamp: snapshot.Stamp
+    folded: Folded
+
+
+KNOWN: dict[str, Known] = {}  # by their paths: most commands read the notes several times
+
+
 def notes_of(journal: Journal) -> Folded:
     """What the journal's notes are now. Where it has none, no file is made."""
     path, folded = path_of(journal.file), Folded()
@@ -55,7 +67,9 @@ def notes_of(journal: Journal) -> Folded:
             return folded
     try:
         with locked(path, journal.file) as base:
-            return caught_up(base, journal, folded)
+            folded = caught_up(base, journal, folded, KNOWN.get(path))
+            KNOWN[path] = Known(snapshot.stamp_of(path), folded)
+            return folded
     except (OSError, sqlite3.Error, Unusable) as error:
         tell(f"The register {path} isn't used, and notes are read from the journal: {reason_of(error)}.")
     fold_on(journal.path, folded)
@@ -176,10 +190,13 @@ def transaction(base: sqlite3.Connection) -> Iterator[None]:
         raise
 
 
-def caught_up(base: sqlite3.Connection, journal: Journal, known: Folded | None = None) -> Folded:
+def caught_up(
+    base: sqlite3.Connection, journal: Journal, known: Folded | None = None, last: Known | None = None
+) -> Folded:
     """What the register has, with what the journal has behind it, which is added. Where the register is new, what is
-    known of the journal need not be read again."""
-    folded = read(base)
+    known of the journal need not be read again, and where nobody wrote it, what was read of it last."""
+    is_same = last and snapshot.stamp_of(path_of(journal.file)) == last.stamp and place_in(base) == last.folded.place
+    folded = last.folded if last and is_same else read(base)
     require_continued(folded, journal)
     place, notes, answers, moves = folded.place, len(folded.notes), set(folded.answers), len(folded.files.moves)
     folded = known if known and not place.end else folded
@@ -224,6 +241,12 @@ def read(base: sqlite3.Connection) -> Folded:
     except (TypeError, ValueError) as error:
         raise Unusable(f"a row of it can't be read: {error}") from error
     return folded
+
+
+def place_in(base: sqlite3.Connection) -> Place | None:
+    """How far the register has the journal; `None` if it doesn't say so."""
+    row = base.execute("SELECT start, stop, hash FROM folded").fetchone()
+    return Place(*row) if row else None
 
 
 def rebuild(journal: Journal) -> Folded:

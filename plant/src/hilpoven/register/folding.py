@@ -1,11 +1,12 @@
 """The fold over a journal: its notes, what was answered to the commands that they belong to, and where the file was."""
 import contextlib
+import functools
 import json
 import os
 import re
 from collections.abc import Iterator
-from dataclasses import dataclass, field
-from typing import Any
+from dataclasses import dataclass, field, fields
+from typing import TYPE_CHECKING, Any
 
 from ..core.failure import Failure
 from ..core.rights import advice
@@ -13,6 +14,9 @@ from ..journal.history import who
 from ..journal.log import FLAGS, Journal, entry_of, hash_of
 from ..journal.query import Files
 from .meant import MEANT, Row, rows_in
+
+if TYPE_CHECKING:
+    from .note import Note
 
 MARK = b'"notes": [{"'  # what each line with a note has, and a text never has: there a quote stands behind a backslash
 MOVED, TOLD, FILE = b'"moved"', b'"event": "told"', b'"file": '
@@ -36,6 +40,16 @@ class Noted:
     is_own: bool  # whether its line is about nothing else; otherwise it belongs to what the line asks
     value: Any
     meant: tuple[Row, ...] | None = ()  # the rows that it means, as far as its line has them; `None` if they are none
+
+    @functools.cached_property
+    def note(self) -> "Note | None":
+        """The note that it is; `None` if it can't be read. It is read once."""
+        from .notes import from_json
+
+        return from_json(self.value)
+
+
+MEMBERS = [member.name for member in fields(Noted)]
 
 
 @dataclass(frozen=True)
@@ -168,7 +182,7 @@ def has_notes(descriptor: int, place: int) -> bool:
 
 def as_text(noted: Noted) -> str:
     """A note with its line, for the register."""
-    return json.dumps([*vars(noted).values()])
+    return json.dumps([getattr(noted, name) for name in MEMBERS])
 
 
 def from_text(text: str) -> Noted:

@@ -15,7 +15,7 @@ from . import file
 from .folding import Noted
 from .meant import NAMED
 from .named_rows import named_by
-from .notes import Note, RowsLost, from_json, to_json
+from .notes import Note, RowsLost, to_json
 from .standing import Base, OfficeFile, Status, files_of, statuses
 
 FIRST = 10  # notes that are told where many lost their rows
@@ -70,9 +70,8 @@ def end_of(entries: Sequence[dict[str, Any]], at: int) -> int:
 def lost_before(notes: Sequence[Noted], lines: set[str]) -> frozenset[str]:
     """The notes that had lost their rows when these were the journal's lines."""
     for noted in reversed(notes):
-        note = from_json(noted.value)
-        if isinstance(note, RowsLost) and noted.line in lines:
-            return frozenset(note.lost)
+        if isinstance(noted.note, RowsLost) and noted.line in lines:
+            return frozenset(noted.note.lost)
     return frozenset()
 
 

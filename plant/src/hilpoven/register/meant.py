@@ -15,7 +15,7 @@ Names = tuple[str | int, ...]
 Row = tuple[str | int, ...]  # its table, its names, and its other values
 MEANT = "meant"  # the member of a line: of each of its notes, the rows that it means
 MOST_ROWS = 6  # that a note means
-MOST_NUMBER = 2**63  # above those of SQLite
+NUMBERS = {"kind", "number", "segment", "amount", "day", "batches", "low", "high"}  # the columns that aren't texts
 
 
 class Columns(NamedTuple):
@@ -49,6 +49,10 @@ EXACT = {
     table: f"SELECT 1 FROM {table} WHERE {where((*columns.names, *columns.values))}"
     for table, columns in TABLES.items()
 }
+TYPES = {
+    table: [str, *(int if column in NUMBERS else str for column in (*columns.names, *columns.values))]
+    for table, columns in TABLES.items()
+}
 
 
 def rows_in(value: Any) -> tuple[Row, ...] | None:
@@ -61,25 +65,18 @@ def rows_in(value: Any) -> tuple[Row, ...] | None:
 
 def is_row(row: list[Any]) -> bool:
     """Whether these may be the table and the values of a row."""
-    columns = TABLES.get(row[0]) if row and isinstance(row[0], str) else None
-    if columns is None or len(row) != 1 + len(columns.names) + len(columns.values):
-        return False
-    return all(value.isascii() if type(value) is str else is_number(value) for value in row)
-
-
-def is_number(value: Any) -> bool:
-    """Whether a value may be a number of the office's tables."""
-    return type(value) is int and -MOST_NUMBER <= value < MOST_NUMBER
+    types = TYPES.get(row[0]) if row and isinstance(row[0], str) else None
+    return types is not None and [type(value) for value in row] == types
 
 
 def is_in(base: Base, row: Row) -> bool:
-    """Whether a file has a row with all its values."""
-    return base.execute(EXACT[str(row[0])], row[1:]).fetchone() is not None
+    """Whether a file has a row with all its values. It has none with a value that SQLite can't have."""
+    try:
+        return base.execute(EXACT[str(row[0])], row[1:]).fetchone() is not None
+    except (OverflowError, UnicodeError):
+        return False
 
 
-def query_of(rows: Sequence[Row], table: str, names: Names) -> tuple[str, Names]:
-    """The query that finds what a note names, with its words: the very row that was meant, where the note has it."""
-    for row in rows:
-        if row[0] == table and row[1 : 1 + len(names)] == names:
-            return EXACT[table], row[1:]
-    return NAMED[table], names
+def row_of(rows: Sequence[Row], table: str, names: Names) -> Row:
+    """The row of these names that was meant; empty where nothing says which one was."""
+    return next((row for row in rows if row[0] == table and row[1 : 1 + len(names)] == names), ())

@@ -21,8 +21,8 @@ from ..years.history import History
 from . import file
 from .facts import LotFacts, MaterialFacts, MovementFacts, OwnerFacts, RecipeFacts, ResultFacts, TestFacts, joined
 from .folding import Folded, Noted
-from .meant import NAMED, is_in, query_of
-from .notes import Held, Judgement, Link, NotLinked, Note, Party, Reason, RowsLost, Withdrawal, from_json
+from .meant import EXACT, NAMED, is_in, row_of
+from .notes import Held, Judgement, Link, NotLinked, Note, Party, Reason, RowsLost, Withdrawal
 from .store import Judged, Register
 
 Base = sqlite3.Connection
@@ -86,7 +86,7 @@ def statuses(
     newest_first: list[Status] = []
     withdrawn: dict[str, tuple[str, str]] = {}
     for noted in reversed(folded.belonging(journal)):
-        note = from_json(noted.value)
+        note = noted.note
         fault = Fault("can't be read") if note is None else fault_of(noted, note, folded, files, lost or frozenset())
         is_withdrawn = note and withdrawn.get(noted.name, ("",))[0] == note.owner
         if is_withdrawn and not isinstance(note, Judgement):
@@ -210,7 +210,10 @@ class Reader:
         """The file that a name means in a note: the newest one up to the note's own that has the row that was meant, or,
         where the note doesn't say which, one of that name."""
         own = next(at for at, office_file in enumerate(self.files) if office_file.after == noted.after)
-        sql, words = query_of(noted.meant or (), table, names)
+        row = row_of(noted.meant, table, names) if noted.meant else ()
+        if row and not own:
+            return own  # otherwise the note wouldn't stand
+        sql, words = (EXACT[table], row[1:]) if row else (NAMED[table], names)
         return next((at for at in range(own, -1, -1) if self.files[at].base.execute(sql, words).fetchone()), None)
 
     def lot(self, noted: Noted, owner: str, lot: str) -> str:
