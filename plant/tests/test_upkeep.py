@@ -14,6 +14,7 @@ import pytest
 from conftest import Plant, command, environment
 from hilpoven.core import backups, settings as site
 from hilpoven.core.grammar import LINES
+from hilpoven.core.office import Office
 from hilpoven.journal.query import check
 from hilpoven.records import accepted
 
@@ -216,6 +217,29 @@ def test_verify_asks_for_no_row_from_before_a_restore(at_work):
     backup = backed_up(at_work)
     assert at_work.run("unit-add", "PRESS").status == at_work.run("restore", backup).status == 0
     assert ("PRESS",) not in at_work.rows("SELECT unit FROM units") and at_work.run("verify").status == 0
+
+
+@pytest.mark.parametrize("is_behind", [False, True])
+def test_a_restore_that_failed_changes_nothing_of_what_verify_says(at_work, monkeypatch, is_behind):
+    """Only one that failed behind the exchange of the file left rows behind."""
+    backup = backed_up(at_work)
+    for unit in ("PRESS", "OVEN", "TANK", "PUMP"):
+        assert at_work.run("unit-add", unit).status == 0
+    with contextlib.closing(sqlite3.connect(at_work.db)) as base, base:
+        base.execute("DELETE FROM units WHERE unit = 'OVEN'")
+    before = at_work.run("verify")
+    assert before.status == 3 and "1 of 4 rows that the journal's accepted commands added are missing" in before.out
+
+    def fail(*_: object) -> str:
+        raise OSError(28, "No space left on device", str(at_work.db))
+    with monkeypatch.context() as patch:
+        patch.setattr(*((Office, "ask_patiently") if is_behind else (backups, "move_aside")), fail)
+        with pytest.raises(OSError):
+            at_work.run("restore", backup)
+    assert "No space left" in at_work.lines()[-1]["error"]
+    done = at_work.run("verify")
+    assert done.out.splitlines()[0] == ("file: sound; sublots hold what movements come to; toll opens it" if is_behind else before.out.splitlines()[0])
+    assert done.status == (0 if is_behind else 3)
 
 
 def test_verify_finds_damage_and_a_changed_journal(at_work):

@@ -7,7 +7,7 @@ import tempfile
 import time
 
 from ..journal import query
-from ..journal.log import Journal
+from ..journal.log import IN_PLACE, Journal
 from ..records.schema import IS_INCOMING, STANDING, Kind
 from . import lock, paths, scratch, server, snapshot
 from .failure import FAULT, REFUSED, WRONG_USE, Failure
@@ -208,6 +208,7 @@ def replace(office: Office, copy: str, place: Place, journal: Journal, words: li
             stop_on_server(office.file, place)
             aside = move_aside(office.file)
             put_in_place(copy, office.file)
+            note.members[IN_PLACE] = True
         answer = office.ask_patiently(["stock", "HOUSE"])
         if answer.status:
             advice = f"what was there is in {aside}" if aside else ""

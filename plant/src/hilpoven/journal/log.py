@@ -19,6 +19,7 @@ NOTHING_DONE = "nothing is done that isn't noted there"
 BEGINNING = "0" * 64  # before the first line
 PIECE = 8_192  # bytes
 FLAGS = os.O_CLOEXEC | os.O_NOFOLLOW | os.O_NONBLOCK  # no link is followed, and no pipe is waited for
+IN_PLACE = "in_place"  # a member of an answer: another file has the office's place, also where something failed since
 NOBODY = 4_294_967_295  # the login of a process that no login began
 
 
@@ -125,7 +126,8 @@ class Journal:
         except BaseException as error:
             why = "stopped" if isinstance(error, (SystemExit, KeyboardInterrupt)) else str(error)
             status = error.exit_code if isinstance(error, Failure) else FAULT
-            self.answered(name, Answer(status, "" if note.answer is DONE else note.answer.output, f"{why}\n"))
+            answer = Answer(status, "" if note.answer is DONE else note.answer.output, f"{why}\n")
+            self.answered(name, answer, **note.members)
             raise
         self.answered(name, note.answer, **note.members)
 

@@ -8,7 +8,9 @@ from .. import HOUSE
 from ..core.failure import printable
 from ..core.grammar import LINES, MOVEMENTS
 from ..journal.history import listed
+from ..journal.log import IN_PLACE
 from ..sheets.importing import OUTCOME
+from ..years.chain import Carried, came_from
 
 # The row that a line adds, by its values. Other lines, such as `do` and `release`, change a row.
 ROWS = {
@@ -42,16 +44,28 @@ class AddedRow:
 
 
 def added_rows(entries: Iterable[dict[str, Any]]) -> list[AddedRow]:
-    """The rows that accepted commands added since the office's file was last replaced."""
+    """The rows that accepted commands added since the office's file was last replaced. A command that was to replace it,
+    and failed before it did, or was never answered, replaced nothing."""
     asked, rows = dict[str, dict[str, Any]](), list[AddedRow]()
     for entry in entries:
         if entry.get("event") == "asked":
             asked[str(entry.get("id"))] = entry
-            if not REPLACING.isdisjoint(map(str, listed(entry, "words")[:1])):
-                rows = []
         elif entry.get("event") == "told" and (command := asked.pop(str(entry.get("of")), None)):
-            rows += rows_of(command, str(entry.get("answer")))
+            rows = [] if has_replaced(command, entry) else [*rows, *rows_of(command, str(entry.get("answer")))]
     return rows
+
+
+def has_replaced(command: dict[str, Any], answer: dict[str, Any]) -> bool:
+    """Whether a command put another file in the office's place, by its answer."""
+    is_replacing = not REPLACING.isdisjoint(map(str, listed(command, "words")[:1]))
+    is_done = answer.get("status") == 0 and not answer.get("error")
+    return is_replacing and (is_done or answer.get(IN_PLACE) is True)
+
+
+def since(rows: list[AddedRow], came: Carried | None) -> list[AddedRow]:
+    """Those of the rows that were added since the office was carried over into its file, also where the journal has no
+    answer of that."""
+    return [row for row in rows if came is None or row.time >= came.at]
 
 
 def rows_of(command: dict[str, Any], answer: str) -> Iterator[AddedRow]:
@@ -74,6 +88,7 @@ def rows_of(command: dict[str, Any], answer: str) -> Iterator[AddedRow]:
 def lacking(base: sqlite3.Connection, rows: list[AddedRow]) -> list[str]:
     """What is reported of the rows that the tables lack; empty if they have all."""
     try:
+        rows = since(rows, came_from(base))
         lost = [row for row in rows if not row.is_in(base)]
     except sqlite3.Error as error:
         return [f"it can't be read: {error}"]
