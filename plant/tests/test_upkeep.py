@@ -11,10 +11,11 @@ import subprocess
 import time
 
 import pytest
-from conftest import Plant, command, environment
+from conftest import Plant, command, copied, environment
 from hilpoven.core import backups, settings as site
 from hilpoven.core.grammar import LINES
 from hilpoven.core.office import Office
+from hilpoven.journal.log import Journal
 from hilpoven.journal.query import check
 from hilpoven.records import accepted
 
@@ -43,23 +44,31 @@ def test_a_backup_is_the_office(at_work):
     assert at_work.toll("stock", "ACME", db=backup).out == at_work.toll("stock", "ACME").out
 
 
+def own(plant: Plant, stamp: str) -> str:
+    """The name of a backup of an office, by its mark: the front of the hash of its journal's first line."""
+    if not plant.journal.exists():
+        assert plant.run("unit-add", "FIRST").status == 0
+    return f"office-{hashlib.sha256(plant.journal.read_bytes().splitlines()[0]).hexdigest()[:8]}-{stamp}.db"
+
+
 def test_the_newest_are_kept_and_others_are_let_be(at_work):
     folder = at_work.folder / "backups"
     folder.mkdir()
-    others = ["office-x-20200101-000000.db", "other-20200101-000000.db", "office-20200101-000000.db.txt"]
-    for name in [*others, "office-20200101-000000.db", "office-20200102-000000.db", "office-20200103-000000.db"]:
+    others = ["office-x-20200101-000000.db", "other-20200101-000000.db", f"{own(at_work, '20200101-000000')}.txt", "office-01234567-20200101-000000.db",
+              "office-20200101-000000.db", "office-01234567-20200101-000000.db.journal", "office-20200102-000000.db.journal"]
+    for name in [*others, *(own(at_work, f"2020010{day}-000000") for day in "123")]:
         (folder / name).write_text("")
     backup = at_work.run("backup", folder, "--keep", "2").out.splitlines()[0]
-    assert set(os.listdir(folder)) == {*others, "office-20200103-000000.db", os.path.basename(backup), f"{os.path.basename(backup)}.journal"}
+    assert set(os.listdir(folder)) == {*others, own(at_work, "20200103-000000"), os.path.basename(backup), f"{os.path.basename(backup)}.journal"}
 
 
 def test_the_last_of_each_day_is_kept(at_work):
     folder = at_work.folder / "backups"
     folder.mkdir()
     for moment in ("20200101-000000", "20200101-120000", "20200102-000000", "20200103-000000", "20200103-000001"):
-        (folder / f"office-{moment}.db").write_text("")
+        (folder / own(at_work, moment)).write_text("")
     at_work.run("backup", folder, "--keep", "1", "--days", "3")
-    assert sorted(os.listdir(folder))[:2] == ["office-20200102-000000.db", "office-20200103-000001.db"] and len(os.listdir(folder)) == 4
+    assert sorted(os.listdir(folder))[:2] == [own(at_work, "20200102-000000"), own(at_work, "20200103-000001")] and len(os.listdir(folder)) == 4
 
 
 @pytest.mark.parametrize("name", ["an\noffice.db", "off%69ce.db", "office.db?x=1.db", "-n.db", ".db", "office"])
@@ -276,7 +285,7 @@ def names_in(folder) -> list[str]:
 def test_a_new_backup_is_never_removed(at_work):
     at_work.settle()
     folder = at_work.folder / "backups"
-    for name in ("office-20300101-000000.db", "office-20310101-000000.db", "office-20200101-000000.db.journal"):
+    for name in (own(at_work, "20300101-000000"), own(at_work, "20310101-000000"), f"{own(at_work, '20200101-000000')}.journal"):
         (folder / name).write_text("")
     first = at_work.run("backup", "--keep", "1", folder).out.splitlines()[0]
     assert set(os.listdir(folder)) == {os.path.basename(first), f"{os.path.basename(first)}.journal"}
@@ -301,9 +310,60 @@ def test_a_backup_of_the_future_wants_attention(at_work, monkeypatch):
     at_work.settle()
     assert at_work.run("backup").status == 0
     assert at_work.run("status").status == 0
-    (at_work.folder / "backups" / "office-20990101-000000.db").write_text("")
+    (at_work.folder / "backups" / own(at_work, "20990101-000000")).write_text("")
     done = at_work.run("status")
-    assert done.status == 1 and "office-20990101-000000.db is dated in the future" in done.out
+    assert done.status == 1 and f"{own(at_work, '20990101-000000')} is dated in the future" in done.out
+
+
+def second(plant: Plant, folder) -> Plant:
+    """Another office, whose file has the same name, on the same folder of backups."""
+    folder.mkdir()
+    other = copied(plant, Plant(plant.program, folder))
+    assert other.run("unit-add", "SECOND").status == 0
+    return other
+
+
+def test_offices_that_share_a_folder_have_their_own_backups(at_work, monkeypatch):
+    at_work.settle(keep=1)
+    folder = at_work.folder / "backups"
+    other = second(at_work, at_work.folder / "other")
+    first = at_work.run("backup").out.splitlines()[0]
+    for _ in range(3):
+        theirs = other.run("backup", folder, "--keep", "1").out.splitlines()[0]
+        mine = at_work.run("backup", "--keep", "1").out.splitlines()[0]
+    assert not os.path.exists(first) and set(names_in(folder)) == {os.path.basename(theirs), os.path.basename(mine)}
+    assert f"backup: {mine}, " in at_work.run("status").out
+    before = at_work.content()
+    for done in (at_work.run("restore", theirs), at_work.as_member("restore", os.path.basename(theirs))):
+        assert done.status == 1 and "is a backup of another office: its mark is" in done.err and at_work.content() == before
+    os.unlink(mine)
+    assert "there is no backup in" in at_work.run("status").out
+    assert at_work.run("restore", "--foreign", theirs).status == 0 and ("SECOND",) in at_work.rows("SELECT unit FROM units")
+
+
+def test_a_backup_of_an_earlier_version_is_listed_restored_and_removed_only_as_it_was_made(at_work):
+    """Its name has no mark, so another office may have made one of the same name."""
+    at_work.settle(keep=1)
+    folder, name = at_work.folder / "backups", "office-20261101-000000.db"
+    made, content = at_work.run("backup").out.splitlines()[0], at_work.content()
+    os.rename(made, folder / name)
+    os.rename(f"{made}.journal", folder / f"{name}.journal")
+    lines = at_work.journal.read_text().replace(os.path.basename(made), name).splitlines()
+    at_work.journal.write_text("")
+    journal = Journal(str(at_work.journal), str(at_work.db))
+    for line in map(json.loads, lines):
+        journal.add({member: value for member, value in line.items() if member not in ("before", "time")})
+    assert at_work.run("unit-add", "PRESS").status == 0 and f"backup: {folder / name}, " in at_work.run("status").out
+    assert at_work.run("restore", name).status == 0 and at_work.content() == content
+    kept = (folder / name).read_bytes()
+    (folder / name).write_bytes(b"of another office")
+    assert at_work.run("backup").status == 0 and name in names_in(folder)
+    (folder / name).unlink()
+    (folder / name).symlink_to(at_work.journal)
+    assert at_work.run("backup").status == 0 and name in names_in(folder)
+    (folder / name).unlink()
+    (folder / name).write_bytes(kept)
+    assert at_work.run("backup").status == 0 and name not in names_in(folder) and not (folder / f"{name}.journal").exists()
 
 
 def test_two_backups_of_one_second_are_two(at_work, monkeypatch):

@@ -81,10 +81,10 @@ def require_no_notes(journal: Journal) -> None:
 def backup(context: Context, folder: str | None, keep: int | None, days: int | None) -> None:
     """Makes a backup in a folder, while the server runs, and checks it.
 
-    Its name is that of the file with the time in UTC. SQLite checks all of it, and toll opens a copy of it, before it
-    gets its name: so there is a complete backup or none. The journal's lines so far lie beside it, and the journal
-    notes its SHA-256. Only the office's user and root may change the folder. The server doesn't need to reopen its
-    file.
+    Its name is that of the file, the office's mark and the time in UTC, so offices may share a folder. SQLite checks
+    all of it, and toll opens a copy of it, before it gets its name: so there is a complete backup or none. The
+    journal's lines so far lie beside it, and the journal notes its SHA-256. Only the office's user and root may change
+    the folder. The server doesn't need to reopen its file.
 
     Example: hilpoven backup /var/lib/toll/backup
     """
@@ -110,7 +110,8 @@ def chosen(context: Context, backup: str) -> str:
         return os.path.realpath(backup)
     folder = paths.private(backups_of(context))
     if not re.fullmatch(backups.form_of(context.file), backup):
-        example = f"{backups.name_of(context.file)}-20261127-010203.db"
+        mark = backups.mark_of(context.journal()) or "1a2b3c4d"
+        example = f"{backups.name_of(context.file)}-{mark}-20261127-010203.db"
         raise Failure(f"{backup} is no name of a backup", WRONG_USE, f"such as {example}, which is in {folder}")
     return os.path.join(folder, backup)
 
@@ -149,7 +150,7 @@ def restore(context: Context, backup: str | None, is_foreign: bool, moment: floa
     register is made anew from the journal. Import the sheets since the backup again. With --at it makes the file of
     the snapshots and pieces of `hilpoven follow`, as it was at that time.
 
-    Example: hilpoven restore office-20261127-010203.db
+    Example: hilpoven restore office-1a2b3c4d-20261127-010203.db
     """
     if (backup is None) == (moment is None) or moment is not None and is_foreign:
         raise Failure("either BACKUP or --at TIME is given", WRONG_USE)

@@ -6,7 +6,7 @@ import sqlite3
 import tempfile
 import time
 
-from ..journal import query
+from ..journal import log as journals, query
 from ..journal.log import IN_PLACE, Journal
 from ..records.schema import IS_INCOMING, STANDING, Kind
 from . import lock, paths, scratch, server, snapshot
@@ -16,6 +16,8 @@ from .server import Place
 from .snapshot import hash_of
 
 STAMP = r"[0-9]{8}-[0-9]{6}"
+MARK = r"[0-9a-f]{8}"  # of an office, before the stamp; earlier versions wrote none
+ANY_MARK = f"(?:{MARK}-)?"
 JOURNAL = ".journal"  # the end of the name of the journal's lines that lie beside a backup
 TOLERANCE = 300  # seconds by which clocks may differ
 REGISTER = (".register", ".register-journal")  # of which no backup is made: the journal's lines give it
@@ -36,22 +38,42 @@ def recorded(journal: Journal) -> dict[str, str]:
     return hashes
 
 
+def mark_of(journal: Journal) -> str:
+    """What tells an office's backups from those of others in the same folder, whose files may have the same name: the
+    front of the hash of its journal's first line, as the journal goes where the office goes. Empty without a line."""
+    line = next(query.lines_of(journal.path), b"")
+    return journals.hash_of(line[:-1])[:8] if line.endswith(b"\n") else ""
+
+
 def all_of(file: str, folder: str, journal: Journal) -> list[str]:
-    """The backups of a file in a folder, the one that was made last first. The journal knows the order, whatever the
-    clock said; those that it doesn't note are older ones."""
+    """The backups of an office in a folder, the one that was made last first: those with its mark, and those without
+    one, as earlier versions made them, that its journal notes. The journal knows the order, whatever the clock said;
+    those that it doesn't note are older ones."""
     try:
         names = os.listdir(folder)
     except OSError as error:
         raise Failure(f"{folder} can't be looked at: {error.strerror}") from error
     places = {name: place for place, name in enumerate(recorded(journal), 1)}
-    backups = filter(re.compile(form_of(file)).fullmatch, names)
-    newest_first = sorted(backups, key=lambda name: (places.get(name, 0), name), reverse=True)
+    own, unmarked = own_form(file, journal), re.compile(form_of(file, ""))
+    backups = [name for name in names if own.fullmatch(name) or name in places and unmarked.fullmatch(name)]
+    newest_first = sorted(backups, key=lambda name: (places.get(name, 0), stamp_in(name)), reverse=True)
     return [os.path.join(folder, name) for name in newest_first]
 
 
-def form_of(file: str) -> str:
-    """The form of the names of a file's backups."""
-    return rf"{re.escape(name_of(file))}-{STAMP}\.db"
+def form_of(file: str, mark: str = ANY_MARK) -> str:
+    """The form of the names of a file's backups, of any office or with a mark."""
+    return rf"{re.escape(name_of(file))}-{mark}{STAMP}\.db"
+
+
+def own_form(file: str, journal: Journal, end: str = "") -> re.Pattern[str]:
+    """The form of the names that have an office's mark. Of an office without a journal there are none."""
+    mark = mark_of(journal)
+    return re.compile(form_of(file, f"{mark}-") + re.escape(end) if mark else r"(?!)")
+
+
+def stamp_in(backup: str) -> str:
+    """When a backup was made, as its name says it."""
+    return backup[-len("YYYYMMDD-HHMMSS.db") : -len(".db")]
 
 
 def newest(file: str, folder: str, journal: Journal) -> tuple[str, list[str]]:
@@ -62,9 +84,7 @@ def newest(file: str, folder: str, journal: Journal) -> tuple[str, list[str]]:
     except Failure:
         return "", []
     latest = time.strftime("%Y%m%d-%H%M%S", time.gmtime(time.time() + TOLERANCE))
-    return next(iter(backups), ""), [
-        backup for backup in backups if backup[-len("YYYYMMDD-HHMMSS.db") : -len(".db")] > latest
-    ]
+    return next(iter(backups), ""), [backup for backup in backups if stamp_in(backup) > latest]
 
 
 def changed(file: str, folder: str, journal: Journal) -> tuple[int, list[str]]:
@@ -82,8 +102,10 @@ def make(office: Office, folder: str, keep: int, days: int, journal: Journal) ->
         settle(copy)
         require_sound(office, copy)
         digest = hash_of(copy)
+        if not mark_of(journal):
+            journal.exported(office.file, ["backup"])  # its first line, from which on the office has a mark
         with paths.locked(folder):
-            target = free_name(office.file, folder)
+            target = free_name(office.file, folder, mark_of(journal))
             name = os.path.basename(target)
             with journal.noted(office.file, ["backup", name], backup=name, sha256=digest) as note:
                 with journal.locked():
@@ -95,24 +117,30 @@ def make(office: Office, folder: str, keep: int, days: int, journal: Journal) ->
     return target
 
 
-def free_name(file: str, folder: str) -> str:
+def free_name(file: str, folder: str, mark: str) -> str:
     """The path of a new backup, by the time in UTC; by a later second where a backup of this one is there."""
     moment = time.time()
     while True:
-        target = os.path.join(folder, f"{name_of(file)}-{time.strftime('%Y%m%d-%H%M%S', time.gmtime(moment))}.db")
+        stamp = time.strftime("%Y%m%d-%H%M%S", time.gmtime(moment))
+        target = os.path.join(folder, f"{name_of(file)}-{mark}-{stamp}.db")
         if not any(os.path.lexists(target + end) for end in ("", JOURNAL)):
             return target
         moment += 1
 
 
 def prune(office: Office, folder: str, keep: int, days: int, journal: Journal, new: str) -> None:
-    """Removes all backups but the new one, the newest, and the last ones of the newest days, with what belongs to
-    them."""
-    for name in filter(re.compile(form_of(office.file) + re.escape(JOURNAL)).fullmatch, os.listdir(folder)):
+    """Removes all backups of an office but the new one, the newest, and the last ones of the newest days, with what
+    belongs to them."""
+    for name in filter(own_form(office.file, journal, JOURNAL).fullmatch, os.listdir(folder)):
         if not os.path.lexists(os.path.join(folder, name.removesuffix(JOURNAL))):
             os.unlink(os.path.join(folder, name))  # of a backup that was killed before it had its name
     backups = all_of(office.file, folder, journal)
-    old = sorted(set(backups) - {new, *backups[:keep], *last_of_days(backups)[:days]})
+    own, hashes = own_form(office.file, journal), recorded(journal)
+    old = [
+        path
+        for path in sorted(set(backups) - {new, *backups[:keep], *last_of_days(backups)[:days]})
+        if own.fullmatch(os.path.basename(path)) or is_as_noted(path, hashes)
+    ]
     if not old:
         return
     with journal.noted(office.file, ["prune", *(os.path.basename(path) for path in old)]) as note:
@@ -123,11 +151,17 @@ def prune(office: Office, folder: str, keep: int, days: int, journal: Journal, n
         note.answer = Answer(0, "removed\n", "")
 
 
+def is_as_noted(path: str, hashes: dict[str, str]) -> bool:
+    """Whether a backup whose name has no mark has the bytes that the journal notes: another office may have made one of
+    the same name."""
+    return os.path.isfile(path) and not os.path.islink(path) and hash_of(path) == hashes[os.path.basename(path)]
+
+
 def last_of_days(backups: list[str]) -> list[str]:
     """Of backups, of which the newest is the first, the last one of each day."""
     last: dict[str, str] = {}
     for path in backups:
-        last.setdefault(path[-len("YYYYMMDD-HHMMSS.db") : -len("-HHMMSS.db")], path)
+        last.setdefault(stamp_in(path)[: len("YYYYMMDD")], path)
     return list(last.values())
 
 
@@ -190,6 +224,8 @@ def restore(office: Office, backup: str, place: Place, journal: Journal, is_fore
         require_sums(copy)
         digest = hash_of(copy)
         bring_journal(backup, os.path.join(room, "copy.journal"), journal)
+        if not is_foreign:
+            require_own(office.file, backup, journal)
         if not is_foreign and digest not in recorded(journal).values():
             raise Failure(
                 f"{backup} is no backup that {journal.path} notes: its SHA-256 is {digest}",
@@ -198,6 +234,17 @@ def restore(office: Office, backup: str, place: Place, journal: Journal, is_fore
             )
         words = ["restore", *(["--foreign"] if is_foreign else []), backup]
         return replace(office, copy, place, journal, words, digest)
+
+
+def require_own(file: str, backup: str, journal: Journal) -> None:
+    """Fails where the name of a backup has the mark of another office."""
+    match = re.fullmatch(form_of(file, f"(?:({MARK})-)?"), os.path.basename(backup))
+    if match and match[1] and match[1] != mark_of(journal):
+        raise Failure(
+            f"{backup} is a backup of another office: its mark is {match[1]}, and that of {file} is {mark_of(journal)}",
+            REFUSED,
+            "root and the office's user restore it with --foreign, and answer for what is in it",
+        )
 
 
 def replace(office: Office, copy: str, place: Place, journal: Journal, words: list[str], digest: str) -> str:
