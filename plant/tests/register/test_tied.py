@@ -113,6 +113,19 @@ def test_a_hold_counts_again_once_its_lot_is_there_again_and_for_no_other_lot(re
     assert "held" not in restoring.run("show", "lot", "ACME", "S-9").out
 
 
+def test_a_link_of_a_lot_counts_again_once_the_lot_is_there_again_and_for_no_other_lot(restoring):
+    """A recall that missed the lot would be worse."""
+    received = ("receive", "ACME", "K20", "BRINE", "B-9", "BAY1", "70", "261104")
+    given(restoring, *received)
+    name = noted(restoring, "link", "ACME", "B-9", "B-1", "--why", "rework")
+    assert name in back(restoring) and links(restoring) == []
+    given(restoring, *received)
+    assert links(restoring) == [("ACME B-9", "ACME B-1")]
+    back(restoring)
+    given(restoring, *received[:-1], "261105")
+    assert links(restoring) == []
+
+
 def test_a_void_leaves_what_was_noted_of_a_lot(restoring):
     """A void is a row of its own: the movement by which the lot is known stays."""
     given(restoring, *"actual K41 ACME O-1 1 2 produced BRINE ACME B-2 TOTE9 5 261104".split())
@@ -157,8 +170,8 @@ def test_lines_of_earlier_versions_are_read_by_their_names(restoring):
 
 
 @pytest.mark.parametrize("meant", [
-    5, [], [5], [[5]], [[["moves"]]], [[["owners", "ACME"]]], [[["moves; DROP TABLE moves", "ACME", "K7"]]], [[["lots", "ACME", "B-1", "BRINE", "O-1", 10**30]]],
-    [[["lots", "ACME", "B-1", "BRINE", "O-1", True]]], [[["lots", "ACME", "B-1", "BRINE", "\ud800", 1]]], [[["lots", "ACME", ["B-1"], "BRINE", "O-1", 1]]], None, {"a": 1}])
+    5, [], [5], [[5]], [[["moves"]]], [[["owners", "ACME"]]], [[["moves; DROP TABLE moves", "ACME", "K7"]]],
+    [[["lots", "ACME", "B-1", "BRINE", "O-1", True]]], [[["lots", "ACME", ["B-1"], "BRINE", "O-1", 1]]], None, {"a": 1}])
 def test_what_is_no_row_lets_a_note_not_stand(restoring, meant):
     given(restoring, *SHIPS, "100", "261104")
     name = noted(restoring, "note", "movement", "ACME", "K7", "--to", "NORD")
@@ -169,6 +182,17 @@ def test_what_is_no_row_lets_a_note_not_stand(restoring, meant):
     assert register_of(restoring).facts == {} and statuses(restoring)[name] == "no: what it means can't be read"
     assert statuses(restoring)[name] == "no: what it means can't be read"  # by the register's file, too
     assert restoring.run("journal", "--no-site").status == 0
+
+
+@pytest.mark.parametrize("values", [["BRINE", "O-1", 10**30], ["BRINE", "\ud800", 1], ["BRINE", "O-1", 2], ["' OR 1", "O-1", 1]])
+def test_what_can_be_no_row_is_not_there(restoring, values):
+    given(restoring, *SHIPS, "100", "261104")
+    name = noted(restoring, "note", "movement", "ACME", "K7", "--to", "NORD")
+    lines = restoring.lines()
+    lines[-1]["meant"] = [[["lots", "ACME", "B-1", *values]]]
+    restoring.journal.write_text("".join(json.dumps(line) + "\n" for line in lines))
+    os.unlink(file.path_of(str(restoring.db)))
+    assert register_of(restoring).facts == {} and statuses(restoring)[name] == "no: the row that it means isn't there"
 
 
 def test_a_note_of_an_earlier_file_s_row_is_not_about_a_later_one_of_its_key(restoring):

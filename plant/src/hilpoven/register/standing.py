@@ -100,8 +100,7 @@ def statuses(
 
 
 def fault_of(noted: Noted, note: Note, folded: Folded, files: Sequence[OfficeFile], lost: frozenset[str]) -> Fault:
-    """Why a note doesn't stand that nobody withdrew. What stops a lot counts again once the office has the lot again,
-    also where a restore lost it."""
+    """Why a note doesn't stand that nobody withdrew."""
     at = next((at for at, office_file in enumerate(files) if office_file.after == noted.after), None)
     if at is None and not isinstance(note, OF_ALL_FILES):
         return Fault("about a file that isn't in use", True)
@@ -112,7 +111,13 @@ def fault_of(noted: Noted, note: Note, folded: Folded, files: Sequence[OfficeFil
     known = files if at is None else files[: at + 1]
     if not all(any(is_in(office_file.base, row) for office_file in reversed(known)) for row in noted.meant):
         return Fault("the row that it means isn't there", True)
-    return Fault(BY_RESTORE, True) if noted.name in lost and not isinstance(note, Held) else Fault()
+    return Fault(BY_RESTORE, True) if noted.name in lost and not counts_again(note) else Fault()
+
+
+def counts_again(note: Note) -> bool:
+    """Whether a note that lost its row in a restore counts once the office has a row with all these values again: without
+    a hold a lot would go, and without the link of a lot a recall would miss it."""
+    return isinstance(note, Held) or isinstance(note, Link) and bool(note.lot)
 
 
 def fault_of_command(noted: Noted, folded: Folded, base: Base | None) -> Fault:
