@@ -8,16 +8,18 @@ import multiprocessing
 import os
 import pty
 import resource
+import shutil
 import signal
 import subprocess
 import time
 import tracemalloc
 
 import pytest
-from conftest import HILPOVEN, environment, is_told
+from conftest import HILPOVEN, called, environment, is_told
 from hilpoven.journal import log as journals
 from hilpoven.journal.log import Journal
 from hilpoven.journal.query import check
+from hilpoven.core import settings as site
 from hilpoven.core.office import Answer
 from hypothesis import given, settings, strategies
 
@@ -196,6 +198,46 @@ def test_it_is_told_by_time_with_the_sites_log(at_work):
     assert len(json.loads(at_work.run("journal", "--site-log", log, "--word", "B-1", "--json").out)) == 2
     assert len(json.loads(at_work.run("journal", "--site-log", log, "--since", "2050-01-01", "--json").out)) == 1
     assert len(json.loads(at_work.run("journal", "--site-log", log, "--until", "2001-01-01T00:00:01", "--json").out)) == 1
+
+
+def office_of(plant, name, **lines):
+    """An office of the machine, with its settings, and a log of its site."""
+    line = f'192.0.2.7 "{name.upper()}" [2001-01-01T00:00:00+00:00] "POST /orders HTTP/1.1" 200 11 0.395\n'
+    (plant.folder / f"toll-{name}.log").write_text(line)
+    folder = plant.folder / name
+    folder.mkdir(mode=0o700)
+    shutil.copyfile(plant.db, folder / "office.db")
+    (plant.folder / f"{name}.env").write_text("".join(f"{line}={value}\n" for line, value in {"FILE": folder / "office.db", **lines}.items()))
+    return folder / "office.db"
+
+
+def owners_in(plant, *options):
+    """Which owners a journal shows, and what is told."""
+    done = called(*options, "journal", "--json", TOLL=plant.program)
+    assert done.status == 0
+    return [row["who"] for row in json.loads(done.out)], done.err
+
+
+def test_each_office_shows_its_own_owners_alone(at_work):
+    log = at_work.folder / "toll-{}.log"
+    files = {name: office_of(at_work, name, SITE_LOGS=str(log).format(name)) for name in ("north", "south")}
+    site.load.__defaults__[0].write_text(f"site_logs = [{json.dumps(str(log).format('north'))}]\n")
+    assert owners_in(at_work, "--office", "north") == (["NORTH"], "") and owners_in(at_work, "--office", "south") == (["SOUTH"], "")
+    shown, told = owners_in(at_work, "--db", files["south"])
+    assert shown == [] and "What owners did is left out" in told
+
+
+def test_settings_of_earlier_versions_name_the_log_of_the_one_office_and_of_no_other(at_work):
+    (at_work.folder / "hilpoven.toml").write_text(f"site_logs = [{json.dumps(str(at_work.folder / 'toll-north.log'))}]\n")
+    office_of(at_work, "north")
+    assert owners_in(at_work) == (["NORTH"], "")
+    office_of(at_work, "south")
+    for name in ("north", "south"):
+        shown, told = owners_in(at_work, "--office", name)
+        assert shown == [] and f"SITE_LOGS=/var/log/nginx/toll.log, or toll-{name}.log, in {at_work.folder}/{name}.env names its log" in told
+    with open(at_work.folder / "hilpoven.toml", "a") as lines:
+        lines.write('office = "north"\n')
+    assert owners_in(at_work) == (["NORTH"], "") and owners_in(at_work, "--office", "south")[0] == []
 
 
 def test_entries_of_one_time_stay_in_the_journals_order(at_work, monkeypatch):
@@ -383,6 +425,21 @@ def test_who_only_claims_to_be_an_owner_is_marked(at_work, status, who):
     log.write_text(f'192.0.2.7 "ACME" [2001-01-01T00:00:00+00:00] "POST /orders HTTP/1.1" {status} 11 0.395\n'
                    f'192.0.2.7 "ACME" [2001-01-01T00:00:01+00:00] "POST /owner/ HTTP/1.1" {status} 11 0.395\n')
     assert [row["who"] for row in json.loads(at_work.run("journal", "--site-log", log, "--json").out)] == [who, "ACME (claimed)"]
+
+
+@pytest.mark.parametrize("request_line, status", [
+    ("POST /%6fwner/", 405), ("POST /owner", 405), ("POST /owner?x", 405), ("GET /x/../owner/app.js", 200), ("POST /.wrong-key", 404), ("POST /.companion-key", 404),
+    ("CONNECT /orders", 405), ("TRACE /orders", 405), ("PUT /orders", 405), ("POST //owner/", 405), ("POST orders", 404), ("POST /orders\\x22", 404)])
+def test_what_nginx_answered_itself_is_no_owner_s_action(at_work, request_line, status):
+    log = at_work.folder / "toll.log"
+    log.write_text(f'192.0.2.7 "ACME" [2001-01-01T00:00:00+00:00] "{request_line} HTTP/1.1" {status} 11 0.395\n')
+    assert [row["who"] for row in json.loads(at_work.run("journal", "--site-log", log, "--questions", "--json").out)] == ["ACME (claimed)"]
+
+
+@pytest.mark.parametrize("name", ["unauthenticated-toll.log", "unauthenticated-toll-south.log"])
+def test_what_proved_no_key_is_no_owner_s_action(at_work, name):
+    (at_work.folder / name).write_text('192.0.2.7 "ACME" [2001-01-01T00:00:00+00:00] "POST /orders HTTP/1.1" 200 11 0.395\n')
+    assert [row["who"] for row in json.loads(at_work.run("journal", "--site-log", at_work.folder / name, "--json").out)] == ["ACME (claimed)"]
 
 
 def test_who_and_word_find_what_they_name(at_work):

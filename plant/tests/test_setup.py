@@ -124,7 +124,7 @@ def test_an_office_with_its_site_and_an_owner_s_key(machine):
     done = given(machine, owner="ACME")
     assert [step.is_new for step in done] == [True] * 8
     env = pathlib.Path(machine.offices, "north.env")
-    assert re.findall(r"^\w+=.*", env.read_text(), re.M) == ["PORT=802"] and env.stat().st_mode & 0o777 == 0o644  # 801 is taken
+    assert re.findall(r"^\w+=.*", env.read_text(), re.M) == ["PORT=802", "SITE_LOGS=/var/log/nginx/toll.log"] and env.stat().st_mode & 0o777 == 0o644  # 801 is taken
     folder = pathlib.Path(machine.data, "north")
     assert folder.stat().st_mode & 0o777 == 0o700 and (folder / "office.db").stat().st_size
     assert machine.active == {"toll@north.service", "toll-backup@north.timer", "nginx"}
@@ -177,11 +177,18 @@ def test_each_office_has_its_own_port_host_and_log(machine):
     first = files_of(machine)
     given(machine, name="south", host="toll.south.example")
     assert files_of(machine).items() >= {path: state for path, state in first.items() if path.is_file()}.items()
-    assert "PORT=803" in pathlib.Path(machine.offices, "south.env").read_text()
+    assert "PORT=803\nSITE_LOGS=/var/log/nginx/toll-south.log\n" in pathlib.Path(machine.offices, "south.env").read_text()
     text = pathlib.Path(machine.nginx, "conf.d", "toll_south.conf").read_text()
     assert re.findall(r"access_log /var/log/nginx/(\S+) ", text) == ["toll-south.log", "unauthenticated-toll-south.log"]
     with pytest.raises(Failure, match=r"toll_north\.conf has a site of toll\.north\.example"):
         given(machine, name="east")
+
+
+def test_an_office_of_an_earlier_version_is_told_which_log_its_site_has(machine):
+    pathlib.Path(machine.offices, "north.env").write_text("PORT=802\n")
+    done = given(machine)
+    assert done[0].text.endswith("north.env: port 802; SITE_LOGS=/var/log/nginx/toll.log there shows `hilpoven journal` what its owners did")
+    assert pathlib.Path(machine.offices, "north.env").read_text() == "PORT=802\n"
 
 
 def test_another_host_or_certificate_replaces_what_setup_wrote(machine):

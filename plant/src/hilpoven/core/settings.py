@@ -122,7 +122,7 @@ class Settings(NamedTuple):
     wait: float = 10.0  # seconds for a lock that somebody has
     key_prefix: str = "K"  # what the keys of movements begin with that are made by themselves
     time_zone: str = ""  # in which the plant's day begins; the machine's where it isn't said
-    site_logs: list[str] = []  # of the proxy, with all owners' requests
+    site_logs: list[str] = []  # of the proxy, with the owners' requests; an office's SITE_LOGS goes before it
     require: Require = Require()
     plant: PlantFacts = PlantFacts()
     expiry: Expiry = Expiry()
@@ -172,7 +172,7 @@ def load(path: str = PATH, office: str = "", db: str = "") -> Settings:
     default = settings.office or ("" if db or settings.file else only_office())
     if not office or office == default:
         return of_office(settings, default) if default else settings
-    return of_office(settings._replace(journal=""), office)
+    return of_office(settings._replace(journal="", site_logs=[]), office)
 
 
 def target_of(folder: str, to: str) -> str:
@@ -271,7 +271,7 @@ def of_office(settings: Settings, name: str) -> Settings:
     path = os.path.join(OFFICES, f"{name}.env")
     try:
         with open(path) as lines:
-            rows = re.findall(r"^([A-Z]+)=(.*)$", lines.read(), re.M)
+            rows = re.findall(r"^([A-Z_]+)=(.*)$", lines.read(), re.M)
     except FileNotFoundError:
         advice = f"there are: {', '.join(offices())}" if offices() else ""
         raise Failure(f"there is no office {name}: {path} isn't there", WRONG_USE, advice) from None
@@ -290,7 +290,9 @@ def of_office(settings: Settings, name: str) -> Settings:
         numbers.get(setting, default) for setting, default in (("port", settings.port), ("keep", 48), ("days", 30))
     )
     follow = settings.follow._replace(to=target_of(OFFICES, units.get("FOLLOW", settings.follow.to)))
-    return settings._replace(office=name, file=file, backups=backups, port=port, keep=keep, days=days, follow=follow)
+    logs = units["SITE_LOGS"].split() if "SITE_LOGS" in units else settings.site_logs
+    settings = settings._replace(port=port, keep=keep, days=days, follow=follow, site_logs=logs)
+    return settings._replace(office=name, file=file, backups=backups)
 
 
 def number_of(path: str, name: str, value: str) -> int:
@@ -314,6 +316,13 @@ def program(settings: Settings) -> str:
 def journal_of(settings: Settings, file: str) -> str:
     """Where the journal of an office's file is."""
     return settings.journal if settings.journal and file == office_of(settings) else f"{file}.journal"
+
+
+def site_logs_of(settings: Settings, file: str) -> list[str]:
+    """The site's logs of an office's file, and of no other: those of the settings, where the file is theirs, or where the
+    machine has no office of a name."""
+    own = office_of(settings)
+    return settings.site_logs if file == own or not own and not offices() else []
 
 
 def companions_of(settings: Settings) -> str:

@@ -12,6 +12,9 @@ from ..core.failure import Failure
 LINE = re.compile(r'(?P<address>\S+) "(?P<owner>[^"]*)" \[(?P<time>[^\]]+)\] "(?P<request>[^"]*)" (?P<status>\d{3})\b')
 
 CHECKED = (200, 304, 404, 405, 409)  # the statuses of replies before which the owner's key was compared
+# What goes to the office: nginx answers other methods itself, and paths that lead to the page's files or to its own.
+OF_OFFICE = re.compile(r"(?:GET|POST) (?!/owner(?:[/?]|$))(?:/[A-Za-z0-9-]+)+(?:\?.*)?")
+UNPROVED = "unauthenticated"  # what the names of logs begin with that have requests which proved no key
 
 
 @dataclass(frozen=True)
@@ -23,6 +26,7 @@ class Request:
     owner: str
     request: str
     status: int
+    is_of_owners: bool = True  # whether its log has what a key was found right for, as far as the log's name says
 
     @property
     def is_change(self) -> bool:
@@ -32,7 +36,7 @@ class Request:
     @property
     def is_checked(self) -> bool:
         """Whether the owner's key was found right before this was answered: `toll` answered it, with such a status."""
-        return self.status in CHECKED and not self.request.startswith("TRACE ") and " /owner/" not in self.request
+        return self.is_of_owners and self.status in CHECKED and OF_OFFICE.fullmatch(self.request) is not None
 
     @property
     def who(self) -> str:
@@ -55,12 +59,13 @@ def files_of(path: str) -> list[str]:
 
 def requests(path: str) -> Iterator[Request]:
     """The requests of a log; lines of another form are passed over."""
+    is_of_owners = not os.path.basename(path).startswith(UNPROVED)
     for file in files_of(path):
         try:
             with gzip.open(file, "rt", errors="replace") if file.endswith(".gz") else open(
                 file, errors="replace"
             ) as lines:
-                yield from filter(None, map(request_of, lines))
+                yield from (request for line in lines if (request := request_of(line, is_of_owners)))
         except (OSError, EOFError, zlib.error) as error:
             why = getattr(error, "strerror", None) or error
             raise Failure(
@@ -68,7 +73,7 @@ def requests(path: str) -> Iterator[Request]:
             ) from error
 
 
-def request_of(line: str) -> Request | None:
+def request_of(line: str, is_of_owners: bool) -> Request | None:
     """The request that a line notes."""
     match = LINE.match(line)
     if not match:
@@ -77,6 +82,5 @@ def request_of(line: str) -> Request | None:
         time = datetime.fromisoformat(match["time"]).astimezone(timezone.utc)
     except ValueError:
         return None
-    return Request(
-        time, match["address"], match["owner"], match["request"].removesuffix(" HTTP/1.1"), int(match["status"])
-    )
+    request = match["request"].removesuffix(" HTTP/1.1")
+    return Request(time, match["address"], match["owner"], request, int(match["status"]), is_of_owners)

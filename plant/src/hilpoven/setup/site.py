@@ -13,6 +13,7 @@ IPV6 = re.compile(r"^ *listen \[::\]:.*\n", re.M)
 ZONE = re.compile(r"^\s*limit_req_zone\s.*\bzone=toll:", re.M)  # which only the machine's part has
 OPEN = re.compile(r"^\s*listen\s+(?:[\w.:\[\]*]*:)?80(?![\w.:])", re.M)
 LOG = "/toll.log"
+OWNERS_LOG = re.compile(r"^\s*access_log (\S+) toll if=\$toll_authenticated;", re.M)
 
 
 @dataclass(frozen=True)
@@ -23,6 +24,13 @@ class Site:
     office: Written
     shared: str
     others: dict[str, str]  # the other files of nginx's sites
+
+    @property
+    def log(self) -> str:
+        """The log of the owners' requests."""
+        if not (match := OWNERS_LOG.search(self.office.lines)):
+            raise Failure("the site's file hasn't the log of owners' requests that this version knows")
+        return match[1]
 
     def other_of_host(self, host: str) -> str:
         """Which other file has a site of this host name; empty if none has."""

@@ -16,7 +16,7 @@ from .machine import Machine
 from .plan import Plan
 from .site import site_of
 
-SITE_LOGS = 'site_logs = ["/var/log/nginx/toll.log"]\n'
+ABOUT_HILPOVEN = '# The settings of hilpoven. What can stand here: /usr/share/doc/toll/docs/hilpoven.md, "Settings".\n'
 ABOUT_SETTINGS = '# What else can stand here: /usr/share/doc/toll/docs/operations.md, "As a service".\n'
 IS = ("is-enabled", "is-active")
 OPTIONAL = ("toll-companion@{name}.timer",)  # units of later packages
@@ -51,11 +51,11 @@ class Setup:
 
 
 def office_settings(setup: Setup) -> Done:
-    """The office's file of settings, with a port of its own."""
-    path = f"{setup.machine.offices}/{setup.plan.name}.env"
-    is_new = not os.path.lexists(path)
+    """The office's file of settings, with a port of its own, and the log of its site."""
+    path, port = f"{setup.machine.offices}/{setup.plan.name}.env", setup.machine.free_port()
+    is_new, log = not os.path.lexists(path), site_of(setup.machine, setup.plan, port).log
     if is_new:
-        files.write(path, f"{ABOUT_SETTINGS}PORT={setup.machine.free_port()}\n", is_new=True)
+        files.write(path, f"{ABOUT_SETTINGS}PORT={port}\nSITE_LOGS={log}\n", is_new=True)
     port = setup.settings.port
     if not port:
         raise Failure(f"{path} names no PORT", WRONG_USE, f"PORT={setup.machine.free_port()} is free")
@@ -63,7 +63,8 @@ def office_settings(setup: Setup) -> Done:
         advice = f"PORT={setup.machine.free_port()} is free"
         raise Failure(f"{path}: {port} is the port of the office {others[0]}, too", WRONG_USE, advice)
     warning = "" if port < 1024 else ", which another account may take: one below 1024 is better"
-    return Done(is_new, f"{path}: port {port}{warning}")
+    line = "" if setup.settings.site_logs else f"; SITE_LOGS={log} there shows `hilpoven journal` what its owners did"
+    return Done(is_new, f"{path}: port {port}{warning}{line}")
 
 
 def folder(setup: Setup) -> Done:
@@ -92,7 +93,7 @@ def settings(setup: Setup) -> Done:
     """The settings of `hilpoven`, which the package brings."""
     path = setup.machine.settings
     if is_new := not os.path.lexists(path):
-        files.write(path, SITE_LOGS, is_new=True)
+        files.write(path, ABOUT_HILPOVEN, is_new=True)
     return Done(is_new, f"{path}: the settings of hilpoven")
 
 
