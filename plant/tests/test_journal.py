@@ -197,7 +197,23 @@ def test_it_is_told_by_time_with_the_sites_log(at_work):
     assert len(json.loads(at_work.run("journal", "--site-log", log, "--questions", "--json").out)) == 4
     assert len(json.loads(at_work.run("journal", "--site-log", log, "--word", "B-1", "--json").out)) == 2
     assert len(json.loads(at_work.run("journal", "--site-log", log, "--since", "2050-01-01", "--json").out)) == 1
-    assert len(json.loads(at_work.run("journal", "--site-log", log, "--until", "2001-01-01T00:00:01", "--json").out)) == 1
+    assert len(json.loads(at_work.run("journal", "--site-log", log, "--until", "2001-01-01T00:00:01Z", "--json").out)) == 1
+
+
+@pytest.mark.parametrize("machine", ["UTC", "Asia/Tokyo", "Europe/Berlin"])
+def test_it_is_printed_and_asked_in_the_time_zone_of_the_settings(at_work, monkeypatch, machine):
+    monkeypatch.setenv("TZ", machine)
+    time.tzset()
+    log = at_work.folder / "toll.log"
+    log.write_text('192.0.2.7 "ACME" [2001-01-01T00:00:00+00:00] "POST /orders HTTP/1.1" 200 11 0.395\n')
+    at_work.settle(time_zone="America/New_York")
+    shown = lambda *words: at_work.run("journal", "--site-log", log, *words).out  # noqa: E731
+    assert "2000-12-31 19:00:00" in shown() and "2001" not in shown()
+    assert "ACME" in shown("--since", "2000-12-31T19:00") and shown("--since", "2000-12-31T19:00:01") == ""
+    assert "ACME" in shown("--since", "2001-01-01T00:00:00.000Z") and shown("--until", "2001-01-01T01:00+01:00") == ""
+    assert json.loads(shown("--json"))[0]["time"] == "2001-01-01T00:00:00.000Z"
+    monkeypatch.undo()
+    time.tzset()
 
 
 def office_of(plant, name, **lines):

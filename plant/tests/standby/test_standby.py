@@ -5,6 +5,8 @@ import pathlib
 import shutil
 import subprocess
 import time
+from datetime import datetime
+from zoneinfo import ZoneInfo
 
 import pytest
 from conftest import HILPOVEN, ROOT, Plant, environment, eventually, script
@@ -125,6 +127,24 @@ def test_a_moment_is_restored(at_work, pieces):
     assert done.status == 1 and "the oldest is of" in done.err
     for words in (["--at", "yesterday"], [], ["x.db", "--at", at], ["--foreign", "--at", at]):
         assert at_work.run("restore", *words).status == 2
+
+
+@pytest.mark.parametrize("machine", ["UTC", "Asia/Tokyo"])
+def test_a_moment_is_one_of_the_time_zone_of_the_settings(at_work, pieces, monkeypatch, machine):
+    """The journal prints it there. It is read neither as UTC nor as the machine's."""
+    at = chain.at_of(chain.newest_in(str(pieces)), 1)
+    at_work.settle(time_zone="America/New_York")
+    with open(site.load.__defaults__[0], "a") as lines:
+        lines.write(f'[follow]\nto = "{pieces}"\n')
+    monkeypatch.setenv("TZ", machine)
+    time.tzset()
+    try:
+        local = datetime.fromisoformat(at).astimezone(ZoneInfo("America/New_York")).replace(tzinfo=None).isoformat()
+        done = at_work.run("restore", "--at", local)
+    finally:
+        monkeypatch.undo()
+        time.tzset()
+    assert done.status == 0 and f"the office of {at} is in place" in done.out, done
 
 
 def test_a_served_office_is_followed_within_seconds(at_work, standby):

@@ -2,7 +2,6 @@
 import re
 import sys
 from dataclasses import astuple
-from datetime import datetime, timezone
 from operator import attrgetter
 
 import click
@@ -14,6 +13,7 @@ from ..journal import history, query
 from ..journal.history import COLUMNS, JournalEntry
 from ..output.exports import as_csv, as_json
 from ..output.table import print_table
+from ..records.days import format_moment, moment_in
 from .groups import Group
 from .words import PATH, pass_context
 
@@ -34,21 +34,24 @@ def of_settings(context: Context, with_questions: bool) -> list[JournalEntry]:
         return []
 
 
-def moment(text: str | None) -> str | None:
-    """A time of Greenwich as the journal writes it, to be compared."""
+def moment(text: str | None, zone: str) -> str | None:
+    """A time as the journal writes it, to be compared: of the plant's time zone where it names none."""
     if text is None:
         return None
     try:
-        time = datetime.fromisoformat(text)
-        time = time.astimezone(timezone.utc) if time.tzinfo else time.replace(tzinfo=timezone.utc)
+        time = moment_in(text, zone)
     except (ValueError, OverflowError):
-        advice = "such as 2026-11-27, or 2026-11-27T14:30; times are those of Greenwich where they name no zone"
+        advice = f"such as 2026-11-27, or 2026-11-27T14:30; times are those of {zone or 'this machine'}"
         raise Failure(f"{text!r} is no time", WRONG_USE, advice) from None
     return time.isoformat(timespec="milliseconds").replace("+00:00", "Z")
 
 
 @click.group("journal", cls=Group, invoke_without_command=True)
-@click.option("--since", metavar="TIME", help="From this day or time on, in UTC, such as 2026-11-27T14:30.")
+@click.option(
+    "--since",
+    metavar="TIME",
+    help="From this day or time on, such as 2026-11-27T14:30, in the time zone of the settings.",
+)
 @click.option("--until", metavar="TIME", help="Before this day or time.")
 @click.option("--who", "whom", metavar="NAME", help="Only this login or owner.")
 @click.option("--word", metavar="WORD", help="Only entries with this word, such as a lot's name.")
@@ -86,7 +89,8 @@ def journal_group(
     entries = history.of_plant(context.journal().path, context.file) + history.of_owners(list(site_logs), questions)
     if not site_logs and not no_site:
         entries += of_settings(context, questions)
-    since, until = moment(since), moment(until)
+    zone = context.settings.time_zone
+    since, until = moment(since, zone), moment(until, zone)
     rows = [
         astuple(entry)[: len(COLUMNS)]
         for entry in sorted(entries, key=attrgetter("time"))
@@ -98,7 +102,7 @@ def journal_group(
     if form:
         click.echo({"csv": as_csv, "json": as_json}[form](COLUMNS, rows), nl=False)
     elif rows:
-        print_table(COLUMNS, [(time[:19].replace("T", " "), *others) for time, *others in rows])
+        print_table(COLUMNS, [(format_moment(time, zone), *others) for time, *others in rows])
     else:
         click.echo("nothing", err=True)
 

@@ -4,7 +4,6 @@ import os
 import re
 import sqlite3
 import sys
-from datetime import datetime
 
 import click
 
@@ -15,6 +14,7 @@ from ..core.office import has_bytes
 from ..journal import query
 from ..journal.log import Journal
 from ..records import accepted
+from ..records.days import moment_in
 from ..register import file as register, lost, reports
 from .words import MOST_TOLD, PATH, Operators, pass_context
 
@@ -117,14 +117,15 @@ def chosen(context: Context, backup: str) -> str:
 
 
 class Moment(click.ParamType):
-    """A moment, of this machine's time zone where it names none."""
+    """A moment, of the plant's time zone where it names none, as the journal is printed in."""
 
     name = "moment"
 
     def convert(self, value: object, param: click.Parameter | None, ctx: click.Context | None) -> float:
         """The moment in seconds since 1970; fails if the text is none."""
+        context = ctx.find_object(Context) if ctx else None
         try:
-            return datetime.fromisoformat(str(value)).timestamp()
+            return moment_in(str(value), context.settings.time_zone if context else "").timestamp()
         except (ValueError, OverflowError, OSError):
             self.fail(f"`{printable(str(value)[:MOST_TOLD])}` is no time such as 2026-11-27T01:02:03", param, ctx)
 
@@ -138,7 +139,11 @@ class Moment(click.ParamType):
     help="Takes a file that the journal doesn't note as a backup. Only for root and the office's user.",
 )
 @click.option(
-    "--at", "moment", metavar="TIME", type=Moment(), help="Restores a moment that `hilpoven follow` has kept."
+    "--at",
+    "moment",
+    metavar="TIME",
+    type=Moment(),
+    help="Restores a moment that `hilpoven follow` has kept, in the time zone of the settings.",
 )
 @pass_context
 def restore(context: Context, backup: str | None, is_foreign: bool, moment: float | None) -> None:

@@ -1,6 +1,6 @@
 """Days of movements: numbers that the plant chooses. Six digits that are a date of this century, YYMMDD, are one."""
 import re
-from datetime import date, datetime, timedelta, tzinfo
+from datetime import date, datetime, timedelta, timezone, tzinfo
 
 DATE = re.compile(r"([0-9]{4})-([0-9]{2})-([0-9]{2})")
 DATED_YEARS = range(2010, 2100)  # as YYMMDD an earlier day would have fewer digits
@@ -36,6 +36,21 @@ def now(zone: str = "") -> datetime:
 def today(zone: str = "") -> date:
     """The date that it is in a time zone; in that of the machine if none is named."""
     return now(zone).date()
+
+
+def moment_in(text: str, zone: str = "") -> datetime:
+    """The moment that a text is, such as 2026-11-27T01:02:03: of a time zone where it names none. Fails with ValueError
+    or OverflowError if it is none."""
+    time = datetime.fromisoformat(text)
+    return (time if time.tzinfo or not zone else time.replace(tzinfo=zone_of(zone))).astimezone(timezone.utc)
+
+
+def format_moment(text: str, zone: str = "") -> str:
+    """A moment of the journal as people read it, in a time zone; the text itself if it is none."""
+    try:
+        return f"{datetime.fromisoformat(text).astimezone(zone_of(zone)):%Y-%m-%d %H:%M:%S}"
+    except (ValueError, OverflowError):
+        return text[:19].replace("T", " ")
 
 
 def format_day(day: int) -> str:
