@@ -177,6 +177,34 @@ def test_no_key_of_an_owner_is_noted(at_work):
     assert {"CARLSKEY1", "DORASKEY2"} <= keys and all(key not in at_work.journal.read_text() for key in keys)
 
 
+def test_each_line_is_on_the_disk_before_the_next_step(at_work, monkeypatch):
+    """What was asked before `toll` is, and the answer before the command ends."""
+    steps, sync, run = [], os.fsync, subprocess.run
+
+    def synced(descriptor):
+        sync(descriptor)
+        if os.readlink(f"/proc/self/fd/{descriptor}") == str(at_work.journal):
+            steps.append([json.loads(line)["event"] for line in at_work.journal.read_text().splitlines()])
+
+    def asked(words, *more, **options):
+        if "PRESS" in words:
+            steps.append("toll")
+        return run(words, *more, **options)
+    monkeypatch.setattr(os, "fsync", synced)
+    monkeypatch.setattr(subprocess, "run", asked)
+    assert at_work.run("unit-add", "PRESS").out == "accepted\n"
+    assert steps == [["asked"], "toll", ["asked", "told"]]
+
+
+def test_the_settings_journal_is_that_of_their_office_alone(at_work):
+    kept, other = at_work.folder / "kept.journal", at_work.folder / "other.db"
+    at_work.settle(journal=str(kept))
+    shutil.copyfile(at_work.db, other)
+    assert at_work.run("unit-add", "PRESS").status == 0 and b"PRESS" in kept.read_bytes() and not at_work.journal.exists()
+    assert at_work.run("unit-add", "OVEN", db=other).status == 0 and b"OVEN" not in kept.read_bytes()
+    assert "OVEN" in (at_work.folder / "other.db.journal").read_text() and "PRESS" not in at_work.run("journal", "--no-site", db=other).out
+
+
 def test_where_the_journal_cannot_be_written_nothing_is_done(at_work):
     at_work.journal.mkdir()
     before = at_work.content()

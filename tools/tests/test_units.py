@@ -1,4 +1,5 @@
 """The units of packaging/: what systemd makes of them, and what each may do."""
+import fnmatch
 import re
 import shutil
 import subprocess
@@ -115,6 +116,23 @@ def test_a_server_waits_for_its_follower_s_look_and_ends_when_another_has_the_of
 def test_the_timers_backup_keeps_what_its_settings_say():
     (command,) = setting(text_of("toll-backup@.service"), "ExecStart")
     assert re.findall(r"--(keep|days) \$\{(\w+)\}", command) == [("keep", "HOURS"), ("days", "DAYS")]
+
+
+@pytest.mark.parametrize("name, when", [("toll-backup@.timer", "hourly"), ("single/toll-backup.timer", "daily")])
+def test_a_backup_that_was_due_while_the_machine_was_off_is_made_when_it_is_on(name, when):
+    timer = text_of(name)
+    assert setting(timer, "Persistent") == ["yes"] and setting(timer, "OnCalendar") == [when]
+
+
+def test_what_owners_did_is_kept_for_ten_years_and_by_its_age_alone():
+    """The other log has what anybody may send: it is kept for days, and by number and size."""
+    rules = {path: {words[0]: words[1:] for words in map(str.split, filter(None, lines.splitlines()))}
+             for path, lines in re.findall(r"(?m)^(\S+) \{\n(.*?)^\}", text_of("etc/logrotate.d/hilpoven"), re.S)}
+    owners, anybody = rules["/var/log/nginx/toll*.log"], rules["/var/log/nginx/unauthenticated-toll*.log"]
+    assert int(owners["maxage"][0]) >= 3653 and owners["rotate"] == ["-1"] and "monthly" in owners  # ten years have up to three leap days
+    assert (anybody["maxage"], anybody["rotate"]) == (["14"], ["14"])
+    (log,) = re.findall(r"access_log (\S+) toll if=\$toll_authenticated;", text_of("nginx.conf"))
+    assert fnmatch.fnmatch(log, "/var/log/nginx/toll*.log")
 
 
 def test_page_example_unit_and_command_have_the_same_defaults(tmp_path, monkeypatch):
