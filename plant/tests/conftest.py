@@ -203,6 +203,20 @@ class Plant:
         return [json.loads(line) for line in self.journal.read_text().splitlines()] if self.journal.exists() else []
 
 
+def change_log_at_rest(plant: Plant) -> None:
+    """Changes a byte in the last frame of the file's log, as SQLite writes it, while nobody has it open."""
+    with open(f"{plant.db}-wal", "r+b") as log:
+        head = log.read(32)
+        length, salts = 24 + int.from_bytes(head[8:12]), head[16:24]
+        frames = 0
+        while (frame := log.read(length))[8:16] == salts and len(frame) == length:
+            frames += 1
+        log.seek(32 + frames * length - 50)
+        byte = log.read(1)
+        log.seek(-1, os.SEEK_CUR)
+        log.write(bytes([byte[0] ^ 1]))
+
+
 # The command within this process or as one of its own, and programs that stand in for `toll`
 
 def called(*words: object, stdin: str | None = None, **variables: str) -> Told:

@@ -11,7 +11,7 @@ import subprocess
 import time
 
 import pytest
-from conftest import Plant, command, copied, environment
+from conftest import Plant, change_log_at_rest, command, copied, environment
 from hilpoven.core import backups, settings as site
 from hilpoven.core.grammar import LINES
 from hilpoven.core.office import Office
@@ -262,6 +262,76 @@ def test_verify_finds_damage_and_a_changed_journal(at_work):
         file.write(b"\xff" * 4096)
     done = at_work.run("verify")
     assert done.status == 3 and "file: " in done.out and "sound" not in done.out
+
+
+# What owners were told as done, and is no longer there
+
+def log_line(path: str, order: str = "-", status: int = 200, owner: str = "ACME", when: str = "") -> str:
+    """A line of the site's log."""
+    when = when or time.strftime("%Y-%m-%dT%H:%M:%S+00:00", time.gmtime())
+    return f'192.0.2.7 "{owner}" [{when}] "POST {path} HTTP/1.1" {status} 65 0.004 {order}\n'
+
+
+def ordered(plant: Plant, log, count: int) -> None:
+    """Orders of an owner, which its server answers with 200 before it is killed; the site's log has them."""
+    with plant.serve() as server:
+        for number in range(count):
+            assert server.ask("ACME", "POST", "/orders", f'{{"order":"P-{number}","recipe":"BRINE-10","batches":1}}')[0] == 200
+            with open(log, "a") as lines:
+                lines.write(log_line("/orders", f"P-{number}"))
+        server.process.kill()
+
+
+def test_verify_finds_orders_that_were_answered_and_went_with_a_changed_log(at_work):
+    log = at_work.folder / "toll.log"
+    at_work.settle(site_logs=[str(log)])
+    ordered(at_work, log, 5)
+    done = at_work.run("verify")
+    assert done.status == 0 and "owners: 5 requests that the site's log has as done are compared" in done.out
+    change_log_at_rest(at_work)
+    assert at_work.run("unit-add", "PRESS").status == 0 and ("P-4",) not in at_work.rows("SELECT ord FROM orders")
+    done = at_work.run("verify")
+    assert done.status == 3 and "what owners did by 1 of 5 requests that the site's log has as done is missing: POST /orders P-4 of ACME at 20" in done.out
+
+
+@pytest.mark.parametrize("path, sql", [
+    ("/orders/O-2/cancel", "UPDATE orders SET cancelled = 0 WHERE ord = 'O-2'"), ("/lots/S-1/release", "UPDATE lots SET disposition = 0 WHERE lot = 'S-1'"),
+    ("/lots/B-1/reject", "UPDATE lots SET disposition = 0 WHERE lot = 'B-1'"), ("/lots/B-1/reject", "DELETE FROM lots WHERE lot = 'B-1'")])
+def test_verify_finds_that_a_request_of_an_owner_is_undone(at_work, path, sql):
+    log = at_work.folder / "toll.log"
+    at_work.settle(site_logs=[str(log)])
+    with at_work.serve() as server:
+        assert server.ask("ACME", "POST", "/orders", '{"order":"O-2","recipe":"BRINE-10","batches":1}')[0] == 200
+        assert path == "/lots/S-1/release" or server.ask("ACME", "POST", path)[0] == 200
+    log.write_text(log_line(path) + log_line("/orders/X-1/cancel", status=409) + log_line("/orders", "X-2", 403) + log_line("/orders"))
+    assert at_work.run("verify").status == 0
+    with contextlib.closing(sqlite3.connect(at_work.db)) as base, base:
+        base.execute(sql)
+    done = at_work.run("verify")
+    assert done.status == 3 and (f"is missing: POST {path} of ACME at 20" in done.out or "its movements come to" in done.out)
+
+
+def test_a_result_that_ended_a_release_undoes_nothing(at_work):
+    log = at_work.folder / "toll.log"
+    at_work.settle(site_logs=[str(log)])
+    at_work.lay("result ACME B-1 PH 2 102\n> ACME POST /lots/B-1/release\nresult ACME B-1 PH 2000 103")
+    log.write_text(log_line("/lots/B-1/release"))
+    assert at_work.rows("SELECT disposition FROM lots WHERE lot = 'B-1'") == [(0,)] and at_work.run("verify").status == 0
+
+
+def test_verify_asks_for_no_request_from_before_a_restore_and_for_none_that_proved_no_key(at_work):
+    log = at_work.folder / "toll.log"
+    at_work.settle(site_logs=[str(log)])
+    backup = at_work.run("backup").out.splitlines()[0]
+    ordered(at_work, log, 2)
+    assert at_work.run("restore", backup).status == 0 and at_work.run("verify").status == 0
+    other = at_work.folder / "unauthenticated-toll.log"
+    other.write_text(log_line("/orders", "P-9", when="2099-01-01T00:00:00+00:00"))
+    at_work.settle(site_logs=[str(other)])
+    assert at_work.run("verify").status == 0
+    at_work.settle(site_logs=[str(at_work.folder / "nowhere.log")])
+    done = at_work.run("verify")
+    assert done.status == 0 and "owners: what they did isn't compared: there is no log" in done.out
 
 
 def test_what_a_kill_left_goes_with_the_next(at_work):

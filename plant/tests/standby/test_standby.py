@@ -9,7 +9,7 @@ from datetime import datetime
 from zoneinfo import ZoneInfo
 
 import pytest
-from conftest import HILPOVEN, ROOT, Plant, environment, eventually, script
+from conftest import HILPOVEN, ROOT, Plant, change_log_at_rest, environment, eventually, script
 from following import follower_of, look
 from hilpoven.core import settings as site
 from hilpoven.core.failure import Failure
@@ -145,6 +145,25 @@ def test_a_moment_is_one_of_the_time_zone_of_the_settings(at_work, pieces, monke
         monkeypatch.undo()
         time.tzset()
     assert done.status == 0 and f"the office of {at} is in place" in done.out, done
+
+
+def test_verify_finds_what_pieces_have_and_a_changed_log_lost(at_work):
+    """The follower looks at all of the file then, and goes on with what is left."""
+    follower = follower_of(at_work.db, at_work.folder / "follow", f"{os.uname().nodename}:{at_work.db}")
+    look(follower)
+    with at_work.serve() as server:
+        for number in range(5):
+            assert server.ask("ACME", "POST", "/orders", f'{{"order":"P-{number}","recipe":"BRINE-10","batches":1}}')[0] == 200
+            look(follower)
+        server.process.kill()
+    assert at_work.run("verify").status == 0
+    change_log_at_rest(at_work)
+    for name in ("PRESS", "OVEN"):
+        assert at_work.run("unit-add", name).status == 0
+        look(follower)
+    assert ("P-4",) not in at_work.rows("SELECT ord FROM orders")
+    done = at_work.run("verify")
+    assert done.status == 3 and "the standby's pieces have what is missing: orders: ACME P-4 BRINE-10 1" in done.out
 
 
 def test_a_served_office_is_followed_within_seconds(at_work, standby):

@@ -4,6 +4,8 @@ import os
 import re
 import sqlite3
 import sys
+from datetime import datetime, timezone
+from typing import Any
 
 import click
 
@@ -13,9 +15,10 @@ from ..core.failure import FAULT, REFUSED, WRONG_USE, Failure, printable, tell
 from ..core.office import has_bytes
 from ..journal import query
 from ..journal.log import Journal
-from ..records import accepted
+from ..records import accepted, answered
 from ..records.days import moment_in
 from ..register import file as register, lost, reports
+from ..years import chain
 from .words import MOST_TOLD, PATH, Operators, pass_context
 
 
@@ -191,22 +194,27 @@ def verify(context: Context) -> None:
     """Checks all of the office: its file, its journal, its register and its backups.
 
     SQLite checks the whole file, toll opens it, each sublot has to hold what its movements come to, and the rows that
-    accepted commands of the journal added have to be there. The journal has to be whole, and the register has to be
+    accepted commands of the journal added have to be there, and what owners did that the site's log has as done, and
+    what the pieces of a standby on this machine have. The journal has to be whole, and the register has to be
     what the journal gives. Each backup in the folder of the settings has to have the SHA-256 that the journal notes.
 
     Example: hilpoven verify
     """
     office, wrong, lost_rows = context.office_to_read(), list[str](), list[str]()
     checked = query.check(context.journal().path, file=context.file)  # before the copy, which has all that it says
-    rows = [] if checked.wrong else accepted.added_rows(query.entries(context.journal().path, context.file))
+    entries = [] if checked.wrong else query.entries(context.journal().path, context.file)
+    rows, owners = accepted.added_rows(entries), Answered(context, entries) if not checked.wrong else None
     with snapshot.copied(office) as copy:
         with contextlib.closing(sqlite3.connect(copy)) as base:
             wrong += backups.checked_tables(base) or accepted.lacking(base, rows)
             lost_rows = [] if wrong else lost.report(context.journal(), base)
+        wrong += owners.lacking(copy) if owners and not wrong else []
         answer = office.ask(["stock", "HOUSE"], copy)
     if answer.status:
         wrong.append(f"toll doesn't open it: {answer.error.strip()}")
     click.echo(f"file: {'; '.join(wrong) or 'sound; sublots hold what movements come to; toll opens it'}")
+    for line in owners.lines if owners else []:
+        click.echo(printable(f"owners: {line}"))
     for finding in [*checked.wrong, *checked.notes]:
         click.echo(f"journal: {finding}")
     click.echo(
@@ -220,6 +228,41 @@ def verify(context: Context) -> None:
         reports = [f"{changed_backup} isn't the file that was made" for changed_backup in changed]
         click.echo(f"backups: {'; '.join([*reports, f'{count - len(changed)} as the journal notes them'])}")
     sys.exit(FAULT if wrong else REFUSED if checked.wrong or changed or unlike else 0)
+
+
+class Answered:
+    """What owners' requests did by the logs of the office's site, which are read before the file is copied, and what the
+    pieces of a standby on this machine have; and what is told of both."""
+
+    def __init__(self, context: Context, entries: list[dict[str, Any]]) -> None:
+        self.context, self.since, self.now = context, answered.last_replaced(entries), datetime.now(timezone.utc)
+        self.done, self.lines = list[answered.Done](), list[str]()
+        logs = site.site_logs_of(context.settings, context.file)
+        try:
+            self.done = answered.done_since(logs, self.since)
+            self.lines += [f"{len(self.done):,} requests that the site's log has as done are compared"] if logs else []
+        except Failure as failure:
+            self.lines.append(f"what they did isn't compared: {failure.message}")
+
+    def lacking(self, copy: str) -> list[str]:
+        """What is told of what a copy of the file and its earlier files lack."""
+        from ..standby import kept, lag
+
+        file, follow = self.context.file, self.context.settings.follow
+        backups.settle(copy)
+        with chain.reading(copy) as base:
+            earlier = [part.path for part in chain.earlier_files(file, chain.came_from(base))]
+        with contextlib.ExitStack() as stack:
+            bases = [stack.enter_context(chain.reading(path)) for path in (copy, *earlier)]
+            wrong = answered.lacking(bases, self.done)
+        try:
+            rows = kept.Kept(lag.folder_of(file, follow.to), file, self.since, self.now).lacking([copy, *earlier])
+        except Failure as failure:
+            self.lines.append(f"the standby's pieces aren't compared: {failure.message}")
+            return wrong
+        more = f"; and {len(rows) - answered.FIRST:,} more" if len(rows) > answered.FIRST else ""
+        first = "; ".join(rows[: answered.FIRST])
+        return [*wrong, *([printable(f"the standby's pieces have what is missing: {first}{more}")] if rows else [])]
 
 
 def verify_register(context: Context, lost_rows: list[str]) -> bool:

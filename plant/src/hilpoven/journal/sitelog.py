@@ -9,7 +9,10 @@ from datetime import datetime, timezone
 
 from ..core.failure import Failure
 
-LINE = re.compile(r'(?P<address>\S+) "(?P<owner>[^"]*)" \[(?P<time>[^\]]+)\] "(?P<request>[^"]*)" (?P<status>\d{3})\b')
+LINE = re.compile(
+    r'(?P<address>\S+) "(?P<owner>[^"]*)" \[(?P<time>[^\]]+)\] "(?P<request>[^"]*)" (?P<status>\d{3})\b'
+    r"(?: \d+ [\d.]+ (?P<order>[A-Z0-9-]+))?"
+)
 
 CHECKED = (200, 304, 404, 405, 409)  # the statuses of replies before which the owner's key was compared
 # What goes to the office: nginx answers other methods itself, and paths that lead to the page's files or to its own.
@@ -26,7 +29,13 @@ class Request:
     owner: str
     request: str
     status: int
+    order: str = ""  # that it places, which its body alone names; empty where the line doesn't have it
     is_of_owners: bool = True  # whether its log has what a key was found right for, as far as the log's name says
+
+    @property
+    def what(self) -> str:
+        """What was asked, with the order that it places."""
+        return f"{self.request} {self.order}".strip()
 
     @property
     def is_change(self) -> bool:
@@ -57,10 +66,12 @@ def files_of(path: str) -> list[str]:
     return sorted(logs, key=os.path.getmtime)
 
 
-def requests(path: str) -> Iterator[Request]:
-    """The requests of a log; lines of another form are passed over."""
+def requests(path: str, since: datetime | None = None) -> Iterator[Request]:
+    """The requests of a log; lines of another form are passed over, and files that end before a time."""
     is_of_owners = not os.path.basename(path).startswith(UNPROVED)
     for file in files_of(path):
+        if since and os.path.getmtime(file) < since.timestamp():
+            continue
         try:
             with gzip.open(file, "rt", errors="replace") if file.endswith(".gz") else open(
                 file, errors="replace"
@@ -82,5 +93,5 @@ def request_of(line: str, is_of_owners: bool) -> Request | None:
         time = datetime.fromisoformat(match["time"]).astimezone(timezone.utc)
     except ValueError:
         return None
-    request = match["request"].removesuffix(" HTTP/1.1")
-    return Request(time, match["address"], match["owner"], request, int(match["status"]), is_of_owners)
+    request, order = match["request"].removesuffix(" HTTP/1.1"), (match["order"] or "").removeprefix("-")
+    return Request(time, match["address"], match["owner"], request, int(match["status"]), order, is_of_owners)

@@ -51,15 +51,16 @@ def added_rows(entries: Iterable[dict[str, Any]]) -> list[AddedRow]:
         if entry.get("event") == "asked":
             asked[str(entry.get("id"))] = entry
         elif entry.get("event") == "told" and (command := asked.pop(str(entry.get("of")), None)):
-            rows = [] if has_replaced(command, entry) else [*rows, *rows_of(command, str(entry.get("answer")))]
+            if REPLACING.isdisjoint(map(str, listed(command, "words")[:1])):
+                rows += rows_of(command, str(entry.get("answer")))
+            elif has_replaced(entry):
+                rows = []
     return rows
 
 
-def has_replaced(command: dict[str, Any], answer: dict[str, Any]) -> bool:
-    """Whether a command put another file in the office's place, by its answer."""
-    is_replacing = not REPLACING.isdisjoint(map(str, listed(command, "words")[:1]))
-    is_done = answer.get("status") == 0 and not answer.get("error")
-    return is_replacing and (is_done or answer.get(IN_PLACE) is True)
+def has_replaced(answer: dict[str, Any]) -> bool:
+    """Whether a command that was to put another file in the office's place did so, by its answer."""
+    return answer.get("status") == 0 and not answer.get("error") or answer.get(IN_PLACE) is True
 
 
 def since(rows: list[AddedRow], came: Carried | None) -> list[AddedRow]:
