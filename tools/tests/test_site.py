@@ -435,6 +435,18 @@ def test_requests_with_a_key_are_in_the_log_that_is_kept(site, path, status):
     assert f'"GET {path} HTTP/1.1" {status} ' in lines[AUTHENTICATED][0]
 
 
+@pytest.mark.parametrize("body, order", [
+    (b'{"order":"O-1","recipe":"BRINE-10","batches":2}', "O-1"), (b' { "recipe" : "R" ,\n "batches" : 2, "order" : "O-2" } ', "O-2"),
+    (b'{"order":"A","order":"B","recipe":"R","batches":1}', "-"), (b'{"x":{"order":"A"},"order":"B","recipe":"R","batches":1}', "-"), (b'{"order":"a b","recipe":"R","batches":1}', "-"),
+    (b'{"note":"\\"order\\":\\"A\\"","order":"B","recipe":"R","batches":1}', "-"), (b'{"order":"' + b"A" * 17 + b'"}', "-"), (b'"order":"A"', "-"), (b"", "-")])
+def test_the_log_names_the_order_that_is_placed(site, body, order):
+    """The body alone names it. Another member could name another order, so none is named then."""
+    address = f"198.51.101.{len(body)}"
+    ask(site, "/orders", method="POST", body=body, toll_owner="ACME", toll_key="ACMEKEY1", x_address=address)
+    (line,) = [line for lines in logged(site, address).values() for line in lines]
+    assert line.split()[-1] == order and len(line) < 500
+
+
 @pytest.mark.parametrize("mark, asked", [
     ("a-key", {"path": "/stock?a-key", "toll_key": WRONG_KEY}), ("malformed", {"path": "/orders/malformed"}), ("locked", {"path": "/orders/locked"}),
     ("a-body", {"path": "/orders?a-body", "method": "POST", "body": b"x" * 5000}), ("a-trace", {"path": "/a-trace", "method": "TRACE"}), ("a-page", {"path": "/?a-page"})])
