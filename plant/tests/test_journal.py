@@ -186,10 +186,10 @@ def test_each_line_is_on_the_disk_before_the_next_step(at_work, monkeypatch):
         if os.readlink(f"/proc/self/fd/{descriptor}") == str(at_work.journal):
             steps.append([json.loads(line)["event"] for line in at_work.journal.read_text().splitlines()])
 
-    def asked(words, *more, **options):
+    def asked(words, *others, **options):
         if "PRESS" in words:
             steps.append("toll")
-        return run(words, *more, **options)
+        return run(words, *others, **options)
     monkeypatch.setattr(os, "fsync", synced)
     monkeypatch.setattr(subprocess, "run", asked)
     assert at_work.run("unit-add", "PRESS").out == "accepted\n"
@@ -267,8 +267,8 @@ def test_each_office_shows_its_own_owners_alone(at_work):
     files = {name: office_of(at_work, name, SITE_LOGS=str(log).format(name)) for name in ("north", "south")}
     site.load.__defaults__[0].write_text(f"site_logs = [{json.dumps(str(log).format('north'))}]\n")
     assert owners_in(at_work, "--office", "north") == (["NORTH"], "") and owners_in(at_work, "--office", "south") == (["SOUTH"], "")
-    shown, told = owners_in(at_work, "--db", files["south"])
-    assert shown == [] and "What owners did is left out" in told
+    owners, errors = owners_in(at_work, "--db", files["south"])
+    assert owners == [] and "What owners did is left out" in errors
 
 
 def test_settings_of_earlier_versions_name_the_log_of_the_one_office_and_of_no_other(at_work):
@@ -277,8 +277,8 @@ def test_settings_of_earlier_versions_name_the_log_of_the_one_office_and_of_no_o
     assert owners_in(at_work) == (["NORTH"], "")
     office_of(at_work, "south")
     for name in ("north", "south"):
-        shown, told = owners_in(at_work, "--office", name)
-        assert shown == [] and f"SITE_LOGS=/var/log/nginx/toll.log, or toll-{name}.log, in {at_work.folder}/{name}.env names its log" in told
+        owners, errors = owners_in(at_work, "--office", name)
+        assert owners == [] and f"SITE_LOGS=/var/log/nginx/toll.log, or toll-{name}.log, in {at_work.folder}/{name}.env names its log" in errors
     with open(at_work.folder / "hilpoven.toml", "a") as lines:
         lines.write('office = "north"\n')
     assert owners_in(at_work) == (["NORTH"], "") and owners_in(at_work, "--office", "south")[0] == []

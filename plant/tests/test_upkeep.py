@@ -415,10 +415,10 @@ def test_a_backup_of_an_earlier_version_is_listed_restored_and_removed_only_as_i
     """Its name has no mark, so another office may have made one of the same name."""
     at_work.settle(keep=1)
     folder, name = at_work.folder / "backups", "office-20261101-000000.db"
-    made, content = at_work.run("backup").out.splitlines()[0], at_work.content()
-    os.rename(made, folder / name)
-    os.rename(f"{made}.journal", folder / f"{name}.journal")
-    lines = at_work.journal.read_text().replace(os.path.basename(made), name).splitlines()
+    backup, content = at_work.run("backup").out.splitlines()[0], at_work.content()
+    os.rename(backup, folder / name)
+    os.rename(f"{backup}.journal", folder / f"{name}.journal")
+    lines = at_work.journal.read_text().replace(os.path.basename(backup), name).splitlines()
     at_work.journal.write_text("")
     journal = Journal(str(at_work.journal), str(at_work.db))
     for line in map(json.loads, lines):

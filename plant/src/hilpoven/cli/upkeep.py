@@ -260,9 +260,9 @@ class Answered:
         except Failure as failure:
             self.lines.append(f"the standby's pieces aren't compared: {failure.message}")
             return wrong
-        more = f"; and {len(rows) - answered.FIRST:,} more" if len(rows) > answered.FIRST else ""
+        others = f"; and {len(rows) - answered.FIRST:,} more" if len(rows) > answered.FIRST else ""
         first = "; ".join(rows[: answered.FIRST])
-        return [*wrong, *([printable(f"the standby's pieces have what is missing: {first}{more}")] if rows else [])]
+        return [*wrong, *([printable(f"the standby's pieces have what is missing: {first}{others}")] if rows else [])]
 
 
 def verify_register(context: Context, lost_rows: list[str]) -> bool:

@@ -118,10 +118,10 @@ def of_owners(paths: list[str], with_questions: bool) -> list[JournalEntry]:
             request.time.isoformat(timespec="milliseconds").replace("+00:00", "Z"),
             request.who,
             request.address,
-            request.what,
+            request.action,
             str(request.status),
             (request.owner,),
-            words_in(request.what),
+            words_in(request.action),
         )
         for path in paths
         for request in sitelog.requests(path)

@@ -33,7 +33,7 @@ class Request:
     is_of_owners: bool = True  # whether its log has what a key was found right for, as far as the log's name says
 
     @property
-    def what(self) -> str:
+    def action(self) -> str:
         """What was asked, with the order that it places."""
         return f"{self.request} {self.order}".strip()
 

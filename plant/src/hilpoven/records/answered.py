@@ -47,7 +47,7 @@ class Done:
         return any(base.execute(f"SELECT 1 FROM {self.sql}", words).fetchone() for base in bases)
 
     def __str__(self) -> str:
-        return f"{self.request.what} of {self.request.owner} at {self.request.time:%Y-%m-%dT%H:%M:%SZ}"
+        return f"{self.request.action} of {self.request.owner} at {self.request.time:%Y-%m-%dT%H:%M:%SZ}"
 
 
 def done_of(request: Request) -> Done | None:

@@ -43,16 +43,16 @@ def behind(entries: Sequence[dict[str, Any]], at: int) -> Behind:
     """What the journal has behind what the restore at a place of it put in place: a backup that it notes, or the office
     of a moment. It is nothing where it notes neither."""
     end = end_of(entries, at)
-    found = Behind({str(entry.get("id")) for entry in entries[:end]})
+    since = Behind({str(entry.get("id")) for entry in entries[:end]})
     asked: dict[str, dict[str, Any]] = {}
     for entry in entries[end:at] if end else []:
         if entry.get("event") == "asked":
             asked[str(entry.get("id"))] = entry
         elif entry.get("answer") == "accepted\n" and (command := asked.get(str(entry.get("of")))):
-            found.commands.add(str(command["id"]))
+            since.commands.add(str(command["id"]))
             rows = rows_of(command, "accepted\n")
-            found.moves |= {(row.values["OWNER"], row.values["KEY"]) for row in rows if "KEY" in row.values}
-    return found
+            since.moves |= {(row.values["OWNER"], row.values["KEY"]) for row in rows if "KEY" in row.values}
+    return since
 
 
 def end_of(entries: Sequence[dict[str, Any]], at: int) -> int:
@@ -130,9 +130,9 @@ def lines_of(lost: Sequence[Status], most: int | None = None) -> list[str]:
     """What is told of notes that lost their rows: how many, and each, or the first of them."""
     if not lost:
         return []
-    told = [f"  {status.noted.name} {sentence_of(status.note)}" for status in lost[:most]]
+    sentences = [f"  {status.noted.name} {sentence_of(status.note)}" for status in lost[:most]]
     rest = [f"  {LIST}"] if most and len(lost) > most else []
-    return [printable(line) for line in (f"notes that lost what they are about: {len(lost):,}", *told, *rest)]
+    return [printable(line) for line in (f"notes that lost what they are about: {len(lost):,}", *sentences, *rest)]
 
 
 def sentence_of(note: Note | None) -> str:

@@ -110,8 +110,8 @@ class RowsLost(Note):
     @property
     def sentence(self) -> str:
         """How many, and which first."""
-        more = f" and {len(self.lost) - FIRST_LOST:,} more" if len(self.lost) > FIRST_LOST else ""
-        return f"rows lost by a restore: those of {', '.join(self.lost[:FIRST_LOST]) or 'no note'}{more}"
+        others = f" and {len(self.lost) - FIRST_LOST:,} more" if len(self.lost) > FIRST_LOST else ""
+        return f"rows lost by a restore: those of {', '.join(self.lost[:FIRST_LOST]) or 'no note'}{others}"
 
 
 @dataclass(frozen=True)

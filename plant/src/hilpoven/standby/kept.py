@@ -76,7 +76,7 @@ def missing_rows(state: str, files: Sequence[str]) -> Iterator[str]:
         names = [f"file_{number}" for number in range(len(files))]
         for name, file in zip(names, files):
             base.execute(f"ATTACH ? AS {name}", (address_of(file),))
-        for what, sql in LASTING.items():
+        for kind, sql in LASTING.items():
             others = " EXCEPT ".join(sql.format(name) for name in names)
             for row in base.execute(f"{sql.format('main')} EXCEPT {others}"):
-                yield f"{what}: {' '.join(map(str, row))}"
+                yield f"{kind}: {' '.join(map(str, row))}"
