@@ -19,14 +19,13 @@ from .words import PATH, pass_context
 
 
 def of_settings(context: Context, with_questions: bool) -> list[JournalEntry]:
-    """What owners asked, as the office's logs of the settings have it; that there are none, or that one can't be read, is
-    told."""
+    """What owners asked, as the office's logs of the settings have it; that there are none, or that one can't be read,
+    is told."""
     logs, name = site.site_logs_of(context.settings, context.file), context.settings.office or "NAME"
     if not logs and site.offices():
         path = f"{site.OFFICES}/{name}.env"
-        tell(
-            f"What owners did is left out: SITE_LOGS=/var/log/nginx/toll.log, or toll-{name}.log, in {path} names its log."
-        )
+        log = f"SITE_LOGS=/var/log/nginx/toll.log, or toll-{name}.log, in {path}"
+        tell(f"What owners did is left out: {log} names its log.")
     try:
         return history.of_owners(logs, with_questions)
     except Failure as failure:

@@ -231,8 +231,8 @@ def verify(context: Context) -> None:
 
 
 class Answered:
-    """What owners' requests did by the logs of the office's site, which are read before the file is copied, and what the
-    pieces of a standby on this machine have; and what is told of both."""
+    """What owners' requests did by the logs of the office's site, which are read before the file is copied, and what
+    the pieces of a standby on this machine have; and what is told of both."""
 
     def __init__(self, context: Context, entries: list[dict[str, Any]]) -> None:
         self.context, self.since, self.now = context, answered.last_replaced(entries), datetime.now(timezone.utc)
@@ -266,8 +266,8 @@ class Answered:
 
 
 def verify_register(context: Context, lost_rows: list[str]) -> bool:
-    """Prints whether the register is what the journal gives, where either has notes, and which notes lost what they were
-    noted of; whether it isn't."""
+    """Prints whether the register is what the journal gives, where either has notes, and which notes lost what they
+    were noted of; whether it isn't."""
     report = reports.verified(context.journal())
     for line in [*report.lines, *lost_rows]:
         click.echo(f"register: {printable(line)}")

@@ -319,8 +319,8 @@ def journal_of(settings: Settings, file: str) -> str:
 
 
 def site_logs_of(settings: Settings, file: str) -> list[str]:
-    """The site's logs of an office's file, and of no other: those of the settings, where the file is theirs, or where the
-    machine has no office of a name."""
+    """The site's logs of an office's file, and of no other: those of the settings, where the file is theirs, or where
+    the machine has no office of a name."""
     own = office_of(settings)
     return settings.site_logs if file == own or not own and not offices() else []
 

@@ -44,8 +44,8 @@ class AddedRow:
 
 
 def added_rows(entries: Iterable[dict[str, Any]]) -> list[AddedRow]:
-    """The rows that accepted commands added since the office's file was last replaced. A command that was to replace it,
-    and failed before it did, or was never answered, replaced nothing."""
+    """The rows that accepted commands added since the office's file was last replaced. A command that was to replace
+    it, and failed before it did, or was never answered, replaced nothing."""
     asked, rows = dict[str, dict[str, Any]](), list[AddedRow]()
     for entry in entries:
         if entry.get("event") == "asked":

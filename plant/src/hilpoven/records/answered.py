@@ -1,4 +1,4 @@
-"""What owners' requests did that were answered 200, as the site's log has them, and what of it the office's files lack."""
+"""What owners' requests did that were answered 200, as the site's log has them, and what of it the office lacks."""
 import re
 import sqlite3
 from collections.abc import Iterable, Sequence

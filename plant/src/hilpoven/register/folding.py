@@ -186,8 +186,8 @@ def as_text(noted: Noted) -> str:
 
 
 def from_text(text: str) -> Noted:
-    """The note of such a text; fails with ValueError or TypeError if it is none. Earlier versions wrote none that has the
-    rows that it means."""
+    """The note of such a text; fails with ValueError or TypeError if it is none. Earlier versions wrote none that has
+    the rows that it means."""
     name, line, time, name_of_doer, file, after, words, is_own, value, *meant = json.loads(text)
     rows = rows_in(meant[0]) if meant and meant != [[]] else None if meant == [None] else ()
     return Noted(name, line, time, name_of_doer, file, after, tuple(words), is_own, value, rows)

@@ -1,8 +1,8 @@
 """Which rows of the office a note means, by the values that tell each of them from another row of its name.
 
-A name comes again: behind a restore `--key next` gives the key of a shipment that was lost, and the name of a lost lot is
-free. So the line of a note has the rows that were meant, and the note is about no others. What the words of its command
-record isn't said again. Owners, parties, materials and recipes are known by their names alone.
+A name comes again: behind a restore `--key next` gives the key of a shipment that was lost, and the name of a lost lot
+is free. So the line of a note has the rows that were meant, and the note is about no others. What the words of its
+command record isn't said again. Owners, parties, materials and recipes are known by their names alone.
 """
 import sqlite3
 from collections.abc import Sequence

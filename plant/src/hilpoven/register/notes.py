@@ -101,8 +101,8 @@ class Withdrawal(Note):
 
 @dataclass(frozen=True)
 class RowsLost(Note):
-    """A restore put a file in place that hasn't the rows that these notes mean: they stand for no later rows of the same
-    names. The last one counts."""
+    """A restore put a file in place that hasn't the rows that these notes mean: they stand for no later rows of the
+    same names. The last one counts."""
 
     KIND = "rows-lost"
     lost: tuple[str, ...] = ()  # the names of the notes

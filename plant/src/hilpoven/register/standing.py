@@ -115,13 +115,13 @@ def fault_of(noted: Noted, note: Note, folded: Folded, files: Sequence[OfficeFil
 
 
 def counts_again(note: Note) -> bool:
-    """Whether a note that lost its row in a restore counts once the office has a row with all these values again: without
-    a hold a lot would go, and without the link of a lot a recall would miss it."""
+    """Whether a note that lost its row in a restore counts once the office has a row with all these values again:
+    without a hold a lot would go, and without the link of a lot a recall would miss it."""
     return isinstance(note, Held) or isinstance(note, Link) and bool(note.lot)
 
 
 def fault_of_command(noted: Noted, folded: Folded, base: Base | None) -> Fault:
-    """Why a note doesn't stand that belongs to a command: `toll` refused that, or the office hasn't what it recorded."""
+    """Why a note doesn't stand that belongs to a command: `toll` refused that, or the office lacks what it recorded."""
     if base is None:
         return Fault("about a file that isn't in use", True)
     is_done = folded.answers.get(noted.line)
@@ -212,8 +212,8 @@ class Reader:
     naming: Naming
 
     def place(self, noted: Noted, table: str, *names: str | int) -> int | None:
-        """The file that a name means in a note: the newest one up to the note's own that has the row that was meant, or,
-        where the note doesn't say which, one of that name."""
+        """The file that a name means in a note: the newest one up to the note's own that has the row that was meant,
+        or, where the note doesn't say which, one of that name."""
         own = next(at for at, office_file in enumerate(self.files) if office_file.after == noted.after)
         row = row_of(noted.meant, table, names) if noted.meant else ()
         if row and not own:

@@ -22,8 +22,8 @@ LASTING = {
 
 @dataclass(frozen=True)
 class Kept:
-    """The pieces of an office's file in a folder, of its timeline; since when they count, as another file may have been in
-    its place before; and until when, as more comes while this is looked at."""
+    """The pieces of an office's file in a folder, of its timeline; since when they count, as another file may have been
+    in its place before; and until when, as more comes while this is looked at."""
 
     folder: str
     file: str
@@ -48,8 +48,8 @@ class Kept:
         return [of for of in own if chain.office_of(of) == office]
 
     def states(self, of: Chain, path: str) -> Iterator[str]:
-        """The file that pieces give, made at a path: the last one, and each before a piece for which all of the file was
-        looked at, as the log alone didn't tell what had come. Between those rows come and none goes."""
+        """The file that pieces give, made at a path: the last one, and each before a piece for which all of the file
+        was looked at, as the log alone didn't tell what had come. Between those rows come and none goes."""
         start, end = Report(of, self.folder, is_deep=False).look().route
         last = None
         for one in chain.pieces_of(of, start, end):
