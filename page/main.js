@@ -189,13 +189,22 @@ at("skip").addEventListener("click", event => {
   at("content").focus();
 });
 
-// What is folded is printed too, but for long tables, which are printed where somebody has unfolded them.
-let opened = [];
+// What is folded is printed too, but for long tables, which are printed where somebody has unfolded them. These are taken out
+// meanwhile: a browser takes minutes to print none of 2,000 rows.
+let [opened, taken] = [[], []];
 addEventListener("beforeprint", () => {
-  opened = [...document.querySelectorAll("details:not([open])")].filter(details => !(details.dataset.rows > MOST_PRINTED));
+  const isLong = details => details.dataset.rows > MOST_PRINTED;
+  const folded = [...document.querySelectorAll("details:not([open])")];
+  opened = folded.filter(details => !isLong(details));
   opened.forEach(details => { details.open = true; });
+  taken = folded.filter(isLong).map(details => [details.querySelector(".table"), document.createComment("a table")]);
+  taken.forEach(([table, place]) => table.replaceWith(place));
 });
-addEventListener("afterprint", () => opened.forEach(details => { details.open = false; }));
+addEventListener("afterprint", () => {
+  opened.forEach(details => { details.open = false; });
+  taken.forEach(([table, place]) => place.replaceWith(table));
+  [opened, taken] = [[], []];
+});
 
 watch.begin();
 if (watch.look()) show();
