@@ -20,7 +20,7 @@ import time
 
 import pytest
 import yaml
-from conftest import eventually
+from conftest import PATIENCE, eventually
 
 ROOT = pathlib.Path(__file__).resolve().parent.parent.parent
 sys.path.insert(0, str(ROOT / "tools"))
@@ -524,26 +524,24 @@ def test_a_longer_head_is_refused(site, stub, path, fields, status):
 
 @pytest.fixture
 def slow_site(stub, tmp_path):
-    """A site that lets an address ask once a second, after the first 20 requests."""
-    proxy = Proxy(tmp_path, stub.server_port, changes=[(r"rate=50r/s", "rate=1r/s")])
+    """A site that lets an address ask once a minute, after the first five requests."""
+    proxy = Proxy(tmp_path, stub.server_port, changes=[(r"rate=50r/s", "rate=1r/m"), (r"limit_req zone=toll burst=20;", "limit_req zone=toll burst=4 nodelay;")])
     proxy.start()
     yield proxy
     proxy.end()
 
 
-# Requests that are refused before it is known what they ask for: by their line, by a field, and by their form.
+# Requests that are refused before a limit of their path holds: by their line, by a field, by their form, and by their length.
 REFUSED = {414: b"GET /stock?" + b"q" * 3000 + b" HTTP/1.1\r\nHost: localhost\r\n\r\n", 400: b"GET /stock HTTP/1.1\r\nHost: localhost\r\nlong: " + b"x" * 9000 + b"\r\n\r\n",
-           505: b"GET /stock HTTP/2.0\r\nHost: localhost\r\n\r\n"}
+           505: b"GET /stock HTTP/2.0\r\nHost: localhost\r\n\r\n", 413: b"POST /orders HTTP/1.1\r\nHost: localhost\r\nContent-Length: 9999\r\n\r\n"}
 
 
 @pytest.mark.parametrize("status", REFUSED)
 def test_what_is_refused_at_once_is_limited_too(slow_site, status):
     """Otherwise anybody fills the disk of the logs: each refusal is a line there."""
-    began = time.monotonic()
-    replies = at_once(lambda _: sent(slow_site, REFUSED[status])[0], 50)
-    statuses = [int(reply.split()[1]) for reply in replies]
-    most = 22 + time.monotonic() - began  # one, those that may wait, and one each second
-    assert set(statuses) == {status, 429} and statuses.count(status) <= most, statuses
+    replies = at_once(lambda _: sent(slow_site, REFUSED[status], PATIENCE)[0], 15)
+    statuses = sorted(int(reply.split()[1]) for reply in replies)
+    assert len(statuses) == 15 and set(statuses) == {status, 429} and statuses.count(status) in (5, 6), statuses
     assert {reply.partition(b"\r\n\r\n")[2] for reply in replies if b" 429 " in reply[:20]} == {b'{"error":"TooManyRequests"}'}
     assert all(b"\r\nRetry-After: 1\r\n" in reply for reply in replies if b" 429 " in reply[:20])
     assert max(map(len, (slow_site.folder / "unauthenticated-toll.log").read_text().splitlines())) < 300
