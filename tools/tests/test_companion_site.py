@@ -1,5 +1,6 @@
 """The companion through the site, by nginx, `toll` and `hilpoven companion` themselves: each owner gets its own, and nobody another's."""
 import contextlib
+import itertools
 import os
 import pathlib
 import re
@@ -12,7 +13,7 @@ import threading
 import time
 
 import pytest
-from conftest import ROOT, eventually
+from conftest import ROOT, eventually, quick_guesses
 from test_openapi import SCHEMAS, faults_of, resolved
 from test_site import ask, at_once, sent
 
@@ -301,9 +302,9 @@ def test_wrong_keys_wait_as_for_other_requests(site):
         assert ask(site, path, toll_owner="BOLT", toll_key="WRONGKEY1", x_address="198.51.102.1").status == 403
         return time.monotonic() - begun
 
-    assert max(guess(path) for _ in range(9) for path in ("/companion", "/stock")) < 1
-    guess("/companion")
-    assert guess("/companion") > 1
+    paths = itertools.cycle(("/companion", "/stock"))
+    quick, most = quick_guesses(lambda: guess(next(paths)))
+    assert 19 <= quick <= most
     begun = time.monotonic()
     assert ask(site, "/companion", toll_owner="BOLT", toll_key="BOLTKEY1", x_address="198.51.102.1").status == 200 and time.monotonic() - begun < 1
 
