@@ -335,6 +335,7 @@ def main(usage):
     run_all(runner, wanted)
     passed = {part.name for part in runner.ended if part.is_ok}
     failed = [part.name for part in wanted if part.name not in passed]  # one that never ended is none that passed
+    print(f"parts: {len(wanted) - len(failed)} passed, {len(failed)} failed")
     if words.only is None:
         tell_left_out(words.quick)
         repeat_failures(runner.failures())

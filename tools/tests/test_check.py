@@ -92,8 +92,9 @@ def test_a_part_that_fails_by_luck_is_run_once_more_and_counted(tmp_path, quick)
     path = path_with(tmp_path, "node", f"echo run >> {tmp_path}/runs; {once(tmp_path / 'ran', 'echo ok 1; echo not ok 2 - a click on null; echo later; exit 1')}")
     done = check(*quick, "--only", "page-tests", "--only", "sql-texts", path=path)
     assert done.returncode == 0, done.stdout
-    *outcomes, flaky, last = of_the_gate(done.stdout)
-    assert (flaky, last) == ("flaky: page-tests, not ok 2 - a click on null", "2 parts in 0 minutes: all ok")
+    *outcomes, count, flaky, last = of_the_gate(done.stdout)
+    assert (count, flaky) == ("parts: 2 passed, 0 failed", "flaky: page-tests, not ok 2 - a click on null")
+    assert last == "2 parts in 0 minutes: all ok"
     assert sorted(line.split()[0] for line in outcomes) == ["page-tests", "page-tests", "sql-texts"] and outcomes[-1].endswith("ok, run once more, alone")
     assert (tmp_path / "runs").read_text() == "run\nrun\n"
 

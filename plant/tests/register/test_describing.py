@@ -62,7 +62,7 @@ def test_what_is_described_is_shown(settled):
     (("recipe", "ACME", "BRINE-1", "--allowance", "2"), 1, "there is no recipe ACME BRINE-1\n  Nearest of the recipes: BRINE-10"),
     *((("recipe", "ACME", "BRINE-10", "--allowance", percent), 2, "is no percentage from 0.1 to 100, such as 1.5") for percent in ("0", "0.0", "100.1", "1.55", "-1", "1,5", "²", "1%")),
     (("lot", "ACME", "B-9", "--made", "261101"), 1, "there is no lot B-9 of ACME"), (("lot", "BOLT", "B-1"), 1, "there is no lot B-1 of BOLT"),
-    *((("lot", "ACME", "B-1", "--expires", date), 2, "is no date; a date is YYMMDD, such as 271127") for date in ("271301", "2027-11-01", "101", "0271101", "²71101", "٢٧١١٠١")),
+    *((("lot", "ACME", "B-1", "--expires", date), 2, "is no date; a date is written 2027-11-27 or 271127") for date in ("271301", "2027-02-30", "101", "0271101", "²71101", "٢٧١١٠١")),
     (("lot", "ACME", "B-1", "--made", "261102", "--expires", "261101"), 1, "lot ACME B-1 expires on 261101, and was made on 261102"), (("lot", "ACME"), 2, "LOT"), (("day",), 2, "there is no command describe day")])
 def test_what_cannot_be_described_is_refused(settled, words, status, why):
     done = settled.run("describe", *words)

@@ -98,8 +98,8 @@ def require_opening(office: Office, copy: str) -> None:
 
 
 def check_tables(base: sqlite3.Connection, file: str, health: Health, day: date) -> chain.Carried | None:
-    """Reads how full the tables of a copy are on a day, and soon will be; gives where they came from. Fails where a page
-    of them is damaged."""
+    """Reads how full the tables of a copy are on a day, and soon will be; gives where they came from. Fails where a
+    page of them is damaged."""
     snapshot.require_office(base, file)
     damage = base.execute("PRAGMA quick_check(1)").fetchone()[0]
     if damage != "ok":
