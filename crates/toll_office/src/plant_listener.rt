@@ -7,9 +7,9 @@ use std::io;
 use std::io::{ErrorKind, Write};
 use std::os::fd::RawFd;
 use std::time::Instant;
+use toll_files::take_lock;
 use toll_programs::VERSION;
 use toll_protocol::handshake;
-use toll_service::take_lock;
 
 /// The socket file `FILE.sock` beside an office's file, by which the plant's commands reach its server. Each
 /// client that connects is sent a handshake with the server's build.

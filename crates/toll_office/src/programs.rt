@@ -7,12 +7,13 @@ use std::fmt::Display;
 use std::fs::{File, OpenOptions};
 use std::io::ErrorKind;
 use std::{env, io};
+use toll_files::OfficeFault;
 use toll_keep::Keep;
 use toll_programs::{
     FrontFault, MOST_FILE_BYTES, Status, Task, read_front, task_of, usage_of, warn,
 };
 use toll_server::ServingEnd;
-use toll_service::{KeepOpener, OfficeFault, OfficePath, do_file, do_words, serve_file};
+use toll_service::{KeepOpener, OfficePath, do_file, do_words, serve_file};
 
 /// How many standard streams there are.
 const STREAMS: usize = 3;

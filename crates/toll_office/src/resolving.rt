@@ -1,6 +1,6 @@
 //! The path of an office's file.
 use std::fs;
-use toll_service::OfficeFault;
+use toll_files::OfficeFault;
 
 /// The path of the office's file without a symbolic link at its end. The names of all files beside the
 /// office's are made from this path. Disk for a link that leads to no file.

@@ -6,7 +6,7 @@ use std::io::ErrorKind;
 use std::os::fd::{AsRawFd, RawFd};
 use std::os::unix::fs::{FileTypeExt, PermissionsExt};
 use std::{fs, io};
-use toll_service::{FILE_MODE, FileId};
+use toll_files::{FILE_MODE, FileId};
 
 /// How many connections may wait before the file has its mode.
 const MOST_EARLY: usize = 8192;

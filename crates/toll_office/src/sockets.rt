@@ -13,8 +13,8 @@ use std::io::ErrorKind;
 use std::net::{Ipv4Addr, SocketAddr, SocketAddrV4};
 use std::os::fd::AsRawFd;
 use std::time::{Duration, Instant};
+use toll_files::{FaultLog, ServingFault};
 use toll_server::{Accepted, Listener, Network, NetworkFault};
-use toll_service::{FaultLog, ServingFault};
 
 /// How many events one wait gives.
 const MOST_EVENTS: usize = 256;

@@ -5,11 +5,12 @@ use std::fs::File;
 use std::io::{Read, Write};
 use std::net::{Ipv4Addr, Shutdown, SocketAddrV4, TcpListener, TcpStream};
 use std::test::Fail;
+use toll_files::take_lock;
 use toll_office::{Served, serve_one};
 use toll_opener::office_at;
 use toll_plant::command_of;
 use toll_programs::{ScriptEnd, execute, script};
-use toll_service::{take_lock, with_keep};
+use toll_service::with_keep;
 use toll_sql::{OpenFault, SqlKeep};
 use toll_stories::check;
 

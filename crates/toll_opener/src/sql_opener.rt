@@ -1,6 +1,6 @@
 //! The office on a file.
 ghost use Rattle.std.specs.Prelude.{◌≡◌, IfOk};
-ghost use Rattle.toll_service.specs.Faults.{office_fault_name};
+ghost use Rattle.toll_files.specs.Faults.{office_fault_name};
 ghost use Rattle.toll_sql.specs.Opened.{IsOpened};
 ghost use Rattle.toll_sql.specs.Opening.{open_fault_word};
 
@@ -11,8 +11,9 @@ use std::fs::OpenOptions;
 use std::io::ErrorKind;
 use std::os::unix::fs::OpenOptionsExt;
 use toll_base::{Name, Slice};
+use toll_files::{FILE_MODE, Lease, LeftFiles, LockFile, OfficeFault};
 use toll_keep::{CachedKeep, Keep, KeepFault};
-use toll_service::{FILE_MODE, KeepOpener, Lease, LeftFiles, LockFile, OfficeFault, OfficePath};
+use toll_service::{KeepOpener, OfficePath};
 use toll_sql::{OpenFault, SqlKeep};
 
 /// The keep of an office on a file.

@@ -6,4 +6,3 @@ pub mod RequestLemmas
 pub mod PlantTurns
 pub mod SessionLemmas
 pub mod DamageLemmas
-pub mod LogLemmas

@@ -2,12 +2,12 @@
 use Rattle.std.proofs.Common.{◌≡◌, ◌⊎◌, ◌∙◌, ◌≤◌, Bool, ap, List, [], ◌∷◌, Option, None, Some, Result, refl, sym, subst, inl, inr, arith}
 use Rattle.std.specs.Prelude.{⊤}
 use Rattle.toll_base.specs.Bytes.{Bytes}
+use Rattle.toll_files.specs.declared.fault_log.ServingFault.{ServingFault}
+use Rattle.toll_files.specs.declared.file_stamps.LeftFiles.{LeftFiles}
+use Rattle.toll_files.specs.declared.office_fault.OfficeFault.{OfficeFault}
 use Rattle.toll_keep.specs.Content.{Content}
 use Rattle.toll_keep.specs.Meaning.{Meaning}
 use Rattle.toll_service.specs.Openings.{Openings}
-use Rattle.toll_service.specs.declared.fault_log.ServingFault.{ServingFault}
-use Rattle.toll_service.specs.declared.file_stamps.LeftFiles.{LeftFiles}
-use Rattle.toll_service.specs.declared.office_fault.OfficeFault.{OfficeFault}
 use Rattle.toll_service.specs.declared.office_session.OfficeSession.{OfficeSession}
 use Rattle.toll_service.specs.Sessions.{AnswersBy, AreAsLeft, AreThoseTaken, IsAtHand, IsSessionIdle, IsLeftOpen, IsSessionRun, IsAnsweredAtHand, IsToldBy, IsTurnedAway, ResumesBy, SessionState, state_of_session}
 use Rattle.toll_server.specs.Runs.{Input, Request, Task, Yields, TakesTurns, Turn}

@@ -1,5 +1,7 @@
 -- Work over an office that is opened for it.
 use Rattle.std.specs.Prelude.{◌≡◌, ◌⊎◌, ℕ, List, [], ◌∷◌, Option, None, Some, codes}
+use Rattle.toll_files.specs.Faults.{fault_text}
+use Rattle.toll_files.specs.declared.office_fault.OfficeFault.{OfficeFault}
 use Rattle.toll_plant.specs.Table.{command_lines}
 use Rattle.toll_plant.specs.Usages.{usage_text}
 use Rattle.toll_plant.specs.Words.{command_of_words}
@@ -10,8 +12,6 @@ use Rattle.toll_programs.specs.StreamOutput.{IsPrinted, IsSomePrinted, IsWritten
 use Rattle.toll_protocol.specs.Frames.{frame}
 use Rattle.toll_protocol.specs.PlantMessages.{call_text}
 use Rattle.toll_service.specs.Common.{Bytes, Meaning, PlantCmd, exit_code, Failed, Usage}
-use Rattle.toll_service.specs.Faults.{fault_text}
-use Rattle.toll_service.specs.declared.office_fault.OfficeFault.{OfficeFault}
 use Rattle.toll_service.specs.declared.operation.Operation.{Operation}
 use Rattle.toll_service.specs.declared.operation.Operation.TheVariants.{Command, Import}
 use Rattle.toll_service.specs.Openings.{IsOneOpened, IsOneRefused, IsSomeRefused, IsNoneOpened, Openings}

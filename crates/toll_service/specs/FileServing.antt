@@ -1,5 +1,8 @@
 -- Serving an office in a file.
 use Rattle.std.specs.Prelude.{◌≡◌, ℕ, Bool, List, Option, Result}
+use Rattle.toll_files.specs.declared.fault_log.ServingFault.{ServingFault}
+use Rattle.toll_files.specs.declared.file_stamps.LeftFiles.{LeftFiles}
+use Rattle.toll_files.specs.declared.office_fault.OfficeFault.{OfficeFault}
 use Rattle.toll_service.specs.Common.{Bytes, Meaning, Listener, Poll, ImportState}
 use Rattle.toll_server.specs.Networks.{Tallies, Tally}
 use Rattle.toll_server.specs.Queues.{IsServedInTurn}
@@ -9,9 +12,6 @@ use Rattle.toll_service.specs.Damages.{KnowsNothing}
 use Rattle.toll_service.specs.Openings.{Openings}
 use Rattle.toll_service.specs.Parties.{IsBy}
 use Rattle.toll_service.specs.Sessions.{AnswersBy, IsLockKept, IsOpenedAhead, ResumesBy, state_of_session}
-use Rattle.toll_service.specs.declared.fault_log.ServingFault.{ServingFault}
-use Rattle.toll_service.specs.declared.file_stamps.LeftFiles.{LeftFiles}
-use Rattle.toll_service.specs.declared.office_fault.OfficeFault.{OfficeFault}
 use Rattle.toll_service.specs.declared.office_service.OfficeService.{OfficeService}
 use Rattle.toll_service.specs.declared.party.Party.{Party}
 

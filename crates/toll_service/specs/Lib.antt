@@ -6,11 +6,8 @@ pub mod Listeners
 pub mod Events
 pub mod Serving
 pub mod Whole
-pub mod Faults
 pub mod Sessions
 pub mod FileServing
 pub mod Openings
 pub mod Doing
-pub mod FileChanges
-pub mod LogEnds
 pub mod Damages

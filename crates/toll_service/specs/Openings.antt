@@ -1,7 +1,7 @@
 -- How many offices were opened or refused.
 use Rattle.std.specs.Prelude.{◌≡◌, ◌+◌, ◌-◌, ◌^◌, ◌⊎◌, ℕ, List, ◌∷◌, Option, option_map, Result, Ok, Err}
-use Rattle.toll_service.specs.declared.office_fault.OfficeFault.{OfficeFault}
-use Rattle.toll_service.specs.declared.office_fault.OfficeFault.TheVariants.{Memory}
+use Rattle.toll_files.specs.declared.office_fault.OfficeFault.{OfficeFault}
+use Rattle.toll_files.specs.declared.office_fault.OfficeFault.TheVariants.{Memory}
 
 -- how many offices were opened, and for which faults a lock or an opening was refused, newest first
 pub record Openings : Type 0 where

@@ -1,20 +1,20 @@
 -- How a server answers its clients, over an office that stays open between turns.
 use Rattle.std.specs.Prelude.{◌≡◌, ◌⊎◌, ◌↔◌, ◌+◌, ◌-◌, ◌<◌, ◌^◌, ℕ, Bool, false, true, min, List, [], ◌∷◌, Option, None, Some, IsSome, option_map, Result, Ok, Err}
 use Rattle.toll_base.specs.Bytes.{Bytes}
+use Rattle.toll_files.specs.Faults.{fault_text}
+use Rattle.toll_files.specs.FileChanges.{AreFound}
+use Rattle.toll_files.specs.declared.file_stamps.LeftFiles.{LeftFiles}
+use Rattle.toll_files.specs.declared.fault_log.ServingFault.{ServingFault}
+use Rattle.toll_files.specs.declared.fault_log.ServingFault.TheVariants.{Office}
+use Rattle.toll_files.specs.declared.office_fault.OfficeFault.{OfficeFault}
+use Rattle.toll_files.specs.declared.office_fault.OfficeFault.TheVariants.{Damaged, Memory}
 use Rattle.toll_keep.specs.CallEffects.{IsReading}
 use Rattle.toll_keep.specs.Meaning.{Meaning}
 use Rattle.toll_keep.specs.declared.fault.KeepFault.{KeepFault}
 use Rattle.toll_keep.specs.declared.fault.KeepFault.TheVariants.{Damaged as FoundDamaged}
 use Rattle.toll_service.specs.Damages.{IsKnown, IsNoted, KnowsNoMore, KnowsNothing, StaysWhere}
-use Rattle.toll_service.specs.Faults.{fault_text}
-use Rattle.toll_service.specs.FileChanges.{AreFound}
 use Rattle.toll_service.specs.Openings.{IsOneOpened, IsRefusedAfter, IsSomeRefused, IsNoneOpened, Openings}
 use Rattle.toll_service.specs.declared.damage.Damage.{Damage}
-use Rattle.toll_service.specs.declared.file_stamps.LeftFiles.{LeftFiles}
-use Rattle.toll_service.specs.declared.fault_log.ServingFault.{ServingFault}
-use Rattle.toll_service.specs.declared.fault_log.ServingFault.TheVariants.{Office}
-use Rattle.toll_service.specs.declared.office_fault.OfficeFault.{OfficeFault}
-use Rattle.toll_service.specs.declared.office_fault.OfficeFault.TheVariants.{Damaged, Memory}
 use Rattle.toll_service.specs.declared.office_session.OfficeSession.{OfficeSession}
 use Rattle.toll_protocol.specs.PlantMessages.{IsResponse}
 use Rattle.toll_server.specs.Runs.{Input, Request, Task, Yields, TakesTurns, Turn}

@@ -5,8 +5,8 @@ ghost use Rattle.toll_service.specs.Doing.{IsDoneOver, IsRequestOver};
 ghost use Rattle.toll_wire.specs.Steps.{IsAnswered};
 ghost use Rattle.toll_service.specs.Openings.{IsOneOpened, IsOneRefused};
 
-use crate::office_fault::OfficeFault;
 use crate::office_path::{KeepOpener, OfficePath};
+use toll_files::OfficeFault;
 use toll_keep::Keep;
 use toll_wire::{Out, answer};
 

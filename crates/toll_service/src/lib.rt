@@ -6,15 +6,8 @@
 mod answering;
 mod damage;
 mod doing;
-mod fault_log;
-mod file_id;
-mod file_stamps;
 mod keep_service;
 mod laws;
-mod lock;
-mod log_end;
-mod notes;
-mod office_fault;
 mod office_path;
 mod office_service;
 mod office_session;
@@ -27,28 +20,22 @@ mod reading_ahead;
 mod reserved_refusal;
 mod reserved_reply;
 mod serving;
-mod shared_file;
 mod stopped_import;
 mod turn_result;
 mod words;
 
 pub use answering::answer_at;
 pub use doing::{answer_once, with_keep};
-pub use fault_log::{FaultLog, ServingFault};
-pub use file_id::FileId;
-pub use file_stamps::{FileChange, FileStamps, FoundFiles, LeftFiles, Stamp};
 pub use keep_service::KeepService;
 pub use laws::{
     turns_between_two_openings_are_a_run, turns_of_a_request_are_all_of_it,
     turns_over_a_keep_are_a_run,
 };
-pub use lock::{FILE_MODE, Lease, LockFile, take_lock};
-pub use log_end::{FoundEnd, LogEnd, ReadAt, end_of};
-pub use office_fault::OfficeFault;
 pub use office_path::{KeepOpener, OfficePath};
 pub use office_service::OfficeService;
 pub use party::Party;
 pub use pending_import::PendingImport;
+pub use reserved_refusal::fault_response;
 pub use serving::{Announcing, serve_file, serve_keep};
 pub use toll_wire::Out;
 pub use turn_result::TurnResult;

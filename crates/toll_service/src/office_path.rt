@@ -1,16 +1,14 @@
 //! The place of an office in a file.
 ghost use Rattle.std.specs.Prelude.{◌≡◌, ⊤, Bool, Option, None, Result, option_map, IfOk};
 ghost use Rattle.toll_base.specs.Bytes.{Bytes};
+ghost use Rattle.toll_files.specs.declared.file_stamps.LeftFiles.{LeftFiles};
+ghost use Rattle.toll_files.specs.declared.office_fault.OfficeFault.{OfficeFault};
 ghost use Rattle.toll_keep.specs.CallEffects.{IsReading};
 ghost use Rattle.toll_service.specs.Openings.{Openings, after_lock, after_opening};
-ghost use Rattle.toll_service.specs.declared.file_stamps.LeftFiles.{LeftFiles};
-ghost use Rattle.toll_service.specs.declared.office_fault.OfficeFault.{OfficeFault};
 
-use crate::file_stamps::LeftFiles;
-use crate::lock::Lease;
-use crate::office_fault::OfficeFault;
 use std::alloc::Global;
 use toll_base::{Name, Slice};
+use toll_files::{Lease, LeftFiles, OfficeFault};
 use toll_keep::{Keep, KeepFault};
 
 /// Opens the keep in a file, looks at the file and closes it, each under the lease of the file's lock.
@@ -27,7 +25,7 @@ pub trait KeepOpener<K: Keep>: Drop {
     // An opened keep was asked for this owner's rows, and was this one then, if that is known.
     ghost is_probed: { K → Bytes → K → Type 0 } = { λ first owner last. ⊤ };
 
-    /// Takes the lock of the file, as [`take_lock`](crate::take_lock) does.
+    /// Takes the lock of the file, as [`take_lock`](toll_files::take_lock) does.
     fn lock(&mut self, rt: &HostRuntime, path: &str) -> Result<Lease, OfficeFault>
         ensures { openings self.new ≡ option_map (after_lock result) (openings self.old) };
 

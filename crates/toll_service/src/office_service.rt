@@ -4,8 +4,6 @@ ghost use Rattle.toll_service.specs.Parties.{IsBy};
 ghost use Rattle.toll_service.specs.FileServing.{Answers, IsFresh, Resumes};
 ghost use Rattle.toll_service.specs.Sessions.{IsNewSession};
 
-use crate::fault_log::{FaultLog, ServingFault};
-use crate::office_fault::OfficeFault;
 use crate::office_path::{KeepOpener, OfficePath};
 use crate::office_session::OfficeSession;
 use crate::party::Party;
@@ -14,6 +12,7 @@ use crate::reserved_refusal::ReservedRefusal;
 use crate::turn_result::TurnResult;
 use std::alloc::Global;
 use std::fs;
+use toll_files::{FaultLog, OfficeFault, ServingFault};
 use toll_keep::Keep;
 use toll_server::{Listener, Poll, Service};
 

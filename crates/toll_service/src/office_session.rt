@@ -1,18 +1,14 @@
 //! An office that stays open between requests, while other programs may use its file.
 ghost use Rattle.std.specs.Prelude.{◌≡◌, ◌≢◌, ◌⊎◌, ◌+◌, ◌-◌, ◌<◌, true, None, Some, Ok, ⊤, IfErr, IfNone, IfOk, IfSome, IsSome, OnErr, OnOk, OnSome};
+ghost use Rattle.toll_files.specs.FileChanges.{AreFound};
 ghost use Rattle.toll_server.specs.Runs.{Request, Task};
 ghost use Rattle.toll_service.specs.Damages.{AreOwnersFound, HasFoundDamage, IsKnown, IsNoted, KnowsNoMore, StaysWhere};
-ghost use Rattle.toll_service.specs.FileChanges.{AreFound};
 ghost use Rattle.toll_service.specs.Listeners.{IsServedIfRoom, IsTurnFault, ReportsFault};
 ghost use Rattle.toll_service.specs.Openings.{IsOneOpened, IsOneRefused, IsRefusedAfter, IsSomeRefused, IsNoneOpened};
 ghost use Rattle.toll_service.specs.Sessions.{AreAsLeft, AreCounted, IsAtHand, IsSessionIdle, IsLeftOpen, IsLockKept, IsFoundLost, IsNewSession, IsOpenedAhead, IsWithheld, TakesInput, imports_if_begun, imports_if_ended, state_of_session};
 
 use crate::answering::answer_at;
 use crate::damage::Damage;
-use crate::file_stamps::{LeftFiles, OpenLog};
-use crate::lock::Lease;
-use crate::notes::Notes;
-use crate::office_fault::OfficeFault;
 use crate::office_path::{KeepOpener, OfficePath};
 use crate::open_office::OpenOffice;
 use crate::party::Party;
@@ -24,6 +20,7 @@ use std::alloc::{AllocError, Global};
 use std::time::Instant;
 use std::{io, str};
 use toll_base::Name;
+use toll_files::{Lease, LeftFiles, Notes, OfficeFault, OpenLog};
 use toll_keep::{Keep, KeepFault};
 use toll_server::{Listener, Poll};
 use toll_wire::OfficeRouter;

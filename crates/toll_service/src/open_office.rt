@@ -2,12 +2,9 @@
 ghost use Rattle.std.specs.Prelude.{◌≡◌, IfErr, IfOk, IfSome, OnOk};
 ghost use Rattle.toll_service.specs.Openings.{IsOneOpened, IsOneRefused, IsNoneOpened};
 
-use crate::file_stamps::OpenLog;
-use crate::lock::Lease;
-use crate::office_fault::OfficeFault;
 use crate::office_path::{KeepOpener, OfficePath};
-use crate::shared_file::SharedFile;
 use std::io;
+use toll_files::{Lease, OfficeFault, OpenLog, SharedFile};
 use toll_keep::{Keep, KeepFault};
 
 /// An open office, and its files if they can be released.

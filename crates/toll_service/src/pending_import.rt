@@ -1,15 +1,15 @@
 //! An import that the plant asked a server for.
 ghost use Rattle.std.specs.Prelude.{◌≡◌, ◌⊎◌, Contains, IfSome, is_none};
+ghost use Rattle.toll_files.specs.Faults.{fault_text};
 ghost use Rattle.toll_plant.specs.Imports.{outcomes_in};
 ghost use Rattle.toll_plant.specs.declared.outcome.Outcome.{Outcome};
-ghost use Rattle.toll_service.specs.Faults.{fault_text};
 ghost use Rattle.toll_service.specs.Listeners.{ImportResumed, IsImportAborted, IsImportFault, IsReadyWith};
 
-use crate::office_fault::OfficeFault;
 use crate::reserved_reply::ReservedReply;
 use crate::turn_result::TurnResult;
 use std::alloc::Global;
 use std::marker::Model;
+use toll_files::OfficeFault;
 use toll_keep::{Keep, KeepFault};
 use toll_plant::{Import, ImportLine, ImportReport, Outcome};
 use toll_programs::{output_of_import, output_of_stopped_import};

@@ -1,9 +1,13 @@
 //! A refusal that is reserved before anything is done.
-ghost use Rattle.std.specs.Prelude.{◌≡◌, ◌≤◌, [], vec_capacity, vec_len};
+ghost use Rattle.std.specs.Prelude.{◌≡◌, ◌≤◌, [], length, vec_capacity, vec_len};
+ghost use Rattle.toll_files.specs.Faults.{fault_text};
+ghost use Rattle.toll_programs.specs.Statuses.{exit_code};
+ghost use Rattle.toll_programs.specs.declared.status.Status.TheVariants.{Failed};
+ghost use Rattle.toll_protocol.specs.PlantMessages.{IsResponse};
 ghost use Rattle.toll_service.specs.declared.reserved_refusal.TheConstants.{MOST_REFUSAL_BYTES};
 
-use crate::office_fault::OfficeFault;
 use std::alloc::{AllocError, Global};
+use toll_files::OfficeFault;
 use toll_server::Listener;
 use toll_wire::Out;
 
@@ -35,8 +39,23 @@ impl ReservedRefusal {
         let ReservedRefusal { mut bytes } = self;
         let _ = match listener {
             Listener::Owners => bytes.extend_from_slice(Out::Unavailable.bytes()),
-            Listener::Plant => bytes.extend_from_slice(fault.response()),
+            Listener::Plant => bytes.extend_from_slice(fault_response(fault)),
         };
         bytes
+    }
+}
+
+/// The frame of the response to the plant that reports a fault: its line, and the exit status of a failure. It
+/// takes no memory.
+pub fn fault_response(fault: OfficeFault) -> &'static [u8]
+    ensures reports { IsResponse result.now (exit_code Failed) [] (fault_text fault) }
+    ensures short { length result.now ≤ 24 }
+{
+    match fault {
+        OfficeFault::Locked => b"\0\0\0\x12\x03\0\0\0\0fault Locked\n",
+        OfficeFault::Memory => b"\0\0\0\x12\x03\0\0\0\0fault Memory\n",
+        OfficeFault::Disk => b"\0\0\0\x10\x03\0\0\0\0fault Disk\n",
+        OfficeFault::Damaged => b"\0\0\0\x13\x03\0\0\0\0fault Damaged\n",
+        OfficeFault::NotOurs => b"\0\0\0\x13\x03\0\0\0\0fault NotOurs\n",
     }
 }

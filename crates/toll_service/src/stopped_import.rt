@@ -2,9 +2,9 @@
 ghost use Rattle.toll_service.specs.Listeners.{IsReadyWith};
 ghost use Rattle.toll_service.specs.Sessions.{IsGivenUp};
 
-use crate::office_fault::OfficeFault;
 use crate::pending_import::PendingImport;
 use std::alloc::Global;
+use toll_files::OfficeFault;
 use toll_server::Poll;
 
 /// An import that can't go on, since the office was closed and can't be opened.

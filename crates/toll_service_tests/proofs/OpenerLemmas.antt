@@ -3,19 +3,19 @@ use Rattle.std.proofs.Common.{◌≡◌, ◌⊎◌, ◌∙◌, ◌<◌, false, t
 use Rattle.std.specs.Prelude.{option_map}
 use Rattle.std.specs.List.{list_any}
 use Rattle.toll_base.specs.Bytes.{Bytes}
+use Rattle.toll_files.specs.FileChanges.{AreFound}
+use Rattle.toll_files.specs.declared.file_stamps.LeftFiles.{LeftFiles}
+use Rattle.toll_files.specs.declared.office_fault.OfficeFault.{OfficeFault}
 use Rattle.toll_keep.specs.Meaning.{Meaning}
 use Rattle.toll_plant.specs.ImportStates.{ImportState}
 use Rattle.toll_server.specs.declared.listener.Listener.{Listener}
 use Rattle.toll_server.specs.declared.listener.Listener.TheVariants.{Owners, Plant}
 use Rattle.toll_server.specs.declared.poll.Poll.{Poll}
 use Rattle.toll_service.specs.Damages.{HasFoundDamage, IsKnown, KnowsNothing, is_call, is_owner}
-use Rattle.toll_service.specs.FileChanges.{AreFound}
 use Rattle.toll_service.specs.FileServing.{Answers, IsFresh, logged_by, openings_of}
 use Rattle.toll_service.specs.Openings.{Openings, one_refused_more}
 use Rattle.toll_service.specs.Sessions.{AreAsLeft}
 use Rattle.toll_service.specs.declared.damage.Damage.{Damage}
-use Rattle.toll_service.specs.declared.file_stamps.LeftFiles.{LeftFiles}
-use Rattle.toll_service.specs.declared.office_fault.OfficeFault.{OfficeFault}
 use Rattle.toll_service.specs.declared.office_service.OfficeService.{OfficeService}
 use Rattle.toll_service_tests.specs.Openers.{IsAnsweredAnew, damaged_owners}
 

@@ -2,6 +2,10 @@
 use Rattle.std.specs.Prelude.{◌≡◌, ◌⊎◌, List, [], Option, Some, Result, IfOk, map, reverse}
 use Rattle.toll_base.specs.Bytes.{Bytes}
 use Rattle.toll_base.specs.declared.slice.Slice.{Slice}
+use Rattle.toll_files.specs.declared.fault_log.ServingFault.{ServingFault}
+use Rattle.toll_files.specs.declared.fault_log.ServingFault.TheVariants.{Office}
+use Rattle.toll_files.specs.declared.office_fault.OfficeFault.{OfficeFault}
+use Rattle.toll_files.specs.declared.office_fault.OfficeFault.TheVariants.{Memory}
 use Rattle.toll_keep.specs.Content.{slice_of}
 use Rattle.toll_keep.specs.Meaning.{Meaning, OverContent}
 use Rattle.toll_keep.specs.declared.fault.KeepFault.{KeepFault}
@@ -13,10 +17,6 @@ use Rattle.toll_service.specs.Doing.{IsDoneOver}
 use Rattle.toll_service.specs.Listeners.{IsReadyWith, IsServedIfRoom}
 use Rattle.toll_service.specs.Openings.{Openings, one_refused_more}
 use Rattle.toll_service.specs.Sessions.{IsRefusal}
-use Rattle.toll_service.specs.declared.fault_log.ServingFault.{ServingFault}
-use Rattle.toll_service.specs.declared.fault_log.ServingFault.TheVariants.{Office}
-use Rattle.toll_service.specs.declared.office_fault.OfficeFault.{OfficeFault}
-use Rattle.toll_service.specs.declared.office_fault.OfficeFault.TheVariants.{Memory}
 use Rattle.toll_service.specs.declared.office_service.OfficeService.{OfficeService}
 
 -- the faults of a log of refusals, newest first

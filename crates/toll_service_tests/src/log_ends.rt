@@ -4,7 +4,7 @@ ghost use Rattle.std.specs.Prelude.{Some};
 use std::alloc::{AllocError, Global};
 use std::io;
 use std::test::Fail;
-use toll_service::{FoundEnd, LogEnd, ReadAt, end_of};
+use toll_files::{FoundEnd, LogEnd, ReadAt, end_of};
 
 /// The length of the log, and of each of its three frames.
 const LOG_BYTES: usize = 1640;

@@ -4,10 +4,11 @@ use std::fs::File;
 use std::test::Fail;
 use std::{fs, io};
 use toll_base::{Name, Slice};
+use toll_files::{Lease, LeftFiles, OfficeFault, take_lock};
 use toll_keep::{Keep, KeepFault, MemKeep};
 use toll_programs::{Connector, TrackedStream};
 use toll_protocol::Sink;
-use toll_service::{KeepOpener, Lease, LeftFiles, OfficeFault, OfficePath, do_words, take_lock};
+use toll_service::{KeepOpener, OfficePath, do_words};
 use toll_stories::check;
 
 /// Opens an office without rows, and counts how many.

@@ -5,13 +5,12 @@ use std::alloc::Global;
 use std::fs;
 use std::test::Fail;
 use toll_base::{Name, Slice};
+use toll_files::{Lease, LeftFiles, OfficeFault, take_lock};
 use toll_keep::{Keep, KeepFault, MemKeep};
 use toll_plant::GROUP_RECORDS;
 use toll_protocol::{EncodeFault, Response};
 use toll_server::{Listener, Poll, Service};
-use toll_service::{
-    KeepOpener, Lease, LeftFiles, OfficeFault, OfficePath, OfficeService, take_lock,
-};
+use toll_service::{KeepOpener, OfficePath, OfficeService};
 use toll_stories::{Refused, Refusing};
 
 /// Opens one office, which refuses one change, and then none.

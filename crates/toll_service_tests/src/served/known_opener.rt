@@ -13,11 +13,10 @@ use std::alloc::Global;
 use std::fs;
 use std::test::Fail;
 use toll_base::{Name, Slice};
+use toll_files::{Lease, LeftFiles, OfficeFault, take_lock};
 use toll_keep::{Keep, KeepFault, MemKeep};
 use toll_server::{Listener, Poll, Service};
-use toll_service::{
-    KeepOpener, Lease, LeftFiles, OfficeFault, OfficePath, OfficeService, PendingImport, take_lock,
-};
+use toll_service::{KeepOpener, OfficePath, OfficeService, PendingImport, fault_response};
 
 /// Opens offices without rows, or refuses each opening for one fault. Others are found to have written the files
 /// at each look. Counts have no bound, so they are in logs that only proofs read.
@@ -135,7 +134,7 @@ fn a_client_is_told_the_fault_for_which_the_opener_refused(rt: HostRuntime) -> R
     let is_told = is_expected(
         &rt,
         Some(OfficeFault::NotOurs),
-        OfficeFault::NotOurs.response(),
+        fault_response(OfficeFault::NotOurs),
     );
     fs::remove_file(&rt, "known_opener.db.lock")?;
     assert!(rt; is_answered && is_told);

@@ -8,11 +8,10 @@ use std::io::Write;
 use std::test::Fail;
 use std::{fs, io};
 use toll_base::{Name, Slice};
+use toll_files::{Lease, LeftFiles, OfficeFault, take_lock};
 use toll_keep::{Keep, KeepFault, MemKeep};
 use toll_server::{Listener, Poll, Service};
-use toll_service::{
-    KeepOpener, Lease, LeftFiles, OfficeFault, OfficePath, OfficeService, take_lock,
-};
+use toll_service::{KeepOpener, OfficePath, OfficeService};
 
 /// How often an office was opened, and closed.
 #[derive(Drop)]

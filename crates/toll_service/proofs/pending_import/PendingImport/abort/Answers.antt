@@ -1,7 +1,7 @@
 use Rattle.std.proofs.Common.{◌∙◌, ap, is_none, subst}
+use Rattle.toll_files.specs.Faults.{fault_text}
 use Rattle.toll_programs.specs.Outputs.{IsStoppedImportPrintout, printout_of}
 use Rattle.toll_service.proofs.PlantTurns.{turn_aborted}
-use Rattle.toll_service.specs.Faults.{fault_text}
 use Rattle.toll_service.proofs.pending_import.PendingImport.abort.Goals as goal
 
 pub returns : goal.returns

@@ -1,0 +1,3 @@
+pub mod Faults
+pub mod FileChanges
+pub mod LogEnds

@@ -1,0 +1,343 @@
+//! How an office's files have changed since a server left them.
+ghost use Rattle.std.specs.Prelude.{◌≡◌, ◌↔◌, None, true, IfErr, IfOk, IfSome};
+ghost use Rattle.toll_files.specs.FileChanges.{AreUntouched, HadSomething, HasContentOf, AreCommitsLost, IsEndLost, IsLogLost, IsStampUnchanged};
+
+use crate::file_id::FileId;
+use crate::lock::Lease;
+use crate::log_end::{FoundEnd, LogEnd, ReadAt, end_of};
+use crate::office_fault::OfficeFault;
+use std::fs::{File, Metadata};
+use std::io::ErrorKind;
+use std::os::unix::fs::{FileExt, MetadataExt};
+use std::{fs, io};
+
+/// Which file it is, its length, when it was written, and when that or its name or mode changed. All fields
+/// are 0 for a file that isn't there.
+#[derive(Clone, Copy)]
+pub struct Stamp {
+    pub id: FileId,
+    pub bytes: u64,
+    pub written: (i64, i64),
+    pub changed: (i64, i64),
+}
+
+/// The stamp of a file that isn't there.
+const ABSENT: Stamp = Stamp {
+    id: FileId {
+        device: 0,
+        inode: 0,
+    },
+    bytes: 0,
+    written: (0, 0),
+    changed: (0, 0),
+};
+
+impl From<&Metadata> for Stamp {
+    fn from(metadata: &Metadata) -> Self {
+        Stamp {
+            id: FileId::from(metadata),
+            bytes: metadata.len(),
+            written: (metadata.mtime(), metadata.mtime_nsec()),
+            changed: (metadata.ctime(), metadata.ctime_nsec()),
+        }
+    }
+}
+
+impl Stamp {
+    /// The stamp of the file at this path.
+    pub fn of(rt: &HostRuntime, path: &str) -> io::Result<Self> {
+        match fs::metadata(rt, path) {
+            Ok(metadata) => Ok(Stamp::from(&metadata)),
+            Err(fault) if fault.kind() == ErrorKind::NotFound => Ok(ABSENT),
+            Err(fault) => Err(fault),
+        }
+    }
+
+    // Whether it is the same file, as long, and written at the same time.
+    fn has_content_of(&self, other: &Stamp) -> bool
+        ensures { (result ≡ true) ↔ HasContentOf self.now other.now }
+    {
+        self.id == other.id && self.bytes == other.bytes && self.written == other.written
+    }
+
+    // Whether neither the file nor its name or mode changed either.
+    fn is_same(&self, other: &Stamp) -> bool
+        ensures { (result ≡ true) ↔ IsStampUnchanged self.now other.now }
+    {
+        self.has_content_of(other) && self.changed == other.changed
+    }
+}
+
+/// The stamps of an office's file and of its log.
+#[derive(Clone, Copy)]
+pub struct FileStamps {
+    pub database: Stamp,
+    pub log: Stamp,
+}
+
+impl FileStamps {
+    /// The stamps of the office at this path.
+    pub fn of(rt: &HostRuntime, path: &str, _lease: &Lease) -> io::Result<Self> {
+        let log = log_path(rt, path)?;
+        Ok(FileStamps {
+            database: Stamp::of(rt, path)?,
+            log: Stamp::of(rt, log.as_str())?,
+        })
+    }
+}
+
+/// The log of an office, which stays open to be read.
+#[derive(Drop)]
+pub struct OpenLog {
+    file: File,
+}
+
+impl OpenLog {
+    /// Opens the log at this path.
+    pub fn open(rt: &HostRuntime, log: &str) -> io::Result<Self> {
+        let file = File::open(rt, log)?;
+        Ok(OpenLog { file })
+    }
+
+    // The log as it is now.
+    fn now(&self) -> io::Result<StampedLog<'_>> {
+        Ok(StampedLog {
+            file: &self.file,
+            stamp: Stamp::from(&self.file.metadata()?),
+        })
+    }
+}
+
+/// An open log, of which only the bytes are read that it had when it was stamped.
+#[derive(Clone, Copy)]
+struct StampedLog<'a> {
+    file: &'a File,
+    stamp: Stamp,
+}
+
+impl ReadAt for StampedLog<'_> {
+    fn len(&self) -> u64 {
+        self.stamp.bytes
+    }
+
+    fn fill_at(&self, at: u64, buffer: &mut [u8]) -> io::Result<bool> {
+        match self.file.read_exact_at(buffer, at) {
+            Ok(()) => Ok(true),
+            Err(fault) if fault.kind() == ErrorKind::UnexpectedEof => Ok(false),
+            Err(fault) => Err(fault),
+        }
+    }
+}
+
+/// What other programs did to the files of an office.
+#[derive(Clone, Copy, Debug, PartialEq, Eq)]
+pub enum FileChange {
+    /// Nothing.
+    Same,
+    /// They wrote the files.
+    ByOthers,
+    /// Committed changes are gone: the files are not those of the office that was open.
+    NotOurs,
+}
+
+/// The state in which a server left the files of its office.
+#[derive(Clone, Copy)]
+pub struct LeftFiles {
+    pub stamps: FileStamps,
+    /// The last commit in the log, which the file may lack. None if the log holds no commit.
+    pub log_end: Option<LogEnd>,
+}
+
+/// The state in which a server finds the files of its office.
+#[derive(Clone, Copy)]
+pub struct FoundFiles {
+    pub stamps: FileStamps,
+    /// What became of the last commit in the log. None if the log is untouched or held no commit, or if it
+    /// can't be read, which the opening of the office reports.
+    pub log_end: Option<FoundEnd>,
+}
+
+impl FoundFiles {
+    /// The state of the files at this path, which were left so. The log is read only if it has changed.
+    pub fn of(rt: &HostRuntime, path: &str, lease: &Lease, left: &LeftFiles) -> io::Result<Self>
+        ensures { IfOk result (λ found. IsStampUnchanged found.stamps.log left.now.stamps.log → found.log_end ≡ None) }
+    {
+        let stamps = FileStamps::of(rt, path, lease)?;
+        let log_end = match &left.log_end {
+            Some(end) if !stamps.log.is_same(&left.stamps.log) => find_end(rt, path, end).ok(),
+            _ => None,
+        };
+        Ok(FoundFiles { stamps, log_end })
+    }
+}
+
+impl LeftFiles {
+    /// The state of the files now, which were left as `before` says. The log is read only if it has changed since.
+    pub fn of(
+        rt: &HostRuntime,
+        path: &str,
+        lease: &Lease,
+        before: &Option<LeftFiles>,
+    ) -> io::Result<Self>
+        ensures { IfOk result (λ left. IfSome before.now (λ known. IsStampUnchanged known.stamps.log left.stamps.log → left.log_end ≡ known.log_end)) }
+    {
+        let stamps = FileStamps::of(rt, path, lease)?;
+        let log_end = match before {
+            Some(before) if before.stamps.log.is_same(&stamps.log) => before.log_end,
+            Some(before) => log_end(rt, path, &before.log_end)?,
+            None => log_end(rt, path, &None)?,
+        };
+        Ok(LeftFiles { stamps, log_end })
+    }
+
+    /// The state of the files now, if only this process has changed them since they were left so, by an office
+    /// whose log is open and which met no fault. The database is looked at only if the log was begun anew, since
+    /// the office writes to it only then. So a change that another program made meanwhile isn't taken for its own.
+    pub fn after_turn(
+        &self,
+        rt: &HostRuntime,
+        path: &str,
+        lease: &Lease,
+        open: &OpenLog,
+    ) -> io::Result<Self>
+        ensures { IfOk result (λ left. IsStampUnchanged self.now.stamps.log left.stamps.log → left.log_end ≡ self.now.log_end) }
+    {
+        let log = open.now()?;
+        if self.stamps.log.is_same(&log.stamp) {
+            return Ok(*self);
+        }
+        if self.stamps.log.id == log.stamp.id {
+            let log_end = end_of(&log, &self.log_end)?;
+            if is_continued(&self.log_end, &log_end) {
+                let database = self.stamps.database;
+                let log = log.stamp;
+                let stamps = FileStamps { database, log };
+                return Ok(LeftFiles { stamps, log_end });
+            }
+        }
+        LeftFiles::of(rt, path, lease, &Some(*self))
+    }
+
+    /// Whether no other program has changed the files of the office at this path since they were left so. If
+    /// the files can't be read, they count as changed. NotOurs if committed changes are gone.
+    pub fn is_unchanged(
+        &self,
+        rt: &HostRuntime,
+        path: &str,
+        lease: &Lease,
+    ) -> Result<bool, OfficeFault>
+        ensures { IfErr result (λ fault. (fault ≡ OfficeFault.NotOurs) × HadSomething self.now) }
+    {
+        match self.compare(rt, path, lease) {
+            FileChange::Same => Ok(true),
+            FileChange::ByOthers => Ok(false),
+            FileChange::NotOurs => Err(OfficeFault::NotOurs),
+        }
+    }
+
+    /// What other programs did to the files of the office at this path since they were left so. If the files
+    /// can't be read, they count as written.
+    pub fn compare(&self, rt: &HostRuntime, path: &str, lease: &Lease) -> FileChange
+        ensures { result ≡ FileChange.NotOurs → HadSomething self.now }
+    {
+        match FoundFiles::of(rt, path, lease, self) {
+            Ok(found) => self.change_to(&found),
+            Err(_) => FileChange::ByOthers,
+        }
+    }
+
+    /// What other programs did if the files are found so now.
+    pub fn change_to(&self, found: &FoundFiles) -> FileChange
+        ensures same { (result ≡ FileChange.Same) ↔ AreUntouched self.now.stamps found.now.stamps }
+        ensures lost { (result ≡ FileChange.NotOurs) ↔ AreCommitsLost self.now found.now }
+    {
+        if self.is_lost(found) {
+            FileChange::NotOurs
+        } else if self.are_untouched(&found.stamps) {
+            FileChange::Same
+        } else {
+            FileChange::ByOthers
+        }
+    }
+
+    // Whether neither file has changed.
+    fn are_untouched(&self, found: &FileStamps) -> bool
+        ensures { (result ≡ true) ↔ AreUntouched self.now.stamps found.now }
+    {
+        found.database.is_same(&self.stamps.database) && found.log.is_same(&self.stamps.log)
+    }
+
+    // Whether committed changes are gone.
+    fn is_lost(&self, found: &FoundFiles) -> bool
+        ensures { (result ≡ true) ↔ AreCommitsLost self.now found.now }
+    {
+        if self.stamps.database.bytes > 0 && found.stamps.database.bytes == 0 {
+            return true;
+        }
+        self.log_end.is_some() && self.is_log_lost(found)
+    }
+
+    // Whether the commits in the log are gone.
+    fn is_log_lost(&self, found: &FoundFiles) -> bool
+        ensures { (result ≡ true) ↔ IsLogLost self.now found.now }
+    {
+        let is_database_kept = found.stamps.database.has_content_of(&self.stamps.database);
+        let is_log_kept = found.stamps.log.has_content_of(&self.stamps.log);
+        let is_log_cut = found.stamps.log.bytes < self.stamps.log.bytes;
+        is_database_kept && is_log_cut
+            || !is_database_kept && is_log_kept
+            || self.is_end_lost(found, is_database_kept)
+    }
+
+    // Whether the last commit is found to be gone from the log.
+    fn is_end_lost(&self, found: &FoundFiles, is_database_kept: bool) -> bool
+        ensures { (result ≡ true) ↔ IsEndLost (is_database_kept ≡ true) self.now found.now }
+    {
+        if found.stamps.log.is_same(&self.stamps.log) {
+            return false;
+        }
+        match found.log_end {
+            Some(FoundEnd::Gone) => true,
+            Some(FoundEnd::BegunAnew) => is_database_kept,
+            Some(FoundEnd::Stands) | None => false,
+        }
+    }
+}
+
+fn log_path(rt: &HostRuntime, path: &str) -> io::Result<String> {
+    Ok(format!(in rt.alloc(); "{path}-wal")?)
+}
+
+// Whether a log has the salts that it had before, so that it was only added to.
+fn is_continued(before: &Option<LogEnd>, end: &Option<LogEnd>) -> bool {
+    match (before, end) {
+        (Some(before), Some(end)) => before.salts == end.salts,
+        _ => false,
+    }
+}
+
+// The last commit in the log of the office at this path, of which an earlier one may be known.
+fn log_end(rt: &HostRuntime, path: &str, before: &Option<LogEnd>) -> io::Result<Option<LogEnd>> {
+    match open_log(rt, path)? {
+        Some(log) => end_of(&log.now()?, before),
+        None => Ok(None),
+    }
+}
+
+// What became of the end of the log.
+fn find_end(rt: &HostRuntime, path: &str, end: &LogEnd) -> io::Result<FoundEnd> {
+    match open_log(rt, path)? {
+        Some(log) => end.find(&log.now()?),
+        None => Ok(FoundEnd::BegunAnew),
+    }
+}
+
+// The log of the office at this path, if there is one.
+fn open_log(rt: &HostRuntime, path: &str) -> io::Result<Option<OpenLog>> {
+    let log = log_path(rt, path)?;
+    match OpenLog::open(rt, log.as_str()) {
+        Ok(log) => Ok(Some(log)),
+        Err(fault) if fault.kind() == ErrorKind::NotFound => Ok(None),
+        Err(fault) => Err(fault),
+    }
+}

@@ -1,0 +1,20 @@
+//! The files of an office: their lock, what other programs did to them, and the faults that an operator reads.
+#![tactic(auto)]
+
+mod fault_log;
+mod file_id;
+mod file_stamps;
+mod lock;
+mod log_end;
+mod notes;
+mod office_fault;
+mod shared_file;
+
+pub use fault_log::{FaultLog, ServingFault};
+pub use file_id::FileId;
+pub use file_stamps::{FileChange, FileStamps, FoundFiles, LeftFiles, OpenLog, Stamp};
+pub use lock::{FILE_MODE, Lease, LockFile, take_lock};
+pub use log_end::{FoundEnd, LogEnd, ReadAt, end_of};
+pub use notes::Notes;
+pub use office_fault::OfficeFault;
+pub use shared_file::SharedFile;

@@ -1,6 +1,0 @@
-use Rattle.std.proofs.Common.{sym, ◌∙◌}
-use Rattle.toll_service.proofs.LogLemmas.{part_is}
-use Rattle.toll_service.proofs.log_end.salts_in.Goals as goal
-
-pub returns : goal.returns
-returns c = c.copy_from_slice.ensures.after ∙ sym (part_is _ 16 8)
