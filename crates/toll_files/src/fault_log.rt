@@ -21,7 +21,7 @@ pub enum ServingFault {
 }
 
 impl ServingFault {
-    /// Its word.
+    /// The fault's name, as the operator's log has it.
     pub fn name(self) -> &'static str
         ensures { result.now ≡ serving_fault_name self }
     {

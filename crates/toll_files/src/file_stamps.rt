@@ -44,7 +44,8 @@ impl From<&Metadata> for Stamp {
 }
 
 impl Stamp {
-    /// The stamp of the file at this path.
+    /// The stamp of the file at this path, or that of a file that isn't there. An `Err` if its metadata can't be
+    /// read.
     pub fn of(rt: &HostRuntime, path: &str) -> io::Result<Self> {
         match fs::metadata(rt, path) {
             Ok(metadata) => Ok(Stamp::from(&metadata)),
@@ -76,7 +77,8 @@ pub struct FileStamps {
 }
 
 impl FileStamps {
-    /// The stamps of the office at this path.
+    /// The stamps of the office at this path. An `Err` if the metadata of a file can't be read, or if there is no
+    /// memory for the path of the log.
     pub fn of(rt: &HostRuntime, path: &str, _lease: &Lease) -> io::Result<Self> {
         let log = log_path(rt, path)?;
         Ok(FileStamps {
@@ -93,7 +95,7 @@ pub struct OpenLog {
 }
 
 impl OpenLog {
-    /// Opens the log at this path.
+    /// Opens the log at this path. An `Err` if it isn't there or can't be opened.
     pub fn open(rt: &HostRuntime, log: &str) -> io::Result<Self> {
         let file = File::open(rt, log)?;
         Ok(OpenLog { file })
@@ -158,7 +160,8 @@ pub struct FoundFiles {
 }
 
 impl FoundFiles {
-    /// The state of the files at this path, which were left so. The log is read only if it has changed.
+    /// The state of the files at this path, which were left so. The log is read only if it has changed. An `Err` if
+    /// the stamps can't be read.
     pub fn of(rt: &HostRuntime, path: &str, lease: &Lease, left: &LeftFiles) -> io::Result<Self>
         ensures { IfOk result (λ found. IsStampUnchanged found.stamps.log left.now.stamps.log → found.log_end ≡ None) }
     {
@@ -173,6 +176,7 @@ impl FoundFiles {
 
 impl LeftFiles {
     /// The state of the files now, which were left as `before` says. The log is read only if it has changed since.
+    /// An `Err` if the stamps or the log can't be read.
     pub fn of(
         rt: &HostRuntime,
         path: &str,
@@ -193,6 +197,7 @@ impl LeftFiles {
     /// The state of the files now, if only this process has changed them since they were left so, by an office
     /// whose log is open and which met no fault. The database is looked at only if the log was begun anew, since
     /// the office writes to it only then. So a change that another program made meanwhile isn't taken for its own.
+    /// An `Err` if the stamps or the log can't be read.
     pub fn after_turn(
         &self,
         rt: &HostRuntime,

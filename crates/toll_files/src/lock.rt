@@ -22,7 +22,7 @@ impl Lease {
     }
 }
 
-/// Takes the lock of the file, `FILE.lock`, without waiting.
+/// Takes the lock of the file, `FILE.lock`, without waiting. Fails as [`LockFile::lock`] does.
 pub fn take_lock(rt: &HostRuntime, path: &str) -> Result<Lease, OfficeFault> {
     LockFile::new().lock(rt, path)
 }
@@ -40,7 +40,8 @@ impl LockFile {
     }
 
     /// Takes the lock without waiting. If another file is at the path of `FILE.lock` by now, or none, the lock is
-    /// that of the file that is opened or made there.
+    /// that of the file that is opened or made there. Locked if another program has the lock or the file can't be
+    /// opened, Memory if there is none for its path.
     pub fn lock(&mut self, rt: &HostRuntime, path: &str) -> Result<Lease, OfficeFault> {
         let Ok(name) = format!(in rt.alloc(); "{path}.lock") else {
             return Err(OfficeFault::Memory);

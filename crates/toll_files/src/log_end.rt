@@ -21,7 +21,7 @@ const MOST_FRAME_BYTES: usize = FRAME_HEADER_BYTES + 65_536;
 const AHEAD_BYTES: usize = 3 * (FRAME_HEADER_BYTES + 4_096) + FRAME_HEADER_BYTES;
 
 /// The version of the format, which has not changed since SQLite 3.7.0.
-const VERSION: u32 = 3_007_000;
+const WAL_VERSION: u32 = 3_007_000;
 
 /// A running sum of a log, as SQLite computes it.
 type Sum = (u32, u32);
@@ -35,7 +35,8 @@ pub trait ReadAt {
     fn len(&self) -> u64
         ensures { IfSome (content self.now) (λ bytes. result ≡ length bytes) };
 
-    /// Fills the buffer with the bytes from this place on. Returns false if the file ends before.
+    /// Fills the buffer with the bytes from this place on. Returns false if the file ends before. An `Err` if the
+    /// bytes can't be read.
     fn fill_at(&self, at: u64, buffer: &mut [u8]) -> io::Result<bool>
         ensures { IfOk result (λ filled. IfSome (content self.now) (λ bytes. IsFilled bytes at filled buffer.new)) };
 }
@@ -132,7 +133,8 @@ pub enum FoundEnd {
 }
 
 impl LogEnd {
-    /// What became of it in the log. All frames up to it are read, and their sums computed.
+    /// What became of it in the log. All frames up to it are read, and their sums computed. An `Err` if the log
+    /// can't be read.
     pub fn find<F: ReadAt>(&self, log: &F) -> io::Result<FoundEnd>
         ensures { IfOk result (λ found. IfSome (F.content log.now) (λ bytes. IsFoundAs bytes self.now found)) }
     {
@@ -170,7 +172,8 @@ impl LogEnd {
 }
 
 /// The last commit in the log, if there is one. `before` is an earlier end of it: if the log still has its
-/// salts, only frames behind it are looked at. The first few headers are read with the pages between them.
+/// salts, only frames behind it are looked at. The first few headers are read with the pages between them. An
+/// `Err` if the log can't be read, or has more frames than SQLite counts.
 pub fn end_of<F: ReadAt>(log: &F, before: &Option<LogEnd>) -> io::Result<Option<LogEnd>>
     ensures { IfOk result (λ end. IfSome (F.content log.now) (λ bytes. IsEarlierEnd bytes before.now → IsEndOf bytes end)) }
 {
@@ -280,7 +283,9 @@ fn page_size_of(head: &[u8; 32]) -> Option<PageSize>
 fn is_header(head: &[u8; 32], page_size: PageSize) -> bool
     ensures { IsTrue result ↔ IsHeader (bytes_of page_size) head.now }
 {
-    is_signed(head) && be32_at(head, 4) == VERSION && be32_at(head, 8) as usize == page_size.bytes()
+    is_signed(head)
+        && be32_at(head, 4) == WAL_VERSION
+        && be32_at(head, 8) as usize == page_size.bytes()
 }
 
 // Whether the header begins with the magic number and ends with its sum.

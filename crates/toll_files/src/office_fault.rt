@@ -21,7 +21,7 @@ pub enum OfficeFault {
 }
 
 impl OfficeFault {
-    /// Its word.
+    /// The fault's name, as responses and the operator's log have it.
     pub fn name(self) -> &'static str
         ensures { result.now ≡ office_fault_name self }
     {
@@ -48,7 +48,7 @@ impl OfficeFault {
     }
 }
 
-/// Its word.
+/// The fault's name.
 impl fmt::Display for OfficeFault {
     ghost use Rattle.std.specs.Prelude.{Some};
     ghost use Rattle.toll_files.specs.Faults.{office_fault_name};

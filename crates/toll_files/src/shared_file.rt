@@ -19,18 +19,19 @@ pub struct SharedFile {
 }
 
 impl SharedFile {
-    /// The file at the path, which this process has open and locked.
+    /// The file at the path, which this process has open and locked. An `Err` if no descriptor of the process is
+    /// found that can lock it, or if there is no memory to search for it.
     pub fn of(rt: &HostRuntime, path: &str) -> io::Result<Self> {
         let descriptor = descriptor_of(rt, path)?;
         Ok(SharedFile { descriptor })
     }
 
-    /// Locks the file, unless another program has it.
+    /// Locks the file. An `Err` if another program has it.
     pub fn lock(&self) -> io::Result<()> {
         set_lock(self.descriptor, RangeLock::Exclusive)
     }
 
-    /// Unlocks it.
+    /// Unlocks the file. An `Err` if the system refuses.
     pub fn unlock(&self) -> io::Result<()> {
         set_lock(self.descriptor, RangeLock::Unlock)
     }
