@@ -21,7 +21,7 @@ use toll_wire::{OfficeRouter, Out, answer_with_router};
 /// question. Bytes that are no frame, or a frame that was cut, do nothing and get no reply.
 ///
 /// An import takes several turns. The first turn reads all records of its file, and leaves the import to be
-/// resumed ([`Importing::resume`](crate::PendingImport)). If the file can't be imported, the reply comes at
+/// resumed ([`PendingImport::resume`](crate::PendingImport)). If the file can't be imported, the reply comes at
 /// once.
 ///
 /// An `Err` means that there was no memory: nothing was done, and there is no reply. Memory for the shortest

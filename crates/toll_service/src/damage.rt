@@ -11,10 +11,10 @@ use toll_base::Name;
 use toll_server::Listener;
 
 /// How many owners are remembered, and how many calls.
-const MOST: usize = 100;
+const MOST_REMEMBERED: usize = 100;
 
 /// The length limit in bytes of a call that is remembered.
-const MOST_CALL_BYTES: usize = 4096;
+const MOST_REMEMBERED_BYTES: usize = 4096;
 
 /// What is known of damage in a file since another program last wrote it. A client that met damage gets its
 /// reply from this, without another look at the file.
@@ -96,7 +96,7 @@ impl Damage {
         ensures sound { self.new.sound ≡ self.old.sound }
         ensures calls { (c : Held ℕ) → Contains self.new.calls.items c → Contains self.old.calls.items c ⊎ (c.items ≡ bytes.now) }
     {
-        if self.calls.len() >= MOST || bytes.len() > MOST_CALL_BYTES {
+        if self.calls.len() >= MOST_REMEMBERED || bytes.len() > MOST_REMEMBERED_BYTES {
             return;
         }
         if let Ok(call) = Vec::from_slice(alloc, bytes) {
@@ -116,7 +116,7 @@ fn has(owners: &[Name], owner: &Name) -> bool
 fn add(owners: &mut Vec<Name>, owner: Name)
     ensures { (owners.new.items ≡ owners.old.items) ⊎ (owners.new.items ≡ owners.old.items ++ owner ∷ []) }
 {
-    if owners.len() < MOST {
+    if owners.len() < MOST_REMEMBERED {
         let _ = owners.push(owner);
     }
 }

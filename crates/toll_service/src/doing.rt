@@ -11,7 +11,8 @@ use toll_keep::Keep;
 use toll_wire::{Out, answer};
 
 /// Takes the lock of the file, `FILE.lock`, without waiting, opens the office in it, does this over its keep,
-/// closes the file, and then releases the lock. So no other program uses the file meanwhile.
+/// closes the file, and then releases the lock. So no other program uses the file meanwhile. An `Err` if the lock
+/// isn't taken or the office isn't opened: nothing was done then.
 pub fn with_keep<K: Keep, O: KeepOpener<K>, T, F: FnOnce(&mut K) -> T + Drop>(
     office_path: &mut OfficePath<'_, O>,
     act: F,

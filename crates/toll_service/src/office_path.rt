@@ -25,7 +25,7 @@ pub trait KeepOpener<K: Keep>: Drop {
     // An opened keep was asked for this owner's rows, and was this one then, if that is known.
     ghost is_probed: { K → Bytes → K → Type 0 } = { λ first owner last. ⊤ };
 
-    /// Takes the lock of the file, as [`take_lock`](toll_files::take_lock) does.
+    /// Takes the lock of the file, or fails, as [`take_lock`](toll_files::take_lock) does.
     fn lock(&mut self, rt: &HostRuntime, path: &str) -> Result<Lease, OfficeFault>
         ensures { openings self.new ≡ option_map (after_lock result) (openings self.old) };
 
@@ -48,12 +48,12 @@ pub trait KeepOpener<K: Keep>: Drop {
         ensures openings { openings self.new ≡ openings self.old }
         ensures found { is_found left.now result };
 
-    /// Opens the keep in the file.
+    /// Opens the keep in the file. An `Err` if it can't be opened.
     fn open(&mut self, rt: &HostRuntime, path: &str, lease: &Lease) -> Result<K, OfficeFault>
         ensures opened { IfOk result is_opened }
         ensures counted { openings self.new ≡ option_map (after_opening result) (openings self.old) };
 
-    /// Reads an owner's rows in a keep that it opened.
+    /// Reads an owner's rows in a keep that it opened. An `Err` is the fault that the keep met.
     fn read_rows(
         &mut self,
         alloc: Global,

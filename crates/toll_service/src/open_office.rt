@@ -28,7 +28,7 @@ struct Files {
 }
 
 impl<K: Keep + Drop> OpenOffice<K> {
-    /// The office at this place.
+    /// Opens the office at this place. An `Err` if its opener can't open it.
     pub fn at<O: KeepOpener<K>>(
         office_path: &mut OfficePath<'_, O>,
         lease: &Lease,

@@ -19,7 +19,7 @@ use toll_protocol::Call;
 use toll_server::Poll;
 
 /// Answers a frame, or begins the import that it asks for. Memory for an exit status is taken before anything
-/// is done.
+/// is done. An `Err` means that there was no memory: nothing was done.
 pub fn answer_plant<K: Keep>(
     alloc: Global,
     keep: &mut K,

@@ -8,7 +8,7 @@ use toll_keep::{Keep, KeepFault};
 use toll_trace::Way;
 
 /// Reads the rows of all owners and of HOUSE, and traces once over each one's batches. A keep that remembers
-/// what it read has the rows and the genealogies in memory then.
+/// what it read has the rows and the genealogies in memory then. An `Err` is the fault that ended the reading.
 pub fn read_ahead<K: Keep>(alloc: Global, keep: &mut K) -> Result<(), KeepFault>
     ensures { IsReading K.meaning keep.old keep.new result }
 {

@@ -26,7 +26,7 @@ pub struct ReservedRefusal {
 impl ReservedRefusal {
     ghost use Rattle.toll_service.specs.Sessions.{IsRefusal};
 
-    /// Takes the memory.
+    /// Takes the memory. An `Err` if there isn't as much.
     pub fn new(alloc: Global) -> Result<Self, AllocError> {
         let bytes = Vec::with_capacity(alloc, MOST_REFUSAL_BYTES)?;
         Ok(ReservedRefusal { bytes })

@@ -46,7 +46,7 @@ pub fn serve_keep<W: Network, K: Keep>(
 
 /// A network that announces that it listens.
 pub trait Announcing: Network {
-    /// Announces that clients may connect, to the program or user that started the server.
+    /// Announces that clients may connect, to the program or user that started the server. An `Err` if it can't.
     fn announce(&self, rt: &HostRuntime) -> io::Result<()>;
 }
 
