@@ -99,13 +99,14 @@ pub use Rattle.toll_sql.specs.Cells.{cells_of, columns_from, fill, fit, is_of_ki
 pub use Rattle.toll_sql.specs.Common.{Actual, AllByRecursion, BatchRow, Binary, Bytes, Closed, Column, Compiled, Content, Damaged, Database, Disk, Error, HasCleanDisk, Held, Index, Int, IsAscending, IsClean, IsShaped, KeepFault, KeepsCommit, LotRow, MaterialRow, Memory, Move, MoveRow, Null, OrderRow, OwnerRow, Receive, RecipeRow, RefusesToRead, RequirementRow, ResultRow, Role, Row, Schema, Scrap, Ship, Slice, Split, SqliteFailure, State, SublotRow, Survives, Table, TestRow, Text, Trees, UnitRow, VoidRow, agree, bytes_cmp, column, guards, is_eq, is_lt, is_name, match_ordering, empty_content, on, plain, row_cmp, same_bytes, with_row}
 pub use Rattle.toll_sql.specs.Create.{AreEmpty, IsMaking, IsNewDatabase, IsShapedAs, IsTransactionStep, IsWholeOrNothing, LeavesMade, MakesAllTables, MakesTable, WritesVersion, begin}
 pub use Rattle.toll_sql.specs.EdgeRows.{AreEdgesOf, AreEdgesReadFrom, AreOwnersEdges, HasNoEdge, IsNamedEdge, ShowEdges, ShowsEdge, draws_edges, edge_cells}
-pub use Rattle.toll_sql.specs.Encode.{actual_kind, batch_cells, cells_for, disposition_number, flag, kind_number, lot_cells, material_cells, meta_cells, move_cells, move_lot, move_material, move_number, move_order, move_segment, move_sublot, move_target, order_cells, origin_number, origin_order, owner_cells, recipe_cells, requirement_cells, result_cells, rows_for, state_number, sublot_cells, table_for, test_cells, unit_cells, void_cells}
+pub use Rattle.toll_sql.specs.Encode.{actual_kind, batch_cells, disposition_number, flag, kind_number, lot_cells, material_cells, meta_cells, move_cells, move_lot, move_material, move_number, move_order, move_segment, move_sublot, move_target, order_cells, origin_number, origin_order, owner_cells, recipe_cells, requirement_cells, result_cells, state_number, sublot_cells, test_cells, unit_cells, void_cells}
 pub use Rattle.toll_sql.specs.First.{AreFirst, HasVersion, HasVersionRow, HaveNeitherVersion, IsFirst, IsVersionIn, Raised, as_second, first_ours, first_version, meta_rows}
 pub use Rattle.toll_sql.specs.FromFiles.{IsLeftIn, IsUnclosed, fault_of_files}
 pub use Rattle.toll_sql.specs.Fronts.{IsStoredAs, front_slice, slice_past_table}
 pub use Rattle.toll_sql.specs.Given.{IsGiven}
 pub use Rattle.toll_sql.specs.HolderRows.{AreBatchRows, HasNoBatch, IsHolderOf, IsRowOfBatch, IsShownIn, ReportsHolder, ShowHolders, batch_columns, open_on}
 pub use Rattle.toll_sql.specs.Holds.{HasRows, Holds, HoldsAll, HoldsEach, HoldsPart, HoldsSlice, NamesOwner, version}
+pub use Rattle.toll_sql.specs.Kinds.{AreValidIn, IsRow, PlantKind, RowKind, batch_kind, cells_for, lot_kind, material_kind, move_kind, order_kind, owner_kind, recipe_kind, requirement_kind, result_kind, rows_for, sublot_kind, table_for, test_kind, unit_kind, void_kind}
 pub use Rattle.toll_sql.specs.LastPuts.{AreNoted, IsSublotValid, are_putting, is_put_again, is_same, key_for, last_puts, sublot_cmp, sublot_put}
 pub use Rattle.toll_sql.specs.Meant.{means}
 pub use Rattle.toll_sql.specs.Opening.{Adopts, Brings, Creates, FindsVersion, HoldsEither, IsForeign, IsQueryInside, IsUnlike, IsUnreadFor, LeavesRaised, LeavesTables, TakesOver, without_limit}
@@ -120,7 +121,7 @@ pub use Rattle.toll_sql.specs.Select.{AreShown, plain_query}
 pub use Rattle.toll_sql.specs.Shown.{AreOwnedBy, AreReported, AreRowsIn, AreRowsOf, FirstIs, IsReportedUnknown, IsRowOfOwner, IsUnknownOwner, ShowsOwnRows, tables_of_owners}
 pub use Rattle.toll_sql.specs.StoredLaws.{AreStoredOfOwner, AreStoredOfPlant}
 pub use Rattle.toll_sql.specs.Stores.{Applies, HasApplied, HoldsIn, HoldsPartIn, IsApplied, IsOurs, IsReady, IsValidChange, IsWriting, LeavesIn, LeavesPut, LiesIdle, LiesOpen, MakesAll, MakesPut, MakesRow, PutsAll, PutsChange, PutsRow, cells_of_change, has_row_key, table_of_change}
-pub use Rattle.toll_sql.specs.Valid.{AreValidIn, IsBatch, IsLot, IsMaterial, IsMove, IsMovement, IsOrder, IsOrigin, IsOwner, IsRecipe, IsRequirement, IsResult, IsRow, IsStorable, IsSublot, IsTest, IsUnit, IsVoid}
+pub use Rattle.toll_sql.specs.Valid.{IsBatch, IsLot, IsMaterial, IsMove, IsMovement, IsOrder, IsOrigin, IsOwner, IsRecipe, IsRequirement, IsResult, IsStorable, IsSublot, IsTest, IsUnit, IsVoid}
 pub use Rattle.toll_sql.specs.declared.open_fault.OpenFault.{OpenFault}
 pub use Rattle.toll_sql.specs.declared.table_kind.TableKind.{TableKind}
 pub use Rattle.toll_sql.specs.declared.table_kind.TableKind.TheVariants.{Batches, Lots, Materials, Meta, Moves, Orders, Owners, Recipes, Requirements, Results, Sublots, Tests, Units, Voids}

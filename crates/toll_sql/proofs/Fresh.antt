@@ -1,6 +1,6 @@
 -- The content of the tables once the version is there.
 use Rattle.std.proofs.Common.{◌≡◌, true, List, [], ◌∷◌, refl, sym, subst, ◌∙◌, arith}
-use Rattle.toll_sql.proofs.Common.{AllByRecursion, Row, State, Table, Trees, IsShaped, Bytes, empty_slice, Content, empty_content, all_cells, owned_by, place, key_order, WritesVersion, IsNewDatabase, IsShapedAs, MakesAllTables, meta_cells, owner_cells, unit_cells, rows_for, as_second, HasRows, Holds, HoldsSlice, NamesOwner, version, made_all, tree_of, is_owned, AreValidIn, IsOwner, IsUnit, TableKind, Meta, Owners, Units}
+use Rattle.toll_sql.proofs.Common.{AllByRecursion, Row, State, Table, Trees, IsShaped, Bytes, empty_slice, Content, empty_content, all_cells, owned_by, place, key_order, WritesVersion, IsNewDatabase, IsShapedAs, MakesAllTables, meta_cells, owner_kind, unit_kind, rows_for, as_second, HasRows, Holds, HoldsSlice, NamesOwner, version, made_all, tree_of, is_owned, AreValidIn, TableKind, Meta, Owners, Units}
 use Rattle.sqlite_trees.specs.declared.store.Shape.TheVariants as shape
 use Rattle.toll_sql.proofs.HoldsAfter.{other_tree, rows_held_after, same_all, same_each, unowned_apart}
 use Rattle.toll_sql.proofs.PutTexts.{table_number}
@@ -16,8 +16,8 @@ holds_same c old new same meta h =
     let tables = λ (k : TableKind) (owned : is_owned k ≡ true). same k (λ e. unowned_apart Meta k refl owned (sym e)) in
     record {
       meta = meta;
-      owners = same_all Owners owner_cells IsOwner old new c.owners (same Owners (λ e. absurd (omega (arith, e)))) h.owners;
-      units = same_all Units unit_cells IsUnit old new c.units (same Units (λ e. absurd (omega (arith, e)))) h.units;
+      owners = same_all owner_kind old new c.owners (same Owners (λ e. absurd (omega (arith, e)))) h.owners;
+      units = same_all unit_kind old new c.units (same Units (λ e. absurd (omega (arith, e)))) h.units;
       each = same_each old new c.rows tables h.each;
     }
 

@@ -1,19 +1,9 @@
 -- The effect of changes on a content that the tables hold.
 use Rattle.std.proofs.Common.{◌≡◌, ◌≢◌, ◌⊎◌, inl, inr, ◌+◌, ◌≤◌, Bool, true, false, List, [], ◌∷◌, map, length, refl, sym, ap, subst, ◌∙◌, arith}
-use Rattle.toll_sql.proofs.Common.{false≢true, nat_list_cmp_total, AllByRecursion, is_eq, and_parts, IsPermutation-map, Row, column, value_cmp, Trees, Text, all-permutation, Bytes, bytes_cmp, same_bytes, Slice, with_row, Change, Owner, Unit as UnitAdded, Put, OwnerRow, UnitRow, is_eq-then, same_bytes-exact, same_bytes-refl, Content, content_after}
+use Rattle.toll_sql.proofs.Common.{false≢true, nat_list_cmp_total, AllByRecursion, is_eq, and_parts, IsPermutation-map, Row, column, value_cmp, Trees, Text, all-permutation, Bytes, bytes_cmp, same_bytes, Slice, with_row, Change, Owner, Unit as UnitAdded, Put, OwnerRow, UnitRow, is_eq-then, same_bytes-exact, same_bytes-refl, Content, content_after, place, all_cells, owned_by, cells_of, fill, key_order, meta_cells, owner_cells, unit_cells, HasRows, Holds, HoldsAll, HoldsEach, HoldsSlice, NamesOwner, version, ReplacesOrAdds, IsRowAdded, PutsAll, PutsChange, PutsRow, has_row_key, tree_of, key_columns, table_of, width_of, is_owned, PlantKind, owner_kind, unit_kind, table_for, cells_for, rows_for, IsRow, TableKind, Meta, Owners, Units}
 use Rattle.std.specs.Prelude.{if◌then◌else◌}
 use Rattle.toll_base.specs.declared.rows.Row.{Row as OfficeRow}
 use Rattle.toll_base.specs.declared.rows.Row.TheVariants as of
-use Rattle.toll_sql.specs.Bag.{place, all_cells, owned_by}
-use Rattle.toll_sql.specs.Cells.{cells_of, fill, key_order}
-use Rattle.toll_sql.specs.Encode.{meta_cells, owner_cells, unit_cells, table_for, cells_for, rows_for}
-use Rattle.toll_sql.specs.Holds.{HasRows, Holds, HoldsAll, HoldsEach, HoldsSlice, NamesOwner, version}
-use Rattle.toll_sql.specs.Put.{ReplacesOrAdds, IsRowAdded}
-use Rattle.toll_sql.specs.Stores.{PutsAll, PutsChange, PutsRow, has_row_key}
-use Rattle.toll_sql.specs.Schema.{tree_of, key_columns, table_of, width_of, is_owned}
-use Rattle.toll_sql.specs.Valid.{IsOwner, IsRow, IsUnit}
-use Rattle.toll_sql.specs.declared.table_kind.TableKind.{TableKind}
-use Rattle.toll_sql.specs.declared.table_kind.TableKind.TheVariants.{Meta, Owners, Units}
 use Rattle.toll_sql.proofs.Bags.{placed_in}
 use Rattle.toll_sql.proofs.CellLemmas.{fit_length}
 use Rattle.toll_sql.proofs.ChangeLemmas.{fills}
@@ -137,8 +127,8 @@ unowned_apart j k free owned same = elim (same_table j k) [
 ]
 
 -- An unchanged table has the rows that it had.
-pub same_all : {X : Type 0} (k : TableKind) (cells : X → Row) (is_valid : X → Type 0) (old new : Trees) (l : List X) → new (tree_of k) ≡ old (tree_of k) → HoldsAll k cells is_valid old l → HoldsAll k cells is_valid new l
-same_all k cells is_valid old new l same h = record { stored = subst (HasRows k (map cells l)) (sym same) h.stored; valid = h.valid }
+pub same_all : {X : Type 0} (kind : PlantKind X) (old new : Trees) (l : List X) → new (tree_of kind.table) ≡ old (tree_of kind.table) → HoldsAll kind old l → HoldsAll kind new l
+same_all kind old new l same h = record { stored = subst (HasRows kind.table (map kind.cells l)) (sym same) h.stored; valid = h.valid }
 
 -- A slice whose owner's tables are unchanged.
 same_slice : (old new : Trees) (q : Bytes) (s : Slice) → ((j : TableKind) → is_owned j ≡ true → new (tree_of j) ≡ old (tree_of j)) → HoldsSlice old q s → HoldsSlice new q s
@@ -163,7 +153,7 @@ holds_one (Owner x) c old new h p =
             (rows_held_after Owners (owner_cells x) (fills (Owner x)) (map owner_cells c.owners) (old (tree_of Owners)) (new (tree_of Owners)) h.owners.stored p.put.here);
         valid = all_put (λ (row : OwnerRow). row.owner) _ x p.valid bytes_cmp c.owners h.owners.valid;
       };
-      units = same_all Units unit_cells IsUnit old new c.units (other Units (λ e. absurd (omega (arith, e)))) h.units;
+      units = same_all unit_kind old new c.units (other Units (λ e. absurd (omega (arith, e)))) h.units;
       each = same_each old new c.rows tables h.each;
     }
 holds_one (UnitAdded x) c old new h p =
@@ -171,7 +161,7 @@ holds_one (UnitAdded x) c old new h p =
     let tables = λ (j : TableKind) (owned : is_owned j ≡ true). other j (λ same. unowned_apart Units j refl owned (sym same)) in
     record {
       meta = subst (λ tree. HasRows Meta (meta_cells version ∷ []) tree) (sym (other Meta (λ e. absurd (omega (arith, e))))) h.meta;
-      owners = same_all Owners owner_cells IsOwner old new c.owners (other Owners (λ e. absurd (omega (arith, e)))) h.owners;
+      owners = same_all owner_kind old new c.owners (other Owners (λ e. absurd (omega (arith, e)))) h.owners;
       units = record {
         stored =
             subst (λ rows. HasRows Units rows (new (tree_of Units))) (sym (put_placed bytes_cmp nat_list_cmp_total (λ (row : UnitRow). row.unit) unit_cells (key_order Units) units_order x c.units h.units.stored.rising))
@@ -185,8 +175,8 @@ holds_one (Put o row) c old new h p =
     let other = λ (j : TableKind) (free : is_owned j ≡ false). other_tree j k (cells_for o row) old new (unowned_apart j k free (is_owned_for row)) p.put in
     record {
       meta = subst (λ tree. HasRows Meta (meta_cells version ∷ []) tree) (sym (other Meta refl)) h.meta;
-      owners = same_all Owners owner_cells IsOwner old new c.owners (other Owners refl) h.owners;
-      units = same_all Units unit_cells IsUnit old new c.units (other Units refl) h.units;
+      owners = same_all owner_kind old new c.owners (other Owners refl) h.owners;
+      units = same_all unit_kind old new c.units (other Units refl) h.units;
       each = record {
         slices = λ q.
             let s = c.rows q in

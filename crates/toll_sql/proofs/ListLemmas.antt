@@ -1,12 +1,12 @@
 -- Stored rows, listed in the order in which they are read.
 use Rattle.std.proofs.Common.{◌≡◌, ℕ, zero, suc, ◌+◌, ◌<◌, ◌≤◌, Bool, true, false, cond, ◌||◌, List, [], ◌∷◌, ◌++◌, map, take, length, get_or, Option, Some, is_some, refl, sym, ap, subst, ◌∙◌, arith, Ordering}
-use Rattle.toll_sql.proofs.Common.{AllByRecursion, list_any, is_eq, get_or-map, length-map, take_more, Row, row_at, map_push, AreStoredOfPlant, columns_from, width_of, TableKind}
+use Rattle.toll_sql.proofs.Common.{AllByRecursion, list_any, is_eq, get_or-map, length-map, take_more, Row, row_at, map_push, AreStoredOfPlant, columns_from, width_of, PlantKind}
 use Rattle.toll_sql.proofs.WriteLemmas.{whole_row}
 use Rattle.toll_sql.proofs.SoFar.{value_at, first_item}
 
-module _ {X : Type 0} (k : TableKind) (cells : X → Row) (is_valid : X → Type 0) (alone : AreStoredOfPlant k cells is_valid) (l : List X) (rows : List Row) (are : rows ≡ map cells l) (valid : AllByRecursion is_valid l) where
+module _ {X : Type 0} (kind : PlantKind X) (alone : AreStoredOfPlant kind) (l : List X) (rows : List Row) (are : rows ≡ map kind.cells l) (valid : AllByRecursion kind.is_valid l) where
   list_as_many : length rows ≡ length l
-  list_as_many = ap length are ∙ length-map l cells
+  list_as_many = ap length are ∙ length-map l kind.cells
 
   module _ (i : ℕ) (lt : i < length rows) where
     list_inside : i < length l
@@ -15,17 +15,17 @@ module _ {X : Type 0} (k : TableKind) (cells : X → Row) (is_valid : X → Type
     pub list_item : X
     list_item = get_or l i (first_item l i list_inside)
 
-    pub list_item_is : (d : Row) → get_or rows i d ≡ cells list_item
+    pub list_item_is : (d : Row) → get_or rows i d ≡ kind.cells list_item
     unfolding list_item
-    list_item_is d = ap (λ (rs : List Row). get_or rs i d) are ∙ get_or-map cells l i (first_item l i list_inside) d list_inside
+    list_item_is d = ap (λ (rs : List Row). get_or rs i d) are ∙ get_or-map kind.cells l i (first_item l i list_inside) d list_inside
 
-    pub list_item_valid : is_valid list_item
+    pub list_item_valid : kind.is_valid list_item
     unfolding list_item
-    list_item_valid = value_at is_valid l i (first_item l i list_inside) valid list_inside
+    list_item_valid = value_at kind.is_valid l i (first_item l i list_inside) valid list_inside
 
     -- The row that is read is this one.
-    pub read_it : (row : Row) (x : X) → row ≡ cells list_item → is_valid x → columns_from 0 (width_of k) row ≡ cells x → x ≡ list_item
-    read_it row x is valid_x read = alone.reported x list_item valid_x list_item_valid (sym read ∙ ap (columns_from 0 (width_of k)) is ∙ whole_row k (cells list_item) (alone.fills list_item))
+    pub read_it : (row : Row) (x : X) → row ≡ kind.cells list_item → kind.is_valid x → columns_from 0 (width_of kind.table) row ≡ kind.cells x → x ≡ list_item
+    read_it row x is valid_x read = alone.reported x list_item valid_x list_item_valid (sym read ∙ ap (columns_from 0 (width_of kind.table)) is ∙ whole_row kind.table (kind.cells list_item) (alone.fills list_item))
 
     pub with_list_item : (listed : List X) (x : X) → listed ≡ take i l → x ≡ list_item → listed ++ x ∷ [] ≡ take (i + 1) l
     unfolding list_item

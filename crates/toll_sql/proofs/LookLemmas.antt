@@ -1,6 +1,6 @@
 -- What is read of a store whose tables hold a content.
 use Rattle.std.proofs.Common.{◌≡◌, ◌≢◌, Bool, true, false, List, [], ◌∷◌, map, Ok, Err, Result, OnOk, IsTrue, refl, sym, subst, ◌∙◌}
-use Rattle.toll_sql.proofs.Common.{AllByRecursion, Database, Row, State, HasCleanDisk, Trees, Bytes, Slice, Content, KeepFault, Disk, Closed, LeavesStore, IsLooking, owned_by, fill, rows_for, material_cells, test_cells, recipe_cells, requirement_cells, order_cells, batch_cells, lot_cells, sublot_cells, move_cells, result_cells, void_cells, IsStoredAs, HoldsAll, HoldsPart, HasOurs, AreAll, AreOfOwner, AreStoredOfPlant, HoldsIn, HoldsPartIn, tree_of, is_owned, TableKind, Materials, Tests, Recipes, Requirements, Orders, Batches, Lots, Sublots, Moves, Results, Voids}
+use Rattle.toll_sql.proofs.Common.{AllByRecursion, Database, Row, State, HasCleanDisk, Trees, Bytes, Slice, Content, KeepFault, Disk, Closed, LeavesStore, IsLooking, owned_by, fill, rows_for, IsStoredAs, HoldsAll, HoldsPart, HasOurs, AreAll, AreOfOwner, AreStoredOfPlant, PlantKind, HoldsIn, HoldsPartIn, tree_of, is_owned, TableKind, Meta, Owners, Units}
 use Rattle.toll_sql.proofs.ReadLemmas.{read_rows}
 
 -- ---- the rows of a slice fill the columns of their tables
@@ -10,18 +10,10 @@ cells_fill k cells fits [] = tt
 cells_fill k cells fits (x ∷ l) = (fits x, cells_fill k cells fits l)
 
 all_fill : (k : TableKind) (s : Slice) → AllByRecursion (λ c. fill k c ≡ true) (rows_for k s)
-all_fill Materials s = cells_fill Materials (material_cells s.owner) (λ x. refl) s.materials
-all_fill Tests s = cells_fill Tests (test_cells s.owner) (λ x. refl) s.tests
-all_fill Recipes s = cells_fill Recipes (recipe_cells s.owner) (λ x. refl) s.recipes
-all_fill Requirements s = cells_fill Requirements (requirement_cells s.owner) (λ x. refl) s.requirements
-all_fill Orders s = cells_fill Orders (order_cells s.owner) (λ x. refl) s.orders
-all_fill Batches s = cells_fill Batches (batch_cells s.owner) (λ x. refl) s.batches
-all_fill Lots s = cells_fill Lots (lot_cells s.owner) (λ x. refl) s.lots
-all_fill Sublots s = cells_fill Sublots (sublot_cells s.owner) (λ x. refl) s.sublots
-all_fill Moves s = cells_fill Moves (move_cells s.owner) (λ x. refl) s.moves
-all_fill Results s = cells_fill Results (result_cells s.owner) (λ x. refl) s.results
-all_fill Voids s = cells_fill Voids (void_cells s.owner) (λ x. refl) s.voids
-all_fill _ s = tt
+all_fill Meta s = tt
+all_fill Owners s = tt
+all_fill Units s = tt
+all_fill k s = cells_fill k _ (λ x. refl) _
 
 -- ---- the answer
 
@@ -31,10 +23,11 @@ stored_as s o slice held k owned rows read =
     record { are = read_rows k (owned_by o (s.now.trees (tree_of k))) rows (rows_for k slice) read has (all_fill k slice); rising = has.rising; valid = held.rows.valid k owned }
 
 -- The plant's rows that were read are those that the table held.
-pub plant_rows : {X : Type 0} (k : TableKind) (cells : X → Row) (is_valid : X → Type 0) → AreStoredOfPlant k cells is_valid → (t : TableKind) → t ≡ k → (db : Trees) (rows : List Row) → (is_owned t ≡ false → AreAll t db rows) → (l : List X) → HoldsAll k cells is_valid db l → rows ≡ map cells l
-plant_rows k cells is_valid alone t is db rows all l held =
+pub plant_rows : {X : Type 0} (kind : PlantKind X) → AreStoredOfPlant kind → (t : TableKind) → t ≡ kind.table → (db : Trees) (rows : List Row) → (is_owned t ≡ false → AreAll t db rows) → (l : List X) → HoldsAll kind db l → rows ≡ map kind.cells l
+plant_rows kind alone t is db rows all l held =
+    let k = kind.table in
     let read = subst (λ k. AreAll k db rows) is (all (subst (λ k. is_owned k ≡ false) (sym is) alone.unowned)) in
-    read_rows k (db (tree_of k)) rows (map cells l) read held.stored (cells_fill k cells alone.fills l)
+    read_rows k (db (tree_of k)) rows (map kind.cells l) read held.stored (cells_fill k kind.cells alone.fills l)
 
 -- Rows that were read are checked without the store.
 pub looking : {X Y E : Type 0} (old new : State) (x : X) (r : Result Y KeepFault) → LeavesStore {X = X} {E = E} old new (Ok x) → r ≢ Err Disk → r ≢ Err Closed → IsLooking old new r

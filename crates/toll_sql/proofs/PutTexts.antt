@@ -1,7 +1,7 @@
 -- The meaning of the texts that put rows.
 use Rattle.std.proofs.Common.{◌≡◌, ◌⊎◌, inl, inr, ℕ, zero, suc, nat_eq, List, [], ◌∷◌, ◌++◌, length, codes, Some, Ok, slice_get, get_or, refl, sym, ap, ◌∙◌}
 use Rattle.std.specs.Fmt.{decimal}
-use Rattle.toll_sql.proofs.Common.{cases_Bool, eqb-true, eq-eqb, command_of, Binary, Command, InsertOr, understood, Query, Values, Term, lit, col, op2, Null, Abort, compiled, Compare, Eq, everything, IsGiven, plain_query, made_all, every_table, table_of, tree_of, key_columns, width_of, put_text, TableKind, Meta, Owners, Units, Materials, Tests, Recipes, Requirements, Orders, Batches, Lots, Sublots, Moves, Results, Voids}
+use Rattle.toll_sql.proofs.Common.{cases_Bool, eqb-true, eq-eqb, command_of, Binary, Command, InsertOr, understood, Query, Values, Term, lit, col, op2, Null, Abort, compiled, Compare, Eq, everything, IsGiven, plain_query, made_all, earlier, every_table, table_of, tree_of, key_columns, width_of, put_text, TableKind, Meta, Voids}
 use Rattle.toll_sql.proofs.Beside.{Others, ours_and}
 use Rattle.toll_sql.proofs.TextLemmas.{one_statement, command_is, statement_given}
 
@@ -23,20 +23,7 @@ update tree width = plain_query tree (op2 (Compare Eq Binary) (col 1 0) (col 0 w
 
 -- the table's number in the order in which the tables are made
 abbrev pub table_number : TableKind → ℕ
-table_number Meta = 0
-table_number Owners = 1
-table_number Units = 2
-table_number Materials = 3
-table_number Tests = 4
-table_number Recipes = 5
-table_number Requirements = 6
-table_number Orders = 7
-table_number Batches = 8
-table_number Lots = 9
-table_number Sublots = 10
-table_number Moves = 11
-table_number Results = 12
-table_number Voids = 13
+table_number k = length (earlier k)
 
 pub columns_are : (k : TableKind) → length (table_of k).columns ≡ width_of k
 columns_are Meta = refl

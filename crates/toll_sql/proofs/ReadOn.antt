@@ -1,7 +1,6 @@
 -- Reading calls in a row.
 use Rattle.std.proofs.Common.{◌≡◌, ◌<◌, ℕ, suc, ◌+◌, true, List, [], ◌∷◌, ◌++◌, take, drop, length, get_or, inl, inr, Ok, Err, Result, OnOk, IsTrue, refl, sym, ap, subst, subst₂, ◌∙◌, arith}
-use Rattle.toll_sql.proofs.Common.{false≢true, length-map, on_ok_weaker, AllByRecursion, Database, Row, State, HasCleanDisk, Survives, Trees, Bytes, Slice, KeepFault, Disk, Damaged, Closed, Memory, LeavesStore, IsLooking, rows_for, front_slice, slice_past_table, HasOurs, AreAllTaken, LacksRoomIn, OverIdle, ReadsKind, ReadsNext, ReadsOn, next_of, AreRowsIn, ShowsOwnRows, tables_of_owners, AreStoredOfOwner, is_owned, TableKind, Meta, Owners, Units, Materials}
-use Rattle.toll_base.specs.declared.rows.Row.{Row as OfficeRow}
+use Rattle.toll_sql.proofs.Common.{false≢true, length-map, on_ok_weaker, AllByRecursion, Database, State, HasCleanDisk, Survives, Trees, Bytes, Slice, KeepFault, Disk, Damaged, Closed, Memory, LeavesStore, IsLooking, rows_for, front_slice, slice_past_table, HasOurs, AreAllTaken, LacksRoomIn, OverIdle, ReadsKind, ReadsNext, ReadsOn, next_of, AreRowsIn, ShowsOwnRows, tables_of_owners, AreStoredOfOwner, RowKind, is_owned, TableKind, Meta, Owners, Units, Materials}
 use Rattle.toll_sql.proofs.CauseLemmas.{reason_before}
 use Rattle.toll_sql.proofs.LookLemmas.{held_on}
 use Rattle.toll_sql.proofs.Taken.{all_taken_then, lacks_in_before, lacks_in_then}
@@ -138,12 +137,11 @@ reads_up_to f g h {kinds} o a b s t r same p = subst (λ (g : Slice → Slice). 
 
 -- ---- each table after the one before it
 
-pub read_next : {X Y : Type 0} (table k : TableKind) {cells : Bytes → X → Row} {is_valid : X → Type 0} {row : X → OfficeRow} {listed : Slice → List X} (o : Bytes) (a b : State) (s t : Slice) (r : Result Y KeepFault) → AreStoredOfOwner k cells is_valid row listed → table ≡ k
-    → ReadsKind k cells is_valid row listed o a b s t r → ReadsNext table o a b s t r
-read_next table k {cells} {is_valid} {row} {listed} o a b s t r stand is reads = subst (λ k. ReadsNext k o a b s t r) (sym is) (reads_up_to _ (slice_past_table k listed) (front_slice (next_of k) 0) o a b s t r all (reads stand))
+pub read_next : {X Y : Type 0} (table : TableKind) (kind : RowKind X) (o : Bytes) (a b : State) (s t : Slice) (r : Result Y KeepFault) → AreStoredOfOwner kind → table ≡ kind.table → ReadsKind kind o a b s t r → ReadsNext table o a b s t r
+read_next table kind o a b s t r stand is reads = subst (λ k. ReadsNext k o a b s t r) (sym is) (reads_up_to _ (slice_past_table kind) (front_slice (next_of kind.table) 0) o a b s t r all (reads stand))
   where
-    all : (s : Slice) → slice_past_table k listed s ≡ front_slice (next_of k) 0 s
-    all s = ap (λ n. front_slice k n s) (sym (ap length (stand.its_rows s) ∙ length-map (listed s) (cells s.owner))) ∙ front_of_next k s stand.owned
+    all : (s : Slice) → slice_past_table kind s ≡ front_slice (next_of kind.table) 0 s
+    all s = ap (λ n. front_slice kind.table n s) (sym (ap length (stand.its_rows s) ∙ length-map (kind.listed s) (kind.cells s.owner))) ∙ front_of_next kind.table s stand.owned
 
 -- the table with this number, and the first tables
 abbrev pub kind_at : ℕ → TableKind

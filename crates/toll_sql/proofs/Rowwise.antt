@@ -66,17 +66,8 @@ module _ {K R : Type 0} (key : R → K) (P : R → Type 0) (x : R) (px : P x) wh
     all_put l all = one_or _ (replace_row cmp key l x) (insert_row cmp key l x) (rowwise_all_replaced l all) (rowwise_all_inserted l all)
 
 its_valid : (s : Slice) (row : OfficeRow) → IsRow row → AreValidIn (table_for row) s → AreValidIn (table_for row) (with_row s row)
-its_valid s (of.Material x) is h = all_put (λ (row : MaterialRow). row.material) _ x is bytes_cmp s.materials h
-its_valid s (of.Test x) is h = all_put (λ (row : TestRow). (row.material, row.test)) _ x is pair_cmp s.tests h
-its_valid s (of.Recipe x) is h = all_put (λ (row : RecipeRow). row.recipe) _ x is bytes_cmp s.recipes h
-its_valid s (of.Requirement x) is h = all_put (λ (row : RequirementRow). (row.recipe, row.segment, row.role, row.source, row.material)) _ x is requirement_cmp s.requirements h
-its_valid s (of.Order x) is h = all_put (λ (row : OrderRow). row.order) _ x is bytes_cmp s.orders h
-its_valid s (of.Batch x) is h = all_put (λ (row : BatchRow). (row.order, row.number)) _ x is batch_cmp s.batches h
-its_valid s (of.Lot x) is h = all_put (λ (row : LotRow). row.lot) _ x is bytes_cmp s.lots h
-its_valid s (of.Sublot x) is h = all_put (λ (row : SublotRow). (row.lot, row.sublot)) _ x is pair_cmp s.sublots h
-its_valid s (of.Move x) is h = all_put (λ (row : MoveRow). row.key) _ x is bytes_cmp s.moves h
-its_valid s (of.Result x) is h = all_put (λ (row : ResultRow). (row.lot, row.test, row.number)) _ x is result_cmp s.results h
-its_valid s (of.Void x) is h = all_put (λ (row : VoidRow). row.key) _ x is bytes_cmp s.voids h
+its_valid s (of.Material x) is h = all_put _ _ _ is _ _ h
+its_valid s _ is h = all_put _ _ _ is _ _ h
 
 pub valid_with : (k : TableKind) (s : Slice) (row : OfficeRow) → IsRow row → AreValidIn k s → AreValidIn k (with_row s row)
 valid_with k s row is valid = elim (same_table k (table_for row)) [

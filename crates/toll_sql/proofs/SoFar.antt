@@ -1,6 +1,6 @@
 -- Rows that are checked one after another.
 use Rattle.std.proofs.Common.{◌≡◌, ◌<◌, ◌≤◌, ◌+◌, ◌∙◌, ℕ, zero, suc, cond, inl, inr, List, [], ◌∷◌, length, take, map, get_or, refl, sym, subst, arith, Ok, Err, Result, OnOk}
-use Rattle.toll_sql.proofs.Common.{cases_Bool, IsPermutation-sym, AllByRecursion, is_eq, Row, column, value_cmp, Trees, Text, all-permutation, Bytes, owned_by, columns_from, AreOwnedBy, AreRowsOf, FirstIs, IsRowOfOwner, AreOfOwner, tree_of, width_of, TableKind, Meta}
+use Rattle.toll_sql.proofs.Common.{cases_Bool, IsPermutation-sym, AllByRecursion, is_eq, Row, column, value_cmp, Trees, Text, all-permutation, Bytes, owned_by, columns_from, AreOwnedBy, AreRowsOf, FirstIs, IsRowOfOwner, RowKind, AreOfOwner, tree_of, width_of, TableKind, Meta}
 use Rattle.toll_sql.proofs.PutCommon.{compares_text_only}
 
 -- With the next row, the fact holds of one more.
@@ -56,8 +56,10 @@ pub read_owned : (k : TableKind) (o : Bytes) (db : Trees) (rows : List Row) → 
 read_owned k o db rows read = all-permutation (λ row. column row 0 ≡ Text o) (map (columns_from 1 (width_of k)) (owned_by o (db (tree_of k)))) rows read.same (all_owned k o (db (tree_of k)))
 
 -- A fact of the rows that were read holds of those in the table.
-pub stored_shown : {X : Type 0} (k : TableKind) (cells : Bytes → X → Row) (is_valid : X → Type 0) (o : Bytes) (db : Trees) (rows : List Row) → AreOfOwner k o db rows → AllByRecursion (IsRowOfOwner k cells is_valid o) rows → AreRowsOf k cells is_valid o db
-stored_shown k cells is_valid o db rows read all = all-permutation (IsRowOfOwner k cells is_valid o) rows (map (columns_from 1 (width_of k)) (owned_by o (db (tree_of k)))) (IsPermutation-sym (map (columns_from 1 (width_of k)) (owned_by o (db (tree_of k)))) rows read.same) all
+pub stored_shown : {X : Type 0} (kind : RowKind X) (o : Bytes) (db : Trees) (rows : List Row) → AreOfOwner kind.table o db rows → AllByRecursion (IsRowOfOwner kind o) rows → AreRowsOf kind o db
+stored_shown kind o db rows read all =
+    let stored = map (columns_from 1 (width_of kind.table)) (owned_by o (db (tree_of kind.table))) in
+    all-permutation (IsRowOfOwner kind o) rows stored (IsPermutation-sym stored rows read.same) all
 
 pub when_ok : {X E : Type 0} (A : Type 0) (r : Result X E) → A → OnOk r A
 when_ok A (Ok x) a = a

@@ -1,6 +1,6 @@
 -- Rows of each kind: determined by their cells, and added to a slice when they are read.
 use Rattle.std.proofs.Common.{◌≡◌, ℕ, ◌+◌, ◌<◌, ℤ, Bool, true, false, List, [], ◌∷◌, length, map, take, get_or, refl, sym, ap, ap₂, subst, ◌∙◌, IsTrue, Ordering, T}
-use Rattle.toll_sql.proofs.Common.{false≢true, IsTotalOrder, nat_list_cmp_total, Row, column, Bytes, bytes_cmp, pair_cmp, batch_cmp, result_cmp, requirement_cmp, role_number, put_row, Slice, with_row, is_name, MoveRow, Role, Consumed, Produced, BatchRow, LotRow, MaterialRow, OrderRow, RecipeRow, RequirementRow, ResultRow, SublotRow, TestRow, VoidRow, pair_cmp_total, batch_cmp_total, result_cmp_total, requirement_cmp_total, Rises, key_order, rows_for, flag, disposition_number, state_number, origin_order, origin_number, owner_cells, unit_cells, material_cells, test_cells, recipe_cells, requirement_cells, order_cells, batch_cells, lot_cells, sublot_cells, move_cells, result_cells, void_cells, front_slice, AreStoredOfOwner, AreStoredOfPlant, IsOwner, IsUnit, IsOrigin, IsMaterial, IsTest, IsRecipe, IsRequirement, IsOrder, IsBatch, IsLot, IsSublot, IsMovement, IsResult, IsVoid, TableKind, Owners, Units, Materials, Tests, Recipes, Requirements, Orders, Batches, Lots, Sublots, Moves, Results, Voids}
+use Rattle.toll_sql.proofs.Common.{false≢true, IsTotalOrder, nat_list_cmp_total, Row, column, Bytes, bytes_cmp, pair_cmp, batch_cmp, result_cmp, requirement_cmp, role_number, put_row, Slice, with_row, is_name, MoveRow, Role, Consumed, Produced, BatchRow, LotRow, MaterialRow, OrderRow, RecipeRow, RequirementRow, ResultRow, SublotRow, TestRow, VoidRow, pair_cmp_total, batch_cmp_total, result_cmp_total, requirement_cmp_total, Rises, key_order, rows_for, flag, disposition_number, state_number, origin_order, origin_number, material_cells, test_cells, recipe_cells, requirement_cells, order_cells, batch_cells, lot_cells, sublot_cells, move_cells, result_cells, void_cells, front_slice, AreStoredOfOwner, AreStoredOfPlant, RowKind, owner_kind, unit_kind, material_kind, test_kind, recipe_kind, requirement_kind, order_kind, batch_kind, lot_kind, sublot_kind, move_kind, result_kind, void_kind, IsOrigin, TableKind, Materials, Tests, Recipes, Requirements, Orders, Batches, Lots, Sublots, Moves, Results, Voids}
 use Rattle.std.specs.Int.Signed.{le_z}
 use Rattle.std.proofs.Math.Dec.{T_prop}
 use Rattle.toll_base.specs.declared.limits.Limits.{Limits}
@@ -8,8 +8,6 @@ use Rattle.toll_base.specs.declared.lot.Disposition.{Disposition}
 use Rattle.toll_base.specs.declared.lot.Disposition.TheVariants.{Quarantined, Released, Rejected}
 use Rattle.toll_base.specs.declared.lot.Origin.{Origin}
 use Rattle.toll_base.specs.declared.lot.Origin.TheVariants.{Receipts, Batch as OfBatch}
-use Rattle.toll_base.specs.declared.rows.Row.{Row as OfficeRow}
-use Rattle.toll_base.specs.declared.rows.Row.TheVariants as of
 use Rattle.toll_base.specs.declared.state.State.{State}
 use Rattle.toll_base.specs.declared.state.State.TheVariants.{Idle, Running, Pausing, Paused, Holding, Held, Restarting, Stopping, Stopped, Aborting, Aborted, Complete}
 use Rattle.toll_sql.proofs.Appending.{put_next}
@@ -93,82 +91,82 @@ module _ {K R : Type 0} (cmp : K → K → Ordering) (total : IsTotalOrder cmp) 
 
 -- ---- the rows of their tables
 
-abbrev IsReadBack : {X : Type 0} → (Bytes → X → Row) → (X → Type 0) → Type 0
-IsReadBack {X} cells is_valid = (o : Bytes) (x y : X) → is_valid x → is_valid y → cells o x ≡ cells o y → x ≡ y
+abbrev IsReadBack : {X : Type 0} → RowKind X → Type 0
+IsReadBack {X} kind = (o : Bytes) (x y : X) → kind.is_valid x → kind.is_valid y → kind.cells o x ≡ kind.cells o y → x ≡ y
 
-abbrev Next : {X : Type 0} → TableKind → (X → OfficeRow) → (Slice → List X) → Type 0
-Next {X} k row rows = (s : Slice) (i : ℕ) (d : X) → Rises (key_order k) (rows_for k s) → i < length (rows s) → with_row (front_slice k i s) (row (get_or (rows s) i d)) ≡ front_slice k (i + 1) s
+abbrev Next : {X : Type 0} → RowKind X → Type 0
+Next {X} kind = (s : Slice) (i : ℕ) (d : X) → Rises (key_order kind.table) (rows_for kind.table s) → i < length (kind.listed s) → with_row (front_slice kind.table i s) (kind.any_row (get_or (kind.listed s) i d)) ≡ front_slice kind.table (i + 1) s
 
-pub materials_stored : AreStoredOfOwner Materials material_cells IsMaterial (λ (x : MaterialRow). of.Material x) (λ s. s.materials)
+pub materials_stored : AreStoredOfOwner material_kind
 materials_stored =
-    let reported : IsReadBack material_cells IsMaterial = λ o a b p q h. λ i. record { material = text 1 h i; measure = text 2 h i } in
-    let next : Next Materials (λ x. of.Material x) (λ s. s.materials) = λ s i d rising lt. ap (λ l. record (front_slice Materials 0 s) { materials = l }) (stored_added bytes_cmp nat_list_cmp_total (λ (row : MaterialRow). row.material) Materials (material_cells s.owner) (materials_order s.owner) s.materials i d rising lt) in
+    let reported : IsReadBack material_kind = λ o a b p q h. λ i. record { material = text 1 h i; measure = text 2 h i } in
+    let next : Next material_kind = λ s i d rising lt. ap (λ l. record (front_slice Materials 0 s) { materials = l }) (stored_added bytes_cmp nat_list_cmp_total (λ (row : MaterialRow). row.material) Materials (material_cells s.owner) (materials_order s.owner) s.materials i d rising lt) in
     assumption (reported, next)
 
-pub tests_stored : AreStoredOfOwner Tests test_cells IsTest (λ (x : TestRow). of.Test x) (λ s. s.tests)
+pub tests_stored : AreStoredOfOwner test_kind
 tests_stored =
-    let reported : IsReadBack test_cells IsTest = λ o a b p q h. λ i. record { material = text 1 h i; test = text 2 h i; limits = same_limits a.limits b.limits (int 3 h) (int 4 h) i } in
-    let next : Next Tests (λ x. of.Test x) (λ s. s.tests) = λ s i d rising lt. ap (λ l. record (front_slice Tests 0 s) { tests = l }) (stored_added pair_cmp pair_cmp_total (λ (row : TestRow). (row.material, row.test)) Tests (test_cells s.owner) (tests_order s.owner) s.tests i d rising lt) in
+    let reported : IsReadBack test_kind = λ o a b p q h. λ i. record { material = text 1 h i; test = text 2 h i; limits = same_limits a.limits b.limits (int 3 h) (int 4 h) i } in
+    let next : Next test_kind = λ s i d rising lt. ap (λ l. record (front_slice Tests 0 s) { tests = l }) (stored_added pair_cmp pair_cmp_total (λ (row : TestRow). (row.material, row.test)) Tests (test_cells s.owner) (tests_order s.owner) s.tests i d rising lt) in
     assumption (reported, next)
 
-pub recipes_stored : AreStoredOfOwner Recipes recipe_cells IsRecipe (λ (x : RecipeRow). of.Recipe x) (λ s. s.recipes)
+pub recipes_stored : AreStoredOfOwner recipe_kind
 recipes_stored =
-    let reported : IsReadBack recipe_cells IsRecipe = λ o a b p q h. λ i. record { recipe = text 1 h i; segments = nat 2 h i } in
-    let next : Next Recipes (λ x. of.Recipe x) (λ s. s.recipes) = λ s i d rising lt. ap (λ l. record (front_slice Recipes 0 s) { recipes = l }) (stored_added bytes_cmp nat_list_cmp_total (λ (row : RecipeRow). row.recipe) Recipes (recipe_cells s.owner) (recipes_order s.owner) s.recipes i d rising lt) in
+    let reported : IsReadBack recipe_kind = λ o a b p q h. λ i. record { recipe = text 1 h i; segments = nat 2 h i } in
+    let next : Next recipe_kind = λ s i d rising lt. ap (λ l. record (front_slice Recipes 0 s) { recipes = l }) (stored_added bytes_cmp nat_list_cmp_total (λ (row : RecipeRow). row.recipe) Recipes (recipe_cells s.owner) (recipes_order s.owner) s.recipes i d rising lt) in
     assumption (reported, next)
 
-pub requirements_stored : AreStoredOfOwner Requirements requirement_cells IsRequirement (λ (x : RequirementRow). of.Requirement x) (λ s. s.requirements)
+pub requirements_stored : AreStoredOfOwner requirement_kind
 requirements_stored =
-    let reported : IsReadBack requirement_cells IsRequirement = λ o a b p q h. λ i. record { recipe = text 1 h i; segment = nat 2 h i; role = same_role_by_rank a.role b.role (nat 3 h) i; source = text 4 h i; material = text 5 h i; amount = nat 6 h i } in
-    let next : Next Requirements (λ x. of.Requirement x) (λ s. s.requirements) = λ s i d rising lt. ap (λ l. record (front_slice Requirements 0 s) { requirements = l }) (stored_added requirement_cmp requirement_cmp_total (λ (row : RequirementRow). (row.recipe, row.segment, row.role, row.source, row.material)) Requirements (requirement_cells s.owner) (requirements_order s.owner) s.requirements i d rising lt) in
+    let reported : IsReadBack requirement_kind = λ o a b p q h. λ i. record { recipe = text 1 h i; segment = nat 2 h i; role = same_role_by_rank a.role b.role (nat 3 h) i; source = text 4 h i; material = text 5 h i; amount = nat 6 h i } in
+    let next : Next requirement_kind = λ s i d rising lt. ap (λ l. record (front_slice Requirements 0 s) { requirements = l }) (stored_added requirement_cmp requirement_cmp_total (λ (row : RequirementRow). (row.recipe, row.segment, row.role, row.source, row.material)) Requirements (requirement_cells s.owner) (requirements_order s.owner) s.requirements i d rising lt) in
     assumption (reported, next)
 
-pub orders_stored : AreStoredOfOwner Orders order_cells IsOrder (λ (x : OrderRow). of.Order x) (λ s. s.orders)
+pub orders_stored : AreStoredOfOwner order_kind
 orders_stored =
-    let reported : IsReadBack order_cells IsOrder = λ o a b p q h. λ i. record { order = text 1 h i; recipe = text 2 h i; batches = nat 3 h i; cancelled = same_flag a.cancelled b.cancelled (nat 4 h) i } in
-    let next : Next Orders (λ x. of.Order x) (λ s. s.orders) = λ s i d rising lt. ap (λ l. record (front_slice Orders 0 s) { orders = l }) (stored_added bytes_cmp nat_list_cmp_total (λ (row : OrderRow). row.order) Orders (order_cells s.owner) (orders_order s.owner) s.orders i d rising lt) in
+    let reported : IsReadBack order_kind = λ o a b p q h. λ i. record { order = text 1 h i; recipe = text 2 h i; batches = nat 3 h i; cancelled = same_flag a.cancelled b.cancelled (nat 4 h) i } in
+    let next : Next order_kind = λ s i d rising lt. ap (λ l. record (front_slice Orders 0 s) { orders = l }) (stored_added bytes_cmp nat_list_cmp_total (λ (row : OrderRow). row.order) Orders (order_cells s.owner) (orders_order s.owner) s.orders i d rising lt) in
     assumption (reported, next)
 
-pub batches_stored : AreStoredOfOwner Batches batch_cells IsBatch (λ (x : BatchRow). of.Batch x) (λ s. s.batches)
+pub batches_stored : AreStoredOfOwner batch_kind
 batches_stored =
-    let reported : IsReadBack batch_cells IsBatch = λ o a b p q h. λ i. record { order = text 1 h i; number = nat 2 h i; unit = text 3 h i; state = stored_same_state a.state b.state (nat 4 h) i; closed = same_flag a.closed b.closed (nat 5 h) i } in
-    let next : Next Batches (λ x. of.Batch x) (λ s. s.batches) = λ s i d rising lt. ap (λ l. record (front_slice Batches 0 s) { batches = l }) (stored_added batch_cmp batch_cmp_total (λ (row : BatchRow). (row.order, row.number)) Batches (batch_cells s.owner) (batches_order s.owner) s.batches i d rising lt) in
+    let reported : IsReadBack batch_kind = λ o a b p q h. λ i. record { order = text 1 h i; number = nat 2 h i; unit = text 3 h i; state = stored_same_state a.state b.state (nat 4 h) i; closed = same_flag a.closed b.closed (nat 5 h) i } in
+    let next : Next batch_kind = λ s i d rising lt. ap (λ l. record (front_slice Batches 0 s) { batches = l }) (stored_added batch_cmp batch_cmp_total (λ (row : BatchRow). (row.order, row.number)) Batches (batch_cells s.owner) (batches_order s.owner) s.batches i d rising lt) in
     assumption (reported, next)
 
-pub lots_stored : AreStoredOfOwner Lots lot_cells IsLot (λ (x : LotRow). of.Lot x) (λ s. s.lots)
+pub lots_stored : AreStoredOfOwner lot_kind
 lots_stored =
-    let reported : IsReadBack lot_cells IsLot = λ o a b p q h. λ i. record { lot = text 1 h i; material = text 2 h i; origin = same_origin a.origin b.origin p.origin q.origin (text 3 h) (nat 4 h) i; disposition = stored_same_disposition a.disposition b.disposition (nat 5 h) i } in
-    let next : Next Lots (λ x. of.Lot x) (λ s. s.lots) = λ s i d rising lt. ap (λ l. record (front_slice Lots 0 s) { lots = l }) (stored_added bytes_cmp nat_list_cmp_total (λ (row : LotRow). row.lot) Lots (lot_cells s.owner) (lots_order s.owner) s.lots i d rising lt) in
+    let reported : IsReadBack lot_kind = λ o a b p q h. λ i. record { lot = text 1 h i; material = text 2 h i; origin = same_origin a.origin b.origin p.origin q.origin (text 3 h) (nat 4 h) i; disposition = stored_same_disposition a.disposition b.disposition (nat 5 h) i } in
+    let next : Next lot_kind = λ s i d rising lt. ap (λ l. record (front_slice Lots 0 s) { lots = l }) (stored_added bytes_cmp nat_list_cmp_total (λ (row : LotRow). row.lot) Lots (lot_cells s.owner) (lots_order s.owner) s.lots i d rising lt) in
     assumption (reported, next)
 
-pub sublots_stored : AreStoredOfOwner Sublots sublot_cells IsSublot (λ (x : SublotRow). of.Sublot x) (λ s. s.sublots)
+pub sublots_stored : AreStoredOfOwner sublot_kind
 sublots_stored =
-    let reported : IsReadBack sublot_cells IsSublot = λ o a b p q h. λ i. record { lot = text 1 h i; sublot = text 2 h i; amount = nat 3 h i } in
-    let next : Next Sublots (λ x. of.Sublot x) (λ s. s.sublots) = λ s i d rising lt. ap (λ l. record (front_slice Sublots 0 s) { sublots = l }) (stored_added pair_cmp pair_cmp_total (λ (row : SublotRow). (row.lot, row.sublot)) Sublots (sublot_cells s.owner) (sublots_order s.owner) s.sublots i d rising lt) in
+    let reported : IsReadBack sublot_kind = λ o a b p q h. λ i. record { lot = text 1 h i; sublot = text 2 h i; amount = nat 3 h i } in
+    let next : Next sublot_kind = λ s i d rising lt. ap (λ l. record (front_slice Sublots 0 s) { sublots = l }) (stored_added pair_cmp pair_cmp_total (λ (row : SublotRow). (row.lot, row.sublot)) Sublots (sublot_cells s.owner) (sublots_order s.owner) s.sublots i d rising lt) in
     assumption (reported, next)
 
-pub moves_stored : AreStoredOfOwner Moves move_cells IsMovement (λ (x : MoveRow). of.Move x) (λ s. s.moves)
+pub moves_stored : AreStoredOfOwner move_kind
 moves_stored =
-    let reported : IsReadBack move_cells IsMovement = λ o a b p q h. λ i. record { key = text 1 h i; what = same_move o a b h i; amount = nat 11 h i; day = nat 12 h i } in
-    let next : Next Moves (λ x. of.Move x) (λ s. s.moves) = λ s i d rising lt. ap (λ l. record (front_slice Moves 0 s) { moves = l }) (stored_added bytes_cmp nat_list_cmp_total (λ (row : MoveRow). row.key) Moves (move_cells s.owner) (moves_order s.owner) s.moves i d rising lt) in
+    let reported : IsReadBack move_kind = λ o a b p q h. λ i. record { key = text 1 h i; what = same_move o a b h i; amount = nat 11 h i; day = nat 12 h i } in
+    let next : Next move_kind = λ s i d rising lt. ap (λ l. record (front_slice Moves 0 s) { moves = l }) (stored_added bytes_cmp nat_list_cmp_total (λ (row : MoveRow). row.key) Moves (move_cells s.owner) (moves_order s.owner) s.moves i d rising lt) in
     assumption (reported, next)
 
-pub results_stored : AreStoredOfOwner Results result_cells IsResult (λ (x : ResultRow). of.Result x) (λ s. s.results)
+pub results_stored : AreStoredOfOwner result_kind
 results_stored =
-    let reported : IsReadBack result_cells IsResult = λ o a b p q h. λ i. record { lot = text 1 h i; test = text 2 h i; number = nat 3 h i; value = int 4 h i; day = nat 5 h i } in
-    let next : Next Results (λ x. of.Result x) (λ s. s.results) = λ s i d rising lt. ap (λ l. record (front_slice Results 0 s) { results = l }) (stored_added result_cmp result_cmp_total (λ (row : ResultRow). (row.lot, row.test, row.number)) Results (result_cells s.owner) (results_order s.owner) s.results i d rising lt) in
+    let reported : IsReadBack result_kind = λ o a b p q h. λ i. record { lot = text 1 h i; test = text 2 h i; number = nat 3 h i; value = int 4 h i; day = nat 5 h i } in
+    let next : Next result_kind = λ s i d rising lt. ap (λ l. record (front_slice Results 0 s) { results = l }) (stored_added result_cmp result_cmp_total (λ (row : ResultRow). (row.lot, row.test, row.number)) Results (result_cells s.owner) (results_order s.owner) s.results i d rising lt) in
     assumption (reported, next)
 
-pub voids_stored : AreStoredOfOwner Voids void_cells IsVoid (λ (x : VoidRow). of.Void x) (λ s. s.voids)
+pub voids_stored : AreStoredOfOwner void_kind
 voids_stored =
-    let reported : IsReadBack void_cells IsVoid = λ o a b p q h. λ i. record { key = text 1 h i } in
-    let next : Next Voids (λ x. of.Void x) (λ s. s.voids) = λ s i d rising lt. ap (λ l. record (front_slice Voids 0 s) { voids = l }) (stored_added bytes_cmp nat_list_cmp_total (λ (row : VoidRow). row.key) Voids (void_cells s.owner) (voids_order s.owner) s.voids i d rising lt) in
+    let reported : IsReadBack void_kind = λ o a b p q h. λ i. record { key = text 1 h i } in
+    let next : Next void_kind = λ s i d rising lt. ap (λ l. record (front_slice Voids 0 s) { voids = l }) (stored_added bytes_cmp nat_list_cmp_total (λ (row : VoidRow). row.key) Voids (void_cells s.owner) (voids_order s.owner) s.voids i d rising lt) in
     assumption (reported, next)
 
 -- ---- owners and units
 
-pub owners_alone : AreStoredOfPlant Owners owner_cells IsOwner
+pub owners_alone : AreStoredOfPlant owner_kind
 owners_alone = record { unowned = refl; fills = λ x. refl; reported = λ a b p q h. λ i. record { owner = text 0 h i; key = text 1 h i } }
 
-pub units_alone : AreStoredOfPlant Units unit_cells IsUnit
+pub units_alone : AreStoredOfPlant unit_kind
 units_alone = record { unowned = refl; fills = λ x. refl; reported = λ a b p q h. λ i. record { unit = text 0 h i } }

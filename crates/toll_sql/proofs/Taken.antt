@@ -1,24 +1,24 @@
 -- Stored rows that fit into a slice, one after another.
 use Rattle.std.proofs.Common.{◌≡◌, ◌<◌, ◌≤◌, ◌+◌, ◌∙◌, ℕ, zero, suc, inl, inr, List, [], ◌∷◌, ◌++◌, length, take, get_or, sym, ap, subst, arith, Result, Ok, Err, OnOk}
-use Rattle.toll_sql.proofs.Common.{Row, Bytes, Slice, with_row, KeepsRules, Trees, KeepFault, Memory, columns_from, cells_for, table_for, AreAllTaken, AreTaken, FitsSlice, LacksRoom, LacksRoomIn, TakesRows, AreStoredOfOwner, width_of, IsRow, TableKind}
+use Rattle.toll_sql.proofs.Common.{Row, Bytes, Slice, with_row, KeepsRules, Trees, KeepFault, Memory, columns_from, cells_for, table_for, AreAllTaken, AreTaken, FitsSlice, LacksRoom, LacksRoomIn, TakesRows, AreStoredOfOwner, RowKind, width_of, IsRow, TableKind}
 use Rattle.toll_base.specs.declared.rows.Row.{Row as OfficeRow}
 
 -- The row with these cells, which is put in or not.
-module _ {X : Type 0} (k : TableKind) (cells : Bytes → X → Row) (is_valid : X → Type 0) (any_row : X → OfficeRow) (listed : Slice → List X) (stand : AreStoredOfOwner k cells is_valid any_row listed)
-    (o : Bytes) (found : Row) (x : X) (valid : is_valid x) (is : columns_from 0 (width_of k) found ≡ cells o x) (row : OfficeRow) (its : row ≡ any_row x) (s t : Slice) where
-  abbrev fits : KeepsRules (with_row s row) → FitsSlice k o found s
+module _ {X : Type 0} (kind : RowKind X) (stand : AreStoredOfOwner kind) (o : Bytes) (found : Row) (x : X) (valid : kind.is_valid x)
+    (is : columns_from 0 (width_of kind.table) found ≡ kind.cells o x) (row : OfficeRow) (its : row ≡ kind.any_row x) (s t : Slice) where
+  abbrev fits : KeepsRules (with_row s row) → FitsSlice kind.table o found s
   fits keeps = record {
     row = row;
-    its_table = subst (λ row. table_for row ≡ k) (sym its) (stand.its_table x);
+    its_table = subst (λ row. table_for row ≡ kind.table) (sym its) (stand.its_table x);
     valid = subst IsRow (sym its) (stand.its_values x valid);
     cells = is ∙ sym (stand.its_cells o x) ∙ ap (cells_for o) (sym its);
     keeps = keeps;
   }
 
-  pub takes_one : {Y : Type 0} (r : Result Y KeepFault) → OnOk r (t ≡ with_row s row) → OnOk r (KeepsRules (with_row s row)) → (r ≡ Err Memory → KeepsRules (with_row s row) × (t ≡ s)) → TakesRows k o (found ∷ []) s t r
+  pub takes_one : {Y : Type 0} (r : Result Y KeepFault) → OnOk r (t ≡ with_row s row) → OnOk r (KeepsRules (with_row s row)) → (r ≡ Err Memory → KeepsRules (with_row s row) × (t ≡ s)) → TakesRows kind.table o (found ∷ []) s t r
   takes_one {Y} r made keeps lacks = record { taken = taken r made keeps; lacks = λ is. (fits (lacks is).0, inl (lacks is).1) }
     where
-      taken : (r : Result Y KeepFault) → OnOk r (t ≡ with_row s row) → OnOk r (KeepsRules (with_row s row)) → OnOk r (AreTaken k o (found ∷ []) s t)
+      taken : (r : Result Y KeepFault) → OnOk r (t ≡ with_row s row) → OnOk r (KeepsRules (with_row s row)) → OnOk r (AreTaken kind.table o (found ∷ []) s t)
       taken (Ok y) made keeps = (fits keeps, made)
       taken (Err e) made keeps = tt
 

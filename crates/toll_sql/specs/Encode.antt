@@ -1,16 +1,12 @@
 -- Rows as the tables have them: the cells after the rowid.
-use Rattle.std.specs.Prelude.{ℕ, pos, Bool, true, false, List, [], ◌∷◌, map, codes}
-use Rattle.toll_sql.specs.Common.{Row, Int, Text, Bytes, Slice, LotId, Origin, Receipts, Batch as OfBatch, Move, Receive, Split, Ship, Scrap, Actual, MoveRow, Role, BatchRow, LotRow, MaterialRow, OrderRow, OwnerRow, RecipeRow, RequirementRow, ResultRow, SublotRow, TestRow, UnitRow, VoidRow}
+use Rattle.std.specs.Prelude.{ℕ, pos, Bool, true, false, [], ◌∷◌, codes}
+use Rattle.toll_sql.specs.Common.{Row, Int, Text, Bytes, LotId, Origin, Receipts, Batch as OfBatch, Move, Receive, Split, Ship, Scrap, Actual, MoveRow, Role, BatchRow, LotRow, MaterialRow, OrderRow, OwnerRow, RecipeRow, RequirementRow, ResultRow, SublotRow, TestRow, UnitRow, VoidRow}
 use Rattle.toll_base.specs.Roles.{role_number}
 use Rattle.toll_base.specs.declared.lot.Disposition.{Disposition}
 use Rattle.toll_base.specs.declared.lot.Disposition.TheVariants.{Quarantined, Released, Rejected}
 use Rattle.toll_base.specs.declared.role.Role.TheVariants.{Consumed, Produced}
-use Rattle.toll_base.specs.declared.rows.Row.{Row as OfficeRow}
-use Rattle.toll_base.specs.declared.rows.Row.TheVariants as of
 use Rattle.toll_base.specs.declared.state.State.{State}
 use Rattle.toll_base.specs.declared.state.State.TheVariants.{Idle, Running, Pausing, Paused, Holding, Held, Restarting, Stopping, Stopped, Aborting, Aborted, Complete}
-use Rattle.toll_sql.specs.declared.table_kind.TableKind.{TableKind}
-use Rattle.toll_sql.specs.declared.table_kind.TableKind.TheVariants.{Meta, Owners, Units, Materials, Tests, Recipes, Requirements, Orders, Batches, Lots, Sublots, Moves, Results, Voids}
 
 -- ---- values that are numbers in the tables
 
@@ -139,50 +135,3 @@ result_cells o row = Text o ∷ Text row.lot ∷ Text row.test ∷ Int (pos row.
 
 abbrev pub void_cells : Bytes → VoidRow → Row
 void_cells o row = Text o ∷ Text row.key ∷ []
-
--- ---- rows of an owner, of any kind
-
--- the table that has the row
-abbrev pub table_for : OfficeRow → TableKind
-table_for (of.Material row) = Materials
-table_for (of.Test row) = Tests
-table_for (of.Recipe row) = Recipes
-table_for (of.Requirement row) = Requirements
-table_for (of.Order row) = Orders
-table_for (of.Batch row) = Batches
-table_for (of.Lot row) = Lots
-table_for (of.Sublot row) = Sublots
-table_for (of.Move row) = Moves
-table_for (of.Result row) = Results
-table_for (of.Void row) = Voids
-
--- the cells of the row in its table
-abbrev pub cells_for : Bytes → OfficeRow → Row
-cells_for o (of.Material row) = material_cells o row
-cells_for o (of.Test row) = test_cells o row
-cells_for o (of.Recipe row) = recipe_cells o row
-cells_for o (of.Requirement row) = requirement_cells o row
-cells_for o (of.Order row) = order_cells o row
-cells_for o (of.Batch row) = batch_cells o row
-cells_for o (of.Lot row) = lot_cells o row
-cells_for o (of.Sublot row) = sublot_cells o row
-cells_for o (of.Move row) = move_cells o row
-cells_for o (of.Result row) = result_cells o row
-cells_for o (of.Void row) = void_cells o row
-
--- the rows of a slice that belong in the table, in order
-abbrev pub rows_for : TableKind → Slice → List Row
-rows_for Meta s = []
-rows_for Owners s = []
-rows_for Units s = []
-rows_for Materials s = map (material_cells s.owner) s.materials
-rows_for Tests s = map (test_cells s.owner) s.tests
-rows_for Recipes s = map (recipe_cells s.owner) s.recipes
-rows_for Requirements s = map (requirement_cells s.owner) s.requirements
-rows_for Orders s = map (order_cells s.owner) s.orders
-rows_for Batches s = map (batch_cells s.owner) s.batches
-rows_for Lots s = map (lot_cells s.owner) s.lots
-rows_for Sublots s = map (sublot_cells s.owner) s.sublots
-rows_for Moves s = map (move_cells s.owner) s.moves
-rows_for Results s = map (result_cells s.owner) s.results
-rows_for Voids s = map (void_cells s.owner) s.voids

@@ -3,8 +3,7 @@ use Rattle.std.specs.Prelude.{◌≡◌, ℕ, List, [], length, take}
 use Rattle.toll_sql.specs.Common.{Row, Slice}
 use Rattle.toll_sql.specs.Bag.{Rises}
 use Rattle.toll_sql.specs.Cells.{key_order}
-use Rattle.toll_sql.specs.Encode.{rows_for}
-use Rattle.toll_sql.specs.Valid.{AreValidIn}
+use Rattle.toll_sql.specs.Kinds.{RowKind, rows_for, AreValidIn}
 use Rattle.toll_sql.specs.declared.table_kind.TableKind.{TableKind}
 use Rattle.toll_sql.specs.declared.table_kind.TableKind.TheVariants.{Meta, Owners, Units, Materials, Tests, Recipes, Requirements, Orders, Batches, Lots, Sublots, Moves, Results, Voids}
 
@@ -25,9 +24,9 @@ front_slice Moves n s = record s { moves = take n s.moves; results = []; voids =
 front_slice Results n s = record s { results = take n s.results; voids = [] }
 front_slice Voids n s = record s { voids = take n s.voids }
 
--- the slice after the tables before this one and all rows of this one, which are these, were read
-abbrev pub slice_past_table : {X : Type 0} → TableKind → (Slice → List X) → Slice → Slice
-slice_past_table k listed s = front_slice k (length (listed s)) s
+-- the slice after the tables before this one and all rows of this one were read
+abbrev pub slice_past_table : {X : Type 0} → RowKind X → Slice → Slice
+slice_past_table kind s = front_slice kind.table (length (kind.listed s)) s
 
 -- These are the rows of the slice that belong in the table, in the order of its key, and their values are valid.
 pub record IsStoredAs (k : TableKind) (s : Slice) (rows : List Row) : Type 0 where

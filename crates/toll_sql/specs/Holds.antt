@@ -3,11 +3,11 @@ use Rattle.std.specs.Prelude.{◌≡◌, ℕ, Bool, true, IsTrue, List, [], ◌�
 use Rattle.toll_sql.specs.Common.{AllByRecursion, Row, column, Trees, Text, Bytes, Slice, is_name, OwnerRow, UnitRow, Content}
 use Rattle.toll_sql.specs.Bag.{Rises, SameBag, all_cells, owned_by}
 use Rattle.toll_sql.specs.Cells.{key_order}
-use Rattle.toll_sql.specs.Encode.{meta_cells, owner_cells, unit_cells, rows_for}
+use Rattle.toll_sql.specs.Encode.{meta_cells}
+use Rattle.toll_sql.specs.Kinds.{PlantKind, owner_kind, unit_kind, rows_for, AreValidIn}
 use Rattle.toll_sql.specs.Schema.{tree_of, is_owned}
-use Rattle.toll_sql.specs.Valid.{IsOwner, IsUnit, AreValidIn}
 use Rattle.toll_sql.specs.declared.table_kind.TableKind.{TableKind}
-use Rattle.toll_sql.specs.declared.table_kind.TableKind.TheVariants.{Meta, Owners, Units}
+use Rattle.toll_sql.specs.declared.table_kind.TableKind.TheVariants.{Meta}
 
 -- the version of these tables
 abbrev pub version : ℕ
@@ -19,15 +19,15 @@ pub record HasRows (k : TableKind) (rows stored : List Row) : Type 0 where
   pub rising : Rises (key_order k) rows
 
 -- The table, which isn't divided by owner, has exactly these rows, and all their values are valid.
-pub record HoldsAll {X : Type 0} (k : TableKind) (cells : X → Row) (is_valid : X → Type 0) (db : Trees) (l : List X) : Type 0 where
-  pub stored : HasRows k (map cells l) (db (tree_of k))
-  pub valid : AllByRecursion is_valid l
+pub record HoldsAll {X : Type 0} (kind : PlantKind X) (db : Trees) (l : List X) : Type 0 where
+  pub stored : HasRows kind.table (map kind.cells l) (db (tree_of kind.table))
+  pub valid : AllByRecursion kind.is_valid l
 
 abbrev pub HoldsOwners : Trees → List OwnerRow → Type 0
-HoldsOwners = HoldsAll Owners owner_cells IsOwner
+HoldsOwners = HoldsAll owner_kind
 
 abbrev pub HoldsUnits : Trees → List UnitRow → Type 0
-HoldsUnits = HoldsAll Units unit_cells IsUnit
+HoldsUnits = HoldsAll unit_kind
 
 -- Of this owner, these tables have exactly the rows of this slice, and all their values are valid.
 pub record HoldsPart (is_such : TableKind → Bool) (db : Trees) (o : Bytes) (s : Slice) : Type 0 where

@@ -6,6 +6,7 @@ pub mod Cells
 pub mod Encode
 pub mod Bag
 pub mod Valid
+pub mod Kinds
 pub mod Holds
 pub mod Fronts
 pub mod Shown

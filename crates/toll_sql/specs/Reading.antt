@@ -5,15 +5,14 @@ use Rattle.toll_base.specs.SliceRules.{KeepsRules}
 use Rattle.toll_base.specs.declared.rows.Row.{Row as OfficeRow}
 use Rattle.toll_sql.specs.Asking.{ForSlice, IsLooking}
 use Rattle.toll_sql.specs.Cells.{columns_from}
-use Rattle.toll_sql.specs.Encode.{cells_for, table_for}
 use Rattle.toll_sql.specs.Fronts.{IsStoredAs, front_slice, slice_past_table}
+use Rattle.toll_sql.specs.Kinds.{RowKind, cells_for, table_for, IsRow}
 use Rattle.toll_sql.specs.Others.{HasOurs}
 use Rattle.toll_sql.specs.PlantRows.{ForOwners}
 use Rattle.toll_sql.specs.Rows.{AreOfOwner}
 use Rattle.toll_sql.specs.Shown.{AreOwnedBy, IsUnknownOwner, ShowsOwnRows}
 use Rattle.toll_sql.specs.StoredLaws.{AreStoredOfOwner}
 use Rattle.toll_sql.specs.Schema.{width_of}
-use Rattle.toll_sql.specs.Valid.{IsRow}
 use Rattle.toll_sql.specs.declared.table_kind.TableKind.{TableKind}
 use Rattle.toll_sql.specs.declared.table_kind.TableKind.TheVariants.{Meta, Materials, Tests, Recipes, Requirements, Orders, Batches, Lots, Sublots, Moves, Results, Voids}
 
@@ -92,25 +91,18 @@ next_of _ = Meta
 abbrev pub ReadsNext : {X : Type 0} → TableKind → Bytes → State → State → Slice → Slice → Result X KeepFault → Type 0
 ReadsNext {X} k o old new before after result = ReadsOn (front_slice k 0) (front_slice (next_of k) 0) (k ∷ []) o {X = X} old new before after result
 
--- All rows of one kind, which has this table, are read after those of the tables before it.
-abbrev pub ReadsKind : {X Y : Type 0} → TableKind → (Bytes → X → Row) → (X → Type 0) → (X → OfficeRow) → (Slice → List X)
-    → Bytes → State → State → Slice → Slice → Result Y KeepFault → Type 0
-ReadsKind k cells is_valid row listed o old new before after result =
-    AreStoredOfOwner k cells is_valid row listed → ReadsOn (front_slice k 0) (slice_past_table k listed) (k ∷ []) o old new before after result
+-- All rows of one kind are read after those of the tables before its own.
+abbrev pub ReadsKind : {X Y : Type 0} → RowKind X → Bytes → State → State → Slice → Slice → Result Y KeepFault → Type 0
+ReadsKind kind o old new before after result = AreStoredOfOwner kind → ReadsOn (front_slice kind.table 0) (slice_past_table kind) (kind.table ∷ []) o old new before after result
 
 -- P holds of the slice that has these rows of one kind, if the tables before theirs were read.
-abbrev pub ForStored : {X : Type 0} → TableKind → (Bytes → X → Row) → (X → Type 0) → (X → OfficeRow) → (Slice → List X)
-    → List Row → Slice → (Slice → Type 0) → Type 0
-ForStored k cells is_valid row listed rows before P =
-    AreStoredOfOwner k cells is_valid row listed → (s : Slice) → IsStoredAs k s rows → before ≡ front_slice k 0 s → P s
+abbrev pub ForStored : {X : Type 0} → RowKind X → List Row → Slice → (Slice → Type 0) → Type 0
+ForStored kind rows before P = AreStoredOfOwner kind → (s : Slice) → IsStoredAs kind.table s rows → before ≡ front_slice kind.table 0 s → P s
 
--- P holds of the owner of these rows, if rows of this kind belong in this table.
-abbrev pub ForOwned : {X : Type 0} → TableKind → (Bytes → X → Row) → (X → Type 0) → (X → OfficeRow) → (Slice → List X)
-    → List Row → (Bytes → Type 0) → Type 0
-ForOwned k cells is_valid row listed rows P = AreStoredOfOwner k cells is_valid row listed → (o : Bytes) → AreOwnedBy o rows → P o
+-- P holds of the owner of these rows.
+abbrev pub ForOwned : {X : Type 0} → RowKind X → List Row → (Bytes → Type 0) → Type 0
+ForOwned kind rows P = AreStoredOfOwner kind → (o : Bytes) → AreOwnedBy o rows → P o
 
 -- P holds of the row of this kind that has these cells.
-abbrev pub ForRow : {X : Type 0} → TableKind → (Bytes → X → Row) → (X → Type 0) → (X → OfficeRow) → (Slice → List X)
-    → Row → (OfficeRow → Type 0) → Type 0
-ForRow {X} k cells is_valid row listed found P =
-    AreStoredOfOwner k cells is_valid row listed → (o : Bytes) (x : X) → is_valid x → found ≡ cells o x → P (row x)
+abbrev pub ForRow : {X : Type 0} → RowKind X → Row → (OfficeRow → Type 0) → Type 0
+ForRow {X} kind found P = AreStoredOfOwner kind → (o : Bytes) (x : X) → kind.is_valid x → found ≡ kind.cells o x → P (kind.any_row x)

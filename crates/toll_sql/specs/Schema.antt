@@ -62,17 +62,7 @@ abbrev pub is_owned : TableKind → Bool
 is_owned Meta = false
 is_owned Owners = false
 is_owned Units = false
-is_owned Materials = true
-is_owned Tests = true
-is_owned Recipes = true
-is_owned Requirements = true
-is_owned Orders = true
-is_owned Batches = true
-is_owned Lots = true
-is_owned Sublots = true
-is_owned Moves = true
-is_owned Results = true
-is_owned Voids = true
+is_owned _ = true
 
 -- the table
 abbrev pub table_of : TableKind → Table

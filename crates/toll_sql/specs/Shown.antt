@@ -5,16 +5,17 @@ use Rattle.toll_base.specs.Table.{row_at}
 use Rattle.toll_sql.specs.Asked.{AreReadBy}
 use Rattle.toll_sql.specs.Bag.{owned_by}
 use Rattle.toll_sql.specs.Cells.{columns_from}
-use Rattle.toll_sql.specs.Encode.{origin_order, origin_number, owner_cells, material_cells, test_cells, recipe_cells, requirement_cells, order_cells, batch_cells, lot_cells, sublot_cells, move_cells, result_cells, void_cells}
+use Rattle.toll_sql.specs.Encode.{origin_order, origin_number}
+use Rattle.toll_sql.specs.Kinds.{PlantKind, RowKind, of_table, owner_kind}
 use Rattle.toll_sql.specs.Others.{HasOurs}
 use Rattle.toll_sql.specs.Schema.{select_text, tree_of, width_of}
-use Rattle.toll_sql.specs.Valid.{IsOwner, IsMaterial, IsTest, IsRecipe, IsRequirement, IsOrder, IsBatch, IsOrigin, IsLot, IsSublot, IsMovement, IsResult, IsVoid}
+use Rattle.toll_sql.specs.Valid.{IsOrigin}
 use Rattle.toll_sql.specs.declared.table_kind.TableKind.{TableKind}
-use Rattle.toll_sql.specs.declared.table_kind.TableKind.TheVariants.{Meta, Owners, Units, Materials, Tests, Recipes, Requirements, Orders, Batches, Lots, Sublots, Moves, Results, Voids}
+use Rattle.toll_sql.specs.declared.table_kind.TableKind.TheVariants.{Materials, Tests, Recipes, Requirements, Orders, Batches, Lots, Sublots, Moves, Results, Voids}
 
 -- The cells are those of a row of this kind that the owner has, with valid values.
-abbrev pub IsRowOfOwner : {X : Type 0} → TableKind → (Bytes → X → Row) → (X → Type 0) → Bytes → Row → Type 0
-IsRowOfOwner {X} k cells is_valid o row = (x : X) × is_valid x × (columns_from 0 (width_of k) row ≡ cells o x)
+abbrev pub IsRowOfOwner : {X : Type 0} → RowKind X → Bytes → Row → Type 0
+IsRowOfOwner {X} kind o row = (x : X) × kind.is_valid x × (columns_from 0 (width_of kind.table) row ≡ kind.cells o x)
 
 -- There is a first item, and P holds of it.
 abbrev pub FirstIs : {X : Type 0} → (X → Type 0) → List X → Type 0
@@ -22,25 +23,12 @@ FirstIs P [] = ⊥
 FirstIs P (x ∷ xs) = P x
 
 -- Each row of the owner that the table has is a valid row of this kind.
-abbrev pub AreRowsOf : {X : Type 0} → TableKind → (Bytes → X → Row) → (X → Type 0) → Bytes → Trees → Type 0
-AreRowsOf k cells is_valid o db = AllByRecursion (IsRowOfOwner k cells is_valid o) (map (columns_from 1 (width_of k)) (owned_by o (db (tree_of k))))
+abbrev pub AreRowsOf : {X : Type 0} → RowKind X → Bytes → Trees → Type 0
+AreRowsOf kind o db = AllByRecursion (IsRowOfOwner kind o) (map (columns_from 1 (width_of kind.table)) (owned_by o (db (tree_of kind.table))))
 
 -- Each row of the owner in the table is a valid row of the table's kind.
 abbrev pub AreRowsIn : Bytes → Trees → TableKind → Type 0
-AreRowsIn o db Meta = Unit {0}
-AreRowsIn o db Owners = Unit {0}
-AreRowsIn o db Units = Unit {0}
-AreRowsIn o db Materials = AreRowsOf Materials material_cells IsMaterial o db
-AreRowsIn o db Tests = AreRowsOf Tests test_cells IsTest o db
-AreRowsIn o db Recipes = AreRowsOf Recipes recipe_cells IsRecipe o db
-AreRowsIn o db Requirements = AreRowsOf Requirements requirement_cells IsRequirement o db
-AreRowsIn o db Orders = AreRowsOf Orders order_cells IsOrder o db
-AreRowsIn o db Batches = AreRowsOf Batches batch_cells IsBatch o db
-AreRowsIn o db Lots = AreRowsOf Lots lot_cells IsLot o db
-AreRowsIn o db Sublots = AreRowsOf Sublots sublot_cells IsSublot o db
-AreRowsIn o db Moves = AreRowsOf Moves move_cells IsMovement o db
-AreRowsIn o db Results = AreRowsOf Results result_cells IsResult o db
-AreRowsIn o db Voids = AreRowsOf Voids void_cells IsVoid o db
+AreRowsIn o db k = of_table (λ X kind. AreRowsOf kind o db) (Unit {0}) k
 
 -- the tables that are divided by owner
 abbrev pub tables_of_owners : List TableKind
@@ -52,11 +40,11 @@ ShowsOwnRows kinds o old new result =
     HasCleanDisk new → HasOurs old.now.schema → old.now ≡ old.committed → OnOk result (AllByRecursion (AreRowsIn o old.now.trees) kinds)
 
 -- The reported rows are exactly those that the table's text reads, by the definitions of crate sqlite, and their values are valid.
-pub record AreReported {X : Type 0} (k : TableKind) (cells : X → Row) (is_valid : X → Type 0) (db : Database) (reported : List X) : Type 0 where
+pub record AreReported {X : Type 0} (kind : PlantKind X) (db : Database) (reported : List X) : Type 0 where
   pub rows : List Row
-  pub read : AreReadBy db (select_text k) rows
-  pub shown : map cells reported ≡ map (columns_from 0 (width_of k)) rows
-  pub valid : AllByRecursion is_valid reported
+  pub read : AreReadBy db (select_text kind.table) rows
+  pub shown : map kind.cells reported ≡ map (columns_from 0 (width_of kind.table)) rows
+  pub valid : AllByRecursion kind.is_valid reported
 
 -- The owner is not HOUSE, and none of these rows names it.
 abbrev pub IsUnknownOwner : List OwnerRow → Bytes → Type 0
@@ -74,7 +62,7 @@ ShowsSlice o old new result =
 
 -- The owner is not HOUSE, and none of the rows that the text of the table of owners reads names it, by the definitions of crate sqlite.
 abbrev pub IsReportedUnknown : Database → Bytes → Type 0
-IsReportedUnknown db o = (owners : List OwnerRow) × AreReported Owners owner_cells IsOwner db owners × IsUnknownOwner owners o
+IsReportedUnknown db o = (owners : List OwnerRow) × AreReported owner_kind db owners × IsUnknownOwner owners o
 
 -- The cells of these two columns are those of no origin of a lot.
 abbrev pub ShowsNoOrigin : (order number : ℕ) → Row → Type 0

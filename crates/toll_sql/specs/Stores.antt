@@ -7,12 +7,13 @@ use Rattle.toll_base.specs.declared.decision.Change.TheVariants.{Owner, Unit as 
 use Rattle.toll_keep.specs.CallEffects.{IsAmong}
 use Rattle.toll_sql.specs.Causes.{IsErrorCaused}
 use Rattle.toll_sql.specs.Cells.{fill}
-use Rattle.toll_sql.specs.Encode.{owner_cells, unit_cells, table_for, cells_for}
+use Rattle.toll_sql.specs.Encode.{owner_cells, unit_cells}
 use Rattle.toll_sql.specs.Holds.{Holds, HoldsPart}
 use Rattle.toll_sql.specs.Others.{HasOurs}
 use Rattle.toll_sql.specs.Put.{Puts}
 use Rattle.toll_sql.specs.Schema.{made_all, tree_of, key_columns}
-use Rattle.toll_sql.specs.Valid.{IsOwner, IsUnit, IsRow}
+use Rattle.toll_sql.specs.Valid.{IsOwner, IsUnit}
+use Rattle.toll_sql.specs.Kinds.{table_for, cells_for, IsRow}
 use Rattle.toll_sql.specs.declared.table_kind.TableKind.{TableKind}
 use Rattle.toll_sql.specs.declared.table_kind.TableKind.TheVariants.{Owners, Units}
 

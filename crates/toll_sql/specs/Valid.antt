@@ -1,10 +1,6 @@
 -- Rows with valid values.
 use Rattle.std.specs.Prelude.{IsTrue, ℕ, ◌<◌, ◌^◌}
-use Rattle.toll_sql.specs.Common.{AllByRecursion, Slice, is_name, is_owner_key, is_measure, IsAmount, IsDay, IsSegment, IsBatchNo, IsValue, LotId, Origin, Receipts, Batch as OfBatch, Move, Receive, Split, Ship, Scrap, Actual, MoveRow, BatchRow, LotRow, MaterialRow, OrderRow, OwnerRow, RecipeRow, RequirementRow, ResultRow, SublotRow, TestRow, UnitRow, VoidRow}
-use Rattle.toll_base.specs.declared.rows.Row.{Row as OfficeRow}
-use Rattle.toll_base.specs.declared.rows.Row.TheVariants as of
-use Rattle.toll_sql.specs.declared.table_kind.TableKind.{TableKind}
-use Rattle.toll_sql.specs.declared.table_kind.TableKind.TheVariants.{Meta, Owners, Units, Materials, Tests, Recipes, Requirements, Orders, Batches, Lots, Sublots, Moves, Results, Voids}
+use Rattle.toll_sql.specs.Common.{is_name, is_owner_key, is_measure, IsAmount, IsDay, IsSegment, IsBatchNo, IsValue, LotId, Origin, Receipts, Batch as OfBatch, Move, Receive, Split, Ship, Scrap, Actual, MoveRow, BatchRow, LotRow, MaterialRow, OrderRow, OwnerRow, RecipeRow, RequirementRow, ResultRow, SublotRow, TestRow, UnitRow, VoidRow}
 
 -- The number fits a column.
 abbrev pub IsStorable : ℕ → Type 0
@@ -87,34 +83,3 @@ pub record IsResult (row : ResultRow) : Type 0 where
 
 abbrev pub IsVoid : VoidRow → Type 0
 IsVoid row = IsTrue (is_name row.key)
-
--- The row of an owner, of any kind, has valid values.
-abbrev pub IsRow : OfficeRow → Type 0
-IsRow (of.Material row) = IsMaterial row
-IsRow (of.Test row) = IsTest row
-IsRow (of.Recipe row) = IsRecipe row
-IsRow (of.Requirement row) = IsRequirement row
-IsRow (of.Order row) = IsOrder row
-IsRow (of.Batch row) = IsBatch row
-IsRow (of.Lot row) = IsLot row
-IsRow (of.Sublot row) = IsSublot row
-IsRow (of.Move row) = IsMovement row
-IsRow (of.Result row) = IsResult row
-IsRow (of.Void row) = IsVoid row
-
--- The rows of the slice that belong in the table have valid values.
-abbrev pub AreValidIn : TableKind → Slice → Type 0
-AreValidIn Meta s = Unit {0}
-AreValidIn Owners s = Unit {0}
-AreValidIn Units s = Unit {0}
-AreValidIn Materials s = AllByRecursion IsMaterial s.materials
-AreValidIn Tests s = AllByRecursion IsTest s.tests
-AreValidIn Recipes s = AllByRecursion IsRecipe s.recipes
-AreValidIn Requirements s = AllByRecursion IsRequirement s.requirements
-AreValidIn Orders s = AllByRecursion IsOrder s.orders
-AreValidIn Batches s = AllByRecursion IsBatch s.batches
-AreValidIn Lots s = AllByRecursion IsLot s.lots
-AreValidIn Sublots s = AllByRecursion IsSublot s.sublots
-AreValidIn Moves s = AllByRecursion IsMovement s.moves
-AreValidIn Results s = AllByRecursion IsResult s.results
-AreValidIn Voids s = AllByRecursion IsVoid s.voids

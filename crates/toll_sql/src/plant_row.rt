@@ -1,12 +1,8 @@
 //! Owners and units in the tables.
 ghost use Rattle.std.specs.Prelude.{◌≡◌, ◌≢◌, None, IfSome};
-ghost use Rattle.sqlite.specs.Order.{Row};
 ghost use Rattle.toll_sql.specs.Cells.{columns_from};
-ghost use Rattle.toll_sql.specs.Encode.{owner_cells, unit_cells};
+ghost use Rattle.toll_sql.specs.Kinds.{PlantKind, owner_kind, unit_kind};
 ghost use Rattle.toll_sql.specs.Schema.{width_of};
-ghost use Rattle.toll_sql.specs.Valid.{IsOwner, IsUnit};
-ghost use Rattle.toll_sql.specs.declared.table_kind.TableKind.{TableKind as Kinds};
-ghost use Rattle.toll_sql.specs.declared.table_kind.TableKind.TheVariants.{Owners, Units};
 
 use crate::cells::{key_at, name_at};
 use crate::table_kind::TableKind;
@@ -15,32 +11,22 @@ use toll_base::{OwnerRow, UnitRow};
 
 /// A row of the plant in a table.
 pub trait StoredPlantRow: Copy {
-    // The table that has such rows.
-    ghost kind: { Kinds };
-
-    // The cells of the row.
-    ghost cells: { Self → Row };
-
-    // Its values are values of their kinds.
-    ghost is_valid: { Self → Type 0 };
+    // The kind of such rows.
+    ghost kind: { PlantKind Self };
 
     /// The table.
     fn table() -> TableKind
-        ensures { result ≡ kind };
+        ensures { result ≡ kind.table };
 
     /// The row that has these cells: `None` if no row has them.
     fn read(from: &Stored) -> Option<Self>
-        ensures some { IfSome result (λ x. columns_from 0 (width_of kind) from.now ≡ cells x) }
-        ensures valid { IfSome result is_valid }
-        ensures none { result ≡ None → (x : Self) → is_valid x → from.now ≢ cells x };
+        ensures some { IfSome result (λ x. columns_from 0 (width_of kind.table) from.now ≡ kind.cells x) }
+        ensures valid { IfSome result kind.is_valid }
+        ensures none { result ≡ None → (x : Self) → kind.is_valid x → from.now ≢ kind.cells x };
 }
 
 impl StoredPlantRow for OwnerRow {
-    ghost kind = { Owners };
-
-    ghost cells = { owner_cells };
-
-    ghost is_valid = { IsOwner };
+    ghost kind = { owner_kind };
 
     fn table() -> TableKind {
         TableKind::Owners
@@ -55,11 +41,7 @@ impl StoredPlantRow for OwnerRow {
 }
 
 impl StoredPlantRow for UnitRow {
-    ghost kind = { Units };
-
-    ghost cells = { unit_cells };
-
-    ghost is_valid = { IsUnit };
+    ghost kind = { unit_kind };
 
     fn table() -> TableKind {
         TableKind::Units

@@ -18,14 +18,15 @@ use sqlite::{Alter, Connection, Row as Stored};
 use toll_base::{Name, Row, Slice};
 use toll_keep::KeepFault;
 
-/// Reads the owner's rows of this kind.
+/// Reads the owner's rows of this kind. Damaged if one isn't of this kind or breaks the rules. Memory and Disk are
+/// faults of the store.
 pub fn read_table<S: Alter, X: StoredRow>(
     conn: &mut Connection<S>,
     lack: &mut MemoryLack,
     slice: &mut Slice,
     owner: &Name,
 ) -> Result<(), KeepFault>
-    ensures reads { ReadsKind X.kind X.cells X.is_valid X.any_row X.listed owner.now (state S.Store conn.old) (state S.Store conn.new) slice.old slice.new result }
+    ensures reads { ReadsKind X.kind owner.now (state S.Store conn.old) (state S.Store conn.new) slice.old slice.new result }
     ensures lack { result ≡ Err KeepFault.Memory → IsTrue lack.new.is_noted }
 {
     match owners_rows(conn, X::table(), owner) {
@@ -41,10 +42,10 @@ fn read_rows<X: StoredRow>(
     lack: &mut MemoryLack,
     rows: &[Stored],
 ) -> Result<(), KeepFault>
-    ensures reads { ForStored X.kind X.cells X.is_valid X.any_row X.listed rows.now slice.old (λ s. OnOk result (slice.new ≡ slice_past_table X.kind X.listed s)) }
-    ensures shown { (o : Bytes) → AreOwnedBy o rows.now → OnOk result (AllByRecursion (IsRowOfOwner X.kind X.cells X.is_valid o) rows.now) }
-    ensures whole { ForStored X.kind X.cells X.is_valid X.any_row X.listed rows.now slice.old (λ s. KeepsRules s → result ≢ Err KeepFault.Damaged) }
-    ensures takes { ForOwned X.kind X.cells X.is_valid X.any_row X.listed rows.now (λ o. TakesRows X.kind o rows.now slice.old slice.new result) }
+    ensures reads { ForStored X.kind rows.now slice.old (λ s. OnOk result (slice.new ≡ slice_past_table X.kind s)) }
+    ensures shown { (o : Bytes) → AreOwnedBy o rows.now → OnOk result (AllByRecursion (IsRowOfOwner X.kind o) rows.now) }
+    ensures whole { ForStored X.kind rows.now slice.old (λ s. KeepsRules s → result ≢ Err KeepFault.Damaged) }
+    ensures takes { ForOwned X.kind rows.now (λ o. TakesRows X.kind.table o rows.now slice.old slice.new result) }
     ensures disk { result ≢ Err KeepFault.Disk }
     ensures closed { result ≢ Err KeepFault.Closed }
     ensures lack { result ≡ Err KeepFault.Memory → IsTrue lack.new.is_noted }
@@ -61,10 +62,10 @@ fn read_row<X: StoredRow>(
     lack: &mut MemoryLack,
     row: &Stored,
 ) -> Result<(), KeepFault>
-    ensures reads { ForRow X.kind X.cells X.is_valid X.any_row X.listed row.now (λ r. OnOk result (slice.new ≡ with_row slice.old r)) }
-    ensures shown { (o : Bytes) → column row.now 0 ≡ Text o → OnOk result (IsRowOfOwner X.kind X.cells X.is_valid o row.now) }
-    ensures whole { ForRow X.kind X.cells X.is_valid X.any_row X.listed row.now (λ r. KeepsRules (with_row slice.old r) → result ≢ Err KeepFault.Damaged) }
-    ensures takes { ForOwned X.kind X.cells X.is_valid X.any_row X.listed (row.now ∷ []) (λ o. TakesRows X.kind o (row.now ∷ []) slice.old slice.new result) }
+    ensures reads { ForRow X.kind row.now (λ r. OnOk result (slice.new ≡ with_row slice.old r)) }
+    ensures shown { (o : Bytes) → column row.now 0 ≡ Text o → OnOk result (IsRowOfOwner X.kind o row.now) }
+    ensures whole { ForRow X.kind row.now (λ r. KeepsRules (with_row slice.old r) → result ≢ Err KeepFault.Damaged) }
+    ensures takes { ForOwned X.kind (row.now ∷ []) (λ o. TakesRows X.kind.table o (row.now ∷ []) slice.old slice.new result) }
     ensures disk { result ≢ Err KeepFault.Disk }
     ensures closed { result ≢ Err KeepFault.Closed }
     ensures lack { result ≡ Err KeepFault.Memory → IsTrue lack.new.is_noted }

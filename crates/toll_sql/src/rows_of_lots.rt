@@ -1,8 +1,5 @@
 //! Lots, sublots and results in the tables.
-ghost use Rattle.toll_base.specs.declared.rows.Row.TheVariants.{Lot, Sublot, Result as ResultOf};
-ghost use Rattle.toll_sql.specs.Encode.{lot_cells, sublot_cells, result_cells};
-ghost use Rattle.toll_sql.specs.Valid.{IsLot, IsSublot, IsResult};
-ghost use Rattle.toll_sql.specs.declared.table_kind.TableKind.TheVariants.{Lots, Sublots, Results};
+ghost use Rattle.toll_sql.specs.Kinds.{lot_kind, sublot_kind, result_kind};
 
 use crate::cells::{bounded_at, disposition_at, name_at, number_at, origin_at, value_at};
 use crate::stored::StoredRow;
@@ -11,15 +8,7 @@ use sqlite::Row as Stored;
 use toll_base::{LotRow, ResultRow, Row, SublotRow};
 
 impl StoredRow for LotRow {
-    ghost kind = { Lots };
-
-    ghost cells = { lot_cells };
-
-    ghost is_valid = { IsLot };
-
-    ghost any_row = { Lot };
-
-    ghost listed = { λ s. s.lots };
+    ghost kind = { lot_kind };
 
     fn table() -> TableKind {
         TableKind::Lots
@@ -40,15 +29,7 @@ impl StoredRow for LotRow {
 }
 
 impl StoredRow for SublotRow {
-    ghost kind = { Sublots };
-
-    ghost cells = { sublot_cells };
-
-    ghost is_valid = { IsSublot };
-
-    ghost any_row = { Sublot };
-
-    ghost listed = { λ s. s.sublots };
+    ghost kind = { sublot_kind };
 
     fn table() -> TableKind {
         TableKind::Sublots
@@ -68,15 +49,7 @@ impl StoredRow for SublotRow {
 }
 
 impl StoredRow for ResultRow {
-    ghost kind = { Results };
-
-    ghost cells = { result_cells };
-
-    ghost is_valid = { IsResult };
-
-    ghost any_row = { ResultOf };
-
-    ghost listed = { λ s. s.results };
+    ghost kind = { result_kind };
 
     fn table() -> TableKind {
         TableKind::Results

@@ -1,8 +1,5 @@
 //! Materials, tests, recipes and requirements in the tables.
-ghost use Rattle.toll_base.specs.declared.rows.Row.TheVariants.{Material, Test, Recipe, Requirement};
-ghost use Rattle.toll_sql.specs.Encode.{material_cells, test_cells, recipe_cells, requirement_cells};
-ghost use Rattle.toll_sql.specs.Valid.{IsMaterial, IsTest, IsRecipe, IsRequirement};
-ghost use Rattle.toll_sql.specs.declared.table_kind.TableKind.TheVariants.{Materials, Tests, Recipes, Requirements};
+ghost use Rattle.toll_sql.specs.Kinds.{material_kind, test_kind, recipe_kind, requirement_kind};
 
 use crate::cells::{bounded_at, limits_at, measure_at, name_at, role_at};
 use crate::stored::StoredRow;
@@ -11,15 +8,7 @@ use sqlite::Row as Stored;
 use toll_base::{MaterialRow, RecipeRow, RequirementRow, Row, TestRow};
 
 impl StoredRow for MaterialRow {
-    ghost kind = { Materials };
-
-    ghost cells = { material_cells };
-
-    ghost is_valid = { IsMaterial };
-
-    ghost any_row = { Material };
-
-    ghost listed = { λ s. s.materials };
+    ghost kind = { material_kind };
 
     fn table() -> TableKind {
         TableKind::Materials
@@ -38,15 +27,7 @@ impl StoredRow for MaterialRow {
 }
 
 impl StoredRow for TestRow {
-    ghost kind = { Tests };
-
-    ghost cells = { test_cells };
-
-    ghost is_valid = { IsTest };
-
-    ghost any_row = { Test };
-
-    ghost listed = { λ s. s.tests };
+    ghost kind = { test_kind };
 
     fn table() -> TableKind {
         TableKind::Tests
@@ -66,15 +47,7 @@ impl StoredRow for TestRow {
 }
 
 impl StoredRow for RecipeRow {
-    ghost kind = { Recipes };
-
-    ghost cells = { recipe_cells };
-
-    ghost is_valid = { IsRecipe };
-
-    ghost any_row = { Recipe };
-
-    ghost listed = { λ s. s.recipes };
+    ghost kind = { recipe_kind };
 
     fn table() -> TableKind {
         TableKind::Recipes
@@ -93,15 +66,7 @@ impl StoredRow for RecipeRow {
 }
 
 impl StoredRow for RequirementRow {
-    ghost kind = { Requirements };
-
-    ghost cells = { requirement_cells };
-
-    ghost is_valid = { IsRequirement };
-
-    ghost any_row = { Requirement };
-
-    ghost listed = { λ s. s.requirements };
+    ghost kind = { requirement_kind };
 
     fn table() -> TableKind {
         TableKind::Requirements

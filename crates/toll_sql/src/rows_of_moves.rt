@@ -1,8 +1,5 @@
 //! Movements and voids in the tables.
-ghost use Rattle.toll_base.specs.declared.rows.Row.TheVariants.{Move as MoveOf, Void};
-ghost use Rattle.toll_sql.specs.Encode.{move_cells, void_cells};
-ghost use Rattle.toll_sql.specs.Valid.{IsMovement, IsVoid};
-ghost use Rattle.toll_sql.specs.declared.table_kind.TableKind.TheVariants.{Moves, Voids};
+ghost use Rattle.toll_sql.specs.Kinds.{move_kind, void_kind};
 
 use crate::cells::{bounded_at, name_at};
 use crate::move_cells::move_at;
@@ -12,15 +9,7 @@ use sqlite::Row as Stored;
 use toll_base::{MoveRow, Row, VoidRow};
 
 impl StoredRow for MoveRow {
-    ghost kind = { Moves };
-
-    ghost cells = { move_cells };
-
-    ghost is_valid = { IsMovement };
-
-    ghost any_row = { MoveOf };
-
-    ghost listed = { λ s. s.moves };
+    ghost kind = { move_kind };
 
     fn table() -> TableKind {
         TableKind::Moves
@@ -41,15 +30,7 @@ impl StoredRow for MoveRow {
 }
 
 impl StoredRow for VoidRow {
-    ghost kind = { Voids };
-
-    ghost cells = { void_cells };
-
-    ghost is_valid = { IsVoid };
-
-    ghost any_row = { Void };
-
-    ghost listed = { λ s. s.voids };
+    ghost kind = { void_kind };
 
     fn table() -> TableKind {
         TableKind::Voids

@@ -1,8 +1,5 @@
 //! Orders and batches in the tables.
-ghost use Rattle.toll_base.specs.declared.rows.Row.TheVariants.{Order, Batch};
-ghost use Rattle.toll_sql.specs.Encode.{order_cells, batch_cells};
-ghost use Rattle.toll_sql.specs.Valid.{IsOrder, IsBatch};
-ghost use Rattle.toll_sql.specs.declared.table_kind.TableKind.TheVariants.{Orders, Batches};
+ghost use Rattle.toll_sql.specs.Kinds.{order_kind, batch_kind};
 
 use crate::cells::{bounded_at, flag_at, name_at, state_at};
 use crate::stored::StoredRow;
@@ -11,15 +8,7 @@ use sqlite::Row as Stored;
 use toll_base::{BatchRow, OrderRow, Row};
 
 impl StoredRow for OrderRow {
-    ghost kind = { Orders };
-
-    ghost cells = { order_cells };
-
-    ghost is_valid = { IsOrder };
-
-    ghost any_row = { Order };
-
-    ghost listed = { λ s. s.orders };
+    ghost kind = { order_kind };
 
     fn table() -> TableKind {
         TableKind::Orders
@@ -40,15 +29,7 @@ impl StoredRow for OrderRow {
 }
 
 impl StoredRow for BatchRow {
-    ghost kind = { Batches };
-
-    ghost cells = { batch_cells };
-
-    ghost is_valid = { IsBatch };
-
-    ghost any_row = { Batch };
-
-    ghost listed = { λ s. s.batches };
+    ghost kind = { batch_kind };
 
     fn table() -> TableKind {
         TableKind::Batches

@@ -34,7 +34,7 @@ const UNOWNED: usize = 3;
 /// All rows of an owner: `None` for an unknown owner. HOUSE is always known. If rows are given, each of the
 /// owner's rows in the tables is a row of the office, and its values are values of their kinds. Any other row
 /// is Damaged. An owner is unknown only if no row of owners that the store gives names it. The answer for one
-/// owner holds whatever rows the tables have of others.
+/// owner holds whatever rows the tables have of others. Memory and Disk are faults of the store.
 pub fn read_slice<S: Alter>(
     conn: &mut Connection<S>,
     lack: &mut MemoryLack,
@@ -70,7 +70,7 @@ fn is_among(owners: &[OwnerRow], owner: &Name) -> bool
     owners.iter().any(|row| *owner == row.owner)
 }
 
-/// All rows of the owner, whether it is known or not.
+/// All rows of the owner, whether it is known or not. Its faults are those of [`read_slice`].
 pub fn read_rows_of<S: Alter>(
     conn: &mut Connection<S>,
     lack: &mut MemoryLack,
@@ -97,7 +97,8 @@ fn read_tables<S: Alter>(
     owner: &Name,
 ) -> Result<(), KeepFault>
     requires { HasCleanDisk (state S.Store conn.old) → IsTrue (state S.Store conn.old).is_open }
-    ensures reads { ReadsOn (front_slice Materials 0) (λ s. s) tables_of_owners owner.now (state S.Store conn.old) (state S.Store conn.new) slice.old slice.new result }
+    ensures reads { ReadsOn (front_slice Materials 0) (λ s. s) tables_of_owners owner.now
+        (state S.Store conn.old) (state S.Store conn.new) slice.old slice.new result }
     ensures lack { result ≡ Err KeepFault.Memory → IsTrue lack.new.is_noted }
 {
     let every = every_table();

@@ -12,12 +12,10 @@ ghost use Rattle.toll_keep.specs.Reads.{IsContentKept, ReadsOneMore};
 ghost use Rattle.toll_sql.specs.AskedTexts.{all_text};
 ghost use Rattle.toll_sql.specs.Asking.{ForIdle, IsProbedAfter, LeavesStore};
 ghost use Rattle.toll_sql.specs.EdgeRows.{AreEdgesOf, AreOwnersEdges};
-ghost use Rattle.toll_sql.specs.Encode.{owner_cells, unit_cells};
 ghost use Rattle.toll_sql.specs.HolderRows.{ReportsHolder};
+ghost use Rattle.toll_sql.specs.Kinds.{owner_kind, unit_kind};
 ghost use Rattle.toll_sql.specs.Meant.{means};
 ghost use Rattle.toll_sql.specs.Shown.{AreReported, IsReportedUnknown, ShowsOwnRows, ShowsSlice, tables_of_owners};
-ghost use Rattle.toll_sql.specs.Valid.{IsOwner, IsUnit};
-ghost use Rattle.toll_sql.specs.declared.table_kind.TableKind.TheVariants.{Owners, Units};
 
 use crate::edges::{read_all_edges, read_edges};
 use crate::fault::MemoryLack;
@@ -183,7 +181,7 @@ impl<S: Alter> Keep for SqlKeep<S> {
             (λ c. IfOk result (λ rows. rows.items ≡ c.owners)) }
         ensures lack { result ≡ Err KeepFault.Memory → IsTrue self.new.lack.is_noted }
         ensures shown { ForIdle (state S.Store self.old.conn) (state S.Store self.new.conn)
-            (λ db. IfOk result (λ rows. AreReported Owners owner_cells IsOwner db rows.items)) }
+            (λ db. IfOk result (λ rows. AreReported owner_kind db rows.items)) }
     {
         match self.begin() {
             Ok(()) => {
@@ -200,7 +198,7 @@ impl<S: Alter> Keep for SqlKeep<S> {
             (λ c. IfOk result (λ rows. rows.items ≡ c.units)) }
         ensures lack { result ≡ Err KeepFault.Memory → IsTrue self.new.lack.is_noted }
         ensures shown { ForIdle (state S.Store self.old.conn) (state S.Store self.new.conn)
-            (λ db. IfOk result (λ rows. AreReported Units unit_cells IsUnit db rows.items)) }
+            (λ db. IfOk result (λ rows. AreReported unit_kind db rows.items)) }
     {
         match self.begin() {
             Ok(()) => {

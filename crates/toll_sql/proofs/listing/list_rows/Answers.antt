@@ -13,23 +13,23 @@ loop-row-preserved g c =
     let pushed = c.in-Ok.ensures.items in
     record {
       reads = λ alone l are valid.
-          let is = c.row-item.is ∙ list_item_is X.kind X.cells X.is_valid alone l rows are valid i lt c.row-item.result in
-          let same = read_it X.kind X.cells X.is_valid alone l rows are valid i lt c.row-item.result c.in-Some.it is c.in-Some.ensures.valid c.in-Some.ensures.some in
-          let more = with_list_item X.kind X.cells X.is_valid alone l rows are valid i lt c.loop-row.listed.items c.in-Some.it (c.loop-row.invariant.reads alone l are valid) same in
+          let is = c.row-item.is ∙ list_item_is X.kind alone l rows are valid i lt c.row-item.result in
+          let same = read_it X.kind alone l rows are valid i lt c.row-item.result c.in-Some.it is c.in-Some.ensures.valid c.in-Some.ensures.some in
+          let more = with_list_item X.kind alone l rows are valid i lt c.loop-row.listed.items c.in-Some.it (c.loop-row.invariant.reads alone l are valid) same in
           search rules;
       shown =
-          let more = more_shown X.cells (columns_from 0 (width_of X.kind)) rows i lt c.row-item.result c.row-item.is c.loop-row.listed.items c.in-Some.it c.loop-row.invariant.shown c.in-Some.ensures.some in
+          let more = more_shown X.kind.cells (columns_from 0 (width_of X.kind.table)) rows i lt c.row-item.result c.row-item.is c.loop-row.listed.items c.in-Some.it c.loop-row.invariant.shown c.in-Some.ensures.some in
           search rules;
       valid =
-          let more = more_valid X.is_valid c.loop-row.listed.items c.in-Some.it c.loop-row.invariant.valid c.in-Some.ensures.valid in
+          let more = more_valid X.kind.is_valid c.loop-row.listed.items c.in-Some.it c.loop-row.invariant.valid c.in-Some.ensures.valid in
           search rules;
-      first = λ _. first_good (ShowsRow X.kind X.cells X.is_valid) rows i c.row-item.result lt c.row-item.is c.loop-row.invariant.first (c.in-Some.it, c.in-Some.ensures.valid, c.in-Some.ensures.some);
+      first = λ _. first_good (ShowsRow X.kind) rows i c.row-item.result lt c.row-item.is c.loop-row.invariant.first (c.in-Some.it, c.in-Some.ensures.valid, c.in-Some.ensures.some);
     }
 
 pub returns-clause-shown : goal.returns-clause-shown
 returns-clause-shown g c =
     let X = g.X.StoredPlantRow in
-    (c.loop-row.invariant.shown ∙ ap (map (columns_from 0 (width_of X.kind))) (take_past c.args.rows.now c.loop-row.row-index c.loop-row-test.false), c.loop-row.invariant.valid)
+    (c.loop-row.invariant.shown ∙ ap (map (columns_from 0 (width_of X.kind.table))) (take_past c.args.rows.now c.loop-row.row-index c.loop-row-test.false), c.loop-row.invariant.valid)
 
 pub returns-in_default-clause-whole : goal.returns-in_default-clause-whole
 returns-in_default-clause-whole g c = λ alone l are valid.
@@ -37,8 +37,8 @@ returns-in_default-clause-whole g c = λ alone l are valid.
     let i = c.loop-row.row-index in
     let lt = c.loop-row-test.true in
     let rows = c.args.rows.now in
-    let x = list_item X.kind X.cells X.is_valid alone l rows are valid i lt in
-    let is = c.row-item.is ∙ list_item_is X.kind X.cells X.is_valid alone l rows are valid i lt c.row-item.result in
+    let x = list_item X.kind alone l rows are valid i lt in
+    let is = c.row-item.is ∙ list_item_is X.kind alone l rows are valid i lt c.row-item.result in
     let none = c.in_default.ensures.none in
-    let good = list_item_valid X.kind X.cells X.is_valid alone l rows are valid i lt in
+    let good = list_item_valid X.kind alone l rows are valid i lt in
     search rules

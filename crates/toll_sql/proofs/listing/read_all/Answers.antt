@@ -11,13 +11,13 @@ returns-in-Ok-clause-looks g c alone =
 pub returns-in-Ok-clause-reads : goal.returns-in-Ok-clause-reads
 returns-in-Ok-clause-reads g c alone clean has l held =
     let X = g.X.StoredPlantRow in
-    let are = plant_rows X.kind X.cells X.is_valid alone c.table.result c.table.ensures (state g.S.Store c.args.conn.now).now.trees c.in-Ok.rows.items (λ own. c.in-Ok.ensures.rows own clean has) l held in
+    let are = plant_rows X.kind alone c.table.result c.table.ensures (state g.S.Store c.args.conn.now).now.trees c.in-Ok.rows.items (λ own. c.in-Ok.ensures.rows own clean has) l held in
     c.list_rows.ensures.reads alone l (c.deref.ensures.value ∙ are) held.valid
 
 pub returns-in-Ok-clause-whole : goal.returns-in-Ok-clause-whole
 returns-in-Ok-clause-whole g c alone clean has l held =
     let X = g.X.StoredPlantRow in
-    let are = plant_rows X.kind X.cells X.is_valid alone c.table.result c.table.ensures (state g.S.Store c.args.conn.now).now.trees c.in-Ok.rows.items (λ own. c.in-Ok.ensures.rows own clean has) l held in
+    let are = plant_rows X.kind alone c.table.result c.table.ensures (state g.S.Store c.args.conn.now).now.trees c.in-Ok.rows.items (λ own. c.in-Ok.ensures.rows own clean has) l held in
     c.list_rows.ensures.whole alone l (c.deref.ensures.value ∙ are) held.valid
 
 pub returns-in-Ok-clause-shown : goal.returns-in-Ok-clause-shown
@@ -27,6 +27,6 @@ returns-in-Ok-clause-shown g c clean =
     IfOk-weaker c.list_rows.result _ _ (λ listed it. record {
       rows = c.in-Ok.rows.items;
       read = subst (λ k. AreReadBy old.now (select_text k) c.in-Ok.rows.items) c.table.ensures (c.in-Ok.ensures.read clean);
-      shown = it.0 ∙ ap (map (columns_from 0 (width_of X.kind))) c.deref.ensures.value;
+      shown = it.0 ∙ ap (map (columns_from 0 (width_of X.kind.table))) c.deref.ensures.value;
       valid = it.1;
     }) c.list_rows.ensures.shown

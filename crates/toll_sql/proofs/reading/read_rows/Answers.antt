@@ -14,12 +14,12 @@ loop-row-preserved g c =
     let row = c.row-item.result in
     record {
       reads = λ stand s stored first.
-          let x = table_item X.kind X.cells X.is_valid X.any_row X.listed stand s rows stored i lt in
-          let is = c.row-item.is ∙ table_item_is X.kind X.cells X.is_valid X.any_row X.listed stand s rows stored i lt row in
-          c.in_ok-read_row.ensures.reads stand s.owner x (table_item_valid X.kind X.cells X.is_valid X.any_row X.listed stand s rows stored i lt) is
-          ∙ with_table_item X.kind X.cells X.is_valid X.any_row X.listed stand s rows stored i lt c.loop-row.slice (c.loop-row.invariant.reads stand s stored first);
-      taken = λ stand o all. one_more_taken X.kind o rows i row lt c.row-item.is c.args.slice.now c.loop-row.slice c.read_row.new.slice (c.loop-row.invariant.taken stand o all) (c.in_ok-read_row.ensures.takes stand o (value_there (λ r. column r 0 ≡ Text o) rows i row lt c.row-item.is all, tt)).taken;
-      shown = λ o all. all_with_one_more (IsRowOfOwner X.kind X.cells X.is_valid o) rows i row lt c.row-item.is (c.loop-row.invariant.shown o all) (c.in_ok-read_row.ensures.shown o (value_there (λ r. column r 0 ≡ Text o) rows i row lt c.row-item.is all));
+          let x = table_item X.kind stand s rows stored i lt in
+          let is = c.row-item.is ∙ table_item_is X.kind stand s rows stored i lt row in
+          c.in_ok-read_row.ensures.reads stand s.owner x (table_item_valid X.kind stand s rows stored i lt) is
+          ∙ with_table_item X.kind stand s rows stored i lt c.loop-row.slice (c.loop-row.invariant.reads stand s stored first);
+      taken = λ stand o all. one_more_taken X.kind.table o rows i row lt c.row-item.is c.args.slice.now c.loop-row.slice c.read_row.new.slice (c.loop-row.invariant.taken stand o all) (c.in_ok-read_row.ensures.takes stand o (value_there (λ r. column r 0 ≡ Text o) rows i row lt c.row-item.is all, tt)).taken;
+      shown = λ o all. all_with_one_more (IsRowOfOwner X.kind o) rows i row lt c.row-item.is (c.loop-row.invariant.shown o all) (c.in_ok-read_row.ensures.shown o (value_there (λ r. column r 0 ≡ Text o) rows i row lt c.row-item.is all));
     }
 
 pub returns-in_err-read_row-clause-whole : goal.returns-in_err-read_row-clause-whole
@@ -28,20 +28,20 @@ returns-in_err-read_row-clause-whole g c = λ stand s stored first keeps.
     let i = c.loop-row.row-index in
     let lt = c.loop-row-test.true in
     let rows = c.args.rows.now in
-    let x = table_item X.kind X.cells X.is_valid X.any_row X.listed stand s rows stored i lt in
-    let is = c.row-item.is ∙ table_item_is X.kind X.cells X.is_valid X.any_row X.listed stand s rows stored i lt c.row-item.result in
-    let fits = with_it_keeps X.kind X.cells X.is_valid X.any_row X.listed stand s rows stored i lt c.loop-row.slice (c.loop-row.invariant.reads stand s stored first) keeps in
-    let whole = c.in_err-read_row.ensures.whole stand s.owner x (table_item_valid X.kind X.cells X.is_valid X.any_row X.listed stand s rows stored i lt) is fits in
+    let x = table_item X.kind stand s rows stored i lt in
+    let is = c.row-item.is ∙ table_item_is X.kind stand s rows stored i lt c.row-item.result in
+    let fits = with_it_keeps X.kind stand s rows stored i lt c.loop-row.slice (c.loop-row.invariant.reads stand s stored first) keeps in
+    let whole = c.in_err-read_row.ensures.whole stand s.owner x (table_item_valid X.kind stand s rows stored i lt) is fits in
     let f = c.from_residual.ensures in
     search rules
 
 pub returns-clause-shown : goal.returns-clause-shown
 returns-clause-shown g c = λ o all.
     let X = g.X.StoredRow in
-    all_behind (IsRowOfOwner X.kind X.cells X.is_valid o) c.args.rows.now c.loop-row.row-index c.loop-row-test.false (c.loop-row.invariant.shown o all)
+    all_behind (IsRowOfOwner X.kind o) c.args.rows.now c.loop-row.row-index c.loop-row-test.false (c.loop-row.invariant.shown o all)
 
 pub returns-clause-takes : goal.returns-clause-takes
-returns-clause-takes g c = λ stand o all. record { taken = all_taken g.X.StoredRow.kind o c.args.rows.now c.loop-row.row-index c.loop-row-test.false c.args.slice.now c.loop-row.slice (c.loop-row.invariant.taken stand o all); lacks = λ is. absurd (cc) }
+returns-clause-takes g c = λ stand o all. record { taken = all_taken g.X.StoredRow.kind.table o c.args.rows.now c.loop-row.row-index c.loop-row-test.false c.args.slice.now c.loop-row.slice (c.loop-row.invariant.taken stand o all); lacks = λ is. absurd (cc) }
 
 pub returns-in_err-read_row-clause-takes : goal.returns-in_err-read_row-clause-takes
 returns-in_err-read_row-clause-takes g c = λ stand o all.
@@ -51,9 +51,9 @@ returns-in_err-read_row-clause-takes g c = λ stand o all.
     let rows = c.args.rows.now in
     let row = c.row-item.result in
     let one = c.in_err-read_row.ensures.takes stand o (value_there (λ r. column r 0 ≡ Text o) rows i row lt c.row-item.is all, tt) in
-    let q : TakesRows {X = Unit {0}} X.kind o rows c.args.slice.now c.read_row.new.slice (Err c.in_err-read_row.field-0.0) = record {
+    let q : TakesRows {X = Unit {0}} X.kind.table o rows c.args.slice.now c.read_row.new.slice (Err c.in_err-read_row.field-0.0) = record {
       taken = tt;
-      lacks = λ is. lacks_here X.kind o rows i row lt c.row-item.is c.args.slice.now c.loop-row.slice c.read_row.new.slice (c.loop-row.invariant.taken stand o all) (one.lacks is);
+      lacks = λ is. lacks_here X.kind.table o rows i row lt c.row-item.is c.args.slice.now c.loop-row.slice c.read_row.new.slice (c.loop-row.invariant.taken stand o all) (one.lacks is);
     } in
     let f = c.from_residual.ensures in
     search rules

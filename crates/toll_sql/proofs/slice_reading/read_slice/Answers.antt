@@ -1,5 +1,5 @@
 use Rattle.std.proofs.Common.{[], rules, Option, Ok, Err, sym, subst, ◌∙◌}
-use Rattle.toll_sql.proofs.Common.{false≢true, state, Slice, IsLooking, owner_cells, AreReported, tables_of_owners, IsOwner, Owners}
+use Rattle.toll_sql.proofs.Common.{false≢true, state, Slice, IsLooking, owner_kind, AreReported, tables_of_owners}
 use Rattle.toll_sql.proofs.Alone.{all_rows, no_rows_read, told_reads, told_whole}
 use Rattle.toll_sql.proofs.ReadOn.{looks_then, looks_as, shows_then}
 use Rattle.toll_sql.proofs.slice_reading.read_slice.Goals as goal
@@ -18,7 +18,7 @@ returns-in_err-slice-clause-looks g c =
 pub returns-then-not-is_known-clause-known : goal.returns-then-not-is_known-clause-known
 returns-then-not-is_known-clause-known g c clean none =
     let old = state g.S.Store c.args.conn.now in
-    (c.deref.result.now, subst (λ owners. AreReported Owners owner_cells IsOwner old.now owners) (sym c.deref.ensures.value) (c.in_ok-owners.ensures.shown clean), sym c.is_known.ensures ∙ c.if-not-is_known.true)
+    (c.deref.result.now, subst (λ owners. AreReported owner_kind old.now owners) (sym c.deref.ensures.value) (c.in_ok-owners.ensures.shown clean), sym c.is_known.ensures ∙ c.if-not-is_known.true)
 
 pub returns : goal.returns
 returns g c =

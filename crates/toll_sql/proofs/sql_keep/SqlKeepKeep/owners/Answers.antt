@@ -1,5 +1,5 @@
 use Rattle.std.proofs.Common.{IfOk}
-use Rattle.toll_sql.proofs.Common.{state, owner_cells, AreReported, IsOwner, Owners}
+use Rattle.toll_sql.proofs.Common.{state, owner_kind, AreReported}
 use Rattle.toll_sql.proofs.KeepLemmas.{read_out, unbegun}
 use Rattle.toll_sql.proofs.PassLemmas.{passing, told_out}
 use Rattle.toll_sql.proofs.sql_keep.SqlKeepKeep.owners.Goals as goal
@@ -16,5 +16,5 @@ returns-in-Ok g c =
       reading = out.0;
       reads = out.1;
       lack = c.pass_on.ensures.lack c.read_owners-read.ensures.lack;
-      shown = told_out (state g.S.Store c.args.self.now.conn) (state g.S.Store c.begin.new.self.conn) (state g.S.Store c.read_owners-read.new.conn) (state g.S.Store c.pass_on.new.self.conn) (λ db r. IfOk r (λ rows. AreReported Owners owner_cells IsOwner db rows.items)) (λ _ _ _. tt) c.read_owners-read.result c.pass_on.result c.pass_on.new.self.unsure c.in-Ok.ensures.stays passes c.read_owners-read.ensures.looks (λ clean has idle. c.read_owners-read.ensures.shown clean);
+      shown = told_out (state g.S.Store c.args.self.now.conn) (state g.S.Store c.begin.new.self.conn) (state g.S.Store c.read_owners-read.new.conn) (state g.S.Store c.pass_on.new.self.conn) (λ db r. IfOk r (λ rows. AreReported owner_kind db rows.items)) (λ _ _ _. tt) c.read_owners-read.result c.pass_on.result c.pass_on.new.self.unsure c.in-Ok.ensures.stays passes c.read_owners-read.ensures.looks (λ clean has idle. c.read_owners-read.ensures.shown clean);
     }
