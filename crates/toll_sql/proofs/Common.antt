@@ -108,7 +108,7 @@ pub use Rattle.toll_sql.specs.HolderRows.{AreBatchRows, HasNoBatch, IsHolderOf, 
 pub use Rattle.toll_sql.specs.Holds.{HasRows, Holds, HoldsAll, HoldsEach, HoldsPart, HoldsSlice, NamesOwner, version}
 pub use Rattle.toll_sql.specs.Kinds.{AreValidIn, IsRow, PlantKind, RowKind, batch_kind, cells_for, lot_kind, material_kind, move_kind, order_kind, owner_kind, recipe_kind, requirement_kind, result_kind, rows_for, sublot_kind, table_for, test_kind, unit_kind, void_kind}
 pub use Rattle.toll_sql.specs.LastPuts.{AreNoted, IsSublotValid, are_putting, is_put_again, is_same, key_for, last_puts, sublot_cmp, sublot_put}
-pub use Rattle.toll_sql.specs.Meant.{means}
+pub use Rattle.toll_sql.specs.Meant.{sql_meaning}
 pub use Rattle.toll_sql.specs.Opening.{Adopts, Brings, Creates, FindsVersion, HoldsEither, IsForeign, IsQueryInside, IsUnlike, IsUnreadFor, LeavesRaised, LeavesTables, TakesOver, without_limit}
 pub use Rattle.toll_sql.specs.Others.{GuardsNone, HasOurs, RefersToNone}
 pub use Rattle.toll_sql.specs.Plain.{no_schema}

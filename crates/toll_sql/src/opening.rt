@@ -1,5 +1,5 @@
 //! Making a keep over a store, and giving the store back.
-ghost use Rattle.std.specs.Prelude.{◌≡◌, false, Err, codes, IfOk, IfErr, OnOk};
+ghost use Rattle.std.specs.Prelude.{◌≡◌, false, None, Err, codes, IfOk, IfErr, OnOk};
 ghost use Rattle.sqlite.specs.Held.{state};
 ghost use Rattle.sqlite.specs.Steps.{over_memory};
 ghost use Rattle.sqlite_wal.specs.Files.{image_at};
@@ -19,6 +19,20 @@ use std::rt::HostRuntime;
 use toll_keep::KeepFault;
 
 impl<S: Alter> SqlKeep<S> {
+    // The keep over this connection, before its first call.
+    fn over(conn: Connection<S>) -> SqlKeep<S>
+        requires autocommit { conn.in_transaction ≡ false }
+        requires unlimited { conn.step_limit ≡ None }
+        ensures { (result.conn ≡ conn) × (result.closed ≡ false) }
+    {
+        SqlKeep {
+            conn,
+            closed: false,
+            unsure: true,
+            lack: MemoryLack::none(),
+        }
+    }
+
     /// A keep of a store that has no tables. They are made, in one transaction, and the keep holds
     /// nothing. A refusal gives the connection back. Its faults are those of [`create_tables`].
     pub fn create(mut conn: Connection<S>) -> Result<SqlKeep<S>, (OpenFault, Connection<S>)>
@@ -26,12 +40,7 @@ impl<S: Alter> SqlKeep<S> {
         ensures refused { IfErr result (λ left. Creates (state S.Store conn) (state S.Store left.1) (open_refusal left.0)) }
     {
         match create_tables(&mut conn) {
-            Ok(()) => Ok(SqlKeep {
-                conn,
-                closed: false,
-                unsure: true,
-                lack: MemoryLack::none(),
-            }),
+            Ok(()) => Ok(SqlKeep::over(conn)),
             Err(fault) => Err((fault, conn)),
         }
     }
@@ -46,12 +55,7 @@ impl<S: Alter> SqlKeep<S> {
         ensures refused { IfErr result (λ left. Adopts (state S.Store conn) (state S.Store left.1) (open_refusal left.0)) }
     {
         match adopt_tables(alloc, &mut conn) {
-            Ok(()) => Ok(SqlKeep {
-                conn,
-                closed: false,
-                unsure: true,
-                lack: MemoryLack::none(),
-            }),
+            Ok(()) => Ok(SqlKeep::over(conn)),
             Err(fault) => Err((fault, conn)),
         }
     }
@@ -77,12 +81,7 @@ impl SqlKeep<MemStore> {
         ensures fault { IfErr result (λ fault. fault ≡ OpenFault.Memory) }
     {
         let conn = new_office(alloc)?;
-        Ok(SqlKeep {
-            conn,
-            closed: false,
-            unsure: true,
-            lack: MemoryLack::none(),
-        })
+        Ok(SqlKeep::over(conn))
     }
 }
 

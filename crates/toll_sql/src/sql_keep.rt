@@ -14,7 +14,6 @@ ghost use Rattle.toll_sql.specs.Asking.{ForIdle, IsProbedAfter, LeavesStore};
 ghost use Rattle.toll_sql.specs.EdgeRows.{AreEdgesOf, AreOwnersEdges};
 ghost use Rattle.toll_sql.specs.HolderRows.{ReportsHolder};
 ghost use Rattle.toll_sql.specs.Kinds.{owner_kind, unit_kind};
-ghost use Rattle.toll_sql.specs.Meant.{means};
 ghost use Rattle.toll_sql.specs.Shown.{AreReported, IsReportedUnknown, ShowsOwnRows, ShowsSlice, tables_of_owners};
 
 use crate::edges::{read_all_edges, read_edges};
@@ -51,11 +50,13 @@ pub struct SqlKeep<S: Alter> {
 }
 
 impl<S: Alter> SqlKeep<S> {
+    ghost use Rattle.toll_sql.specs.Meant.{sql_meaning};
+
     // Each call begins with this. A closed keep answers Closed. If it isn't known whether the store is
     // open, the keep asks it.
     fn begin(&mut self) -> Result<(), KeepFault>
         ensures unsure { OnOk result (self.new.unsure ≡ true) }
-        ensures reading { IsReading (means (λ k. state S.Store k.conn) (λ k. k.closed) (λ k. k.unsure)) self.old self.new result }
+        ensures reading { IsReading (sql_meaning S.Store) self.old self.new result }
         ensures stays { OnOk result (LeavesStore (state S.Store self.old.conn) (state S.Store self.new.conn) result) }
         ensures undamaged { result ≢ Err KeepFault.Damaged }
         ensures lack { result ≡ Err KeepFault.Memory → IsTrue self.new.lack.is_noted }
@@ -113,25 +114,21 @@ impl<S: Alter> SqlKeep<S> {
 
     // All rows of the owner, whether it is known or not.
     fn rows_of(&mut self, alloc: Global, owner: &Name) -> Result<Slice, KeepFault>
-        ensures reading { IsReading (means (λ k. state S.Store k.conn) (λ k. k.closed) (λ k. k.unsure)) self.old self.new result }
-        ensures reads { OverContent (means (λ k. state S.Store k.conn) (λ k. k.closed) (λ k. k.unsure)) self.old self.new (λ c. GivesRows c owner.now result) }
+        ensures reading { IsReading (sql_meaning S.Store) self.old self.new result }
+        ensures reads { OverContent (sql_meaning S.Store) self.old self.new (λ c. GivesRows c owner.now result) }
         ensures lack { result ≡ Err KeepFault.Memory → IsTrue self.new.lack.is_noted }
         ensures shown { ShowsOwnRows tables_of_owners owner.now (state S.Store self.old.conn) (state S.Store self.new.conn) result }
     {
-        match self.begin() {
-            Ok(()) => {
-                let read = read_rows_of(&mut self.conn, &mut self.lack, alloc, owner);
-                self.pass_on(read)
-            }
-            Err(fault) => Err(fault),
-        }
+        self.begin()?;
+        let read = read_rows_of(&mut self.conn, &mut self.lack, alloc, owner);
+        self.pass_on(read)
     }
 
     // The lots that the batches of these owners consumed and produced.
     fn recorded(&mut self, alloc: Global, owners: &[Name]) -> Result<Recorded, KeepFault>
-        ensures reads { ReadsOneMore (means (λ k. state S.Store k.conn) (λ k. k.closed) (λ k. k.unsure)) self.old self.new result }
-        ensures kept { IsContentKept (means (λ k. state S.Store k.conn) (λ k. k.closed) (λ k. k.unsure)) self.old self.new }
-        ensures reported { OverContent (means (λ k. state S.Store k.conn) (λ k. k.closed) (λ k. k.unsure)) self.old self.new (λ c. IfOk result (DrawsFor c owners.now)) }
+        ensures reads { ReadsOneMore (sql_meaning S.Store) self.old self.new result }
+        ensures kept { IsContentKept (sql_meaning S.Store) self.old self.new }
+        ensures reported { OverContent (sql_meaning S.Store) self.old self.new (λ c. IfOk result (DrawsFor c owners.now)) }
     {
         let mut recorded = Recorded::new(alloc);
         for owner in owners {
@@ -155,108 +152,80 @@ fn trace_recorded(
 }
 
 impl<S: Alter> Keep for SqlKeep<S> {
-    ghost meaning = { means (λ k. state S.Store k.conn) (λ k. k.closed) (λ k. k.unsure) };
+    ghost use Rattle.toll_sql.specs.Meant.{sql_meaning};
+
+    ghost meaning = { sql_meaning S.Store };
 
     fn slice(&mut self, alloc: Global, owner: &Name) -> Result<Option<Slice>, KeepFault>
-        ensures reading { IsReading (means (λ k. state S.Store k.conn) (λ k. k.closed) (λ k. k.unsure)) self.old self.new result }
-        ensures reads { OverContent (means (λ k. state S.Store k.conn) (λ k. k.closed) (λ k. k.unsure)) self.old self.new
-            (λ c. IfOk result (λ slice. slice ≡ slice_of c owner.now)) }
+        ensures reading { IsReading (sql_meaning S.Store) self.old self.new result }
+        ensures reads { OverContent (sql_meaning S.Store) self.old self.new (λ c. IfOk result (λ slice. slice ≡ slice_of c owner.now)) }
         ensures lack { result ≡ Err KeepFault.Memory → IsTrue self.new.lack.is_noted }
         ensures shown { ShowsSlice owner.now (state S.Store self.old.conn) (state S.Store self.new.conn) result }
         ensures known { ForIdle (state S.Store self.old.conn) (state S.Store self.new.conn)
             (λ db. IfOk result (λ slice. slice ≡ None → IsReportedUnknown db owner.now)) }
     {
-        match self.begin() {
-            Ok(()) => {
-                let read = read_slice(&mut self.conn, &mut self.lack, alloc, owner);
-                self.pass_on(read)
-            }
-            Err(fault) => Err(fault),
-        }
+        self.begin()?;
+        let read = read_slice(&mut self.conn, &mut self.lack, alloc, owner);
+        self.pass_on(read)
     }
 
     fn owners(&mut self, alloc: Global) -> Result<Vec<OwnerRow>, KeepFault>
-        ensures reading { IsReading (means (λ k. state S.Store k.conn) (λ k. k.closed) (λ k. k.unsure)) self.old self.new result }
-        ensures reads { OverContent (means (λ k. state S.Store k.conn) (λ k. k.closed) (λ k. k.unsure)) self.old self.new
-            (λ c. IfOk result (λ rows. rows.items ≡ c.owners)) }
+        ensures reading { IsReading (sql_meaning S.Store) self.old self.new result }
+        ensures reads { OverContent (sql_meaning S.Store) self.old self.new (λ c. IfOk result (λ rows. rows.items ≡ c.owners)) }
         ensures lack { result ≡ Err KeepFault.Memory → IsTrue self.new.lack.is_noted }
         ensures shown { ForIdle (state S.Store self.old.conn) (state S.Store self.new.conn)
             (λ db. IfOk result (λ rows. AreReported owner_kind db rows.items)) }
     {
-        match self.begin() {
-            Ok(()) => {
-                let read = read_owners(&mut self.conn, &mut self.lack, alloc);
-                self.pass_on(read)
-            }
-            Err(fault) => Err(fault),
-        }
+        self.begin()?;
+        let read = read_owners(&mut self.conn, &mut self.lack, alloc);
+        self.pass_on(read)
     }
 
     fn units(&mut self, alloc: Global) -> Result<Vec<UnitRow>, KeepFault>
-        ensures reading { IsReading (means (λ k. state S.Store k.conn) (λ k. k.closed) (λ k. k.unsure)) self.old self.new result }
-        ensures reads { OverContent (means (λ k. state S.Store k.conn) (λ k. k.closed) (λ k. k.unsure)) self.old self.new
-            (λ c. IfOk result (λ rows. rows.items ≡ c.units)) }
+        ensures reading { IsReading (sql_meaning S.Store) self.old self.new result }
+        ensures reads { OverContent (sql_meaning S.Store) self.old self.new (λ c. IfOk result (λ rows. rows.items ≡ c.units)) }
         ensures lack { result ≡ Err KeepFault.Memory → IsTrue self.new.lack.is_noted }
         ensures shown { ForIdle (state S.Store self.old.conn) (state S.Store self.new.conn)
             (λ db. IfOk result (λ rows. AreReported unit_kind db rows.items)) }
     {
-        match self.begin() {
-            Ok(()) => {
-                let read = read_units(&mut self.conn, &mut self.lack, alloc);
-                self.pass_on(read)
-            }
-            Err(fault) => Err(fault),
-        }
+        self.begin()?;
+        let read = read_units(&mut self.conn, &mut self.lack, alloc);
+        self.pass_on(read)
     }
 
     fn holder(&mut self, _alloc: Global, unit: &Name) -> Result<Option<Holder>, KeepFault>
-        ensures reading { IsReading (means (λ k. state S.Store k.conn) (λ k. k.closed) (λ k. k.unsure)) self.old self.new result }
-        ensures reads { OverContent (means (λ k. state S.Store k.conn) (λ k. k.closed) (λ k. k.unsure)) self.old self.new
-            (λ c. IfOk result (IsHolder c unit.now)) }
+        ensures reading { IsReading (sql_meaning S.Store) self.old self.new result }
+        ensures reads { OverContent (sql_meaning S.Store) self.old self.new (λ c. IfOk result (IsHolder c unit.now)) }
         ensures lack { result ≡ Err KeepFault.Memory → IsTrue self.new.lack.is_noted }
         ensures shown { ForIdle (state S.Store self.old.conn) (state S.Store self.new.conn) (λ db. ReportsHolder unit.now db.trees result) }
     {
-        match self.begin() {
-            Ok(()) => {
-                let read = read_holder(&mut self.conn, &mut self.lack, unit);
-                self.pass_on(read)
-            }
-            Err(fault) => Err(fault),
-        }
+        self.begin()?;
+        let read = read_holder(&mut self.conn, &mut self.lack, unit);
+        self.pass_on(read)
     }
 
     fn edges(&mut self, alloc: Global, owner: &Name) -> Result<Vec<Edge>, KeepFault>
-        ensures reading { IsReading (means (λ k. state S.Store k.conn) (λ k. k.closed) (λ k. k.unsure)) self.old self.new result }
-        ensures reads { OverContent (means (λ k. state S.Store k.conn) (λ k. k.closed) (λ k. k.unsure)) self.old self.new
-            (λ c. IfOk result (λ edges. AreEdges (IsEdge (c.rows owner.now)) edges.items)) }
+        ensures reading { IsReading (sql_meaning S.Store) self.old self.new result }
+        ensures reads { OverContent (sql_meaning S.Store) self.old self.new (λ c. IfOk result (λ edges. AreEdges (IsEdge (c.rows owner.now)) edges.items)) }
         ensures lack { result ≡ Err KeepFault.Memory → IsTrue self.new.lack.is_noted }
         ensures shown { ForIdle (state S.Store self.old.conn) (state S.Store self.new.conn)
             (λ db. IfOk result (λ edges. AreOwnersEdges db owner.now edges.items)) }
     {
-        match self.begin() {
-            Ok(()) => {
-                let read = read_edges(&mut self.conn, &mut self.lack, alloc, owner);
-                self.pass_on(read)
-            }
-            Err(fault) => Err(fault),
-        }
+        self.begin()?;
+        let read = read_edges(&mut self.conn, &mut self.lack, alloc, owner);
+        self.pass_on(read)
     }
 
     fn all_edges(&mut self, alloc: Global) -> Result<Vec<Edge>, KeepFault>
-        ensures reading { IsReading (means (λ k. state S.Store k.conn) (λ k. k.closed) (λ k. k.unsure)) self.old self.new result }
-        ensures reads { OverContent (means (λ k. state S.Store k.conn) (λ k. k.closed) (λ k. k.unsure)) self.old self.new
-            (λ c. IfOk result (λ edges. AreEdges (IsEdgeOfSome c) edges.items)) }
+        ensures reading { IsReading (sql_meaning S.Store) self.old self.new result }
+        ensures reads { OverContent (sql_meaning S.Store) self.old self.new (λ c. IfOk result (λ edges. AreEdges (IsEdgeOfSome c) edges.items)) }
         ensures lack { result ≡ Err KeepFault.Memory → IsTrue self.new.lack.is_noted }
         ensures shown { ForIdle (state S.Store self.old.conn) (state S.Store self.new.conn)
             (λ db. IfOk result (λ edges. AreEdgesOf db all_text [] edges.items)) }
     {
-        match self.begin() {
-            Ok(()) => {
-                let read = read_all_edges(&mut self.conn, &mut self.lack, alloc);
-                self.pass_on(read)
-            }
-            Err(fault) => Err(fault),
-        }
+        self.begin()?;
+        let read = read_all_edges(&mut self.conn, &mut self.lack, alloc);
+        self.pass_on(read)
     }
 
     fn trace(
@@ -273,13 +242,9 @@ impl<S: Alter> Keep for SqlKeep<S> {
 
     // All or none: one transaction.
     fn apply(&mut self, alloc: Global, changes: &[Change]) -> Result<(), KeepFault> {
-        match self.begin() {
-            Ok(()) => {
-                let made = make_changes(&mut self.conn, alloc, changes);
-                self.pass_on(made)
-            }
-            Err(fault) => Err(fault),
-        }
+        self.begin()?;
+        let made = make_changes(&mut self.conn, alloc, changes);
+        self.pass_on(made)
     }
 
     ghost use Rattle.toll_keep.specs.CallEffects.{among-more};

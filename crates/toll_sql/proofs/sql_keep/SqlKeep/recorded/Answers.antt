@@ -1,9 +1,7 @@
 use Rattle.std.proofs.Common.{◌≡◌, ◌↔◌, ◌⊎◌, rules, Err, sym, subst}
-use Rattle.toll_sql.proofs.Common.{state, means, Draws, IsReading, reads_then, read_ok, read_fault, read_memory}
+use Rattle.toll_sql.proofs.Common.{sql_meaning, Draws, IsReading, reads_then, read_ok, read_fault, read_memory, IsEdge, Memory}
 use Rattle.std.proofs.lemmas.List.{take_all}
-use Rattle.toll_trace.specs.Edges.{IsEdge}
 use Rattle.toll_keep.specs.Holding.{IsEdgeOfOne}
-use Rattle.toll_keep.specs.declared.fault.KeepFault.TheVariants.{Memory}
 use Rattle.toll_keep.proofs.Learning.{drawn_none, drawn_more}
 use Rattle.toll_sql.proofs.sql_keep.SqlKeep.recorded.Goals as goal
 
@@ -16,7 +14,7 @@ loop-owner-init g c = record {
 
 pub returns-in_err-slice-clause-reads : goal.returns-in_err-slice-clause-reads
 returns-in_err-slice-clause-reads g c = λ first have.
-    let m = (means (λ k. state g.S.Store k.conn) (λ k. k.closed) (λ k. k.unsure)) in
+    let m = sql_meaning g.S.Store in
     let e = c.in_err-slice.field-0.0 in
     let r = c.in_err-slice.ensures.reading in
     let is : c.from_residual.result ≡ Err e = search rules in
@@ -29,7 +27,7 @@ returns-in_err-slice-clause-kept g c = λ honest.
 
 pub returns-in_err-recorded-clause-reads : goal.returns-in_err-recorded-clause-reads
 returns-in_err-recorded-clause-reads g c = λ first have.
-    let m = (means (λ k. state g.S.Store k.conn) (λ k. k.closed) (λ k. k.unsure)) in
+    let m = sql_meaning g.S.Store in
     let r = c.in_ok-slice.ensures.reading in
     let now = reads_then m first c.loop-owner.self c.rows_of.new.self tt _ (c.loop-owner.invariant.read first have) r in
     let is : c.from_residual-in_err-recorded.result ≡ Err Memory = search rules in
@@ -42,7 +40,7 @@ returns-in_err-recorded-clause-kept g c = λ honest.
 
 pub loop-owner-preserved : goal.loop-owner-preserved
 loop-owner-preserved g c =
-    let m = (means (λ k. state g.S.Store k.conn) (λ k. k.closed) (λ k. k.unsure)) in
+    let m = sql_meaning g.S.Store in
     let before = c.loop-owner.invariant in
     let r = c.in_ok-slice.ensures.reading in
     record {

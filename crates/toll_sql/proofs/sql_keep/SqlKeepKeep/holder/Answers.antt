@@ -1,24 +1,22 @@
-use Rattle.std.proofs.Common.{Err, ap}
+use Rattle.std.proofs.Common.{◌≡◌, Err, rules, sym, ap, subst}
 use Rattle.toll_sql.proofs.Common.{state, ReportsHolder}
-use Rattle.toll_sql.proofs.KeepLemmas.{read_out, unbegun}
 use Rattle.toll_sql.proofs.HolderShown.{no_holder}
-use Rattle.toll_sql.proofs.PassLemmas.{passing, told_out}
+use Rattle.toll_sql.proofs.KeepLemmas.{asked, unbegun}
 use Rattle.toll_sql.proofs.sql_keep.SqlKeepKeep.holder.Goals as goal
 
-pub returns-in-Err-clause-reading : goal.returns-in-Err-clause-reading
-returns-in-Err-clause-reading g c = unbegun (λ k. state g.S.Store k.conn) (λ k. k.closed) (λ k. k.unsure) c.args.self.now c.begin.new.self c.in-Err.fault c.in-Err.ensures.reading
+pub returns-in_err-begin-clause-reading : goal.returns-in_err-begin-clause-reading
+returns-in_err-begin-clause-reading g c = unbegun g.S.Store c.in_err-begin.ensures.reading (search rules)
 
-pub returns-in-Err-clause-shown : goal.returns-in-Err-clause-shown
-returns-in-Err-clause-shown g c clean has idle = no_holder c.args.unit.now _ c.in-Err.fault (λ is. c.in-Err.ensures.undamaged (ap Err is))
+pub returns-in_err-begin-clause-shown : goal.returns-in_err-begin-clause-shown
+returns-in_err-begin-clause-shown g c clean has idle =
+    let fault = c.in_err-begin.field-0.0 in
+    let is : c.from_residual.result ≡ Err fault = search rules in
+    subst (λ r. ReportsHolder c.args.unit.now (state g.S.Store c.args.self.now.conn).now.trees r) (sym is) (no_holder c.args.unit.now _ fault (λ is. c.in_err-begin.ensures.undamaged (ap Err is)))
 
-pub returns-in-Ok : goal.returns-in-Ok
-returns-in-Ok g c =
-    let passes = passing (state g.S.Store) c.read_holder-read.new.conn c.pass_on.new.self.conn c.read_holder-read.result c.pass_on.result c.pass_on.new.self.unsure c.pass_on.ensures.same c.pass_on.ensures.requested in
-    let out = read_out (λ k. state g.S.Store k.conn) (λ k. k.closed) (λ k. k.unsure) (λ k live db may. g.met.S.Store.settled k.conn.store db live.is_open may) c.pass_on.new.self c.in-Ok.ensures.reading passes c.pass_on.ensures.closed
-    c.read_holder-read.ensures.looks (λ clean content held keeps. c.read_holder-read.ensures.whole clean content held) _ c.read_holder-read.ensures.reads in
-    record {
-      reading = out.0;
-      reads = out.1;
-      lack = c.pass_on.ensures.lack c.read_holder-read.ensures.lack;
-      shown = told_out (state g.S.Store c.args.self.now.conn) (state g.S.Store c.begin.new.self.conn) (state g.S.Store c.read_holder-read.new.conn) (state g.S.Store c.pass_on.new.self.conn) (λ db r. ReportsHolder c.args.unit.now db.trees r) (λ db fault other. no_holder c.args.unit.now db.trees fault other) c.read_holder-read.result c.pass_on.result c.pass_on.new.self.unsure c.in-Ok.ensures.stays passes c.read_holder-read.ensures.looks (λ clean has idle. c.read_holder-read.ensures.alone clean has);
-    }
+pub returns : goal.returns
+returns g c =
+    let read = c.read_holder-read.ensures in
+    let it = asked g.S.Store (λ k live db may. g.met.S.Store.settled k.conn.store db live.is_open may) c.pass_on.new.self c.in_ok-begin.ensures.reading c.in_ok-begin.ensures.stays c.pass_on.ensures.same c.pass_on.ensures.requested c.pass_on.ensures.closed read.looks
+    (λ clean content held keeps. read.whole clean content held) _ read.reads
+    (λ db r. ReportsHolder c.args.unit.now db.trees r) (λ db fault other. no_holder c.args.unit.now db.trees fault other) (λ clean has idle. read.alone clean has) in
+    record { reading = it.reading; reads = it.reads; shown = it.shown; lack = c.pass_on.ensures.lack read.lack }

@@ -1,19 +1,14 @@
 use Rattle.std.proofs.Common.{◌≡◌, rules, Err, sym, subst}
-use Rattle.toll_sql.proofs.Common.{state, means, IsReading, read_ok, read_fault, read_memory}
-use Rattle.toll_keep.specs.declared.fault.KeepFault.TheVariants.{Memory}
+use Rattle.toll_sql.proofs.Common.{sql_meaning, IsReading, read_ok, read_fault, read_memory, Memory}
+use Rattle.toll_sql.proofs.KeepLemmas.{unbegun}
 use Rattle.toll_sql.proofs.sql_keep.SqlKeepKeep.trace.Goals as goal
 
 pub returns-in_err-begin-clause-reading : goal.returns-in_err-begin-clause-reading
-returns-in_err-begin-clause-reading g c =
-    let m = (means (λ k. state g.S.Store k.conn) (λ k. k.closed) (λ k. k.unsure)) in
-    let e = c.in_err-begin.field-0.0 in
-    let r = c.in_err-begin.ensures.reading in
-    let is : c.from_residual.result ≡ Err e = search rules in
-    subst (λ reported. IsReading m c.args.self.now c.begin.new.self reported) (sym is) (read_fault m c.args.self.now c.begin.new.self e r.goes r.keeps r.whole)
+returns-in_err-begin-clause-reading g c = unbegun g.S.Store c.in_err-begin.ensures.reading (search rules)
 
 pub returns-in_err-recorded-clause-reading : goal.returns-in_err-recorded-clause-reading
 returns-in_err-recorded-clause-reading g c =
-    let m = (means (λ k. state g.S.Store k.conn) (λ k. k.closed) (λ k. k.unsure)) in
+    let m = sql_meaning g.S.Store in
     let e = c.in_err-recorded.field-0.0 in
     let r = c.in_err-recorded.ensures.reads c.args.self.now c.in_ok-begin.ensures.reading in
     let is : c.from_residual-in_err-recorded.result ≡ Err e = search rules in
@@ -21,14 +16,14 @@ returns-in_err-recorded-clause-reading g c =
 
 pub returns-in_err-trace_recorded-clause-reading : goal.returns-in_err-trace_recorded-clause-reading
 returns-in_err-trace_recorded-clause-reading g c =
-    let m = (means (λ k. state g.S.Store k.conn) (λ k. k.closed) (λ k. k.unsure)) in
+    let m = sql_meaning g.S.Store in
     let r = c.in_ok-recorded.ensures.reads c.args.self.now c.in_ok-begin.ensures.reading in
     let is : c.from_residual-in_err-trace_recorded.result ≡ Err Memory = search rules in
     subst (λ reported. IsReading m c.args.self.now c.recorded.new.self reported) (sym is) (read_memory m c.args.self.now c.recorded.new.self c.in_ok-recorded.recorded r.goes r.keeps)
 
 pub returns-clause-reading : goal.returns-clause-reading
 returns-clause-reading g c =
-    let m = (means (λ k. state g.S.Store k.conn) (λ k. k.closed) (λ k. k.unsure)) in
+    let m = sql_meaning g.S.Store in
     let r = c.in_ok-recorded.ensures.reads c.args.self.now c.in_ok-begin.ensures.reading in
     read_ok m c.args.self.now c.recorded.new.self c.in_ok-recorded.recorded _ r.goes r.keeps
 
