@@ -11,16 +11,13 @@ ghost use Rattle.toll_sql.specs.Opening.{Adopts, Brings};
 ghost use Rattle.toll_sql.specs.Others.{HasOurs, IsJustOurs};
 ghost use Rattle.toll_sql.specs.Stores.{HoldsIn, LiesIdle};
 
-use crate::creating::{create_tables, raise_or_none};
+use crate::creating::{VERSION, create_tables, raise_or_none};
 use crate::open_fault::{OpenFault, open_fault_of};
 use crate::schema_check::{Layout, layout_of};
 use crate::version::{find_version, read_first_version, read_version};
 use sqlite::{Alter, Connection, Error, ErrorCode, MemStore};
 use sqlite_schema::schema::Schema;
 use std::alloc::Global;
-
-/// The version of these tables.
-const VERSION: u64 = 2;
 
 /// The earlier version, which had no voids.
 const FIRST_VERSION: u64 = 1;

@@ -113,7 +113,7 @@ pub fn value_at(row: &Row, at: usize) -> Option<Value>
     Value::new(int_at(row, at)?).ok()
 }
 
-/// Whether the column has 1 rather than 0.
+/// Whether the column has 1 rather than 0, if it has one of them.
 pub fn flag_at(row: &Row, at: usize) -> Option<bool>
     ensures some { IfSome result (λ b. column row.now at ≡ Int (pos (stored.flag b))) }
     ensures none { result ≡ None → (b : Bool) → column row.now at ≢ Int (pos (stored.flag b)) }
@@ -125,7 +125,7 @@ pub fn flag_at(row: &Row, at: usize) -> Option<bool>
     }
 }
 
-/// The role in this column.
+/// The role in this column, if its number is that of one.
 pub fn role_at(row: &Row, at: usize) -> Option<Role>
     ensures some { IfSome result (λ r. column row.now at ≡ Int (pos (role_number r))) }
     ensures none { result ≡ None → (r : Roles) → column row.now at ≢ Int (pos (role_number r)) }
@@ -137,7 +137,7 @@ pub fn role_at(row: &Row, at: usize) -> Option<Role>
     }
 }
 
-/// The disposition in this column.
+/// The disposition in this column, if its number is that of one.
 pub fn disposition_at(row: &Row, at: usize) -> Option<Disposition>
     ensures some { IfSome result (λ d. column row.now at ≡ Int (pos (stored.disposition_number d))) }
     ensures none { result ≡ None → (d : Dispositions) → column row.now at ≢ Int (pos (stored.disposition_number d)) }
@@ -150,7 +150,7 @@ pub fn disposition_at(row: &Row, at: usize) -> Option<Disposition>
     }
 }
 
-/// The state in this column.
+/// The state in this column, if its number is that of one.
 pub fn state_at(row: &Row, at: usize) -> Option<State>
     ensures some { IfSome result (λ s. column row.now at ≡ Int (pos (stored.state_number s))) }
     ensures none { result ≡ None → (s : States) → column row.now at ≢ Int (pos (stored.state_number s)) }
@@ -172,7 +172,7 @@ pub fn state_at(row: &Row, at: usize) -> Option<State>
     }
 }
 
-/// The limits of a test in these columns.
+/// The limits of a test in these columns, if they are values in order.
 pub fn limits_at(row: &Row, low: usize, high: usize) -> Option<Limits>
     ensures some { IfSome result (λ l. (column row.now low ≡ Int l.low) × (column row.now high ≡ Int l.high)) }
     ensures valid { IfSome result (λ l. IsValue l.low × IsValue l.high) }

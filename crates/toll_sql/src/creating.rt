@@ -17,7 +17,7 @@ use crate::writing::put;
 use sqlite::{Alter, Connection, Error, Transaction};
 
 /// The version of these tables.
-const VERSION: u64 = 2;
+pub(crate) const VERSION: u64 = 2;
 
 /// All tables, in the order of making them.
 pub(crate) fn every_table() -> [TableKind; 14]
@@ -41,7 +41,7 @@ pub(crate) fn every_table() -> [TableKind; 14]
     ]
 }
 
-/// Makes the table, after those before it.
+/// Makes the table, after those before it, or fails with the error of the store.
 pub(crate) fn make_table<S: Alter>(
     tx: &mut Transaction<'_, S>,
     table: TableKind,
@@ -74,7 +74,8 @@ fn make_tables<S: Alter>(tx: &mut Transaction<'_, S>) -> Result<(), Error>
 // Makes all tables, and writes the version.
 fn make_all<S: Alter>(tx: &mut Transaction<'_, S>) -> Result<(), Error>
     ensures same_reference { tx.new.conn.ghost_name ≡ tx.old.conn.ghost_name }
-    ensures steps { IsTransactionStep (IsMaking no_schema) (λ _ new. IsNewDatabase new.now) (state S.Store tx.old.conn.now) (state S.Store tx.new.conn.now) result }
+    ensures steps { IsTransactionStep (IsMaking no_schema) (λ _ new. IsNewDatabase new.now)
+        (state S.Store tx.old.conn.now) (state S.Store tx.new.conn.now) result }
 {
     make_tables(tx)?;
     write_version(tx)
@@ -116,7 +117,8 @@ fn raise<S: Alter>(tx: &mut Transaction<'_, S>) -> Result<(), Error>
     write_version(tx)
 }
 
-/// Brings the tables of version 1 to this version in one transaction, or changes nothing.
+/// Brings the tables of version 1 to this version in one transaction, or changes nothing and fails with the
+/// error of the store.
 pub(crate) fn raise_or_none<S: Alter>(conn: &mut Connection<S>) -> Result<(), Error>
     requires autocommit { conn.old.in_transaction ≡ false }
     requires settled { HasCleanDisk (state S.Store conn.old) → LiesIdle (state S.Store conn.old) }

@@ -19,7 +19,8 @@ pub fn a_keep_over_sqlite_is_as_honest_as_its_disk<S: Alter>()
     ensures live { (k : SqlKeep S S.Store) → ⟦<SqlKeep<S> as Keep>⟧.meaning.is_store_open k ↔ LiesOpen (state S.Store k.conn) }
     ensures unsure { (k : SqlKeep S S.Store) → ⟦<SqlKeep<S> as Keep>⟧.meaning.is_unsure k ≡ k.unsure }
     ensures closed { (k : SqlKeep S S.Store) → ⟦<SqlKeep<S> as Keep>⟧.meaning.is_closed k ≡ k.closed }
-    ensures cause { (old new : SqlKeep S S.Store) → ⟦<SqlKeep<S> as Keep>⟧.meaning.has_cause old new ↔ HasCause (state S.Store old.conn) (state S.Store new.conn) }
+    ensures cause { (old new : SqlKeep S S.Store) → ⟦<SqlKeep<S> as Keep>⟧.meaning.has_cause old new
+        ↔ HasCause (state S.Store old.conn) (state S.Store new.conn) }
 {}
 
 /// If its connection is open, a keep over SQLite holds what its tables hold. A stop leaves what it

@@ -20,7 +20,7 @@ pub struct SublotKey {
     pub sublot: Name,
 }
 
-/// The changes, in order, but no put of a sublot that a later one puts again.
+/// The changes, in order, but no put of a sublot that a later one puts again. Fails if memory runs out.
 pub fn last_puts(alloc: Global, changes: &[Change]) -> Result<Vec<Change>, AllocError>
     ensures last { IfOk result (λ last. last.items ≡ last_puts changes.now) }
     ensures valid { OnOk result (AllByRecursion IsSublotValid changes.now) }

@@ -27,7 +27,7 @@ pub enum OpenFault {
 }
 
 impl OpenFault {
-    /// The word.
+    /// The fault as programs report it.
     pub fn name(&self) -> &'static str
         ensures { result.now ≡ open_fault_word self.now }
     {

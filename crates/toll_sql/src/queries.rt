@@ -26,7 +26,7 @@ pub fn find_open<S: Alter>(conn: &mut Connection<S>, lack: &mut MemoryLack) -> R
     }
 }
 
-/// The owner's rows of the table, in the order of its key.
+/// The owner's rows of the table, in the order of its key, or the error of the store.
 pub fn owners_rows<S: Alter>(
     conn: &mut Connection<S>,
     table: TableKind,
@@ -38,10 +38,11 @@ pub fn owners_rows<S: Alter>(
     conn.query_all(table.select_text(), &[ValueRef::Text(owner.as_bytes())])
 }
 
-/// All rows of a table whose rows belong to no owner, in the order of its key.
+/// All rows of a table whose rows belong to no owner, in the order of its key, or the error of the store.
 pub fn all_rows<S: Alter>(conn: &mut Connection<S>, table: TableKind) -> Result<Vec<Row>, Error>
     ensures asks { is_owned table ≡ false → IsQuerying (state S.Store conn.old) (state S.Store conn.new) result }
-    ensures rows { is_owned table ≡ false → OverOurs (state S.Store conn.old) (state S.Store conn.new) (λ db. IfOk result (λ rows. AreAll table db rows.items)) }
+    ensures rows { is_owned table ≡ false → OverOurs (state S.Store conn.old) (state S.Store conn.new)
+        (λ db. IfOk result (λ rows. AreAll table db rows.items)) }
     ensures read { HasCleanDisk (state S.Store conn.new) → IfOk result (λ rows. AreReadBy (state S.Store conn.old).now (select_text table) rows.items) }
 {
     conn.query_all(table.select_text(), &[])

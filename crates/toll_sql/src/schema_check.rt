@@ -187,7 +187,8 @@ pub(crate) fn layout_of(schema: &Schema, made: &Schema) -> Layout
 
 // Whether the schema has the plain tables and indexes, and nothing else.
 fn has_tables(schema: &Schema, tables: &[Table], indexes: &[Index]) -> bool
-    ensures { AllByRecursion IsPlainTable tables.now → AllByRecursion IsPlainIndex indexes.now → (IsTrue result ↔ schema.now ≡ schema_of tables.now indexes.now) }
+    ensures { AllByRecursion IsPlainTable tables.now → AllByRecursion IsPlainIndex indexes.now
+        → (IsTrue result ↔ schema.now ≡ schema_of tables.now indexes.now) }
 {
     are_tables(schema.tables.as_slice(), tables)
         && are_indexes(schema.indexes.as_slice(), indexes)

@@ -44,18 +44,20 @@ pub(crate) fn version_in(rows: &[Row]) -> Option<u64>
     }
 }
 
-/// The version of the store, if it has one. Its tables are ours.
+/// The version of the store, if it has one, or the error of the store. Its tables are ours.
 pub(crate) fn read_version<S: Alter>(conn: &mut Connection<S>) -> Result<Option<u64>, Error>
     ensures asks { IsQuerying (state S.Store conn.old) (state S.Store conn.new) result }
-    ensures version { OverOurs (state S.Store conn.old) (state S.Store conn.new) (λ db. (n : ℕ) → HasVersion n db → IfOk result (λ reported. reported ≡ Some n)) }
-    ensures reported { OverOurs (state S.Store conn.old) (state S.Store conn.new) (λ db. IfOk result (λ reported. IfSome reported (λ n. HasVersionRow n (meta_rows db)))) }
+    ensures version { OverOurs (state S.Store conn.old) (state S.Store conn.new)
+        (λ db. (n : ℕ) → HasVersion n db → IfOk result (λ reported. reported ≡ Some n)) }
+    ensures reported { OverOurs (state S.Store conn.old) (state S.Store conn.new)
+        (λ db. IfOk result (λ reported. IfSome reported (λ n. HasVersionRow n (meta_rows db)))) }
     ensures found { HasCleanDisk (state S.Store conn.new) → IfOk result (FindsVersion (state S.Store conn.old).now) }
 {
     let rows = all_rows(conn, TableKind::Meta)?;
     Ok(version_in(rows.as_slice()))
 }
 
-/// The version of the store, if it has one. Its tables may be any. Nothing is written.
+/// The version of the store, if it has one, or the error of the store. Its tables may be any. Nothing is written.
 pub(crate) fn find_version<S: Alter>(conn: &mut Connection<S>) -> Result<Option<u64>, Error>
     requires autocommit { conn.old.in_transaction ≡ false }
     requires settled { LiesIdle (state S.Store conn.old) }
@@ -78,15 +80,17 @@ fn query_version<S: Alter>(tx: &mut Transaction<'_, S>) -> Result<Vec<Row>, Erro
     tx.query_all(TableKind::Meta.select_text(), &[])
 }
 
-/// The version of the store, if it has one. Its tables are those of version 1.
+/// The version of the store, if it has one, or the error of the store. Its tables are those of version 1.
 pub(crate) fn read_first_version<S: Alter>(conn: &mut Connection<S>) -> Result<Option<u64>, Error>
     requires autocommit { conn.old.in_transaction ≡ false }
     requires settled { LiesIdle (state S.Store conn.old) }
     requires first { AreFirst (state S.Store conn.old).now.schema }
     ensures left { LeavesTables (state S.Store conn.old) (state S.Store conn.new) result }
     ensures unchanged { HasCleanDisk (state S.Store conn.new) → OnOk result (IsUnchanged (state S.Store conn.old) (state S.Store conn.new)) }
-    ensures version { HasCleanDisk (state S.Store conn.new) → (n : ℕ) → HasVersion n (state S.Store conn.old).now.trees → IfOk result (λ reported. reported ≡ Some n) }
-    ensures reported { HasCleanDisk (state S.Store conn.new) → IfOk result (λ reported. IfSome reported (λ n. HasVersionRow n (meta_rows (state S.Store conn.old).now.trees))) }
+    ensures version { HasCleanDisk (state S.Store conn.new) → (n : ℕ) → HasVersion n (state S.Store conn.old).now.trees
+        → IfOk result (λ reported. reported ≡ Some n) }
+    ensures reported { HasCleanDisk (state S.Store conn.new) →
+        IfOk result (λ reported. IfSome reported (λ n. HasVersionRow n (meta_rows (state S.Store conn.old).now.trees))) }
     ensures found { HasCleanDisk (state S.Store conn.new) → IfOk result (FindsVersion (state S.Store conn.old).now) }
 {
     let rows = first_rows(conn)?;

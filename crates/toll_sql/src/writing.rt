@@ -31,7 +31,8 @@ const AMOUNT: usize = 3;
 /// The column of a result's number.
 const NUMBER: usize = 3;
 
-/// Makes all of these changes, in order, or none, in one transaction.
+/// Makes all of these changes, in order, in one transaction, or fails and makes none: Disk if the disk fails or
+/// refuses, otherwise Memory.
 pub fn make_changes<S: Alter>(
     conn: &mut Connection<S>,
     alloc: Global,
@@ -134,7 +135,7 @@ fn put_row<S: Alter>(tx: &mut Transaction<'_, S>, owner: &Name, row: &Row) -> Re
     }
 }
 
-/// Puts a row of these cells into the table, or replaces the one with its key.
+/// Puts a row of these cells into the table, or replaces the one with its key. Fails with the error of the store.
 pub fn put<S: Alter>(
     tx: &mut Transaction<'_, S>,
     table: TableKind,
