@@ -160,3 +160,13 @@ def test_wrong_roles_let_nobody_in(at_work, text, why):
     path.write_text(path.read_text() + text)
     done = by(at_work, MAN, "reject", "W-101")
     assert done.status == 2 and why in done.err and at_work.lines() == []
+
+
+def test_a_role_that_isn_t_told_lets_no_member_promote(at_work):
+    """Each other command of the role is every member's then: this one ends the work of another machine."""
+    settle(at_work)
+    for words in (["promote"], ["promote", "--check"], ["promote", "--until", "1"]):
+        assert "promote is for root and the office's user alone, by the role restore of the settings" in by(at_work, MAN, *words).err
+    settle(at_work, restore=["man"])
+    assert "no snapshot and no piece" in by(at_work, MAN, "promote").err or "is no folder" in by(at_work, MAN, "promote").err
+    assert "is for the members of man alone" in by(at_work, DAEMON, "promote").err

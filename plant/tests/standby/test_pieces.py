@@ -154,7 +154,7 @@ def test_each_piece_gives_the_office_of_its_time(pieces, standby, number):
     assert standby.run("promote", "--until", number, pieces).status == 0
     assert units(standby) == [f"U-{unit}" for unit in range(1, number + 1)]
     words = [line["words"][1] for line in standby.lines() if line["event"] == "asked" and line["words"][0] == "unit-add"]
-    assert words == [f"U-{unit}" for unit in range(1, max(number, 3 if number == 3 else 0) + 1)]
+    assert words == [f"U-{unit}" for unit in range(1, LAST + 1)]  # the journal has all that pieces have of it
 
 
 def test_a_follower_goes_on_behind_a_damaged_chain_with_a_new_one(at_work, pieces, standby):

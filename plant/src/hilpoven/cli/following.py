@@ -183,7 +183,10 @@ def promote(context: Context, folder: str | None, until: int | None, is_check: b
     It looks at all pieces, makes the file and its journal of the newest snapshot and the pieces behind it, and checks
     the file with SQLite, toll and the sums of the movements. What was in its place is moved aside. Then a new timeline
     begins: the old machine's office is refused when it comes back and asks the standby. If a piece is damaged or
-    missing, nothing is done, and it says up to which piece --until can go.
+    missing, nothing is done, and it says up to which piece --until can go. The journal keeps its lines behind that
+    piece, and keys that were changed behind it aren't right again.
+
+    Under sudo it is for the groups of the role `restore`, and without a line of that role for nobody.
 
     Example: hilpoven promote
     """
@@ -202,6 +205,7 @@ def promote(context: Context, folder: str | None, until: int | None, is_check: b
     tell_of(choice, f"{context.file} is the office of piece {choice.end}, made at {last.at}, {age_of(last.at)} ago")
     aside = f"; what was there is in {promoted.aside}" if promoted.aside else ""
     click.echo(printable(f"timeline {promoted.timeline} begins{aside}"))
+    tell("\n".join(promoted.notes))
     tell(f"Serve it: systemctl enable --now {context.place.unit}\nThen lead owners and the plant here.")
 
 

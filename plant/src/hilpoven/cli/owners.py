@@ -9,7 +9,7 @@ from ..core.asking import BLOTTED
 from ..core.context import Context
 from ..core.failure import WRONG_USE, Failure, tell
 from ..core.forms import name_fault, secret_fault
-from ..core.keys import KEY_LETTERS, Key, change_key, random_key
+from ..core.keys import CHANGE, KEY_LETTERS, Key, change_key, random_key
 from ..core.office import Answer, pass_on
 from .groups import Group
 from .words import pass_context
@@ -112,7 +112,7 @@ def key_command(context: Context, name: str, is_random: bool) -> None:
         raise Failure("HOUSE is the plant, and has no key", WRONG_USE)
     key = key_given(is_random)
     office, journal = context.office(), context.journal()
-    with journal.noted(office.file, ["owner key", name, BLOTTED]) as note:
+    with journal.noted(office.file, [CHANGE, name, BLOTTED]) as note:
         change_key(office, name, key.letters)
         note.answer = Answer(0, "changed\n", "")
     click.echo(f"the key of {name} is changed")

@@ -21,6 +21,7 @@ COMMANDS = {
     "keys": "owner-add, owner add, owner key",
     "restore": "new, backup, restore, promote, register rebuild, carry-over",
 }
+OPERATORS = {"promote"}  # of operators alone where the settings don't tell their role: they end another machine's work
 ROLES = {command: role for role, commands in COMMANDS.items() for command in commands.split(", ")}
 NOTED_BY = {  # by which command the notes of a kind are made, where it isn't of the role of `note withdraw`
     **{kind: f"describe {kind}" for kind in ("owner", "material", "recipe", "test", "lot")},
@@ -33,7 +34,8 @@ NOTED_BY = {  # by which command the notes of a kind are made, where it isn't of
 def require(context: Context, command: str) -> None:
     """Fails for a member whose groups have not the role of a command."""
     if role := ROLES.get(command):
-        require_role(command, role, getattr(context.settings.roles, role))
+        groups: list[str] | None = getattr(context.settings.roles, role)
+        require_role(command, role, [] if groups is None and command in OPERATORS else groups)
 
 
 def require_to_withdraw(context: Context, note: "Note") -> None:

@@ -9,8 +9,8 @@ import time
 from ..journal import log as journals, query
 from ..journal.log import IN_PLACE, Journal
 from ..records.schema import IS_INCOMING, STANDING, Kind
-from . import lock, paths, scratch, server, snapshot
-from .failure import FAULT, REFUSED, WRONG_USE, Failure
+from . import keys, lock, paths, scratch, server, snapshot
+from .failure import FAULT, REFUSED, WRONG_USE, Failure, tell
 from .office import Answer, Office
 from .server import Place
 from .snapshot import hash_of
@@ -233,7 +233,7 @@ def restore(office: Office, backup: str, place: Place, journal: Journal, is_fore
                 "root and the office's user restore it with --foreign, and answer for what is in it",
             )
         words = ["restore", *(["--foreign"] if is_foreign else []), backup]
-        return replace(office, copy, place, journal, words, digest)
+        return replace(office, copy, place, journal, words, digest, backup + JOURNAL)
 
 
 def require_own(file: str, backup: str, journal: Journal) -> None:
@@ -247,12 +247,15 @@ def require_own(file: str, backup: str, journal: Journal) -> None:
         )
 
 
-def replace(office: Office, copy: str, place: Place, journal: Journal, words: list[str], digest: str) -> str:
+def replace(
+    office: Office, copy: str, place: Place, journal: Journal, words: list[str], digest: str, lines_then: str
+) -> str:
     """Puts a copy that was looked at in the place of the file, which the journal notes; the folder where the file is
-    now."""
+    now. Keys that were changed since stay: those behind the lines that the journal had then, by a file of them."""
     with journal.noted(office.file, words, sha256=digest) as note:
         with lock.held(office.file, office.wait):
             stop_on_server(office.file, place)
+            kept = keys.keep(copy, office.file, journal.path, query.common(journal.path, lines_then))
             aside = move_aside(office.file)
             put_in_place(copy, office.file)
             note.members[IN_PLACE] = True
@@ -260,7 +263,9 @@ def replace(office: Office, copy: str, place: Place, journal: Journal, words: li
         if answer.status:
             advice = f"what was there is in {aside}" if aside else ""
             raise Failure(f"toll doesn't open what was put in place: {answer.error.strip()}", FAULT, advice)
-        note.answer = Answer(0, f"restored; what was there is in {aside}\n" if aside else "restored\n", "")
+        moved = [f"what was there is in {aside}"] if aside else []
+        note.answer = Answer(0, "; ".join(["restored", *moved, *kept.lines]) + "\n", "")
+    tell("\n".join(kept.lines))
     return aside
 
 

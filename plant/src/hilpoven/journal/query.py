@@ -35,6 +35,25 @@ def lines_of(path: str) -> Iterator[bytes]:
         raise Failure(f"the journal {path} can't be read: {error.strerror}", advice=advice(path, error)) from error
 
 
+def common(path: str, other: str) -> int:
+    """How many bytes of whole lines two journals have in common at their front."""
+    at = 0
+    for line, other_line in zip(lines_of(path), lines_of(other)):
+        if line != other_line or not line.endswith(b"\n"):
+            break
+        at += len(line)
+    return at
+
+
+def lines_behind(path: str, start: int) -> Iterator[bytes]:
+    """The lines of a journal behind so many bytes of it."""
+    at = 0
+    for line in lines_of(path):
+        if at >= start:
+            yield line
+        at += len(line)
+
+
 @dataclass
 class Files:
     """The files that a journal's entries are about: how many are about each, where files were moved, and the last

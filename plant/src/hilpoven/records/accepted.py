@@ -23,7 +23,7 @@ ROWS = {
     "void": "voids WHERE owner = :OWNER AND mkey = :KEY",
     **dict.fromkeys(MOVEMENTS, "moves WHERE owner = :OWNER AND mkey = :KEY"),
 }
-REPLACING = {"new", "restore", "carry-over"}  # the commands that put another file in the office's place
+REPLACING = {"new", "restore", "promote", "carry-over"}  # the commands that put another file in the office's place
 DONE = {"accepted", "repeated"}
 
 

@@ -2,10 +2,12 @@
 import bisect
 import contextlib
 import os
+import stat
 import time
 from collections.abc import Callable, Iterable, Iterator
 from dataclasses import dataclass, field
 from datetime import datetime
+from typing import IO
 
 from ..core.failure import REFUSED, WRONG_USE, Failure
 from . import piece
@@ -44,18 +46,33 @@ def chains_in(folder: str) -> list[Chain]:
     """The chains of a folder, the newest last: those of a later timeline come later, then those that were written to
     later."""
     chains: dict[tuple[int, str], Chain] = {}
-    try:
-        names = sorted(os.listdir(folder))
-    except FileNotFoundError:
-        return []
-    except OSError as error:
-        raise Failure(f"{folder} can't be looked at: {error.strerror}") from error
-    for name in names:
+    for name in sorted(names_in(folder)):
         if match := NAME.fullmatch(name):
             timeline, chain_name, number, kind = int(match[1]), match[2], int(match[3]), match[4]
             of = chains.setdefault((timeline, chain_name), Chain(timeline, chain_name))
             (of.snapshots if kind == SNAPSHOT else of.pieces)[number] = os.path.join(folder, name)
     return sorted(chains.values(), key=lambda chain: (chain.timeline, began(chain)))
+
+
+def names_in(folder: str) -> list[str]:
+    """The names in a folder of pieces; none if it isn't there. Fails if one is a link or a pipe: whoever may write there
+    could have another file read by it, or have its reader wait."""
+    try:
+        with os.scandir(folder) as entries:
+            return [entry.name for entry in entries if is_no_link(entry, folder)]
+    except FileNotFoundError:
+        return []
+    except OSError as error:
+        raise Failure(f"{folder} can't be looked at: {error.strerror}") from error
+
+
+def is_no_link(entry: "os.DirEntry[str]", folder: str) -> bool:
+    """True; fails if a name in a folder is that of something else than a file, a folder, or the socket of a connection."""
+    if entry.is_file(follow_symlinks=False) or entry.is_dir(follow_symlinks=False):
+        return True
+    if stat.S_ISSOCK(entry.stat(follow_symlinks=False).st_mode):
+        return True
+    raise Failure(f"{entry.name} in {folder} is no file", REFUSED, "nothing reads what it leads to: remove it")
 
 
 def began(chain: Chain) -> float:
@@ -79,7 +96,7 @@ def opened(path: str) -> Piece:
     """A piece by its path; fails where its header isn't one."""
     name = os.path.basename(path)
     try:
-        with open(os.open(path, os.O_RDONLY | os.O_NOFOLLOW | os.O_CLOEXEC), "rb") as file:
+        with open(os.open(path, piece.READ), "rb") as file:
             head = file.read(HEAD)
         if len(head) < HEAD:
             raise Failure(f"{name} is cut")
@@ -227,17 +244,30 @@ def build(pieces: Iterable[Piece], room: str) -> Built:
             for number, page in opened_piece.pages():
                 os.pwrite(base.fileno(), page, (number - 1) * len(page))
             os.ftruncate(base.fileno(), last.size * last.page_size)
-            if last.journal and last.journal_from != lines.tell():
-                if last.journal_from:
-                    raise Failure(f"{last.name} has lines of a journal that isn't that of the pieces before it")
-                lines.seek(0)
-                lines.truncate()
-            lines.writelines(opened_piece.lines())
+            add_lines(lines, opened_piece)
             named = opened_piece.earlier()
             earlier = earlier if named is None else named
     if last is None:
         raise Failure("there are no pieces")
     return Built(file, journal, earlier, last)
+
+
+def build_journal(pieces: Iterable[Piece], path: str) -> None:
+    """Makes the journal alone, of pieces that were looked at."""
+    with open(path, "xb") as lines:
+        for opened_piece in pieces:
+            add_lines(lines, opened_piece)
+
+
+def add_lines(lines: IO[bytes], opened_piece: Piece) -> None:
+    """Adds what a piece has of the journal to that of the pieces before it."""
+    header = opened_piece.header
+    if header.journal and header.journal_from != lines.tell():
+        if header.journal_from:
+            raise Failure(f"{header.name} has lines of a journal that isn't that of the pieces before it")
+        lines.seek(0)
+        lines.truncate()
+    lines.writelines(opened_piece.lines())
 
 
 def seconds_of(at: str) -> float:

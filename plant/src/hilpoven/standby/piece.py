@@ -26,6 +26,7 @@ SUM = 65  # bytes at the end of a header: the SHA-256 of what is before them, an
 PAGE_HEAD = 4  # bytes of a page's number
 BUFFER = 1 << 20  # bytes
 SYNC = 1 << 20  # bytes after which a piece is synced while it is made, or the server's syncs would wait for all of it
+READ = os.O_RDONLY | os.O_NOFOLLOW | os.O_CLOEXEC | os.O_NONBLOCK  # no link is followed, and no pipe is waited for
 NEW = os.O_WRONLY | os.O_CREAT | os.O_EXCL | os.O_NOFOLLOW | os.O_CLOEXEC
 NOTHING = "0" * 64  # in place of the SHA-256 of a header before the first
 SNAPSHOT, LOG, FILE = "snapshot", "log", "file"  # what a piece was made of: all pages, the log, or changed ones of FILE
@@ -157,7 +158,7 @@ class Piece:
     @contextlib.contextmanager
     def opened(self) -> Iterator[IO[bytes]]:
         """Its file behind the header."""
-        with open(os.open(self.path, os.O_RDONLY | os.O_NOFOLLOW | os.O_CLOEXEC), "rb", BUFFER) as file:
+        with open(os.open(self.path, READ), "rb", BUFFER) as file:
             file.seek(HEAD)
             yield file
 

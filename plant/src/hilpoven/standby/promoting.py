@@ -1,13 +1,15 @@
 """An office that is made of pieces: of the last ones on another machine, or of those up to a moment on its own."""
 import os
-from dataclasses import dataclass
+from dataclasses import dataclass, field
 
-from ..core import backups, lock, paths, scratch, snapshot
+from ..core import backups, keys, lock, paths, scratch, snapshot
 from ..core.failure import FAULT, REFUSED, Failure
+from ..core.names import number_of
 from ..core.office import Answer, Office
 from ..core.server import Place
+from ..journal import query
 from ..journal.log import Journal
-from . import chain, timeline
+from . import chain, journals, timeline
 from .chain import Built, Chain, Report
 from .piece import Header
 
@@ -19,16 +21,19 @@ class Choice:
     chain: Chain
     start: int
     end: int
+    newest: tuple[int, int]  # the same of the newest office that pieces of the chain give
     notes: tuple[str, ...] = ()  # what is wrong with others
 
 
 @dataclass(frozen=True)
 class Made:
-    """What was put in place: the last piece, its timeline, and the folder where what was there is now."""
+    """What was put in place: the last piece, its timeline, the folder where what was there is now, and what is told of
+    the journal and of keys."""
 
     last: Header
     timeline: int
     aside: str
+    notes: list[str] = field(default_factory=list)
 
 
 def latest(folder: str, until: int | None = None) -> Choice:
@@ -44,7 +49,7 @@ def latest(folder: str, until: int | None = None) -> Choice:
             REFUSED,
             f"get them anew, or `promote --until {end}` makes the office of {chain.at_of(of, end)} without them",
         )
-    return Choice(of, start, end, tuple(report.wrong))
+    return Choice(of, start, end, report.route, tuple(report.wrong))
 
 
 def at_moment(folder: str, moment: float, last_timeline: int) -> Choice:
@@ -60,7 +65,7 @@ def at_moment(folder: str, moment: float, last_timeline: int) -> Choice:
             end = chain.last_before(of, moment)
             report = Report(of, folder).look()
             start, end = report.route_to(end)
-            return Choice(of, start, end, tuple(report.wrong))
+            return Choice(of, start, end, report.route, tuple(report.wrong))
     raise Failure(f"no snapshot in {folder} is as old as that", REFUSED, oldest(chains))
 
 
@@ -71,29 +76,57 @@ def oldest(chains: list[Chain]) -> str:
 
 
 def promote(office: Office, folder: str, place: Place, journal: Journal, until: int | None) -> tuple[Made, Choice]:
-    """Makes the office of a folder's pieces and begins the next timeline. What was in the file's place is moved aside,
-    with its journal. The folder is marked before the file has its name, so that no two offices go on."""
+    """Makes the office of a folder's pieces and begins the next timeline. What was in the file's place is moved aside.
+    The journal stays or becomes longer, whatever pieces are used."""
     folder = paths.private(folder)
     backups.stop_on_server(office.file, place)
     choice = latest(folder, until)
     with scratch.folder(os.path.dirname(office.file)) as room:
         built = made_of(choice, office, room)
+        lines = newest_lines(choice, built, room)
         bring_earlier(built, folder, office.file)
-        digest = snapshot.hash_of(built.file)
-        number = 1 + max(choice.chain.timeline, timeline.number_of(office.file), timeline.latest(os.listdir(folder)))
-        origin = {"chain": choice.chain.name, "piece": choice.end, "at": built.last.at, "sha256": digest}
         with lock.held(office.file, office.wait):
             backups.stop_on_server(office.file, place)
-            aside = backups.move_aside(office.file, journal.path)
-            backups.put_in_place(built.journal, journal.path)
-            journal.move(office.file)
-            with journal.noted(office.file, ["promote", built.last.name], sha256=digest, timeline=number) as note:
-                timeline.mark(folder, number, origin)
-                timeline.begin(office.file, number, origin)
-                backups.put_in_place(built.file, office.file)
-                note.answer = Answer(0, f"timeline {number}\n", "")
-    require_opening(office, aside)
-    return Made(built.last, number, aside), choice
+            promoted = put(office, folder, journal, choice, built, lines, until)
+    require_opening(office, promoted.aside)
+    return promoted, choice
+
+
+def put(
+    office: Office, folder: str, journal: Journal, choice: Choice, built: Built, lines: str, until: int | None
+) -> Made:
+    """Puts the office and the lines of the journal that pieces gave in place, under the lock. The folder is marked
+    before the file has its name, so that no two offices go on."""
+    beside = journals.compared(journal.path, lines, built.journal)
+    number = 1 + max(choice.chain.timeline, timeline.number_of(office.file), timeline.latest(os.listdir(folder)))
+    present = office.file if beside.is_newer else ""
+    kept = keys.keep(built.file, present, beside.longer, beside.point, beside.changed_keys)
+    origin = {
+        "chain": choice.chain.name,
+        "piece": choice.end,
+        "at": built.last.at,
+        "sha256": snapshot.hash_of(built.file),
+    }
+    notes = [*beside.lines, *kept.lines]
+    aside = backups.move_aside(office.file, *([journal.path] if beside.is_another else []))
+    journals.go_on(journal, beside)
+    words = ["promote", *(["--until", str(until)] if until is not None else []), built.last.name]
+    with journal.noted(office.file, words, sha256=origin["sha256"], timeline=number) as note:
+        timeline.mark(folder, number, origin)
+        timeline.begin(office.file, number, origin)
+        backups.put_in_place(built.file, office.file)
+        note.answer = Answer(0, "; ".join([f"timeline {number}", *notes]) + "\n", "")
+    return Made(built.last, number, aside, notes)
+
+
+def newest_lines(choice: Choice, built: Built, room: str) -> str:
+    """The journal of the newest office that pieces of a chain give, if it goes on with that of the chosen ones; else
+    theirs."""
+    if choice.newest[1] == choice.end:
+        return built.journal
+    path = os.path.join(room, "newest.journal")
+    chain.build_journal(chain.pieces_of(choice.chain, *choice.newest), path)
+    return path if query.common(built.journal, path) == os.path.getsize(built.journal) else built.journal
 
 
 def tried(office: Office, folder: str, until: int | None) -> tuple[Header, Choice]:
@@ -111,8 +144,11 @@ def restore_at(office: Office, folder: str, place: Place, journal: Journal, mome
     choice = at_moment(folder, moment, number)
     with scratch.folder(os.path.dirname(office.file)) as room:
         built = made_of(choice, office, room)
-        words = ["restore", "--at", built.last.at, built.last.name]
-        aside = backups.replace(office, built.file, place, journal, words, snapshot.hash_of(built.file))
+        if not os.path.lexists(journal.path):
+            snapshot.copy_file(newest_lines(choice, built, room), lines := os.path.join(room, "lines.journal"))
+            backups.put_in_place(lines, journal.path)
+        words, digest = ["restore", "--at", built.last.at, built.last.name], snapshot.hash_of(built.file)
+        aside = backups.replace(office, built.file, place, journal, words, digest, built.journal)
     return Made(built.last, number, aside)
 
 
@@ -126,18 +162,29 @@ def made_of(choice: Choice, office: Office, room: str) -> Built:
 
 
 def bring_earlier(built: Built, folder: str, file: str) -> None:
-    """Puts the earlier files that pieces name beside the office's file, where they aren't yet."""
+    """Puts the earlier files that pieces name beside the office's file, where they aren't yet. What is looked at is a
+    copy, which nobody changes meanwhile."""
     for name, digest in built.earlier.items():
         source, target = chain.earlier_path(folder, digest), os.path.join(os.path.dirname(file), name)
-        if os.path.basename(name) != name or not os.path.isfile(source) or snapshot.hash_of(source) != digest:
+        copy = os.path.join(os.path.dirname(built.file), "earlier.db")
+        if not number_of(file, name) or not copied(source, copy) or snapshot.hash_of(copy) != digest:
             raise Failure(f"{source} isn't the earlier file {name}", REFUSED)
         if not os.path.lexists(target):
-            copy = os.path.join(os.path.dirname(built.file), "earlier.db")
-            snapshot.copy_file(source, copy)
             os.chmod(copy, 0o400)
             backups.put_in_place(copy, target)
         elif snapshot.hash_of(target) != digest:
             raise Failure(f"{target} is another file than the pieces name", REFUSED, "move it elsewhere")
+
+
+def copied(source: str, target: str) -> bool:
+    """Whether a file that is no link could be copied."""
+    try:
+        if os.path.isfile(source):
+            snapshot.copy_file(source, target)
+            return True
+    except OSError:
+        pass
+    return False
 
 
 def require_opening(office: Office, aside: str) -> None:

@@ -6,6 +6,7 @@ import time
 from dataclasses import asdict, dataclass
 
 from ..core.failure import Failure
+from .piece import READ
 
 NAME = "follower.json"
 SILENT = 15.0  # seconds after which a follower that wrote nothing doesn't look any more
@@ -85,7 +86,7 @@ def load(folder: str) -> State | None:
     """The state that a follower wrote into its folder; `None` if there is none."""
     path = os.path.join(folder, NAME)
     try:
-        with open(os.open(path, os.O_RDONLY | os.O_NOFOLLOW | os.O_CLOEXEC)) as file:
+        with open(os.open(path, READ)) as file:
             return State(**json.load(file))
     except FileNotFoundError:
         return None
