@@ -161,3 +161,27 @@ def test_no_site_goes_to_a_port_that_no_unit_serves():
 def test_the_site_goes_to_the_port_of_the_example():
     (port,) = setting(text_of("office.env"), "PORT")
     assert re.findall(r"proxy_pass http://127\.0\.0\.1:(\d+);", text_of("nginx.conf")) == [port] and int(port) < 1024
+
+
+def operators_units(package):
+    """The units of a package that an operator enables, as systemctl takes them, and the pattern of their instances."""
+    lines = [line.split() for line in (ROOT / "debian" / f"{package}.install").read_text().splitlines()]
+    names = [source.rpartition("/")[2] for source, *targets in lines if targets == ["usr/lib/systemd/system"]]
+    enabled = [name for name in names if "[Install]" in next((ROOT / "packaging").rglob(name)).read_text()]
+    return {name: name.replace("@.", "@*.") for name in enabled}
+
+
+@pytest.mark.parametrize("package", ("toll", "hilpoven"))
+def test_a_package_that_is_removed_stops_and_disables_what_its_operator_enabled(package, tmp_path):
+    """The script that dpkg runs before, with programs that note their words in place of systemd's."""
+    units, script = operators_units(package), ROOT / "debian" / f"{package}.prerm"
+    for name in ("systemctl", "deb-systemd-invoke"):
+        (tmp_path / name).write_text(f'#!/bin/sh\nfor word; do echo "{name} $1 $word" >> {tmp_path}/log; done\n')
+        (tmp_path / name).chmod(0o755)
+    text = script.read_text().replace("/run/systemd/system", str(tmp_path))
+    for words, log in ((["upgrade", "99"], set()), (["remove"], {line for name, pattern in units.items() for line in (f"systemctl disable {name}", f"deb-systemd-invoke stop {pattern}")})):
+        (tmp_path / "log").write_text("")
+        subprocess.run(["sh", "-c", text, "prerm", *words], check=True, env={"PATH": f"{tmp_path}:/usr/bin:/bin"})
+        noted = set((tmp_path / "log").read_text().splitlines())
+        assert log <= noted and bool(log) == bool(noted), log - noted
+    assert units

@@ -20,9 +20,11 @@ def follower_of(db: pathlib.Path, folder: pathlib.Path, office: str = "here", ti
 
 
 def look(follower: Follower) -> None:
-    """Looks, and writes what is new."""
+    """Looks, writes what is new, and removes what is old."""
     follower.step()
     follower.write_pending()
+    while follower.removal.names:
+        follower.removal.step()
 
 
 @contextlib.contextmanager

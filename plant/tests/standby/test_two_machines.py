@@ -14,14 +14,15 @@ import time
 import pytest
 from conftest import HILPOVEN, Plant, environment, eventually
 from hilpoven.standby import chain
+from restricted import line_of
 
-NEEDS = ("ip", "rsync", "ssh", "ssh-keygen", "/usr/sbin/sshd")
+NEEDS = ("ip", "rsync", "rrsync", "ssh", "ssh-keygen", "/usr/sbin/sshd")
 pytestmark = [pytest.mark.long, pytest.mark.skipif(os.geteuid() != 0 or not all(map(shutil.which, NEEDS)), reason="needs root, ip, rsync and sshd")]
 SSHD = """
 ListenAddress 10.231.7.2
 Port 22
 HostKey {folder}/host
-AuthorizedKeysFile {folder}/key.pub
+AuthorizedKeysFile {folder}/authorized
 PidFile {folder}/sshd.pid
 StrictModes no
 UsePAM no
@@ -70,6 +71,7 @@ def machines(program, tmp_path):
             machine.inside("ip", "link", "set", "v0", "up")
         for name in ("host", "key"):
             run("ssh-keygen", "-q", "-t", "ed25519", "-N", "", "-f", tmp_path / name)
+        (tmp_path / "authorized").write_text(f"{line_of(second.plant.folder / 'follow')} {(tmp_path / 'key.pub').read_text()}")
         (tmp_path / "sshd.conf").write_text(SSHD.format(folder=tmp_path))
         pathlib.Path("/run/sshd").mkdir(exist_ok=True)
         sshd = second.begin("/usr/sbin/sshd", "-D", "-f", tmp_path / "sshd.conf", "-E", tmp_path / "sshd.log")
@@ -88,7 +90,7 @@ def test_a_machine_is_lost_and_refused_when_it_is_back(machines, laid, tmp_path)
     for end in ("", "-wal"):
         if pathlib.Path(f"{laid.db}{end}").exists():
             shutil.copyfile(f"{laid.db}{end}", f"{first.plant.db}{end}")
-    settings = first.settle(f"root@10.231.7.2:{target}", rsh_of(tmp_path))
+    settings = first.settle("root@10.231.7.2:/", rsh_of(tmp_path))
     log = open(tmp_path / "log", "w+")
     follower = first.begin(HILPOVEN, "follow", env=settings, stderr=log)
     stack.callback(lambda: (follower.kill(), follower.wait()))

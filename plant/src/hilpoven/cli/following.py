@@ -73,13 +73,13 @@ def check(context: Context) -> None:
     target, own = context.settings.follow.to, timeline.number_of(context.file)
     if remote.is_remote(target):
         try:
-            names = remote.Remote(target, context.settings.follow.rsh).listed()
+            files = remote.Remote(target, context.settings.follow.rsh).listed()
         except Failure as failure:
             if failure.exit_code == WRONG_USE:
                 raise
             tell_line(f"hilpoven: {printable(failure.message)}")
             return
-        sender.require_latest(context.file, own, target, names)
+        sender.require_latest(context.file, own, target, [file.name for file in files])
     folder = folder_of(context)
     if os.path.isdir(folder):
         follower.require_latest(context.file, own, folder, chain.chains_in(folder))
@@ -109,7 +109,7 @@ def follower_of(context: Context, folder: str) -> "Follower":
     sender = None
     if remote.is_remote(settings.to):
         rsh = remote.keeping_connected(settings.rsh, folder)
-        sender = Sender(remote.Remote(settings.to, rsh), folder, file, own, say)
+        sender = Sender(remote.Remote(settings.to, rsh), folder, file, own, settings.days, say)
     say(f"follows {file}, of timeline {own}, to {settings.to}")
     return Follower(file, context.settings.wait, book, settings.days, say, sender)
 

@@ -14,6 +14,7 @@ from . import piece
 from .capture import Digests, digest_of
 from .piece import HEAD, NAME, SNAPSHOT, Header, Piece
 
+OFTEN = 2_000  # names of a folder between two parts of a look
 EARLIER, EARLIER_END = "earlier-", ".db"  # of the name of an earlier file, which has its SHA-256 in between
 
 
@@ -42,37 +43,45 @@ class Chain:
         return min(self.snapshots, default=0)
 
 
-def chains_in(folder: str) -> list[Chain]:
+def nothing() -> None:
+    """What is done between two parts of a look, where nothing waits."""
+
+
+def chains_in(folder: str, between: Callable[[], None] = nothing) -> list[Chain]:
     """The chains of a folder, the newest last: those of a later timeline come later, then those that were written to
-    later."""
+    later. `between` is called often meanwhile."""
     chains: dict[tuple[int, str], Chain] = {}
-    for name in sorted(names_in(folder)):
+    for name in names_in(folder, between):
         if match := NAME.fullmatch(name):
             timeline, chain_name, number, kind = int(match[1]), match[2], int(match[3]), match[4]
             of = chains.setdefault((timeline, chain_name), Chain(timeline, chain_name))
             (of.snapshots if kind == SNAPSHOT else of.pieces)[number] = os.path.join(folder, name)
-    return sorted(chains.values(), key=lambda chain: (chain.timeline, began(chain)))
+    return sorted(chains.values(), key=lambda chain: (chain.timeline, began(chain), chain.name))
 
 
-def names_in(folder: str) -> list[str]:
+def names_in(folder: str, between: Callable[[], None] = nothing) -> Iterator[str]:
     """The names in a folder of pieces; none if it isn't there. Fails if one is a link or a pipe: whoever may write there
     could have another file read by it, or have its reader wait."""
     try:
         with os.scandir(folder) as entries:
-            return [entry.name for entry in entries if is_no_link(entry, folder)]
+            for count, entry in enumerate(entries, 1):
+                require_no_link(entry, folder)
+                yield entry.name
+                if count % OFTEN == 0:
+                    between()
     except FileNotFoundError:
-        return []
+        return
     except OSError as error:
         raise Failure(f"{folder} can't be looked at: {error.strerror}") from error
 
 
-def is_no_link(entry: "os.DirEntry[str]", folder: str) -> bool:
-    """True; fails if a name in a folder is that of something else than a file, a folder, or the socket of a connection."""
+def require_no_link(entry: "os.DirEntry[str]", folder: str) -> None:
+    """Fails if a name in a folder is that of something else than a file, a folder, or the socket of a connection."""
     if entry.is_file(follow_symlinks=False) or entry.is_dir(follow_symlinks=False):
-        return True
-    if stat.S_ISSOCK(entry.stat(follow_symlinks=False).st_mode):
-        return True
-    raise Failure(f"{entry.name} in {folder} is no file", REFUSED, "nothing reads what it leads to: remove it")
+        return
+    with contextlib.suppress(FileNotFoundError):
+        if not stat.S_ISSOCK(entry.stat(follow_symlinks=False).st_mode):
+            raise Failure(f"{entry.name} in {folder} is no file", REFUSED, "nothing reads what it leads to: remove it")
 
 
 def began(chain: Chain) -> float:
@@ -120,7 +129,7 @@ class Report:
     hashes: dict[int, str] = field(default_factory=dict)
     snapshots: set[int] = field(default_factory=set)  # that are whole
     names: dict[str, str] = field(default_factory=dict)  # of files by the SHA-256 of their headers
-    note: Callable[[], None] = lambda: None  # is called behind each file
+    note: Callable[[], None] = nothing  # is called behind each file
 
     def look(self) -> "Report":
         """Looks at each number: at the piece, then at the snapshot of its state."""
@@ -300,22 +309,20 @@ def last_earlier(chain: Chain) -> dict[str, str]:
     return {}
 
 
-def prune(folder: str, name: str, days: int) -> list[str]:
-    """Removes the snapshots of a chain that are older than so many days, but not its newest, with the pieces before the
-    oldest that stays, and other chains to which nothing came for so long; the names of what was removed."""
-    oldest, gone = time.time() - days * 86_400, list[str]()
-    for of in chains_in(folder):
+def old_names(folder: str, name: str, days: int, between: Callable[[], None] = nothing) -> list[str]:
+    """What is older than so many days: the snapshots of a chain, but not its newest, with the pieces before the oldest
+    that stays, and other chains to which nothing came for so long; in the order in which they can go."""
+    oldest, old = time.time() - days * 86_400, list[str]()
+    for of in chains_in(folder, between):
         stay = [number for number, path in of.snapshots.items() if seconds_in(folder, os.path.basename(path)) >= oldest]
         stay = stay or ([max(of.snapshots)] if of.snapshots and of.name == name else [])
         is_old = of.name != name and seconds_in(folder, os.path.basename(of.newest)) < oldest
         if not stay and not is_old:
             continue
         first = min(stay, default=of.last + 1)
-        gone += [path for number, path in of.snapshots.items() if number < first]
-        gone += [path for number, path in of.pieces.items() if number <= first]
-    for path in gone:
-        os.unlink(path)
-    return [os.path.basename(path) for path in gone]
+        old += [path for number, path in of.snapshots.items() if number < first]
+        old += [path for number, path in of.pieces.items() if number <= first]
+    return sorted(os.path.basename(path) for path in old)
 
 
 def at_of(chain: Chain, number: int) -> str:

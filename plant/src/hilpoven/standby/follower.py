@@ -1,8 +1,10 @@
 """The follower: it looks at an office ten times a second, and makes a piece of what is new each second."""
+import contextlib
 import os
 import time
 from collections.abc import Callable
 from dataclasses import dataclass, field
+from functools import cached_property
 
 from ..core.failure import FAULT, REFUSED, Failure
 from . import capture, chain, timeline
@@ -10,6 +12,7 @@ from .book import Book
 from .capture import Digests, Gap, Place, Scan, Watch
 from .chain import Chain
 from .piece import FILE, LOG, SNAPSHOT
+from .removal import Removal, Trouble
 from .sender import Sender
 from .state import Saved, State
 from .wal import Pages
@@ -17,6 +20,7 @@ from .wal import Pages
 PAUSE = 0.1  # seconds between two looks
 EVERY = 1.0  # seconds between two pieces
 LONGEST_PAUSE = 30.0  # seconds behind a fault that lasts
+PRUNE = 3_600.0  # seconds between two looks for what is old
 MOST_HELD = 64_000_000  # bytes of pages that wait for room on the disk
 
 
@@ -37,6 +41,15 @@ class Follower:
     digests: Digests | None = None  # of the pages of the chain, once they are needed
     fault: str = ""  # what keeps pieces from being written
     written: float = 0.0  # when the last piece was, by the clock that never goes back
+    pruned: float | None = None  # when it was looked for what is old, by the same clock
+    pause: float = PAUSE  # before the next look
+    is_resumed: bool = False
+
+    @cached_property
+    def removal(self) -> Removal:
+        """What is old and goes."""
+        folder = self.book.folder
+        return Removal(folder, Trouble(self.tell, f"old pieces of {folder} are removed again"))
 
     def resume(self) -> None:
         """Goes on with the newest chain of the folder, or begins one with a snapshot."""
@@ -68,7 +81,8 @@ class Follower:
             self.write_pending()
         if self.book.is_snapshot_due:
             self.make_snapshot()
-            self.prune()
+            self.pruned = None
+        self.prune()
 
     def note_new(self, watch: Watch) -> None:
         """Reads on in the log."""
@@ -171,46 +185,69 @@ class Follower:
                 self.watch, self.why, self.pending = None, str(gap), Pages()
 
     def prune(self) -> None:
-        """Removes snapshots of more than so many days, with the pieces before the oldest that stays."""
-        names = chain.prune(self.book.folder, self.book.chain, self.days)
-        if self.sender:
-            self.sender.remove(names)
+        """Looks for snapshots of more than so many days, with the pieces before the oldest that stays, and has them
+        removed. Pieces go on meanwhile, unless a fault keeps them."""
+        is_due = self.pruned is None or time.monotonic() - self.pruned >= PRUNE
+        if is_due and self.book.snapshot is not None:
+            between = chain.nothing if self.fault else self.write_between
+            old = chain.old_names(self.book.folder, self.book.chain, self.days, between)
+            self.removal.add(old)
+            if self.sender:
+                self.sender.remove(old)
+            self.pruned = time.monotonic()
 
     def run(self) -> None:
-        """Follows until a signal ends it. A fault is told when it begins and ends."""
-        saved, pause, is_resumed = Saved(self.book.folder), PAUSE, False
+        """Follows until a signal ends it."""
+        saved = Saved(self.book.folder)
         while True:
-            try:
-                if not is_resumed:
-                    self.resume()
-                    is_resumed = True
-                self.step()
-                if os.path.lexists(os.path.join(self.book.folder, timeline.mark_of(self.book.timeline + 1))):
-                    require_latest(self.file, self.book.timeline, self.book.folder, [])
-                self.note_fault("")
-                pause = PAUSE
-            except (Failure, OSError) as error:
-                if isinstance(error, Failure) and error.exit_code != FAULT:
-                    raise
-                self.note_fault(
-                    error.message
-                    if isinstance(error, Failure)
-                    else f"{error.filename or self.book.folder}: {error.strerror}"
-                )
-                pause = min(LONGEST_PAUSE, max(1.0, 2 * pause))
-                if self.held > MOST_HELD:
-                    self.watch, self.why, self.pending = None, "pieces couldn't be written", Pages()
-            if self.sender:
-                self.sender.step(self.state)
-            if saved.save(self.state) and self.sender:
-                self.sender.add_state()
-            time.sleep(pause)
+            self.turn()
+            ends = time.monotonic() + self.pause
+            while (left := ends - time.monotonic()) > 0:
+                self.tend(saved)
+                time.sleep(min(PAUSE, left))
+
+    def turn(self) -> None:
+        """One look. A fault is told when it begins and ends."""
+        try:
+            if not self.is_resumed:
+                self.resume()
+                self.is_resumed = True
+            self.step()
+            if os.path.lexists(os.path.join(self.book.folder, timeline.mark_of(self.book.timeline + 1))):
+                require_latest(self.file, self.book.timeline, self.book.folder, [])
+            self.note_fault("")
+            self.pause = PAUSE
+        except Failure as failure:
+            if failure.exit_code != FAULT:
+                raise
+            self.note_failed_look(failure.message)
+        except OSError as error:
+            self.note_failed_look(f"{error.filename or self.book.folder}: {error.strerror}")
+
+    def note_failed_look(self, fault: str) -> None:
+        """Has the next look wait for longer each time. Pages don't fill the memory meanwhile: what is given up is found
+        by a look at all of FILE."""
+        self.note_fault(fault)
+        self.pause = min(LONGEST_PAUSE, max(1.0, 2 * self.pause))
+        if self.held > MOST_HELD:
+            self.watch, self.why, self.pending = None, "pieces couldn't be written", Pages()
+        with contextlib.suppress(Failure, OSError):
+            self.prune()  # which may make room
+
+    def tend(self, saved: Saved) -> None:
+        """Goes on with what is removed and sent, and notes how far it is."""
+        self.removal.step()
+        self.state.fault = self.fault or self.removal.trouble.fault
+        if self.sender:
+            self.sender.step(self.state)
+        if saved.save(self.state) and self.sender:
+            self.sender.add_state()
 
     def note_fault(self, fault: str) -> None:
         """Tells of a fault that begins or ends."""
         if fault != self.fault:
             self.tell(fault or f"pieces of {self.file} are written again")
-        self.fault = self.state.fault = fault
+        self.fault = fault
 
 
 def own_chains(book: Book) -> list[Chain]:

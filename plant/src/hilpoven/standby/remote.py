@@ -3,10 +3,11 @@ import os
 import re
 import shlex
 import subprocess
-import tempfile
+import time
 from collections.abc import Iterable
 from dataclasses import dataclass
-from typing import IO
+from enum import Enum, auto
+from typing import IO, NamedTuple
 
 from ..core.failure import WRONG_USE, Failure
 
@@ -16,7 +17,9 @@ RSYNC = ["rsync", "--times", "--chmod=F600", "--fsync", "--whole-file", f"--time
 CONNECTION = ("ControlMaster=auto", "ControlPersist=60", "ServerAliveInterval=5", "ServerAliveCountMax=2")
 CONTROL = ".ssh"  # the name of the connection's socket
 LONGEST = 80  # bytes of a folder's path in which ssh can make that
-LISTED = re.compile(r"(?m)^-\S+\s+[\d,.]+\s+\S+\s+\S+\s(.+)$")
+LISTED = re.compile(r"(?m)^-\S+\s+[\d,.]+\s+(\S+\s+\S+)\s(.+)$")
+LISTED_AT = "%Y/%m/%d %H:%M:%S"
+NOWHERE = "/proc/"  # a folder in which nobody can make a file: what is named there is removed at the other end
 
 
 def is_remote(to: str) -> bool:
@@ -24,11 +27,27 @@ def is_remote(to: str) -> bool:
     return ":" in to.partition("/")[0]
 
 
+class Purpose(Enum):
+    """What rsync does."""
+
+    LOOK = auto()
+    SEND = auto()
+    REMOVE = auto()
+
+
+class ListedFile(NamedTuple):
+    """A file of the folder on the other machine: its name, and when it was written, in seconds since 1970."""
+
+    name: str
+    at: float
+
+
 @dataclass
 class Job:
     """What rsync does, and for which names."""
 
     process: "subprocess.Popen[bytes]"
+    purpose: Purpose
     names: list[str]
     output: IO[bytes]
 
@@ -61,10 +80,10 @@ class Remote:
         """The folder with a stroke at its end, as rsync reads it."""
         return f"{self.to.rstrip('/')}/"
 
-    def begin(self, words: list[str], names: Iterable[str] = (), content: str = "") -> Job:
-        """Begins rsync, with lines at its standard input."""
-        output = tempfile.TemporaryFile()
-        with tempfile.TemporaryFile() as lines:
+    def begin(self, purpose: Purpose, words: list[str], names: Iterable[str] = (), content: str = "") -> Job:
+        """Begins rsync, with lines at its standard input. Both streams are in memory, so a full disk ends nothing."""
+        output = in_memory("output")
+        with in_memory("lines") as lines:
             lines.write(os.fsencode(content))
             lines.seek(0)
             try:
@@ -73,41 +92,48 @@ class Remote:
                 )
             except OSError as error:
                 output.close()
-                raise Failure(f"rsync can't be run: {error.strerror}", WRONG_USE) from error
-        return Job(process, list(names), output)
+                if isinstance(error, FileNotFoundError):
+                    raise Failure("rsync isn't installed", WRONG_USE) from error
+                raise Failure(f"rsync can't be run: {error.strerror}") from error
+        return Job(process, purpose, list(names), output)
 
     def send(self, folder: str, names: list[str]) -> Job:
         """Begins to send files of a folder."""
-        content = "".join(f"{name}\n" for name in names)
-        return self.begin(["--files-from=-", f"{folder}/", self.address], names, content)
+        return self.begin(Purpose.SEND, ["--files-from=-", f"{folder}/", self.address], names, as_lines(names))
 
     def names(self, *patterns: str) -> Job:
         """Begins to list the files there whose names fit one of these patterns."""
         chosen = [f"--include={pattern}" for pattern in patterns]
-        return self.begin(["--recursive", "--list-only", *chosen, "--exclude=*", self.address])
+        return self.begin(Purpose.LOOK, ["--recursive", "--list-only", *chosen, "--exclude=*", self.address])
 
     def remove(self, names: list[str]) -> Job:
-        """Begins to remove these files there, and no others."""
-        with tempfile.TemporaryDirectory() as empty:
-            chosen = "".join(f"+ /{name}\n" for name in names)
-            words = ["--recursive", "--delete", "--include-from=-", "--exclude=*", f"{empty}/", self.address]
-            job = self.begin(words, names, chosen)
-            job.process.wait()
-        return job
+        """Begins to remove these files there, and no others. Each costs the same, however many there are."""
+        words = ["--delete-missing-args", "--existing", "--ignore-existing", "--omit-dir-times", "--files-from=-"]
+        return self.begin(Purpose.REMOVE, [*words, NOWHERE, self.address], names, as_lines(names))
 
-    def listed(self) -> list[str]:
-        """The names of all pieces and marks there, which is waited for."""
+    def listed(self) -> list[ListedFile]:
+        """All pieces and marks there, which are waited for."""
         job = self.names("promoted-*", "*.piece", "*.snapshot")
         job.process.wait()
         text, fault = job.end() or ("", "")
         if fault:
             raise Failure(f"{self.to} can't be asked: {fault}")
-        return names_in(text)
+        return files_in(text)
 
 
-def names_in(text: str) -> list[str]:
-    """The names of files in what rsync lists."""
-    return LISTED.findall(text)
+def in_memory(name: str) -> IO[bytes]:
+    """A file without a name, which is on no disk."""
+    return open(os.memfd_create(name), "w+b")
+
+
+def as_lines(names: list[str]) -> str:
+    """Names as rsync reads them."""
+    return "".join(f"{name}\n" for name in names)
+
+
+def files_in(text: str) -> list[ListedFile]:
+    """The files in what rsync lists, with its times, which are those of this machine's time zone."""
+    return [ListedFile(name, time.mktime(time.strptime(at, LISTED_AT))) for at, name in LISTED.findall(text)]
 
 
 def keeping_connected(rsh: str, folder: str) -> str:
