@@ -168,7 +168,7 @@ def follow_verify(context: Context, folder: str | None) -> None:
         wrong |= bool(report.wrong)
         state = "whole" if not report.wrong else f"{report.whole:,} are whole"
         counts = f"{len(of.snapshots):,} snapshots and {len(of.pieces):,} pieces"
-        click.echo(f"chain {of.name} of timeline {of.timeline}: {counts}, {state}; up to {chain.at_of(of, of.last)}")
+        click.echo(f"chain {of.name} of timeline {of.timeline}: {counts}, {state}; up to {report.last_at or 'none'}")
     sys.exit(REFUSED if wrong else 0)
 
 

@@ -147,6 +147,7 @@ class Report:
             one = opened(path)
             if fault := self.fault(one, os.path.basename(path)):
                 raise Failure(f"{os.path.basename(path)} {fault}")
+            missing = self.missing_earlier(one)
         except Failure as failure:
             self.wrong.append(failure.message)
         else:
@@ -155,7 +156,7 @@ class Report:
             if header.is_snapshot:
                 self.snapshots.add(header.number)
             self.hashes[header.number] = header.before if header.is_snapshot and header.number else header.hash
-            self.wrong += self.missing_earlier(one)
+            self.wrong += missing
         self.note()
 
     def fault(self, one: Piece, name: str) -> str:
@@ -198,6 +199,14 @@ class Report:
         if not starts:
             raise Failure(f"piece {end} of {self.chain.name} can't be reached: {'; '.join(self.wrong[:5])}", REFUSED)
         return max(starts), end
+
+    @property
+    def last_at(self) -> str:
+        """When the last piece that can be used was made, or its snapshot; empty if none can."""
+        for number in sorted(self.hashes, reverse=True):
+            with contextlib.suppress(Failure):
+                return at_of(self.chain, number)
+        return ""
 
     def end_from(self, number: int) -> int:
         """The last piece that is reached from a number."""
@@ -251,7 +260,10 @@ def build(pieces: Iterable[Piece], room: str) -> Built:
         for opened_piece in pieces:
             last = opened_piece.header
             for number, page in opened_piece.pages():
-                os.pwrite(base.fileno(), page, (number - 1) * len(page))
+                if not number:
+                    raise Failure(f"{last.name} has a page of no number")
+                if number <= last.size:
+                    os.pwrite(base.fileno(), page, (number - 1) * len(page))
             os.ftruncate(base.fileno(), last.size * last.page_size)
             add_lines(lines, opened_piece)
             named = opened_piece.earlier()

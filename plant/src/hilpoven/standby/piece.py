@@ -13,6 +13,7 @@ import os
 import re
 from collections.abc import Iterator
 from dataclasses import asdict, dataclass
+from datetime import datetime
 from typing import IO, Any
 
 from ..core import scratch
@@ -31,6 +32,8 @@ NEW = os.O_WRONLY | os.O_CREAT | os.O_EXCL | os.O_NOFOLLOW | os.O_CLOEXEC
 NOTHING = "0" * 64  # in place of the SHA-256 of a header before the first
 SNAPSHOT, LOG, FILE = "snapshot", "log", "file"  # what a piece was made of: all pages, the log, or changed ones of FILE
 ENDS = {SNAPSHOT: ".snapshot", LOG: ".piece", FILE: ".piece"}
+PAGE_SIZES = frozenset(1 << n for n in range(9, 17))
+SHA256 = re.compile(r"[0-9a-f]{64}")
 NAME = re.compile(r"([0-9]{4})-([0-9a-f]{12})-([0-9]{8})\.(piece|snapshot)")
 
 
@@ -110,17 +113,45 @@ def as_values(place: Position | None) -> dict[str, Any] | None:
 
 def header_of(head: bytes) -> Header:
     """The header in the first bytes of a piece; fails with ValueError if they are none."""
-    values = json.loads(head[:-SUM])
-    if not isinstance(values, dict) or values.pop("format", None) != FORMAT:
-        raise ValueError("its format is unknown")
     try:
+        values = json.loads(head[:-SUM])
+        if not isinstance(values, dict) or values.pop("format", None) != FORMAT:
+            raise ValueError("its format is unknown")
         header = Header(**values)
-        is_same = header.as_bytes() == head and header.length >= HEAD
-    except (TypeError, KeyError, AttributeError, Failure) as error:
+        if not is_possible(header):
+            raise ValueError("its header is none of a piece")
+        is_same = header.as_bytes() == head
+    except (TypeError, KeyError, AttributeError, OverflowError, RecursionError, Failure) as error:
         raise ValueError("its header is none of a piece") from error
     if not is_same:
         raise ValueError("its header was changed")
     return header
+
+
+def is_possible(header: Header) -> bool:
+    """Whether each field of a header has a value that a follower could have written."""
+    texts = (header.kind, header.office, header.before, header.at, header.journal_hash, header.sha256)
+    numbers = (header.pages, header.size, header.journal_from, header.journal, header.earlier, *header.file)
+    log = header.place.log
+    of_log = (log.checkpoint, log.frames, *log.salts, *log.sums) if log else ()
+    return (
+        all(type(text) is str for text in texts)
+        and all(type(number) is int and 0 <= number < 2**63 for number in (*numbers, *of_log))
+        and all(type(size) is int and size in PAGE_SIZES for size in (header.page_size, log.page_size if log else 512))
+        and NAME.fullmatch(header.name) is not None
+        and datetime.fromisoformat(header.at).tzinfo is not None
+    )
+
+
+def earlier_of(text: bytes) -> dict[str, str]:
+    """What a piece says of earlier files; fails if it is nothing that a follower writes."""
+    try:
+        names = json.loads(text)
+    except (ValueError, RecursionError):
+        names = None
+    if not isinstance(names, dict) or not all(type(each) is str and SHA256.fullmatch(each) for each in names.values()):
+        raise Failure("what it says of earlier files is nothing that a piece says")
+    return names
 
 
 @dataclass(frozen=True)
@@ -152,8 +183,7 @@ class Piece:
             return None
         with self.opened() as file:
             file.seek(self.header.length - self.header.earlier)
-            names: dict[str, str] = json.loads(file.read())
-            return names
+            return earlier_of(file.read(self.header.earlier))
 
     @contextlib.contextmanager
     def opened(self) -> Iterator[IO[bytes]]:

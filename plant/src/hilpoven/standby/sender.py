@@ -13,6 +13,7 @@ from .removal import Trouble
 from .state import State
 
 LOOK = 10.0  # seconds between two looks for a mark that the folder there was promoted
+STATE = 5.0  # seconds between two sends of the state alone, which a new piece would have to wait for
 MOST_NAMES = 2_000  # that are sent at a time
 MOST_REMOVED = 20_000  # names at a time
 
@@ -37,6 +38,7 @@ class Sender:
     is_known: bool = False  # whether it is known what is there
     is_state_new: bool = False
     looked: float = 0.0
+    state_sent: float = 0.0
 
     @cached_property
     def sending(self) -> Trouble:
@@ -113,8 +115,8 @@ class Sender:
             return self.remote.names("promoted-*", "*.piece", "*.snapshot", f"{chain.EARLIER}*")
         if time.monotonic() - self.looked >= LOOK:
             return self.remote.names("promoted-*")
-        if self.unsent or self.is_state_new:
-            self.is_state_new = False
+        if self.unsent or self.is_state_new and time.monotonic() - self.state_sent >= STATE:
+            self.is_state_new, self.state_sent = False, time.monotonic()
             pieces = self.present(list(islice(self.unsent, MOST_NAMES)))
             return self.remote.send(self.folder, [*pieces, state.NAME])
         return None
