@@ -9,8 +9,9 @@ import pytest
 from conftest import Plant
 from following import follower_of, look
 from hilpoven.core import settings as site
+from hilpoven.journal.log import Journal
 from hilpoven.journal.query import check
-from hilpoven.standby import chain
+from hilpoven.standby import chain, journals
 
 OLD, NEW = "ACMEKEY1", "ANOTHERKEY2"
 
@@ -118,6 +119,37 @@ def test_a_journal_that_a_stop_cut_goes_on_with_the_lines_of_the_pieces(at_work,
     os.truncate(at_work.journal, cut if cut >= 0 else len(before) + cut)
     assert at_work.run("promote", pieces).status == 0
     assert at_work.journal.read_bytes().startswith(before) and check(str(at_work.journal), file=str(at_work.db)).wrong == []
+
+
+def test_a_journal_that_is_written_meanwhile_stops_a_promotion_before_anything_is_moved(at_work, pieces, monkeypatch):
+    """Somebody's command is noted while it waits for the lock."""
+    whole = at_work.journal.read_bytes()
+    lines = whole.splitlines(keepends=True)
+    at_work.journal.write_bytes(b"".join(lines[:2]))
+    real, before = journals.compared, at_work.content()
+
+    def compared(*words: str) -> journals.Beside:
+        beside = real(*words)
+        Journal(str(at_work.journal), str(at_work.db)).note(str(at_work.db), ["party", "add"])
+        return beside
+
+    with monkeypatch.context() as patch:
+        patch.setattr(journals, "compared", compared)
+        done = at_work.run("promote", pieces)
+    assert done.status == 3 and "was written meanwhile" in done.err and at_work.content() == before and not list(pieces.glob("promoted-*"))
+    assert len(at_work.lines()) == 3 and not list(at_work.folder.glob("*before-restore*"))
+    assert at_work.run("promote", pieces).status == 0 and at_work.journal.read_bytes().startswith(whole)  # the other one is aside, with its line
+    assert len(list(at_work.folder.glob("*before-restore*/office.db.journal"))) == 1
+
+
+@pytest.mark.parametrize("make", (lambda path: path.symlink_to("/etc/passwd"), os.mkfifo, os.mkdir))
+def test_what_is_no_journal_stops_a_promotion(at_work, pieces, make):
+    at_work.journal.unlink()
+    make(at_work.journal)
+    before = at_work.content()
+    done = at_work.run("promote", pieces)
+    assert done.status in (1, 2, 3) and done.err.startswith("hilpoven: ") and at_work.content() == before, done
+    assert not list(pieces.glob("promoted-*"))
 
 
 def test_lines_behind_damaged_pieces_come_from_a_later_snapshot(at_work, pieces, standby):

@@ -13,7 +13,7 @@ import pytest
 from conftest import HILPOVEN, Plant, environment, eventually
 from following import follower_of, look
 from hilpoven.standby import book, chain, piece, state
-from hilpoven.standby.remote import Remote
+from hilpoven.standby.remote import ListedFile, Remote, files_in
 from hilpoven.standby.removal import Removal, Trouble
 from hilpoven.standby.sender import Sender
 from hilpoven.standby.state import State
@@ -220,8 +220,6 @@ def test_pieces_that_are_only_there_and_not_old_are_no_one_s_to_remove(tmp_path)
     """Another follower's, and those that were lost here behind the oldest snapshot."""
     own, other = "0001-aaaaaaaaaaaa-", "0001-bbbbbbbbbbbb-"
     here = {f"{own}00000005.snapshot", f"{own}00000006.piece"}
-    from hilpoven.standby.remote import ListedFile
-
     now, old = time.time(), time.time() - AGO
     remote_folder = [
         ListedFile(f"{own}00000004.piece", old), ListedFile(f"{own}00000005.piece", old), ListedFile(f"{own}00000003.piece", now), ListedFile(f"{own}00000000.snapshot", old),
@@ -230,6 +228,14 @@ def test_pieces_that_are_only_there_and_not_old_are_no_one_s_to_remove(tmp_path)
     ]
     sender = Sender(Remote("there:/", "false"), str(tmp_path), "office.db", 1, 7, print)
     assert set(sender.old_there(remote_folder, here)) == {f"{own}00000004.piece", f"{own}00000005.piece", f"{own}00000000.snapshot", "0001-cccccccccccc-00000001.piece"}
+
+
+def test_what_the_other_machine_lists_is_read_as_it_may_be():
+    """A time that is none is of now, so that nothing is removed by it."""
+    text = "drwx------             40 2026/11/30 13:38:06 .\n-rw-------          2,048 2026/11/20 00:00:00 a b.piece\n-rw-------              1 9999/99/99 99:99:99 c.piece\nlrwxrwxrwx 1 2026/11/30 13:38:06 d -> e\n"
+    first, second = files_in(text)
+    assert (first.name, first.at) == ("a b.piece", time.mktime((2026, 11, 20, 0, 0, 0, 0, 0, -1)))
+    assert second.name == "c.piece" and abs(second.at - time.time()) < 60
 
 
 def test_nothing_is_removed_there_before_the_snapshot_that_stays_is_there(tmp_path):

@@ -77,16 +77,24 @@ def is_cut(path: str, longer: str, at: int) -> bool:
         return lines.readline().startswith(rest)
 
 
-def go_on(journal: Journal, beside: Beside) -> None:
-    """Has the office's journal go on with the lines of pieces that it lacks. Behind a kill, the same goes on."""
+def go_on(journal: Journal, beside: Beside) -> str:
+    """Has the office's journal go on with the lines of pieces that it lacks, and moves the office's file aside; the
+    folder where it is now. A journal that was written meanwhile fails before that. Behind a kill, the same goes on."""
+    if beside.relation is Relation.OLDER:
+        add_lines(journal, beside)
+    aside = backups.move_aside(journal.file, *([journal.path] if beside.is_another else []))
     if beside.relation in (Relation.NONE, Relation.ANOTHER):
         backups.put_in_place(beside.pieces, journal.path)
-    elif beside.relation is Relation.OLDER:
-        with journal.locked() as descriptor, open(beside.pieces, "rb") as lines:
-            if os.fstat(descriptor).st_size != beside.size:
-                raise Failure(f"the journal {journal.path} was written meanwhile", advice="give the command again")
-            lines.seek(beside.size)
-            while part := lines.read(PART):
-                os.write(descriptor, part)
-            os.fsync(descriptor)
     journal.move(journal.file)
+    return aside
+
+
+def add_lines(journal: Journal, beside: Beside) -> None:
+    """Adds the lines of pieces that an older journal lacks, under its lock."""
+    with journal.locked() as descriptor, open(beside.pieces, "rb") as lines:
+        if os.fstat(descriptor).st_size != beside.size:
+            raise Failure(f"the journal {journal.path} was written meanwhile", advice="give the command again")
+        lines.seek(beside.size)
+        while part := lines.read(PART):
+            os.write(descriptor, part)
+        os.fsync(descriptor)

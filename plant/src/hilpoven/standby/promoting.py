@@ -108,8 +108,7 @@ def put(
         "sha256": snapshot.hash_of(built.file),
     }
     notes = [*beside.lines, *kept.lines]
-    aside = backups.move_aside(office.file, *([journal.path] if beside.is_another else []))
-    journals.go_on(journal, beside)
+    aside = journals.go_on(journal, beside)
     words = ["promote", *(["--until", str(until)] if until is not None else []), built.last.name]
     with journal.noted(office.file, words, sha256=origin["sha256"], timeline=number) as note:
         timeline.mark(folder, number, origin)

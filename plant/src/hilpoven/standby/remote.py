@@ -133,7 +133,15 @@ def as_lines(names: list[str]) -> str:
 
 def files_in(text: str) -> list[ListedFile]:
     """The files in what rsync lists, with its times, which are those of this machine's time zone."""
-    return [ListedFile(name, time.mktime(time.strptime(at, LISTED_AT))) for at, name in LISTED.findall(text)]
+    return [ListedFile(name, listed_seconds(at)) for at, name in LISTED.findall(text)]
+
+
+def listed_seconds(at: str) -> float:
+    """A time that rsync lists, in seconds since 1970; now if it is none."""
+    try:
+        return time.mktime(time.strptime(at, LISTED_AT))
+    except (ValueError, OverflowError):
+        return time.time()
 
 
 def keeping_connected(rsh: str, folder: str) -> str:
