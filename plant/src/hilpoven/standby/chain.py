@@ -60,8 +60,8 @@ def chains_in(folder: str, between: Callable[[], None] = nothing) -> list[Chain]
 
 
 def names_in(folder: str, between: Callable[[], None] = nothing) -> Iterator[str]:
-    """The names in a folder of pieces; none if it isn't there. Fails if one is a link or a pipe: whoever may write there
-    could have another file read by it, or have its reader wait."""
+    """The names in a folder of pieces; none if it isn't there. Fails if one is a link or a pipe: whoever may write
+    there could have another file read by it, or have its reader wait."""
     try:
         with os.scandir(folder) as entries:
             for count, entry in enumerate(entries, 1):
@@ -76,7 +76,7 @@ def names_in(folder: str, between: Callable[[], None] = nothing) -> Iterator[str
 
 
 def require_no_link(entry: "os.DirEntry[str]", folder: str) -> None:
-    """Fails if a name in a folder is that of something else than a file, a folder, or the socket of a connection."""
+    """Fails if a name in a folder is that of something else than a file, a folder, or a connection's socket."""
     if entry.is_file(follow_symlinks=False) or entry.is_dir(follow_symlinks=False):
         return
     with contextlib.suppress(FileNotFoundError):

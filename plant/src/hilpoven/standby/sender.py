@@ -20,8 +20,8 @@ MOST_REMOVED = 20_000  # names at a time
 
 @dataclass
 class Sender:
-    """What is to be sent and removed, and what rsync does now: pieces and looks by one job, snapshots, earlier files and
-    removals by another, so that pieces don't wait for them."""
+    """What is to be sent and removed, and what rsync does now: pieces and looks by one job, snapshots, earlier files
+    and removals by another, so that pieces don't wait for them."""
 
     remote: Remote
     folder: str
