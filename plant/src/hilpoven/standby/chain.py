@@ -51,7 +51,7 @@ def chains_in(folder: str, between: Callable[[], None] = nothing) -> list[Chain]
     """The chains of a folder, the newest last: those of a later timeline come later, then those that were written to
     later. `between` is called often meanwhile."""
     chains: dict[tuple[int, str], Chain] = {}
-    for name in names_in(folder, between):
+    for name in sorted(names_in(folder, between)):
         if match := NAME.fullmatch(name):
             timeline, chain_name, number, kind = int(match[1]), match[2], int(match[3]), match[4]
             of = chains.setdefault((timeline, chain_name), Chain(timeline, chain_name))
