@@ -6,6 +6,7 @@ import sqlite3
 
 import pytest
 from conftest import AT_WORK, Plant
+from lying import liar
 
 CHANGES = {
     "an amount of a sublot": ("UPDATE sublots SET amount = amount + 1 WHERE lot = 'W-101'", "HOUSE W-101"),
@@ -58,10 +59,7 @@ LIES = {"a lot less": "$d", "another number of steps": r"$s/^ *\([0-9]*\)/\19/",
 
 @pytest.mark.parametrize("lie", LIES)
 def test_a_program_that_tells_something_else_is_not_believed(shipped, tmp_path, lie):
-    liar = tmp_path / "liar"
-    liar.write_text(f"#!/bin/sh\n'{shipped.program}' \"$@\" | sed '{LIES[lie]}'\n")
-    liar.chmod(0o700)
-    lied = Plant(str(liar), shipped.folder)
+    lied = Plant(liar(tmp_path / "liar", shipped.program, LIES[lie]), shipped.folder)
     done = lied.run("papers", "recall", "HOUSE", "W-101", tmp_path / "made", "--no-pdf")
     assert done.status == 1 and "toll tells" in done.err and done.err.count("\n") == 1, done
     assert "ACME B-1" in done.err or "HOUSE W-101" in done.err

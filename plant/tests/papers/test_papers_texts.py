@@ -7,6 +7,7 @@ import textwrap
 import figures
 import pytest
 from conftest import Plant
+from lying import liar
 
 GOLDEN = pathlib.Path(__file__).with_name("golden")
 SHIPPED = """
@@ -93,10 +94,7 @@ def test_the_board_keeps_the_rights_of_the_one_before(at_work):
 def test_a_board_that_cannot_be_made_leaves_the_old_one(at_work):
     target = at_work.folder / "board.html"
     target.write_text("old")
-    liar = at_work.folder / "liar"
-    liar.write_text(f"#!/bin/sh\n'{at_work.program}' \"$@\" | sed 's/running/held/'\n")
-    liar.chmod(0o700)
-    program, at_work.program = at_work.program, str(liar)
+    program, at_work.program = at_work.program, liar(at_work.folder / "liar", at_work.program, "s/running/held/")
     done = at_work.run("board", "--force", "--out", target)
     at_work.program = program
     assert done.status == 1 and "batch ACME O-1/1: toll tells" in done.err and target.read_text() == "old"

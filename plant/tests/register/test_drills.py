@@ -9,8 +9,9 @@ import sqlite3
 import tarfile
 
 import pytest
-from conftest import Plant, command, script
+from conftest import Plant, command
 from hilpoven.register import file
+from lying import liar
 from notes import register_of
 from test_week import REACHED, table
 from week import PREPARED, WEEK, lived
@@ -104,8 +105,8 @@ def test_of_drills_that_begin_at_once_one_does(settled):
 
 def test_a_paper_that_fails_is_made_again(settled):
     assert settled.run(*START).status == 0
-    liar = Plant(str(script(settled.folder / "liar", f"'{settled.program}' \"$@\" | sed 's/quarantined/rejected   /'")), settled.folder)
-    failed = liar.run("drill", "end", settled.folder / "made", "--no-pdf")
+    lied = Plant(liar(settled.folder / "liar", settled.program, "s/quarantined/rejected   /"), settled.folder)
+    failed = lied.run("drill", "end", settled.folder / "made", "--no-pdf")
     assert failed.status and "`hilpoven drill paper` makes the paper of a drill that ended" in failed.err, failed
     assert not (settled.folder / "made").exists() and not under_way(settled)
     for words in ([], ["--of", settled.lines()[0]["id"]]):

@@ -7,7 +7,7 @@ import pathlib
 from dataclasses import dataclass, field
 from random import Random
 
-from hilpoven.years.private_server import PrivateServer
+from hilpoven.core.private_server import PrivateServer
 from hilpoven.years.steps import Step
 
 OWNERS = ("ACME", "BOLT")

@@ -11,8 +11,9 @@ import time
 
 import pytest
 from conftest import Plant
+from hilpoven.core import private_server
 from hilpoven.core.snapshot import hash_of
-from hilpoven.years import private_server, steps
+from hilpoven.years import steps
 
 READY = ("do ACME O-1 1 done", "close ACME O-1 1")
 
@@ -217,7 +218,7 @@ def test_no_key_stands_on_a_command_line(ready, monkeypatch):
 
 
 def test_a_server_goes_with_whoever_began_it(ready):
-    script = f"import os, sys; sys.path.insert(0, {str(pathlib.Path(private_server.__file__).parents[2])!r}); from hilpoven.years.private_server import PrivateServer; " \
+    script = f"import os, sys; sys.path.insert(0, {str(pathlib.Path(private_server.__file__).parents[2])!r}); from hilpoven.core.private_server import PrivateServer; " \
              f"print(PrivateServer({ready.program!r}, {str(ready.db)!r}).server.pid, flush=True); os.kill(os.getpid(), 9)"
     pid = int(subprocess.run(["/usr/bin/python3", "-c", script], capture_output=True, text=True).stdout)
     for _ in range(100):

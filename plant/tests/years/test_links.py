@@ -9,6 +9,7 @@ from closure import closure, linked_edges, reading, recorded_edges
 from conftest import Plant
 from histories import called_again
 from hilpoven.core.office import Office
+from hilpoven.core.private_server import PrivateServer
 from hilpoven.journal.log import Journal
 from hilpoven.records.genealogy import Genealogy
 from hilpoven.records.rows import LotId
@@ -17,7 +18,6 @@ from hilpoven.register.folding import AFTER
 from hilpoven.register.notes import Link, Note, Why, Withdrawal, to_json
 from hilpoven.register.standing import standing_over_all
 from hilpoven.years import history
-from hilpoven.years.private_server import PrivateServer
 
 MOST_LOTS = 8  # of a history, of which traces are compared
 WAYS = ("forward", "back")

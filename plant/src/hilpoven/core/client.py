@@ -34,10 +34,10 @@ def framed(content: bytes) -> bytes:
 
 def read(peer: socket.socket, count: int) -> bytes:
     """So many bytes, or fewer if no more come."""
-    content = b""
+    content = bytearray()
     while len(content) < count and (piece := peer.recv(min(PIECE, count - len(content)))):
         content += piece
-    return content
+    return bytes(content)
 
 
 def read_frame(peer: socket.socket, most: int) -> bytes | None:

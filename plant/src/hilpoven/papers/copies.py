@@ -1,5 +1,6 @@
 """What papers are made of: copies of the office's files without any owner's key, and what `toll` answers over them."""
 import contextlib
+import functools
 import hashlib
 import os
 import secrets
@@ -10,14 +11,14 @@ from dataclasses import dataclass, field, replace
 from typing import Any
 
 from .. import HOUSE
-from ..core import meanings, scratch, snapshot
+from ..core import meanings, private_server, scratch, snapshot
 from ..core.failure import Failure
 from ..core.office import Office
+from ..core.private_server import PrivateServer
 from ..journal.log import Journal
 from ..records.rows import BatchId, LotId
 from ..register import standing
 from ..register.store import Register
-from ..years import private_server
 from ..years.chain import Part
 from ..years.history import merged, parts_of
 from . import guard
@@ -28,16 +29,23 @@ OWNER = "SELECT 1 FROM owners WHERE owner = ?"
 
 @dataclass(frozen=True)
 class Copy:
-    """A copy of a file: its tables, the path at which `toll` finds them, and the digest of what was copied."""
+    """A copy of a file: its tables, the path at which `toll` finds them, the digest of what was copied, and what ends
+    with it."""
 
     office: Office
     base: sqlite3.Connection
     path: str
     digest: str
+    ends: contextlib.ExitStack
+
+    @functools.cached_property
+    def server(self) -> PrivateServer:
+        """The server that answers all questions over the copy, from the first one on: it reads the whole file once."""
+        return self.ends.enter_context(private_server.opened(self.office.program, self.path))
 
     def answer(self, *words: str) -> str:
         """What `toll` answers; fails with its refusal or its fault."""
-        answer = self.office.ask(list(words), self.path)
+        answer = self.server.ask(*words)
         if answer.status:
             word = meanings.refusal_in(answer.output)
             values = dict(zip(("OWNER", "LOT" if words[0] in ("recall", "trace") else "ORDER", "BATCH"), words[1:]))
@@ -48,8 +56,7 @@ class Copy:
     def replies(self, owner: str, paths: list[str]) -> list[dict[str, Any]]:
         """What `toll` replies to an owner's GETs. The key is the copy's own, which is nobody's."""
         ((key,),) = self.base.execute("SELECT okey FROM owners WHERE owner = ?", (owner,)).fetchall()
-        with private_server.opened(self.office.program, self.path) as server:
-            replies = [(path, *server.request(owner, key, path)) for path in paths]
+        replies = [(path, *self.server.request(owner, key, path)) for path in paths]
         for path, status, body in replies:
             if status != 200:
                 raise Failure(f"toll replies {status} {body.get('error', '')} to GET {path}")
@@ -110,7 +117,7 @@ def keyless(office: Office, room: str) -> Iterator[Copy]:
             base = stack.enter_context(without_keys(path, office.file))
             base.execute("VACUUM INTO ?", (target,))
         # the names of what was copied are gone, and its tables stay open
-        yield Copy(office, base, target, digest)
+        yield Copy(office, base, target, digest, stack)
 
 
 @contextlib.contextmanager

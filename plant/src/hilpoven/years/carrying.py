@@ -5,7 +5,7 @@ import sqlite3
 from collections.abc import Callable, Iterator
 from dataclasses import dataclass
 
-from ..core import backups, lock, names, scratch, snapshot
+from ..core import backups, lock, names, private_server, scratch, snapshot
 from ..core.failure import tell
 from ..core.office import Answer, Office
 from ..core.server import Place
@@ -13,7 +13,7 @@ from ..journal import log, query
 from ..output.progress import bar
 from ..records import accepted
 from ..register import file as register
-from . import chain, comparing, exchanging, private_server, steps
+from . import chain, comparing, exchanging, steps
 from .filling import Filling
 
 MEMORY = "/dev/shm"

@@ -6,10 +6,10 @@ from itertools import zip_longest
 
 from .. import HOUSE
 from ..core.failure import Failure
+from ..core.private_server import PrivateServer
 from ..records.answers import StockLine, rows_of
 from ..records.schema import LATEST, Disposition
 from . import chain
-from .private_server import PrivateServer
 from .steps import UNBEGUN
 
 HELD = "EXISTS (SELECT 1 FROM {0}.sublots AS s WHERE s.owner = l.owner AND s.lot = l.lot AND s.amount > 0)"

@@ -5,7 +5,7 @@ from collections.abc import Callable, Iterator
 from dataclasses import dataclass, field
 
 from ..core.failure import Failure
-from .private_server import PrivateServer
+from ..core.private_server import PrivateServer
 from .steps import Step
 
 ACCEPTED, OK = "accepted\n", 200

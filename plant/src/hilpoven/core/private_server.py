@@ -8,9 +8,9 @@ import socket
 from collections.abc import Iterator
 from typing import Any
 
-from ..core import client
-from ..core.failure import Failure
-from ..core.office import Answer
+from . import client
+from .failure import Failure
+from .office import Answer
 
 SPARE = 10_000  # of the connections that one server answers to owners, which are left when a new one is begun
 MOST_ANSWER = 2**32 - 1  # bytes
