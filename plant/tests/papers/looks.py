@@ -127,7 +127,7 @@ class Papers:
             if owner in ("", shipper) and not facts:
                 unknown.append((day, shipper, key, lot, material, amount, measure))
             elif owner in ("", shipper):
-                sums = received.setdefault((shipper, facts["party"], material, measure), [0, 0, set()])
+                sums = received.setdefault((shipper, facts["party"], lot, material, measure), [0, 0, set()])
                 sums[0], sums[1] = sums[0] + 1, sums[1] + amount
                 sums[2] |= {facts["document"]} if "document" in facts else set()
         first = 1 if owner else 0  # an owner's tables don't name it
@@ -135,7 +135,7 @@ class Papers:
         assert sorted(row[:7 - first] for row in read) == figures.as_texts([(shipment[0], *shipment[1 + first:]) for shipment in unknown])
         read = [(*([owner] if owner else []), *row) for row in figures.read_csv(folder / "recipients.csv")]
         self.recipients += len(read)
-        assert {(row[0], row[1], row[6], row[9]): [int(row[7]), int(row[8]), set(filter(None, row[10].split("; ")))] for row in read} == received
+        assert {(row[0], row[1], row[6], row[7], row[10]): [int(row[8]), int(row[9]), set(filter(None, row[11].split("; ")))] for row in read} == received
         contacts = figures.read_csv(folder / "contacts.csv")
         assert sorted((*([owner] if owner else []), *contact)[:2] for contact in contacts) == sorted({recipient[:2] for recipient in received})
 

@@ -18,7 +18,7 @@ from .copies import Source
 from .links import links_sheet
 from .printing import LONG, Document
 from .recall import View, read_report
-from .recall_paper import MOST_NAMES, TO_DO, counts, mark, sums
+from .recall_paper import MOST_NAMES, counts, mark, sums
 from .recipients import sheets_of
 from .sheets import Cell, Row, Sheet, columns, percent
 
@@ -32,8 +32,7 @@ def documents(source: Source, drill: Drill, journal: Journal) -> list[Document]:
     entries = between(journal.path, journal.file, drill.begun.line, ended.line)
     start = lot_over_all(drill, journal, source.newest.base, None if source.is_one else source.base)
     view = View(read_report(source, start))
-    shipments = [(move, view.lot(move.lot)) for move in view.shipments]
-    sheets = [found_lots(view), masses(view), sums(view), *sheets_of(view.register, shipments, TO_DO), done(entries)]
+    sheets = [found_lots(view), masses(view), sums(view), *sheets_of(view), done(entries)]
     if not view.is_noted:
         sheets = [sheet.without("noted") for sheet in sheets]
     if view.links:
@@ -66,7 +65,7 @@ def found_lots(view: View) -> Sheet:
     rows: list[Row] = []
     for balance in view.balances:
         lot = balance.lot
-        about = view.recall.steps[lot.id], lot.disposition.word, *lot.id, mark(view, lot.id), lot.material
+        about = view.recall.steps[lot.id], view.status_of(lot.id), *lot.id, mark(view, lot.id), lot.material
         rows.append((*about, lot.on_hand, balance.amounts[Kind.SHIP], lot.measure))
     return Sheet("found", heads, rows, ["on_hand", "shipped"])
 

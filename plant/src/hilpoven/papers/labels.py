@@ -105,7 +105,7 @@ def status(source: Source, lot: Lot, day: datetime.date) -> str:
     word = lot.disposition.word
     quality_status = quality.statuses(source.base, source.register, lot.id).get(lot.id)
     if quality_status and quality_status.state == quality.State.HELD:
-        return f"{SIGNS['rejected']} held ({word}) when printed, {day}"
+        return f"{SIGNS['held']} held ({word}) when printed, {day}"
     return f"{SIGNS[word]} {word} when printed, {day}"
 
 

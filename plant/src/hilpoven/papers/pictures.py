@@ -6,8 +6,15 @@ import subprocess
 from collections.abc import Iterable
 from typing import NamedTuple
 
-SIGNS = {"released": "✓", "quarantined": "◇", "rejected": "✕", "mixed": "≡", "plant": "▪"}
-TINTS = {"released": "#e3f3e6", "quarantined": "#fdf1d3", "rejected": "#fbe3e1", "mixed": "#eef0f3", "plant": "#ffffff"}
+SIGNS = {"released": "✓", "quarantined": "◇", "rejected": "✕", "held": "✕", "mixed": "≡", "plant": "▪"}
+TINTS = {
+    "released": "#e3f3e6",
+    "quarantined": "#fdf1d3",
+    "rejected": "#fbe3e1",
+    "held": "#fbe3e1",
+    "mixed": "#eef0f3",
+    "plant": "#ffffff",
+}
 FRAMES = {"released": "rounded", "quarantined": "rounded,dashed", "mixed": "rounded,dotted"}
 SHEET = (757.0, 455.0)  # points of a sheet of A4, across, beneath a heading
 SMALLEST = 0.68  # of nine points: letters that are still read on paper

@@ -9,6 +9,7 @@ from ..records.balance import Balance, require_closed
 from ..records.recall import Recall, RecallLine, read_recall, recall_lines
 from ..records.rows import Batch, BatchId, Lot, LotId, Move, batches_of, require_lot, sublots_of
 from ..records.schema import Kind
+from ..register import quality
 from ..register.below import noted_text
 from ..register.notes import Link
 from ..register.store import Register
@@ -16,6 +17,7 @@ from .agreement import agree, agree_on_all, check_stock
 from .copies import Source
 
 MOST_ASKED = 200  # batches that `toll` is asked about one by one
+HELD = quality.State.HELD.value
 
 
 @dataclass(frozen=True)
@@ -33,14 +35,16 @@ class Step:
 
 @dataclass
 class Report:
-    """A recall that balances and that `toll` tells too, with its sublots, its batches by their steps, its text, and
-    what the plant noted."""
+    """A recall that balances and that `toll` tells too, with its sublots, its batches by their steps, its text, what
+    the plant noted, and which of its lots the plant's quality holds."""
 
     recall: Recall
     sublots: dict[tuple[LotId, str], int]
     steps: list[Step]
     text: str
     register: Register
+    held: dict[LotId, quality.Status]
+    files: int = 1  # of the office, over which it goes
 
     @property
     def owners(self) -> list[str]:
@@ -65,6 +69,15 @@ class View:
         """A lot of the recall."""
         return self.recall.balances[name].lot
 
+    def word_of(self, lot: LotId) -> str:
+        """Whether a lot is held, or else its disposition."""
+        return HELD if lot in self.report.held else self.lot(lot).disposition.word
+
+    def status_of(self, lot: LotId) -> str:
+        """The disposition of a lot; of one that is held, that it is, and the disposition behind it."""
+        word, disposition = self.word_of(lot), self.lot(lot).disposition.word
+        return f"{word} ({disposition})" if word == HELD else word
+
     def has(self, owner: str) -> bool:
         """Whether it shows an owner's lots and batches."""
         return self.owner in ("", owner)
@@ -85,10 +98,19 @@ class View:
         return [move for move in self.recall.moves if move.kind == Kind.SHIP and self.has(move.lot.owner)]
 
     @cached_property
+    def all_links(self) -> list[Link]:
+        """The links that it may show, in the order in which they were noted."""
+        return [link for link in self.recall.genealogy.links if self.has(link.owner)]
+
+    @cached_property
     def links(self) -> list[Link]:
-        """Its links that say what contains some of the recalled lots, in the order in which they were noted."""
-        links = self.recall.genealogy.links
-        return [link for link in links if self.has(link.owner) and link.contained in self.recall.steps]
+        """Its links that say what contains some of the recalled lots."""
+        return [link for link in self.all_links if link.contained in self.recall.steps]
+
+    @cached_property
+    def has_held(self) -> bool:
+        """Whether any of its lots is held."""
+        return any(balance.lot.id in self.report.held for balance in self.balances)
 
     @cached_property
     def is_noted(self) -> bool:
@@ -132,7 +154,10 @@ def read_report(source: Source, start: LotId) -> Report:
     check_batches(source, [step.batch for step in steps])
     noted = noted_text(answers.recall_text(recall_lines(source.base, recall.trace.noted))[1:])
     text += "".join(f"{line}\n" for line in noted)
-    return Report(recall, sublots, steps, text, noted_of(source.register, recall.moves))
+    register = noted_of(source.register, recall.moves)
+    statuses = quality.statuses(source.base, source.register)
+    held = {lot: status for lot, status in statuses.items() if lot in lots and status.state == quality.State.HELD}
+    return Report(recall, sublots, steps, text, register, held, len(source.files))
 
 
 def noted_of(register: Register, moves: list[Move]) -> Register:

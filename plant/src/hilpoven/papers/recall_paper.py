@@ -5,7 +5,7 @@ from typing import Any
 from .. import HOUSE
 from ..records.balance import COUNTED, Balance
 from ..records.rows import LotId
-from ..records.schema import Disposition, Kind
+from ..records.schema import FOLLOWING, Disposition, Kind
 from ..register.below import MARK
 from ..register.notes import Link
 from . import pictures
@@ -13,14 +13,16 @@ from .copies import Source
 from .links import links_sheet
 from .pictures import Arrow, Box
 from .printing import Document
-from .recall import Step, View, read_report
+from .recall import HELD, Step, View, read_report
 from .recipients import has_notes, sheets_of, with_recipients
 from .sheets import Row, Sheet, columns
 
 MOST_BOXES = 60
 MOST_NAMES = 4  # lots that are named in a cell; of more their number is told
-TO_DO = "hilpoven note movement {owner} {key} --to PARTY"  # about a shipment that nobody is known to have
+HOLD_LOT = "hilpoven hold {lot} --reason 'recall of {start}'"  # at once; a rejection is the owner's, and for good
+HOLD_BATCH = "hilpoven do {owner} {order} {number} hold"
 FIRST = (Disposition.RELEASED, Disposition.QUARANTINED, Disposition.REJECTED)
+WORDS = (*(disposition.word for disposition in FIRST), HELD)  # of what is on hand, each in a column
 
 
 def documents(source: Source, start: LotId) -> list[Document]:
@@ -50,48 +52,63 @@ def document(view: View) -> Document:
 
 
 def counts(view: View) -> dict[str, int]:
-    """How many owners are concerned, how many lots of each disposition are on hand, and how many shipments left."""
-    on_hand = Counter(balance.lot.disposition.word for balance in view.balances if balance.lot.on_hand)
-    by_disposition = {disposition.word: on_hand[disposition.word] for disposition in Disposition}
-    return {"owners": len(view.report.owners), "shipments": len(view.shipments), **by_disposition}
+    """How many owners are concerned, how many lots of each disposition and how many held ones are on hand, and how many
+    shipments left."""
+    on_hand = Counter(view.word_of(balance.lot.id) for balance in view.balances if balance.lot.on_hand)
+    by_word = {word: on_hand[word] for word in WORDS}
+    return {"owners": len(view.report.owners), "shipments": len(view.shipments), **by_word}
 
 
 def released(view: View) -> Sheet:
-    """The lots that are released and still on hand."""
+    """The lots that are released and still on hand, with what is to be done at once; those that are held come last."""
     rows: list[Row] = []
-    for lot in (balance.lot for balance in view.balances):
-        if lot.disposition == Disposition.RELEASED and lot.on_hand:
-            owner, name = lot.id
-            by_owner = "reject it on your page" if view.owner else f"{owner} rejects it"
-            to_do = f"hilpoven reject {name}" if owner == HOUSE else by_owner
-            rows.append((owner, name, mark(view, lot.id), lot.material, lot.on_hand, lot.measure, to_do))
+    lots = (balance.lot for balance in view.balances)
+    released_lots = [lot for lot in lots if lot.disposition == Disposition.RELEASED and lot.on_hand]
+    for lot in sorted(released_lots, key=lambda lot: lot.id in view.report.held):
+        about = *lot.id, mark(view, lot.id), lot.material, lot.on_hand, lot.measure
+        rows.append((*about, to_do_about(view, lot.id)))
     heads = columns(
         "owner lot noted:text@beside material on_hand:number measure=unit:text@beside to_do=what_to_do:text"
     )
     return Sheet("released", heads, rows)
 
 
+def to_do_about(view: View, lot: LotId) -> str:
+    """What a reader does at once about a lot that is released and on hand: the plant holds it, and its owner may reject
+    it for good."""
+    if status := view.report.held.get(lot):
+        return status.text
+    return "reject it on your page" if view.owner else HOLD_LOT.format(lot=lot, start=view.recall.start)
+
+
 def running(view: View) -> Sheet:
-    """The batches that consumed some and aren't closed."""
+    """The batches that consumed some and aren't closed, with what the plant does at once about each."""
     rows: list[Row] = []
     for step in view.steps:
-        owner, name = step.batch.id.owner, step.batch.id.name
-        if not step.batch.is_closed:
-            rows.append((owner, name, mark_of_step(step), *step.batch.status[:2], taken_in(view, step)))
-    return Sheet("running", columns("owner batch noted:text@beside unit state:text took:text"), rows)
+        batch = step.batch
+        if not batch.is_closed:
+            is_stopped = "hold" not in FOLLOWING[batch.state]
+            owner, order, number = batch.id
+            to_do = None if is_stopped else HOLD_BATCH.format(owner=owner, order=order, number=number)
+            about = owner, batch.id.name, mark_of_step(step), *batch.status[:2]
+            rows.append((*about, taken_in(view, step), to_do))
+    sheet = Sheet("running", columns("owner batch noted:text@beside unit state:text took:text to_do=do:text"), rows)
+    return sheet.without("to_do") if view.owner else sheet
 
 
 def sums(view: View) -> Sheet:
-    """What is on hand by disposition and what was shipped, of each material."""
+    """What is on hand by disposition and what was shipped, of each material. What is held is in no disposition's
+    column, and has one if there is any."""
     by_material: dict[tuple[str, str, str], Counter[str]] = defaultdict(Counter)
     for balance in view.balances:
         lot, shipped = balance.lot, balance.amounts[Kind.SHIP]
-        amounts = {"lots": 1, lot.disposition.word: lot.on_hand, "shipped": shipped}
+        amounts = {"lots": 1, view.word_of(lot.id): lot.on_hand, "shipped": shipped}
         by_material[lot.id.owner, lot.material, lot.measure].update(amounts)
-    names = ["lots", *(disposition.word for disposition in FIRST), "shipped"]
+    names = ["lots", *WORDS, "shipped"]
     rows: list[Row] = [(*key, *(amounts[name] for name in names)) for key, amounts in sorted(by_material.items())]
     numbers = columns(" ".join(f"{name}:number" for name in names))
-    return Sheet("sums", [*columns("owner material measure=unit:text@beside"), *numbers], rows)
+    sheet = Sheet("sums", [*columns("owner material measure=unit:text@beside"), *numbers], rows)
+    return sheet if view.has_held else sheet.without(HELD)
 
 
 def sublots(view: View) -> Sheet:
@@ -100,10 +117,10 @@ def sublots(view: View) -> Sheet:
         "disposition:word owner lot noted:text@beside sublot material amount=on_hand:number measure=unit:text@beside"
     )
     rows: list[Row] = []
-    for name, sublot in sorted(view.report.sublots, key=lambda key: (FIRST.index(view.lot(key[0]).disposition), key)):
+    for name, sublot in sorted(view.report.sublots, key=lambda key: (WORDS.index(view.word_of(key[0])), key)):
         lot, amount = view.lot(name), view.report.sublots[name, sublot]
         if amount and view.has(name.owner):
-            place = lot.disposition.word, *name, mark(view, name), sublot
+            place = view.status_of(name), *name, mark(view, name), sublot
             rows.append((*place, lot.material, amount, lot.measure))
     return Sheet("sublots", heads, rows, ["amount"])
 
@@ -124,10 +141,7 @@ def shipments(view: View) -> Sheet:
 
 def who_has_it(view: View) -> list[Sheet]:
     """Who has what left; nothing if the plant noted no parties."""
-    if not has_notes(view.register):
-        return []
-    to_do = "tell the plant who has it" if view.owner else TO_DO
-    return sheets_of(view.register, [(move, view.lot(move.lot)) for move in view.shipments], to_do)
+    return sheets_of(view) if has_notes(view.register) else []
 
 
 def batches(view: View) -> Sheet:
@@ -185,7 +199,7 @@ def lots(view: View) -> Sheet:
     rows: list[Row] = []
     for balance in view.balances:
         lot, amounts = balance.lot, [balance.amounts[kind] for kind in COUNTED]
-        cells = *lot.id, mark(view, lot.id), lot.origin, lot.disposition.word, lot.material, lot.measure
+        cells = *lot.id, mark(view, lot.id), lot.origin, view.status_of(lot.id), lot.material, lot.measure
         rows.append((view.recall.steps[lot.id], *cells, *amounts, lot.on_hand, balance.difference))
     return Sheet("lots", heads, rows, [*(kind.total for kind in COUNTED), "on_hand", "difference"])
 
@@ -235,7 +249,7 @@ def key_of(view: View, lot: LotId, of_batches: bool) -> str:
 def box(view: View, key: str, group: list[Balance]) -> Box:
     """The box of these lots."""
     lots, start = [balance.lot for balance in group], view.recall.start
-    dispositions = Counter(lot.disposition.word for lot in lots)
+    dispositions = Counter(view.word_of(lot.id) for lot in lots)
     materials, measures = {lot.material for lot in lots}, {lot.measure for lot in lots}
     lines = [] if view.owner else [lots[0].id.owner]
     lines.append(lots[0].material if len(materials) == 1 else f"{len(materials)} materials")

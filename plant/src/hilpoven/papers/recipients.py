@@ -1,17 +1,21 @@
-"""Who has what was shipped, and whom what was received came from, as the plant noted it."""
+"""Who has what was shipped, less what came back, and whom what was received came from, as the plant noted it."""
 from collections import Counter, defaultdict
-from collections.abc import Sequence
+from collections.abc import Mapping, Sequence
 from dataclasses import replace
 
-from ..records.rows import Lot, Move
+from ..records.rows import Lot, LotId, Move
 from ..register.movements import UNKNOWN
 from ..register.notes import Party
-from ..register.recipients import Received, facts_of, party_of
+from ..register.recipients import Received, Return, facts_of, party_of, returns_of
 from ..register.store import Register
+from .recall import View
 from .sheets import Cell, Row, Sheet, columns
 
-Shipment = tuple[Move, Lot]
+Recipients = Mapping[tuple[str, str, LotId], Received]  # by owner, party and lot
 CONTACT = "noted_contact:text noted_phone:text@beneath noted_address:text@beneath"
+NOTE = "hilpoven note movement {owner} {key}"
+LATER = " "  # in the key of a movement that came again in a later file, so that no command means this one by it
+OF_RETURNS = ("noted_returned", "noted_has")  # columns that there are only if something came back
 
 
 def has_notes(register: Register) -> bool:
@@ -19,46 +23,103 @@ def has_notes(register: Register) -> bool:
     return bool(register.parties or register.facts)
 
 
-def sheets_of(register: Register, shipments: Sequence[Shipment], to_do: str) -> list[Sheet]:
-    """Who has these shipments: those that nobody is known to have, the recipients, and their contacts. Of what nobody
-    is known to have it is said what to do, `{owner}` and `{key}` being the shipment's."""
-    unknown = [shipment for shipment in shipments if not facts_of(register, shipment[0]).party]
-    known = [shipment for shipment in shipments if facts_of(register, shipment[0]).party]
-    return [without_recipient(register, unknown, to_do), recipients(register, known), contacts(register, known)]
+def sheets_of(view: View) -> list[Sheet]:
+    """Who has what a recall found: the shipments that nobody is known to have, the recipients, their contacts, and what
+    came back, if anything did."""
+    known = [move for move in view.shipments if facts_of(view.register, move).party]
+    received = received_of(view.register, known)
+    returned = returns_sheet(view, received)
+    sheets = [without_recipient(view), recipients(view, received), contacts(view.register, known)]
+    if returned.rows:
+        return [*sheets, returned]
+    for name in OF_RETURNS:
+        sheets[1] = sheets[1].without(name)
+    return sheets
 
 
-def without_recipient(register: Register, shipments: Sequence[Shipment], to_do: str) -> Sheet:
-    """The shipments that nobody is known to have."""
+def without_recipient(view: View) -> Sheet:
+    """The shipments that nobody is known to have, with what is to be done about each."""
     rows: list[Row] = []
-    for move, lot in shipments:
-        about = move.owner, move.key, move.lot.name, lot.material, move.amount, lot.measure
-        came_again = " " in move.key  # in a later file, so that no command means this one by it
-        task = "find out who has it" if came_again else to_do.format(owner=move.owner, key=move.key)
-        rows.append((move.day, *about, facts_of(register, move).document, task))
+    for move in view.shipments:
+        facts, lot = facts_of(view.register, move), view.lot(move.lot)
+        if not facts.party:
+            about = move.owner, move.key, move.lot.name, lot.material, move.amount, lot.measure
+            task = to_note(view, move, "--to PARTY", "find out who has it", "tell the plant who has it")
+            rows.append((move.day, *about, facts.document, task))
     heads = "day:day owner key lot material amount=shipped:number measure=unit:text@beside noted_document:text"
     return Sheet("without_recipient", columns(f"{heads} to_do=what_to_do:text"), rows)
 
 
-def recipients(register: Register, shipments: Sequence[Shipment]) -> Sheet:
-    """What each recipient has of each material, with its contact."""
-    received: dict[tuple[str, str, str, str], Received] = defaultdict(Received)
-    parties: dict[tuple[str, str], Party] = {}
-    for move, lot in shipments:
-        party = parties.setdefault((move.owner, facts_of(register, move).party), party_of(register, move))
-        account = received[move.owner, party.party, lot.material, lot.measure]
-        account.add(move.amount, facts_of(register, move).document)
+def to_note(view: View, move: Move, option: str, otherwise: str, by_owner: str) -> str:
+    """What is to be done about a movement whose party isn't known: the plant's command, if one can name it."""
+    if view.owner:
+        return by_owner
+    return otherwise if LATER in move.key else f"{NOTE.format(owner=move.owner, key=move.key)} {option}"
+
+
+def received_of(register: Register, shipments: Sequence[Move]) -> Recipients:
+    """What each recipient got of each lot."""
+    received: dict[tuple[str, str, LotId], Received] = defaultdict(Received)
+    for move in shipments:
+        facts = facts_of(register, move)
+        received[move.owner, facts.party, move.lot].add(move.amount, facts.document)
+    return received
+
+
+def recipients(view: View, received: Recipients) -> Sheet:
+    """What each recipient has of each lot, with its contact."""
     rows: list[Row] = []
-    for (owner, name, material, measure), account in sorted(received.items()):
-        got = material, account.shipments, account.amount, measure, account.named
-        rows.append((owner, name, *contact_cells(parties[owner, name]), *got))
-    amounts = "material shipments:number amount=shipped:number measure=unit:text@beside noted_documents:text"
-    heads = columns(f"owner noted_party noted_name:text {CONTACT} {amounts}")
-    return Sheet("recipients", heads, rows)
+    for (owner, name, of_lot), account in sorted(received.items()):
+        party, lot = view.register.parties.get((owner, name), Party(owner, name, "")), view.lot(of_lot)
+        amounts = account.shipments, account.amount, account.returned, account.left
+        rows.append(
+            (owner, name, *contact_cells(party), of_lot.name, lot.material, *amounts, lot.measure, account.named)
+        )
+    numbers = "shipments:number amount=shipped:number noted_returned=came_back:number noted_has=has:number"
+    about = f"owner noted_party noted_name:text {CONTACT} lot material"
+    heads = columns(f"{about} {numbers} measure=unit:text@beside noted_documents:text")
+    return Sheet("recipients", heads, rows, ["shipments", "amount", *OF_RETURNS])
 
 
-def contacts(register: Register, shipments: Sequence[Shipment]) -> Sheet:
+def returns_sheet(view: View, received: Recipients) -> Sheet:
+    """What came back, and from whose amounts that is subtracted, which this does."""
+    rows: list[Row] = []
+    for returned in returns_of(view.register, view.all_links, view.recall.moves):
+        if returned.of not in view.recall.steps:
+            continue
+        move, facts = returned.move, facts_of(view.register, returned.move)
+        party, why = sender_of(view, received, returned)
+        if party:
+            received[move.owner, party, returned.of].returned += returned.amount or 0
+        about = move.day, move.owner, move.key, returned.of.name, move.lot.name
+        what = f"subtracted from {party}" if party else f"not subtracted: {why}"
+        amount = move.amount if returned.amount is None else returned.amount
+        rows.append((*about, amount, view.lot(move.lot).measure, facts.party, facts.document, what))
+    heads = "day:day owner key of_lot lot=came_into amount=came_back:number measure=unit:text@beside"
+    return Sheet("returned", columns(f"{heads} noted_party=from noted_document:text what:text"), rows)
+
+
+def sender_of(view: View, received: Recipients, returned: Return) -> tuple[str, str]:
+    """From whose amount what came back is subtracted; of nobody's, why. One that isn't noted is the only recipient of
+    the lot."""
+    move, of = returned.move, returned.of
+    shipped = [shipment for shipment in view.shipments if shipment.lot == of]
+    parties = {facts_of(view.register, shipment).party for shipment in shipped}
+    if returned.amount is None:
+        return "", "the notes don't say how much of it is of this lot"
+    if view.lot(move.lot).measure != view.lot(of).measure:
+        return "", "it has another unit"
+    if returned.party:
+        is_recipient = (move.owner, returned.party, of) in received
+        return (returned.party, "") if is_recipient else ("", f"{returned.party} got none of this lot by the notes")
+    if len(parties) == 1 and parties != {""}:
+        return parties.pop(), ""
+    return "", to_note(view, move, "--from PARTY", "nobody noted who sent it", "tell the plant who sent it")
+
+
+def contacts(register: Register, shipments: Sequence[Move]) -> Sheet:
     """Each recipient once, with how many shipments it has: on no page, for a spreadsheet."""
-    counts = Counter((move.owner, facts_of(register, move).party) for move, _ in shipments)
+    counts = Counter((move.owner, facts_of(register, move).party) for move in shipments)
     rows: list[Row] = []
     for (owner, name), count in sorted(counts.items()):
         rows.append((owner, name, *contact_cells(register.parties.get((owner, name), Party(owner, name, ""))), count))

@@ -186,6 +186,6 @@ class Sheet:
         return [
             column.as_text(cell)
             if signs is None or not cell or column.kind != "word"
-            else f"{signs.get(str(cell), '+')} {cell}"
+            else f"{signs.get(str(cell).partition(' ')[0], '+')} {cell}"
             for column, cell in zip(self.columns, row)
         ]
