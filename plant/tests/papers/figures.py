@@ -71,7 +71,7 @@ OF_TEST = f"t.test, t.low, t.high, ifnull({LATEST.format('value')}, ''), ifnull(
 TESTS = f"SELECT {OF_TEST} FROM lots l JOIN tests t USING (owner, material) WHERE l.owner = :owner AND l.lot = :lot"
 BATCH = {
     "requirements": f"""
-SELECT q.segment, iif(q.role, 'produced', 'consumed'), q.source, q.material, q.amount, ifnull(sum(m.amount), 0), printf('%,d', (ifnull(sum(m.amount), 0) * 1000 + q.amount / 2) / q.amount / 10) || '.' || ((ifnull(sum(m.amount), 0) * 1000 + q.amount / 2) / q.amount % 10)
+SELECT q.segment, iif(q.role, 'produced', 'consumed'), q.source, q.material, q.amount, ifnull(sum(m.amount), 0), printf('%,d', ifnull(sum(m.amount), 0) * 1000 / q.amount / 10) || '.' || (ifnull(sum(m.amount), 0) * 1000 / q.amount % 10)
 FROM orders o JOIN requirements q ON q.owner = o.owner AND q.recipe = o.recipe
 LEFT JOIN moves m ON m.owner = o.owner AND m.ord = o.ord AND m.number = :number AND m.kind = q.role + 4 AND m.segment = q.segment AND m.material = q.material
   AND m.lot_owner = q.source AND {STANDS.format('m')}
@@ -116,7 +116,7 @@ def within(kind: int) -> str:
 
 
 AMOUNTS = f"{signed('m.day < :first')}, {within(0)}, {within(5)}, {within(4)}, {within(3)}, {within(2)}, {signed('m.day <= :last')}, 0"
-ACCOUNTS = f"SELECT l.material, x.measure, l.lot, {AMOUNTS} FROM lots l JOIN materials x USING (owner, material) WHERE l.owner = :owner"
+ACCOUNTS = f"SELECT l.material, x.measure, l.lot, {WORDS.format('l')}, {AMOUNTS} FROM lots l JOIN materials x USING (owner, material) WHERE l.owner = :owner"
 STATEMENT = {
     "lots": ACCOUNTS,
     "plants_material": f"""

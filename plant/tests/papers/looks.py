@@ -177,17 +177,17 @@ class Papers:
         """The statement of an owner."""
         folder, key = self.make("statement", owner, "--from", first, "--to", last), {"owner": owner, "first": first, "last": last}
         wanted = {name: self.rows(sql, **key) for name, sql in figures.STATEMENT.items()}
-        wanted["lots"] = [row for row in wanted["lots"] if any(row[3:])]
+        wanted["lots"] = [row for row in wanted["lots"] if any(row[4:])]
         sums: dict[tuple, list[int]] = {}
         for row in wanted["lots"]:
-            sums[row[:2]] = [a + b for a, b in zip(sums.get(row[:2], [0] * 8), row[3:])]
-            assert row[3] + row[4] + row[5] - row[6] - row[7] - row[8] == row[9]
+            sums[row[:2]] = [a + b for a, b in zip(sums.get(row[:2], [0] * 8), row[4:])]
+            assert row[4] + row[5] + row[6] - row[7] - row[8] - row[9] == row[10]
         wanted["sums"] = [(*head, *amounts) for head, amounts in sums.items()]
         for name, rows in wanted.items():
             self.look_at_table(folder, name, rows)
         if last == 9_999_999:
             stock = [line.split() for line in self.plant.toll("stock", owner).out.splitlines()]
-            assert sum(int(line[4]) for line in stock) == sum(row[9] for row in wanted["lots"])
+            assert sum(int(line[4]) for line in stock) == sum(row[10] for row in wanted["lots"])
         self.look_at_paper(folder, "statement", owner, {str(first), str(last)})
 
     def look_at_paper(self, folder: pathlib.Path, paper: str, owner: str, known: set[str] = frozenset()) -> None:

@@ -195,7 +195,7 @@ def test_an_open_batch_that_contains_a_lot_by_a_link_is_to_be_held(week):
     assert week.run("link", "ACME", "AF-1", "--of-owner", "HOUSE", "--batch", "O-1", 3, "--why", "use").status == 0
     papers = week.folder / "made"
     assert week.run("papers", "recall", "HOUSE", "AF-1", papers, "--no-pdf").status == 0
-    assert figures.read_csv(papers / "plant" / "running.csv") == [["ACME", "O-1/3", "*", "KETTLE", "running", "HOUSE AF-1 *"]]
+    assert figures.read_csv(papers / "plant" / "running.csv") == [["ACME", "O-1/3", "*", "KETTLE", "running", "HOUSE AF-1 *", "hilpoven do ACME O-1 3 hold"]]
     assert "which your batches consumed or your lots contain" in (papers / "owners" / "ACME" / "recall.html").read_text()
     assert "ACME O-1/3, also AF-1 *" in week.run("board").out
 

@@ -25,6 +25,7 @@ PAPERS = {  # by what is made: the PDFs, each with its text
 def text_of(file: pathlib.Path) -> str:
     """The text of a paper without when, by whom and of which file it was made."""
     text = " ".join(figures.text_of_pdf(file).split())
+    text = re.sub(r"Issued on \d{4}-\d\d-\d\d", "Issued on DAY", text)
     text = re.sub(r"Made on .*?page (\d+ of \d+)( \w{64}, with toll [\d.]+)?", r"Page \1.", text)
     return "\n".join(textwrap.wrap(text, 120, break_on_hyphens=False)) + "\n"
 

@@ -180,14 +180,15 @@ def test_the_masses_are_those_of_the_tables_in_amounts_and_percent(drilled):
             parts = [int(row[name]) for name in ("on_hand", "in_products", "shipped", "scrapped")]
             assert int(row["came_in"]) == came == sum(parts) and parts[0] == on_hand and set(parts[1:]) <= {0, *kinds.values()}, row
             shares = [float(row[f"{name}_share"]) for name in ("on_hand", "in_products", "shipped", "scrapped")]
-            assert all(abs(share - 100 * part / came) <= 0.05001 for share, part in zip(shares, parts)) and row["accounted"] == "100.0"
+            assert shares == [1000 * part // came / 10 for part in parts] and row["accounted"] == "100.0"
     onward = {row["lot"]: row["noted_onward"] for row in table(drilled.folder / "drill" / "masses.csv") if row["noted_onward"]}
     assert onward == {"BU-0001": "ACME BU-0001C (correction) *, ACME BU-0001R (return) *", "BU-0002": "ACME BU-0002-RW (rework) *"}
 
 
 def test_the_paper_says_who_has_it_and_who_did_what_between_begin_and_end(drilled):
     folder = drilled.folder / "drill"
-    assert {row["noted_contact"]: row["amount"] for row in table(folder / "recipients.csv")} == {"Ms Lund": "650", "Mr Frei": "1205"}
+    amounts = [(row["noted_contact"], row["lot"], row["amount"]) for row in table(folder / "recipients.csv")]
+    assert amounts == [("Mr Frei", "BU-0001", "300"), ("Mr Frei", "BU-0003", "905"), ("Ms Lund", "BU-0001", "650")]
     page = html.unescape((folder / "drill.html").read_text())
     assert 'class="alarm"' not in page and "Nord Foods Ltd" in page
     done = [(row["noted_what"].partition(";")[0], row["answer"]) for row in table(folder / "done.csv")]

@@ -12,7 +12,8 @@ from hilpoven.core.office import Office
 from hilpoven.years import history
 
 EVERYBODY = ("HOUSE", *OWNERS)
-MADE = re.compile(r"Made on [^<]*")
+OVER = re.compile(r'<p class="for">Over all \d files of the office, as `hilpoven years recall [^<]*</p>\n')
+MADE = re.compile(rf"Made on [^<]*|{OVER.pattern}")  # what names the files
 
 
 def papers_of(plant: Plant, db: pathlib.Path, *words: object) -> dict[str, str]:
@@ -40,7 +41,7 @@ def try_papers(program: str, seed: int, each: int) -> None:
         done = plant.run("papers", "recall", *lots[0], plant.folder / "told", "--no-pdf")
         page = (plant.folder / "told" / "plant" / "recall.html").read_text()
         with history.opened(Office(str(plant.db), program, 10.0)) as every:
-            assert done.status == 0 and all(f"office-{part.number}.db, sha256 {part.hash}" in page for part in every.parts[:-1])
+            assert done.status == 0 and OVER.search(page) and all(f"office-{part.number}.db, sha256 {part.hash}" in page for part in every.parts[:-1])
 
     memory = "/dev/shm" if pathlib.Path("/dev/shm").is_dir() else None
     with pytest.MonkeyPatch.context() as patched, tempfile.TemporaryDirectory(dir=memory) as folder:

@@ -32,8 +32,9 @@ def labels(
 ) -> None:
     """Makes a PDF with a label of each SUBLOT, or of all sublots of the lot that hold something.
 
-    Print it at 100 %. A label has the owner, the lot, the sublot, the material, and the amount and the disposition when
-    it was printed. A scanner reads OWNER/LOT/SUBLOT from its QR code, which any command takes in the place of LOT.
+    Print it at 100 %. A label has the owner, the lot, the sublot, the material, the lot's last day if it is noted, and
+    the amount and the disposition when it was printed. A scanner reads OWNER/LOT/SUBLOT from its QR code, which any
+    command takes in the place of LOT.
 
     Example: hilpoven labels ACME B-1 --out labels.pdf
 

@@ -49,7 +49,9 @@ def give(
     """Makes papers, and gives them, which the journal notes."""
     delivery.require_place(folder, tar)
     office = context.office_to_export("papers", name)
-    delivery.deliver(office, context.journal(), make, folder, name, not no_pdf)
+    day = today(context.settings.time_zone)
+    task = delivery.Delivery(name, make, context.settings.plant, day, not no_pdf, folder)
+    delivery.deliver(office, context.journal(), task)
 
 
 @papers_group.command(cls=LotCommand)
@@ -99,8 +101,7 @@ def batch(context: Context, owner: str, order: str, number: str, **where: Any) -
 def certificate(context: Context, owner: str, lot: str, key: str, **where: Any) -> None:
     """Makes a certificate of analysis: each test with its limits, its latest result and whether it passes.
 
-    A lot without a result gets a certificate of release. If the lot isn't released, the page says so across its whole
-    width. With --shipment it is for the one who gets that shipment.
+    A lot without a result gets a certificate of release. If the lot isn't released, the page says so on top. With --shipment it is for the one who gets that shipment.
 
     Example: hilpoven papers certificate ACME B-1 certificate
     """
@@ -108,7 +109,9 @@ def certificate(context: Context, owner: str, lot: str, key: str, **where: Any) 
     give(
         context,
         f"certificate-{owner}-{lot}{f'-{key}' if key else ''}",
-        lambda source: lot_certificate.documents(source, LotId(owner, lot), context.settings.plant, key),
+        lambda source: lot_certificate.documents(
+            source, LotId(owner, lot), context.settings.plant, today(context.settings.time_zone), key
+        ),
         **where,
     )
 
@@ -129,7 +132,12 @@ def delivery_note(context: Context, owner: str, key: str, others: tuple[str, ...
     for word in (key, *others):
         check(owner=owner, key=word)
     name = f"delivery-{owner}-{key}"
-    give(context, name, lambda source: shipments.documents(source, owner, [key, *others]), **where)
+    give(
+        context,
+        name,
+        lambda source: shipments.documents(source, owner, [key, *others], context.settings.plant),
+        **where,
+    )
 
 
 @papers_group.command("lot", cls=LotCommand)

@@ -1,10 +1,15 @@
 """How far long work has come."""
 import os
+import signal
 import sys
 from collections.abc import Callable, Iterator
 from contextlib import contextmanager
+from types import FrameType
+
+from ..core.failure import tell
 
 WIDEST = 40  # letters of a bar
+SOON = 1.0  # seconds, after which it is told what goes on
 
 
 @contextmanager
@@ -31,3 +36,38 @@ def bar(title: str, total: int) -> Iterator[Callable[[int], None]]:
         yield advance
     finally:
         print(file=sys.stderr, flush=True)
+
+
+@contextmanager
+def steps() -> Iterator[Callable[[str], None]]:
+    """Work in steps, each of which begins with a call of what is given: if standard error is a terminal, and all of it
+    takes longer than a second, the step that is under way is told then, and each later one."""
+    if not sys.stderr.isatty():
+        yield lambda step: None
+        return
+    current, is_long = "", False
+
+    def begin(step: str) -> None:
+        nonlocal current
+        current = step
+        if is_long:
+            tell(f"{step} ..")
+
+    def ring(_: int, __: FrameType | None) -> None:
+        nonlocal is_long
+        is_long = True
+        begin(current)
+
+    before = signal.signal(signal.SIGALRM, ring)
+    signal.setitimer(signal.ITIMER_REAL, SOON)
+    try:
+        yield begin
+    finally:
+        signal.setitimer(signal.ITIMER_REAL, 0)
+        signal.signal(signal.SIGALRM, before)
+
+
+def say_done(text: str) -> None:
+    """Tells what was made, if standard error is a terminal."""
+    if sys.stderr.isatty():
+        tell(text)

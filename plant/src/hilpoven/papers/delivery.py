@@ -5,18 +5,25 @@ import pathlib
 import sys
 import tarfile
 import tempfile
-from collections.abc import Callable
+from collections.abc import Callable, Sequence
+from dataclasses import dataclass
 from typing import IO
 
 from ..core import paths, scratch
 from ..core.failure import WRONG_USE, Failure
 from ..core.office import Office
+from ..core.settings import PlantFacts
 from ..journal import log
+from ..output.progress import say_done, steps
+from ..output.table import counted
 from . import copies, guard, printing
 from .copies import Source
+from .letterhead import Issue, letterhead_beside, letterhead_of
 from .printing import Document
 
 Maker = Callable[[Source], list[Document]]
+PAPERS = (".html", ".pdf")
+MOST_NAMED = 12  # papers that are named when all are written
 
 
 def require_place(folder: str | None, tar: bool) -> None:
@@ -28,36 +35,83 @@ def require_place(folder: str | None, tar: bool) -> None:
 
 
 def footer_of(source: Source, program: str, for_plant: bool) -> str:
-    """The line at the foot of each page. Only the plant reads the names of files, which may hold any word, and their
-    digests, which are of all owners' rows."""
+    """The line at the foot of each page. Only the plant reads the names of files, which may hold any word, their
+    digests, which are of all owners' rows, and the login of whoever made it."""
     files = " and ".join(f"{part.name}, sha256 {part.hash}" for part in source.files)
-    origin = f" from {files}," if for_plant else "" if source.is_one else f" from {len(source.files)} files,"
+    of_plant, of_others = f" by {log.login()} from {files},", f" from {len(source.files)} files,"
+    origin = of_plant if for_plant else "" if source.is_one else of_others
     now = datetime.datetime.now(datetime.timezone.utc)
-    return f"Made on {now:%Y-%m-%d at %H:%M} UTC by {log.login()}{origin} with {program}."
+    return f"Made on {now:%Y-%m-%d at %H:%M} UTC{origin} with {program}."
 
 
-def deliver(office: Office, journal: log.Journal, make: Maker, folder: str | None, name: str, prints: bool) -> None:
+@dataclass(frozen=True)
+class Delivery:
+    """Papers that are to be made and given: their name, what makes them, what they say of the plant, whether they are
+    printed, and where they go, a folder or, without one, standard output."""
+
+    name: str
+    make: Maker
+    plant: PlantFacts
+    day: datetime.date  # of their issue
+    prints: bool
+    folder: str | None = None
+
+    def issue(self, documents: Sequence[Document]) -> Issue:
+        """What those say that leave the plant."""
+        if all(document.for_plant for document in documents):
+            return Issue(None, "")
+        is_beside = any(document.for_plant for document in documents)
+        letterhead = letterhead_beside(self.plant) if is_beside else letterhead_of(self.plant)
+        return Issue(letterhead, str(self.day))
+
+
+def deliver(office: Office, journal: log.Journal, delivery: Delivery) -> None:
     """Makes papers and delivers them; if anything fails nothing is delivered."""
-    if prints:
+    if delivery.prints:
         printing.require_printer()
-    with paths.target(folder) if folder else contextlib.nullcontext() as target:
+    with paths.target(delivery.folder) if delivery.folder else contextlib.nullcontext() as target, steps() as begin:
+        begin(f"copying {office.file}")
         with copies.opened(office, journal) as source:
-            program = copies.version(office)
-            documents = [(document, footer_of(source, program, document.for_plant)) for document in make(source)]
+            begin("reading it, and comparing with what toll says")
+            program, made = copies.version(office), delivery.make(source)
+            documents = [(document, footer_of(source, program, document.for_plant)) for document in made]
+            issue = delivery.issue(made)
+        begin(f"writing {counted(len(made), 'papers')}")
+
+        def write(room: pathlib.Path) -> None:
+            printing.write(documents, issue, room, delivery.prints)
+
         if target:
             with target.room() as (room, path), guard.over(path):
-                printing.write(documents, pathlib.Path(paths.open_path(room), "papers"), prints)
+                write(pathlib.Path(paths.open_path(room), "papers"))
+                written = files_below(pathlib.Path(paths.open_path(room), "papers"))
                 target.put(room, "papers")
-            return
-        with scratch.folder(tempfile.gettempdir()) as path, guard.over(path):
-            try:
-                printing.write(documents, pathlib.Path(path, "papers"), prints)
-                write_tar(pathlib.Path(path, "papers"), name, sys.stdout.buffer)
-                sys.stdout.flush()
-            except BrokenPipeError:
-                raise
-            except OSError as error:
-                raise Failure(f"the papers can't be written: {error.strerror or error}") from error
+        else:
+            written = give_tar(write, delivery.name)
+    say_done(f"wrote {delivery.folder or delivery.name}: {written}")
+
+
+def give_tar(write: Callable[[pathlib.Path], None], name: str) -> str:
+    """Gives papers as a tar to standard output; the names of their files."""
+    with scratch.folder(tempfile.gettempdir()) as path, guard.over(path):
+        folder = pathlib.Path(path, "papers")
+        try:
+            write(folder)
+            write_tar(folder, name, sys.stdout.buffer)
+            sys.stdout.flush()
+            return files_below(folder)
+        except BrokenPipeError:
+            raise
+        except OSError as error:
+            raise Failure(f"the papers can't be written: {error.strerror or error}") from error
+
+
+def files_below(folder: pathlib.Path) -> str:
+    """The pages and the PDFs of papers by their names, and how many tables are beside them."""
+    files = sorted(path.relative_to(folder) for path in folder.rglob("*") if path.is_file())
+    papers = [str(path) for path in files if path.suffix in PAPERS]
+    named = [*papers[:MOST_NAMED], *([f"{len(papers) - MOST_NAMED:,} more"] if len(papers) > MOST_NAMED else [])]
+    return f"{', '.join(named)}, and {counted(len(files) - len(papers), 'tables')}"
 
 
 def write_tar(folder: pathlib.Path, name: str, stream: IO[bytes]) -> None:

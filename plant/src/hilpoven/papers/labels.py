@@ -7,8 +7,10 @@ from dataclasses import dataclass
 from ..core.failure import REFUSED, Failure
 from ..core.nearest import nearest
 from ..core.scanned import ScannedSublot
+from ..records.days import day_of, format_day
 from ..records.rows import Lot, LotId, require_lot, sublots_of
-from ..register import quality
+from ..register import expiry, quality
+from ..register.facts import LotFacts
 from . import printing
 from .agreement import check_stock
 from .copies import Source
@@ -22,6 +24,7 @@ CORRECTION = "m"  # a QR code is read with 15 % of it missing, at least
 WIDTH = 0.602  # ems that each letter of a name takes
 MOST = 500  # labels of one PDF, which takes half a minute of a processor then
 PLAIN = 11.0  # points of letters of what isn't in the QR code
+OF_DAY = 2.0  # points by which letters are smaller if the line of a lot's last day is there
 
 
 @dataclass(frozen=True)
@@ -85,12 +88,15 @@ def page(source: Source, asked: LotId, names: Sequence[str], stock: Stock, day: 
     check_stock(source, [asked.owner], {asked: lot}, sublots)
     amounts = chosen(lot, {name: amount for (_, name), amount in sublots.items()}, names)
     labels = [label(lot, name, amount, stock, at % stock.count) for at, (name, amount) in enumerate(amounts)]
+    last_day = last_day_text(source.register.lots.get(asked), day_of(day))
     values = {
         "title": f"Labels of lot {asked}",
         "lot": lot,
         "pages": [labels[at : at + stock.count] for at in range(0, len(labels), stock.count)],
         "stock": stock,
         "status": status(source, lot, day),
+        "last_day": last_day,
+        "letters": stock.letters - (OF_DAY if last_day else 0),
         "dots": dots,
         "inches": inches,
         "text": TEXT,
@@ -107,6 +113,17 @@ def status(source: Source, lot: Lot, day: datetime.date) -> str:
     if quality_status and quality_status.state == quality.State.HELD:
         return f"{SIGNS['held']} held ({word}) when printed, {day}"
     return f"{SIGNS[word]} {word} when printed, {day}"
+
+
+def last_day_text(facts: LotFacts | None, day: int) -> str:
+    """The last day of a lot as a label says it, and that it is past; empty if none is noted."""
+    last = expiry.last_day(facts) if facts else None
+    if facts is None or last is None:
+        return ""
+    is_expiry, is_past = last == facts.expires, expiry.past_day(facts, day)
+    if is_past:
+        return f"{SIGNS['held']} {'expired on' if is_expiry else 'retest was due'} {format_day(last)}"
+    return f"{'expires' if is_expiry else 'retest by'} {format_day(last)}"
 
 
 def chosen(lot: Lot, amounts: dict[str, int], names: Sequence[str]) -> list[tuple[str, int]]:

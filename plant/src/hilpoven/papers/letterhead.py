@@ -6,7 +6,7 @@ import os
 import stat
 from typing import Any, NamedTuple
 
-from ..core.failure import WRONG_USE, Failure
+from ..core.failure import WRONG_USE, Failure, tell
 from ..core.settings import PlantFacts
 
 MOST_BYTES = 1 << 20  # of a logo
@@ -23,11 +23,28 @@ class Letterhead(NamedTuple):
     logo: str
 
 
+class Issue(NamedTuple):
+    """What a paper that leaves the plant says of who issues it, if the settings tell that, and on which date."""
+
+    letterhead: Letterhead | None
+    day: str
+
+
 def letterhead_of(plant: PlantFacts) -> Letterhead | None:
     """The letterhead of a plant; `None` if the settings say nothing of it."""
     if not any(plant):
         return None
     return Letterhead(plant.name, plant.address, plant.contact, address_of(plant.logo) if plant.logo else "")
+
+
+def letterhead_beside(plant: PlantFacts) -> Letterhead | None:
+    """The letterhead of papers that leave the plant beside one of its own, which no logo stops: without the logo if
+    that can't be used."""
+    try:
+        return letterhead_of(plant)
+    except Failure as failure:
+        tell(f"Without the logo: {failure.message}.")
+        return letterhead_of(plant._replace(logo=""))
 
 
 def address_of(logo: str) -> str:

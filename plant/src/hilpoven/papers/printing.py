@@ -11,6 +11,7 @@ from typing import Any
 
 from ..core.failure import Failure
 from ..core.scratch import ENDING, held_back
+from .letterhead import Issue
 from .longtables import LongTable, finisher
 from .pictures import SIGNS
 from .ranges import on_paper
@@ -40,12 +41,13 @@ class Document:
         """Its tables as its page has them, long ones with ranges of names."""
         return [on_paper(sheet, LONG) for sheet in self.sheets]
 
-    def page(self, footer: str, tables: dict[str, LongTable] | None = None) -> str:
-        """Its page. On paper its long tables have places, but for those that don't fit, which are set as others are."""
+    def page(self, footer: str, issue: Issue, tables: dict[str, LongTable] | None = None) -> str:
+        """Its page, with a letterhead and the date of issue unless the plant alone reads it. On paper its long tables
+        have places, but for those that don't fit, which are set as others are."""
         sheets = {sheet.name: sheet for sheet in self.on_paper}
         width = ACROSS if self.is_across else UPRIGHT
         values = {"title": self.title, "is_plants": self.for_plant, "footer": footer, "sheets": sheets, "width": width}
-        values |= self.values
+        values |= {"issue": None if self.for_plant else issue, **self.values}
         set_in_lines = {name: table for name, table in (tables or {}).items() if table.fits}
         return render(self.name, values, set_in_lines, [name for name in tables or {} if name not in set_in_lines])
 
@@ -76,21 +78,26 @@ def require_module(name: str, why: str, instead: str = "") -> None:
         raise Failure(why, advice=f"the package hilpoven-papers brings it{instead}")
 
 
+@functools.cache
+def environment() -> Any:
+    """What reads templates, each once."""
+    import jinja2
+
+    loader = jinja2.FileSystemLoader(TEMPLATES)
+    return jinja2.Environment(
+        loader=loader, autoescape=True, undefined=jinja2.StrictUndefined, trim_blocks=True, lstrip_blocks=True
+    )
+
+
 def render(
     name: str, values: dict[str, Any], tables: dict[str, LongTable] | None = None, wrapped: Sequence[str] = ()
 ) -> str:
     """A page of a template, with long tables that are set in lines, and those that are set in cells on paper too."""
-    import jinja2
-
-    loader = jinja2.FileSystemLoader(TEMPLATES)
-    environment = jinja2.Environment(
-        loader=loader, autoescape=True, undefined=jinja2.StrictUndefined, trim_blocks=True, lstrip_blocks=True
-    )
-    template = environment.get_template(f"{name}.html")
-    return template.render(long=LONG, signs=SIGNS, tables=tables or {}, wrapped=wrapped, **values)
+    template = environment().get_template(f"{name}.html")
+    return str(template.render(long=LONG, signs=SIGNS, tables=tables or {}, wrapped=wrapped, **values))
 
 
-def write(documents: list[tuple[Document, str]], room: pathlib.Path, prints: bool) -> None:
+def write(documents: list[tuple[Document, str]], issue: Issue, room: pathlib.Path, prints: bool) -> None:
     """Writes papers with their footers below a folder. Temporary files are beside it, in a folder that its caller
     removes."""
     jobs = []
@@ -98,11 +105,11 @@ def write(documents: list[tuple[Document, str]], room: pathlib.Path, prints: boo
         folder = room / document.folder
         folder.mkdir(parents=True, exist_ok=True)
         tables = {f"{sheet.name}.csv": sheet.csv() for sheet in document.sheets}
-        for name, text in {f"{document.name}.html": document.page(footer), **tables, **document.texts}.items():
+        for name, text in {f"{document.name}.html": document.page(footer, issue), **tables, **document.texts}.items():
             (folder / name).write_text(text, encoding="utf-8", newline="")
         if prints:
             long = document.long_tables()
-            jobs.append(Job(document.page(footer, long), long, folder / f"{document.name}.pdf"))
+            jobs.append(Job(document.page(footer, issue, long), long, folder / f"{document.name}.pdf"))
     if jobs:
         with temporary_files_in(room.parent):
             print_all(jobs)

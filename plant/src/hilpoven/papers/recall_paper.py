@@ -45,7 +45,7 @@ def document(view: View) -> Document:
         sheets = [sheet.without("owner") for sheet in sheets]
     title = f"Recall: lots of {owner}" if owner and not is_own else f"Recall of {start.name if owner else start}"
     values: dict[str, Any] = {"owner": owner, "asked": start if view.names_start else None, "is_own": is_own}
-    values |= {"counts": counts(view), "picture": picture(view)}
+    values |= {"counts": counts(view), "picture": picture(view), "files": view.report.files}
     values |= {"is_noted": view.is_noted, "has_notes": has_notes(view.register)}
     folder, texts = (f"owners/{owner}", {}) if owner else ("plant", {"recall.txt": view.report.text})
     return Document("recall", not owner, title, [*sheets, flows(view)], values, folder, texts)

@@ -1,4 +1,5 @@
 """Tables of papers: what is in their columns, and how they are written as CSV."""
+import functools
 import re
 from collections.abc import Sequence
 from dataclasses import dataclass, replace
@@ -62,8 +63,9 @@ def columns(text: str) -> list[Column]:
 
 
 def percent(part: int, whole: int) -> str:
-    """An amount in percent of another one, rounded to a tenth."""
-    tenths = (2000 * part + whole) // (2 * whole)
+    """An amount in percent of another one, rounded down to a tenth as on the owners' page, so that 100.0 is never
+    less."""
+    tenths = 1000 * part // whole
     return f"{tenths // 10:,}.{tenths % 10}"
 
 
@@ -106,7 +108,7 @@ class Sheet:
     sums: Sequence[str] = ()
     joined: int = 0  # how many rows were joined into these
 
-    @property
+    @functools.cached_property
     def has_notes(self) -> bool:
         """Whether it has texts that the plant noted, which may be long, and of any letters."""
         return any(column.name.startswith(NOTED) for column in self.columns)
@@ -165,8 +167,10 @@ class Sheet:
 
     def kind_on_paper(self, kind: str, texts: list[str]) -> str:
         """The kind of a cell, which is `broken` besides if a word that the plant noted is too long for a line of it."""
+        if not self.has_notes:
+            return kind
         longest = max((len(word) for text in texts for word in text.split()), default=0)
-        return f"{kind} broken" if self.has_notes and longest > LONGEST else kind
+        return f"{kind} broken" if longest > LONGEST else kind
 
     def size(self, width: float) -> float:
         """The size of letters in points by which the table fits into a width in points."""

@@ -3,9 +3,12 @@ from collections.abc import Sequence
 
 from ..core.failure import REFUSED, Failure
 from ..core.nearest import nearest
+from ..core.settings import PlantFacts
 from ..records.days import format_day
+from ..records.descriptions import owner_in_full
 from ..records.rows import LotId, Move, lots_of, read_moves, require_owner
 from ..records.schema import Kind
+from ..register.facts import OwnerFacts
 from ..register.recipients import facts_of, party_of
 from ..register.store import Register
 from .agreement import check_lots
@@ -49,8 +52,9 @@ def of_certificate(source: Source, lot: LotId, measure: str, key: str) -> tuple[
     return {"shipped": f"{move.amount:,} {measure}", "on": format_day(move.day), **shown}, bool(shown)
 
 
-def documents(source: Source, owner: str, keys: Sequence[str]) -> list[Document]:
-    """The delivery note of shipments of an owner, which all go to one recipient and have one document."""
+def documents(source: Source, owner: str, keys: Sequence[str], plant: PlantFacts) -> list[Document]:
+    """The delivery note of shipments of an owner, which all go to one recipient and have one document. The plant sends
+    them for the owner."""
     require_owner(source.base, owner)
     moves = [require_shipment(source, owner, key) for key in dict.fromkeys(keys)]
     register = source.register.of(owner)
@@ -62,10 +66,16 @@ def documents(source: Source, owner: str, keys: Sequence[str]) -> list[Document]
     for move in moves:
         lot = lots[move.lot]
         rows.append((move.day, move.key, lot.id.name, move.sublot, lot.material, move.amount, lot.measure))
-    noted = noted_of(register, moves[0])
-    values = {"facts": {"owner": owner, **noted}, "is_noted": bool(noted)}
+    noted, owner_noted = noted_of(register, moves[0]), register.owners.get(owner) or OwnerFacts(owner)
+    values = {"facts": {**sender_of(plant), **owner_in_full(owner_noted), **noted}, "is_noted": bool(noted)}
     title = f"Delivery note {noted.get('document', '')}".strip()
     return [Document("delivery", False, title, [Sheet("shipments", HEADS, rows)], values, is_across=False)]
+
+
+def sender_of(plant: PlantFacts) -> dict[str, str]:
+    """The plant, which sends what is shipped; nothing if the settings don't say who it is."""
+    sender = ", ".join(filter(None, [plant.name, plant.address]))
+    return {"sender": sender} if sender else {}
 
 
 def require_same(register: Register, first: Move, other: Move) -> None:

@@ -12,6 +12,7 @@ from .sheets import Row, Sheet, columns
 
 COLUMNS = columns(" ".join(f"{name}:number" for name in AMOUNTS))
 MATERIAL = columns("material measure=unit:text@beneath")
+LOT = columns("lot disposition=is_now:word")
 MOVED = columns("day:day key kind:text lot sublot target=to batch amount:number measure=unit:text@beside void:text")
 OVERDRAFTS = columns(
     "lot day:day key kind:text amount:number left=leaves:number measure=unit:text@beside next_day=comes_next:day "
@@ -30,11 +31,13 @@ def documents(source: Source, owner: str, first: int, last: int) -> list[Documen
     between = sorted((move for move in read.moves if first <= move.day <= last), key=lambda move: move.day)
     sums: list[Row] = [(*key, *amounts) for key, amounts in read.sums().items()]
     accounts = [(account.lot, account.amounts) for account in read.moved]
-    lots: list[Row] = [(lot.material, lot.measure, lot.id.name, *amounts) for lot, amounts in accounts]
+    lots: list[Row] = [
+        (lot.material, lot.measure, lot.id.name, lot.disposition.word, *amounts) for lot, amounts in accounts
+    ]
     house = [(lot.material, lot.id.name, batch.name, amount, lot.measure) for lot, batch, amount in read.of_house]
     sheets = [
         Sheet("sums", [*MATERIAL, *COLUMNS], sums),
-        Sheet("lots", [*MATERIAL, *columns("lot"), *COLUMNS], lots, AMOUNTS),
+        Sheet("lots", [*MATERIAL, *LOT, *COLUMNS], lots, AMOUNTS),
         Sheet("plants_material", OF_HOUSE, house),
         Sheet("movements", MOVED, [move_row(move, read.lots[move.lot]) for move in between], ["amount"]),
     ]

@@ -57,6 +57,17 @@ class DescribedLot:
         return {**{name: text for name, text in names.items() if text}, **self.days}
 
 
+def in_full(full_name: str, name: str) -> str:
+    """A full name with the short one behind it, by which everything else names it."""
+    return f"{full_name} ({name})" if full_name else name
+
+
+def owner_in_full(owner: OwnerFacts) -> dict[str, str]:
+    """An owner's full name and address, as far as they are noted, by what papers call them."""
+    address = {"owner's address": owner.address} if owner.address else {}
+    return {"owner": in_full(owner.name, owner.owner), **address}
+
+
 def facts_of_test(register: Register, owner: str, material: str, test: str) -> TestFacts:
     """What is noted of a test; a test without a note has no decimals."""
     return register.tests.get((owner, material, test)) or TestFacts(owner, material, test)

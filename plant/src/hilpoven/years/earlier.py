@@ -141,7 +141,8 @@ def hint(office: Office, line: Line, words: Sequence[str], refusal: str) -> str:
         text = f"Lot {name} of {owner} is in {has_it}, and stayed behind with nothing on hand: {command}"
         return text if has_it else ""
     own = os.path.basename(office.file)
-    return f"This is of {own} alone, which came from {files[0].name}. Over all files: {command}"
+    first = f"ATTENTION: this is of {own} alone, which came from {files[0].name}: what stayed there isn't in it."
+    return f"{first}\nOver all files: {command}"
 
 
 def left_of(
