@@ -138,7 +138,7 @@ def test_no_statement_opens_below_zero_without_naming_the_movement(office):
         folder = office.folder / f"made{first}"
         assert office.run("papers", "statement", "ACME", "--from", first, "--to", last, folder, "--no-pdf").status == 0
         lots = figures.read_csv(folder / "lots.csv")
-        is_below = any(int(cell) < 0 for row in lots for cell in (row[3], row[9]))
+        is_below = any(int(cell) < 0 for row in lots for cell in (row[4], row[10]))
         assert is_below == (first < 261110) == (folder / "overdrafts.csv").exists()
         if is_below:
             assert figures.read_csv(folder / "overdrafts.csv") == [["S-1", "7", "K7", "ship", "5", "-5", "kg", "261110", "K1"]]

@@ -97,7 +97,7 @@ def test_an_owner_comes_back_as_another_one(office):
     assert office.run("carry-over", "--without", "BOLT", "--day", 105).status == 0
     office.lay("owner-add BOLT BOLTKEY1\nmaterial-add BOLT PIGMENT kg\ntest-add BOLT PIGMENT HUE 1 9\nreceive BOLT K9 PIGMENT P-9 BAY2 7 106")
     assert office.run("papers", "statement", "BOLT", "--from", 0, "--to", 999, office.folder / "made", "--no-pdf").status == 0
-    assert {row[2]: row[9] for row in figures.read_csv(office.folder / "made" / "lots.csv")} == {"P-1": "0", "P-9": "7", "D-1": "0"}
+    assert {row[2]: row[10] for row in figures.read_csv(office.folder / "made" / "lots.csv")} == {"P-1": "0", "P-9": "7", "D-1": "0"}
     assert office.run("papers", "recall", "HOUSE", "W-101", office.folder / "recall", "--no-pdf").status == 0
 
 
