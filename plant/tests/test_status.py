@@ -8,10 +8,12 @@ import time
 import types
 
 import pytest
-from conftest import ROOT, Plant, copied, script
+from conftest import ROOT, Plant, copied, make_office, script
 from hilpoven import OFFICE_VERSION, VERSION
 from hilpoven.core import health
 from hilpoven.records import gauge
+from hilpoven.register.store import Register
+from hilpoven.register.suspects import suspects
 
 sys.path.append(str(ROOT))
 
@@ -139,3 +141,16 @@ def test_a_full_office_is_told_in_five_seconds_and_its_server_goes_on(program, t
         server.ask("OWNER-01", "GET", "/orders")
         assert "opened anew" not in server.end()
     assert took < 5, took
+
+
+def test_looking_for_suspects_reads_each_requirement_once(tmp_path):
+    """Steps of SQLite's machine, for receipts of an owner with many recipes."""
+    count = 1_000
+    lots = [("ACME", f"L-{at:04}", "RAW", "", 0, 1) for at in range(count)]
+    moves = [("ACME", f"K-{at:04}", 0, "ACME", f"L-{at:04}", "S", "", "RAW", "", 0, 0, 5, 261101) for at in range(count)]
+    requirements = [("ACME", f"R-{at:04}", 1, 1, "ACME", f"M-{at:04}", 1) for at in range(count)]
+    path, steps = make_office(tmp_path / "full.db", lots=lots, moves=moves, requirements=requirements), []
+    with contextlib.closing(sqlite3.connect(path)) as base:
+        base.set_progress_handler(lambda: steps.append(1), 100)
+        assert suspects(base, Register()) == []
+    assert 100 * len(steps) < 100 * count

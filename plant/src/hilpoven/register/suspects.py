@@ -12,9 +12,8 @@ Base = sqlite3.Connection
 RECEIPTS = f"""
 SELECT l.owner, m.mkey, l.lot, l.material, m.day
 FROM moves AS m JOIN lots AS l ON l.owner = m.lot_owner AND l.lot = m.lot
-WHERE m.kind = {Kind.RECEIVE:d} AND EXISTS (
-  SELECT 1 FROM requirements AS q WHERE q.owner = l.owner AND q.source = l.owner AND q.material = l.material
-    AND q.role = {Role.PRODUCED:d})
+WHERE m.kind = {Kind.RECEIVE:d} AND (l.owner, l.material) IN (
+  SELECT owner, material FROM requirements WHERE source = owner AND role = {Role.PRODUCED:d})
 ORDER BY m.rowid
 """
 CARRIED = "SELECT owner, mkey FROM carried_moves"
