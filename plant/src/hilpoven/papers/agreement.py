@@ -1,4 +1,5 @@
 """What `toll` answers is compared with the tables; if they differ, no paper is made."""
+from collections import defaultdict
 from collections.abc import Iterable, Mapping
 from typing import Any
 
@@ -57,11 +58,14 @@ def check_stock(
 
     After a carry-over `toll` knows no sublot that was empty before it.
     """
+    names: defaultdict[str, set[str]] = defaultdict(set)
+    for lot in lots:
+        names[lot.owner].add(lot.name)
     answered = {
         (LotId(owner, line.lot), line.sublot): (line.material, line.disposition, line.amount, line.measure)
         for owner in filter(source.has_owner, owners)
         for line in rows_of(StockLine, source.newest.answer("stock", owner))
-        if is_all or LotId(owner, line.lot) in lots
+        if is_all or line.lot in names[owner]
     }
     expected = {
         (lot, name): (lots[lot].material, lots[lot].disposition.word, amount, lots[lot].measure)

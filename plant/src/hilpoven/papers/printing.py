@@ -15,7 +15,7 @@ from .letterhead import Issue
 from .longtables import LongTable, finisher
 from .pictures import SIGNS
 from .ranges import on_paper
-from .sheets import ACROSS, UPRIGHT, Sheet
+from .sheets import ACROSS, UPRIGHT, Sheet, rows_as_html
 
 TEMPLATES = pathlib.Path(__file__).resolve().parent / "templates"
 LONG = 60  # rows; a table with more is set in lines on paper
@@ -94,7 +94,8 @@ def render(
 ) -> str:
     """A page of a template, with long tables that are set in lines, and those that are set in cells on paper too."""
     template = environment().get_template(f"{name}.html")
-    return str(template.render(long=LONG, signs=SIGNS, tables=tables or {}, wrapped=wrapped, **values))
+    always = {"long": LONG, "signs": SIGNS, "rows_as_html": rows_as_html}
+    return str(template.render(**always, tables=tables or {}, wrapped=wrapped, **values))
 
 
 def write(documents: list[tuple[Document, str]], issue: Issue, room: pathlib.Path, prints: bool) -> None:

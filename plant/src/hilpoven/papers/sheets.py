@@ -3,7 +3,7 @@ import functools
 import re
 from collections.abc import Sequence
 from dataclasses import dataclass, replace
-from typing import NamedTuple
+from typing import TYPE_CHECKING, NamedTuple
 
 from ..output import exports
 from ..output.table import Shown
@@ -11,6 +11,9 @@ from ..records.days import format_day
 from ..records.descriptions import describe_lot
 from ..records.rows import Base, Lot
 from ..register.store import Register
+
+if TYPE_CHECKING:
+    from markupsafe import Markup
 
 Cell = str | int | None
 Row = tuple[Cell, ...]
@@ -95,6 +98,17 @@ class Printed(NamedTuple):
     kind: str
     text: str
     additions: list[tuple[str, str]]
+
+
+def rows_as_html(rows: Sequence[Sequence[Printed]]) -> "Markup":
+    """The rows of a table of a page; a template makes them more slowly."""
+    from markupsafe import Markup, escape
+
+    def cell_as_html(cell: Printed) -> str:
+        additions = "".join(f' <span class="{place}">{escape(text)}</span>' for place, text in cell.additions)
+        return f'<td class="{cell.kind}">{escape(cell.text)}{additions}</td>'
+
+    return Markup("".join(f"<tr>{''.join(map(cell_as_html, row))}</tr>\n" for row in rows))
 
 
 @dataclass

@@ -1,7 +1,7 @@
 """What `toll` prints, as rows, and rows as `toll` prints them."""
 from collections.abc import Iterable, Mapping, Sequence
-from dataclasses import astuple, dataclass, fields
-from typing import Any, TypeVar
+from dataclasses import astuple, dataclass
+from typing import Any, NamedTuple, TypeVar, get_type_hints
 
 from .recall import RecallLine, TraceLine
 from .rows import LotId
@@ -12,8 +12,7 @@ RECALL_FORM = TRACE_FORM + " {:<11} {:>14} {:>14}"
 RECALL_HEAD = RECALL_FORM.format("steps", "owner", "lot", "disposition", "on-hand", "shipped")
 
 
-@dataclass(frozen=True)
-class StockLine:
+class StockLine(NamedTuple):
     """A sublot, as `toll stock` prints it."""
 
     lot: str
@@ -48,7 +47,7 @@ class RequirementLine:
 
 def rows_of(kind: type[Row], text: str) -> list[Row]:
     """The lines of a text as rows of a kind, whose fields are words or whole numbers."""
-    types: list[Any] = [field.type for field in fields(kind)]
+    types: list[Any] = list(get_type_hints(kind).values())
     return [kind(*(read(word) for read, word in zip(types, line.split(), strict=True))) for line in text.splitlines()]
 
 

@@ -50,8 +50,7 @@ class Lot:
     on_hand: int
 
 
-@dataclass(frozen=True)
-class Move:
+class Move(NamedTuple):
     """A movement of a lot; `batch` is `None` unless it is an actual."""
 
     owner: str
@@ -146,10 +145,13 @@ def read_lots(base: Base, where: str, words: Any = ()) -> list[Lot]:
 def read_moves(base: Base, where: str, words: Any = ()) -> list[Move]:
     """The movements for which a condition on `m` holds, in the order in which they were recorded."""
     rows, moves = base.execute(f"{MOVES}{where} ORDER BY m.rowid", words), []
+    kinds = {kind.value: kind for kind in Kind}
     for owner, key, kind, lot_owner, lot, sublot, target, order, number, segment, amount, day, is_void in rows:
         of_lot, batch = LotId(lot_owner, lot), BatchId(owner, order, number) if order else None
         place = sublot, target, batch, segment
-        moves.append(Move(owner, key, Kind(kind), of_lot, *place, amount, day, bool(is_void)))
+        moves.append(
+            Move(owner, key, kinds[kind] if kind in kinds else Kind(kind), of_lot, *place, amount, day, bool(is_void))
+        )
     return moves
 
 
