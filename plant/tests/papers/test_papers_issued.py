@@ -34,7 +34,7 @@ def shipped(at_work, monkeypatch) -> Plant:
     return at_work
 
 
-def made(plant: Plant, words: str, *options: str) -> pathlib.Path:
+def folder_of(plant: Plant, words: str, *options: str) -> pathlib.Path:
     """The folder of a paper."""
     done = plant.run("papers", *words.split(), plant.folder / "made", *options)
     assert (done.status, done.err) == (0, ""), done
@@ -43,14 +43,14 @@ def made(plant: Plant, words: str, *options: str) -> pathlib.Path:
 
 @pytest.mark.parametrize("words", LEAVING, ids=lambda words: words.split()[0])
 def test_what_leaves_the_plant_says_who_issued_it_and_when_and_names_no_login(shipped, words):
-    folder, today = made(shipped, words, "--no-pdf"), datetime.date.today()
+    folder, today = folder_of(shipped, words, "--no-pdf"), datetime.date.today()
     page = (folder / LEAVING[words]).read_text().split("</style>")[1]
     assert all(page.count(text) >= 1 for text in LETTERHEAD) and page.index(LETTERHEAD[0]) < page.index("<h1>") and f"Issued on {today}" in page
     assert not [file for file in folder.rglob("*") if file.is_file() and "plant" not in file.parts[-2:-1] and CLERK in file.read_text()]
 
 
 def test_the_plants_own_paper_has_no_letterhead_and_names_the_login(shipped):
-    page = (made(shipped, "recall HOUSE W-101", "--no-pdf") / "plant" / "recall.html").read_text()
+    page = (folder_of(shipped, "recall HOUSE W-101", "--no-pdf") / "plant" / "recall.html").read_text()
     assert f" by {CLERK} from office.db" in page and LETTERHEAD[0] not in page and "Issued" not in page
 
 
@@ -58,22 +58,22 @@ def test_the_plants_own_paper_has_no_letterhead_and_names_the_login(shipped):
 def test_the_date_of_issue_is_the_plants(shipped, zone):
     lines = (shipped.folder / "hilpoven.toml").read_text()
     (shipped.folder / "hilpoven.toml").write_text(f'time_zone = "{zone}"\n{lines}')
-    page = (made(shipped, "certificate ACME B-1", "--no-pdf") / "certificate.html").read_text()
+    page = (folder_of(shipped, "certificate ACME B-1", "--no-pdf") / "certificate.html").read_text()
     assert f"Issued on {datetime.datetime.now(zoneinfo.ZoneInfo(zone)).date()}" in page
 
 
 def test_a_delivery_note_has_its_sender(shipped):
-    page = (made(shipped, "delivery-note ACME K7", "--no-pdf") / "delivery.html").read_text()
+    page = (folder_of(shipped, "delivery-note ACME K7", "--no-pdf") / "delivery.html").read_text()
     assert f"<dt>sender</dt><dd>{PLANT['name']}, {PLANT['address']}</dd>" in page
 
 
 def test_without_settings_a_delivery_note_has_room_for_its_sender(at_work):
-    page = (made(at_work.lay(SHIPPED), "delivery-note ACME K7", "--no-pdf") / "delivery.html").read_text()
+    page = (folder_of(at_work.lay(SHIPPED), "delivery-note ACME K7", "--no-pdf") / "delivery.html").read_text()
     assert "<dt>sender" not in page and "<p>Sender</p>" in page
 
 
 def test_a_certificate_has_the_specification(shipped):
-    file = made(shipped, "certificate ACME B-1", "--no-pdf") / "certificate.html"
+    file = folder_of(shipped, "certificate ACME B-1", "--no-pdf") / "certificate.html"
     text = " ".join(figures.text_of_page(file).split())
     assert "Specification and results Specification of BRINE: the limits of each test, as agreed with ACME." in text and "limits from" in text
     assert [row[:4] for row in Page(file).rows] == [["DENSITY", "1,100", "1,250", "1,180"], ["PH", "-5", "9", "2"]]
@@ -114,10 +114,10 @@ def test_a_lot_past_its_day_says_so_on_certificates_and_labels(shipped, days, is
     event, after = days
     when = datetime.date.today() + datetime.timedelta(after)
     assert shipped.run("describe", "lot", "ACME", "B-1", event, day_of(when)).status == 0
-    page = (made(shipped, "certificate ACME B-1", "--no-pdf") / "certificate.html").read_text().split("</style>")[1]
+    page = (folder_of(shipped, "certificate ACME B-1", "--no-pdf") / "certificate.html").read_text().split("</style>")[1]
     assert ("This lot is released." in page) != is_past and ('<p class="stamp">past its day</p>' in page) == is_past
-    said = "Lot ACME B-1 expired on" if event == "--expires" else "Lot ACME B-1 was to be tested again by"
-    assert (f"{said} {when}: it is not to be used." in page) == is_past
+    sentence = "Lot ACME B-1 expired on" if event == "--expires" else "Lot ACME B-1 was to be tested again by"
+    assert (f"{sentence} {when}: it is not to be used." in page) == is_past
     monkeypatch.setattr(printing, "pdf_of", lambda text, tables=None: text.encode())
     assert shipped.run("labels", "ACME", "B-1", "--out", shipped.folder / "label").status == 0
     words = {"--expires": ("expires", "✕ expired on"), "--retest": ("retest by", "✕ retest was due")}[event][is_past]
@@ -141,7 +141,7 @@ def test_a_statement_joins_no_rejected_lot_with_shipped_ones(plant):
     lots = "\n".join(f"receive ACME R{number:03d} SALT L-{number:03d} BAY1 100 261101\n> ACME POST /lots/L-{number:03d}/{'reject' if number == bad else 'release'}" for number in range(count))
     ships = "\n".join(f"ship ACME S{number:03d} L-{number:03d} BAY1 100 261102" for number in range(count) if number != bad)
     plant.lay(f"owner-add ACME ACMEKEY1\nmaterial-add ACME SALT kg\n{lots}\n{ships}")
-    page = (made(plant, "statement ACME --from 261101 --to 261130", "--no-pdf") / "statement.html").read_text().partition("By lot")[2].partition("<h2>")[0]
+    page = (folder_of(plant, "statement ACME --from 261101 --to 261130", "--no-pdf") / "statement.html").read_text().partition("By lot")[2].partition("<h2>")[0]
     rows = [re.sub(r"<[^>]*>", " ", row).split() for row in re.findall(r"<tr>(.*?)</tr>", page)]
     assert [row[2:-8] for row in rows] == [["L-000", "to", "L-032:", "33", "lots", "✓", "released"], ["L-034", "to", "L-069:", "36", "lots", "✓", "released"], ["L-033", "✕", "rejected"]]
 
@@ -149,7 +149,7 @@ def test_a_statement_joins_no_rejected_lot_with_shipped_ones(plant):
 def test_shares_are_those_of_the_owners_page(at_work):
     """The page rounds down, so that 100 % is never less."""
     at_work.lay("actual K20 ACME O-1 1 1 consumed SALT ACME S-1 BAY1 1 102")  # 301 of 300
-    read = {row[3]: row[6] for row in figures.read_csv(made(at_work, "batch ACME O-1 1", "--no-pdf") / "requirements.csv")}
+    read = {row[3]: row[6] for row in figures.read_csv(folder_of(at_work, "batch ACME O-1 1", "--no-pdf") / "requirements.csv")}
     asked = "import { share } from './values.js'; console.log([share(301, 300), share(700, 700), share(980, 1000)].join(' '))"
     shares = subprocess.run(["node", "--input-type=module", "-e", asked], cwd=PAGE, capture_output=True, text=True, check=True).stdout.replace(" %", "").split()
     assert [read["SALT"], read["WATER"], read["BRINE"]] == [f"{float(share):.1f}" for share in shares] == ["100.3", "100.0", "98.0"]

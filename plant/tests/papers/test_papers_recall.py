@@ -15,7 +15,7 @@ PLANTS_TEST = "[quality]\ntest = \"SIGNED\"\npersons = 1\n"
 PH = "test-add ACME BRINE PH M5 9"
 
 
-def made(plant: Plant, name: str) -> pathlib.Path:
+def folder_of(plant: Plant, name: str) -> pathlib.Path:
     """The folder of a recall's papers without PDF."""
     done = plant.run(*RECALL, plant.folder / name, "--no-pdf")
     assert (done.status, done.err) == (0, ""), done
@@ -36,7 +36,7 @@ def shipped(at_work) -> Plant:
 
 
 def test_each_lot_has_the_command_that_stops_it_at_once_and_stands_as_held_then(shipped):
-    folder = made(shipped, "before") / "plant"
+    folder = folder_of(shipped, "before") / "plant"
     page = (folder / "recall.html").read_text()
     assert "Hold what is released and still on hand: 2 lots." in page and "rejects it" not in page and "hilpoven reject" not in page
     to_do = {(row["owner"], row["lot"]): row["to_do"] for row in rows_of(folder / "released.csv")}
@@ -44,7 +44,7 @@ def test_each_lot_has_the_command_that_stops_it_at_once_and_stands_as_held_then(
     for lot, command in to_do.items():
         assert shlex.split(command)[:4] == ["hilpoven", "hold", *lot] and command in page.replace("&#39;", "'")
         assert shipped.run(*shlex.split(command)[1:]).status == 0, command
-    folder = made(shipped, "after") / "plant"
+    folder = folder_of(shipped, "after") / "plant"
     page = (folder / "recall.html").read_text()
     assert "Hold what is released" not in page and "All that is released and on hand is held." in page and "Held and on hand: 2 lots." in page
     assert {row["disposition"] for row in rows_of(folder / "sublots.csv")} == {row["disposition"] for row in rows_of(folder / "lots.csv")} == {"held (released)"}
@@ -56,10 +56,10 @@ def test_each_lot_has_the_command_that_stops_it_at_once_and_stands_as_held_then(
 
 
 def test_a_batch_that_may_be_held_has_the_command_for_it(shipped):
-    running, = rows_of(made(shipped, "before") / "plant" / "running.csv")
+    running, = rows_of(folder_of(shipped, "before") / "plant" / "running.csv")
     assert running["to_do"] == "hilpoven do ACME O-1 1 hold"
     assert shipped.run(*running["to_do"].split()[1:]).out == "accepted\n"
-    held, = rows_of(made(shipped, "after") / "plant" / "running.csv")
+    held, = rows_of(folder_of(shipped, "after") / "plant" / "running.csv")
     assert (held["state"], held["to_do"]) == ("holding", "")
     assert "to_do" not in rows_of(shipped.folder / "after" / "owners" / "ACME" / "running.csv")[0]
 
@@ -73,7 +73,7 @@ def test_a_lot_that_was_held_twice_shows_the_last_reason(plant, is_tested, monke
             settings.write(PLANTS_TEST)
     for reason in ("metal in drum 7", "glass in drum 9"):
         assert shipped.run("hold", "ACME", "B-1", "--reason", reason, "--day", 261106).status == 0
-    folder, label, board = made(shipped, "made"), shipped.folder / "label.html", shipped.folder / "board.html"
+    folder, label, board = folder_of(shipped, "made"), shipped.folder / "label.html", shipped.folder / "board.html"
     monkeypatch.setattr(printing, "pdf_of", lambda text, tables=None: text.encode())
     assert shipped.run("labels", "ACME", "B-1", "--out", label).status == shipped.run("board", "--out", board).status == 0
     texts = {
@@ -108,21 +108,21 @@ def accounts(folder: pathlib.Path) -> list[tuple[str, ...]]:
 def test_who_has_it_names_lots_and_is_net_of_what_came_back(shipped):
     for words in PARTIES:
         assert shipped.run(*words).status == 0, words
-    folder = made(shipped, "shipped")
+    folder = folder_of(shipped, "shipped")
     assert accounts(folder) == [("NORD", "B-1", "3", "200", "", "")] and not (folder / "plant" / "returned.csv").exists()
     assert shipped.run("receive", "ACME", "R1", "BRINE", "B-1-R", "TOTE9", 25, 261110, "--of", "B-1", "--why", "return").status == 0  # from the only one that has some
-    assert accounts(made(shipped, "returned")) == [("NORD", "B-1", "3", "200", "25", "175")]
+    assert accounts(folder_of(shipped, "returned")) == [("NORD", "B-1", "3", "200", "25", "175")]
     for words in (("ship", "ACME", "S3", "B-1", "TOTE1", 10, 261111, "--to", "SUED"), ("ship", "ACME", "S4", "B-1-R", "TOTE9", 5, 261111, "--to", "SUED")):
         assert shipped.lay("result ACME B-1-R DENSITY 1180 261110\nresult ACME B-1-R PH 2 261110\n> ACME POST /lots/B-1-R/release") if words[1:3] == ("ACME", "S4") else True
         assert shipped.run(*words).status == 0, words
-    folder = made(shipped, "unknown")  # two have some, and nobody noted which of them returned it
+    folder = folder_of(shipped, "unknown")  # two have some, and nobody noted which of them returned it
     assert accounts(folder) == [("NORD", "B-1", "3", "200", "0", "200"), ("SUED", "B-1", "1", "10", "0", "10"), ("SUED", "B-1-R", "1", "5", "0", "5")]
     returned, = rows_of(folder / "plant" / "returned.csv")
     assert (returned["key"], returned["of_lot"], returned["lot"], returned["amount"]) == ("R1", "B-1", "B-1-R", "25")
     assert returned["what"] == "not subtracted: hilpoven note movement ACME R1 --from PARTY"
     assert "hilpoven" not in rows_of(folder / "owners" / "ACME" / "returned.csv")[0]["what"]
     assert shipped.run("note", "movement", "ACME", "R1", "--from", "SUED").status == 0
-    assert accounts(made(shipped, "noted")) == [("NORD", "B-1", "3", "200", "0", "200"), ("SUED", "B-1", "1", "10", "25", "-15"), ("SUED", "B-1-R", "1", "5", "0", "5")]
+    assert accounts(folder_of(shipped, "noted")) == [("NORD", "B-1", "3", "200", "0", "200"), ("SUED", "B-1", "1", "10", "25", "-15"), ("SUED", "B-1-R", "1", "5", "0", "5")]
     page = (shipped.folder / "noted" / "plant" / "recall.html").read_text()
     assert "What came back" in page and "subtracted from SUED" in page
 
@@ -130,6 +130,6 @@ def test_who_has_it_names_lots_and_is_net_of_what_came_back(shipped):
 def test_what_came_back_of_several_lots_is_told_and_not_guessed(shipped):
     for words in (*PARTIES, ("receive", "ACME", "R1", "BRINE", "MIX", "TOTE9", 25, 261110, "--of", "B-1", "--why", "return"), ("link", "ACME", "MIX", "S-1", "--why", "return")):
         assert shipped.run(*words).status == 0, words
-    folder = made(shipped, "made")
+    folder = folder_of(shipped, "made")
     assert accounts(folder)[0] == ("NORD", "B-1", "3", "200", "0", "200")
     assert {row["what"] for row in rows_of(folder / "plant" / "returned.csv")} == {"not subtracted: the notes don't say how much of it is of this lot"}

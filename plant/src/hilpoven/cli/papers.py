@@ -101,7 +101,8 @@ def batch(context: Context, owner: str, order: str, number: str, **where: Any) -
 def certificate(context: Context, owner: str, lot: str, key: str, **where: Any) -> None:
     """Makes a certificate of analysis: each test with its limits, its latest result and whether it passes.
 
-    A lot without a result gets a certificate of release. If the lot isn't released, the page says so on top. With --shipment it is for the one who gets that shipment.
+    A lot without a result gets a certificate of release. If the lot isn't released, is held, or is past its day, the
+    page says so on top. With --shipment it is for the one who gets that shipment.
 
     Example: hilpoven papers certificate ACME B-1 certificate
     """

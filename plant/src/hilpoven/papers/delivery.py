@@ -73,10 +73,10 @@ def deliver(office: Office, journal: log.Journal, delivery: Delivery) -> None:
         begin(f"copying {office.file}")
         with copies.opened(office, journal) as source:
             begin("reading it, and comparing with what toll says")
-            program, made = copies.version(office), delivery.make(source)
-            documents = [(document, footer_of(source, program, document.for_plant)) for document in made]
-            issue = delivery.issue(made)
-        begin(f"writing {counted(len(made), 'papers')}")
+            program, papers = copies.version(office), delivery.make(source)
+            documents = [(document, footer_of(source, program, document.for_plant)) for document in papers]
+            issue = delivery.issue(papers)
+        begin(f"writing {counted(len(papers), 'papers')}")
 
         def write(room: pathlib.Path) -> None:
             printing.write(documents, issue, room, delivery.prints)

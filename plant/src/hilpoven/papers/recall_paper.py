@@ -2,7 +2,6 @@
 from collections import Counter, defaultdict
 from typing import Any
 
-from .. import HOUSE
 from ..records.balance import COUNTED, Balance
 from ..records.rows import LotId
 from ..records.schema import FOLLOWING, Disposition, Kind

@@ -92,9 +92,9 @@ def returns_sheet(view: View, received: Recipients) -> Sheet:
         if party:
             received[move.owner, party, returned.of].returned += returned.amount or 0
         about = move.day, move.owner, move.key, returned.of.name, move.lot.name
-        what = f"subtracted from {party}" if party else f"not subtracted: {why}"
+        remark = f"subtracted from {party}" if party else f"not subtracted: {why}"
         amount = move.amount if returned.amount is None else returned.amount
-        rows.append((*about, amount, view.lot(move.lot).measure, facts.party, facts.document, what))
+        rows.append((*about, amount, view.lot(move.lot).measure, facts.party, facts.document, remark))
     heads = "day:day owner key of_lot lot=came_into amount=came_back:number measure=unit:text@beside"
     return Sheet("returned", columns(f"{heads} noted_party=from noted_document:text what:text"), rows)
 

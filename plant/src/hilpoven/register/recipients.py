@@ -1,4 +1,4 @@
-"""Who has what was shipped, as the plant noted it: the party of a movement, what a recipient got, and what came back."""
+"""Who has what was shipped, as the plant noted it: a movement's party, what a recipient got, and what came back."""
 from collections import defaultdict
 from collections.abc import Iterable, Sequence
 from dataclasses import dataclass, field
