@@ -57,10 +57,11 @@ def check_arrows(plant: Any, page: str, lots: Lots) -> None:
 def check_lies(plant: Any, asked: tuple[str, str], last: str) -> None:
     """No lie of a program about the last lot is believed."""
     import conftest  # type: ignore[import]  # of plant/tests
+    import lying  # type: ignore[import]
     folder = plant.folder / "believed"
     for lie in LIES:
-        liar = conftest.script(plant.folder / "liar", f"'{plant.program}' \"$@\" | sed '{lie}'")
-        answer = conftest.Plant(str(liar), plant.folder).run("papers", "recall", *asked, folder, "--no-pdf")
+        liar = lying.liar(plant.folder / "liar", plant.program, lie)
+        answer = conftest.Plant(liar, plant.folder).run("papers", "recall", *asked, folder, "--no-pdf")
         assert answer.status == 1 and not folder.exists() and last in answer.err.partition("\n")[0], (lie, answer)
 
 
