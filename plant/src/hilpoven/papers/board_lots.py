@@ -148,9 +148,12 @@ def waits_for(source: Source, known: Known, lot: Lot) -> tuple[Wait, str]:
             is_signed = False
         else:
             own.append(test)
-    failed = [f"{test.name} out of limits" for test in own if test.is_out]
-    missing = [f"no {test.name} yet" for test in own if not test.is_out]
-    texts = [*failed, *missing, *([] if is_signed else ["no signature yet"])]
-    why = Wait.FAILED if failed else Wait.RESULT if missing else Wait.RELEASE if is_signed else Wait.SIGNATURE
-    rest = f", and {len(texts) - 1} more" if texts[1:] else ""
-    return why, f"{texts[0]}{rest}" if texts else "for its release"
+    failed = [test.name for test in own if test.is_out]
+    missing = [test.name for test in own if not test.is_out]
+    count = len(own) + (not is_signed)
+    rest = f", and {count - 1} more" if count > 1 else ""
+    if failed:
+        return Wait.FAILED, f"{failed[0]} out of limits{rest}"
+    if missing:
+        return Wait.RESULT, f"no {missing[0]} yet{rest}"
+    return (Wait.RELEASE, "for its release") if is_signed else (Wait.SIGNATURE, "no signature yet")

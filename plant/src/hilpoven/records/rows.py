@@ -107,8 +107,7 @@ class Test:
     limits: str
 
 
-@dataclass(frozen=True)
-class OpenTest:
+class OpenTest(NamedTuple):
     """A test of a quarantined lot whose latest result isn't within its limits: out of them, or missing."""
 
     lot: LotId
