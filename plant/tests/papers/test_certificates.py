@@ -1,5 +1,6 @@
 """Certificates say what was noted and measured, by a reckoning of their own: names, days, methods, limits, values."""
 import base64
+import datetime
 import html.parser
 import pathlib
 import random
@@ -115,7 +116,8 @@ class Certified:
             self.ships.append((owner, key, lot, "S1", amount, 261105, "--to", "NORD", "--document", document))
             wanted |= {"shipped": f"{amount:,} kg", "on": "2026-11-05", "recipient": party.name, "address": party.address, "document": document}
         title = f"Certificate of {'analysis' if any(row[-1] != 'no result' for row in rows) else 'release'}: {lot}"
-        self.wanted[owner, lot, key] = title, {name: text for name, text in wanted.items() if text}, rows, is_released
+        is_past = any(days[event] and days[event] < int(f"{datetime.date.today():%y%m%d}") for event in ("expires", "retest"))
+        self.wanted[owner, lot, key] = title, {name: text for name, text in wanted.items() if text}, rows, is_released and not is_past
 
     def add_test(self, owner: str, material: str, lot: str, name: str) -> list[str]:
         """Adds a test, of which much is noted, and mostly a result of the lot. It gives the row of a certificate: the test, its full
