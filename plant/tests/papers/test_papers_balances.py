@@ -68,6 +68,6 @@ def test_a_program_that_tells_something_else_is_not_believed(shipped, tmp_path, 
 
 def test_a_refusal_of_what_is_not_there_names_what_is_near(shipped, tmp_path):
     for words, near in ((("recall", "ACME", "B-2"), "B-1"), (("lot", "ACNE", "B-1"), "ACME"), (("batch", "ACME", "O-1", 7), "list batches"),
-                        (("certificate", "ACME", "b-1"), "lower-case"), (("statement", "ACME", "--from", "2026-11-01", "--to", "5"), "is a date")):
+                        (("certificate", "ACME", "b-1"), "lower-case"), (("statement", "ACME", "--from", "2026-11-01", "--to", "5"), "261101 is behind --to, 5")):
         done = shipped.run("papers", *words, tmp_path / "made", "--no-pdf")
         assert done.status in (1, 2) and near in done.err and not (tmp_path / "made").exists(), (words, done)
