@@ -20,14 +20,12 @@ def on_paper(sheet: Sheet, most: int) -> Sheet:
 
 
 def runs_of(sheet: Sheet) -> Iterator[list[Row]]:
-    """The rows in runs that count on: those that are alike otherwise, and have amounts in the same columns, stand
-    together, by their names."""
+    """The rows in runs that count on: those that are alike otherwise stand together, by their names."""
     counting = places_of(sheet, COUNTING)
-    sums = places_of(sheet, sheet.sums)
-    others = [at for at in range(len(sheet.columns)) if at not in {*counting, *sums}]
+    others = [at for at in range(len(sheet.columns)) if at not in {*counting, *places_of(sheet, sheet.sums)}]
     alike: dict[tuple[Cell, ...], list[Row]] = defaultdict(list)
     for row in sheet.rows:
-        alike[*(row[at] for at in others), *(bool(row[at]) for at in sums)].append(row)
+        alike[tuple(row[at] for at in others)].append(row)
     for rows in alike.values():
         rows.sort(key=lambda row: [parts_of(row[at]) for at in counting])
         run: list[Row] = []
