@@ -384,6 +384,24 @@ def test_a_limit_is_told_long_before(plant):
     plant.toll("stock", "ACME")
 
 
+@pytest.mark.parametrize("days, ships, is_told", [(27, False, False), (28, False, True), (60, True, False), (60, False, True)])
+def test_the_pace_is_that_of_four_weeks_behind_the_opening_stock(plant, days, ships, is_told):
+    """4,600 receipts came on the first day, 20 on each one since. If something was shipped 20 days ago for the first time, all before it was
+    opening stock."""
+    today = datetime.date.today()
+    plant.lay("owner-add ACME ACMEKEY1\nmaterial-add ACME SALT kg\nreceive ACME K0 SALT S-1 BAY1 5 101")
+    copied = "INSERT INTO moves SELECT owner, ?, ?, lot_owner, lot, sublot, target, material, ord, number, segment, amount, ? FROM moves WHERE owner = 'ACME' AND mkey = 'K0'"
+    with contextlib.closing(sqlite3.connect(plant.db)) as base, base:
+        for back in range(days + 1):
+            day = int((today - datetime.timedelta(back)).strftime("%y%m%d"))
+            base.executemany(copied, ((f"K{back}-{number}", 0, day) for number in range(4_600 if back == days else 20)))
+        if ships:
+            base.execute(copied, ("X1", 2, int((today - datetime.timedelta(20)).strftime("%y%m%d"))))
+    left = 20_000 - 4_601 - 20 * days - ships
+    full = today + datetime.timedelta(left // 20)
+    assert (f"full by {full}" in plant.run("status").out or str(full) in plant.run("status").out) == is_told and ("full by" in plant.run("status").out) == is_told
+
+
 def test_what_was_carried_over_says_nothing_of_the_pace(ready):
     assert carry(ready, "--day", os.popen("date +%y%m%d").read().strip()).status == 0
     assert "full by 2" not in ready.run("status").out
