@@ -15,13 +15,14 @@ QUESTIONS = {"orders", "stock", "batch", "trace", "recall", "status", "verify", 
              "journal head", "follow status", "follow verify", "years files", "years recall", "years trace", "years lot", "years statement"}
 GROUPS_OF_QUESTIONS = {"list", "show", "papers"}  # of which no subcommand records anything
 OF_EACH_ROLE = {
-    "record": ["ship ACME K9 S-1 BAY1 5 103", "count import -", "use ACME O-1 1 HOUSE W-101 TANK 5 103", "import -", "note not-linked ACME K1", "link ACME B-1 S-1 --why use", "do ACME O-1 1 hold",
+    "record": ["ship ACME K9 S-1 BAY1 5 103", "count import -", "use ACME O-1 1 HOUSE W-101 TANK 5 103", "import -", "note not-linked ACME K1", "note corrects ACME K1 K2", "link ACME B-1 S-1 --why use", "do ACME O-1 1 hold",
                "for ACME order O-9 BRINE-10 1 --by mail"],
     "quality": ["reject W-101", "release W-101", "sign ACME S-1", "hold ACME S-1 --reason wet", "describe lot ACME S-1 --expires 271127", "drill start S-1",
                 "for ACME release S-1 --by mail", "for ACME reject S-1 --by mail"],
     "master_data": ["unit-add PRESS", "material new ACME GLUE kg", "material-add ACME GLUE kg", "require ACME BRINE-10 1 consumed ACME SALT 3", "party add ACME N --name N --role customer",
                     "describe owner ACME --name Acme", "describe material ACME BRINE --name Brine", "describe test ACME BRINE PH --decimals 2",
                     "describe recipe ACME BRINE-10 --allowance 1.5"],
+    "settlement": ["settle ACME 2501 --tar --no-pdf", "settle HOUSE 2501"],
     "keys": ["owner key ACME", "owner add NEW", "owner-add NEW NEWKEY12"],
     "restore": ["restore office.db", "restore --at 2026-11-27", "promote", "backup", "carry-over", "new", "register rebuild"],
 }
@@ -81,7 +82,8 @@ def test_a_member_of_the_group_may_and_so_may_root(at_work):
 
 
 WITHDRAWN = {"master_data": ["describe test ACME BRINE PH --decimals 2", "describe recipe ACME BRINE-10 --allowance 1.5", "describe owner ACME --name Acme", "party add ACME N --name N --role customer"],
-             "quality": ["describe lot ACME S-1 --expires 271127", "drill start S-1"], "record": ["link ACME B-1 S-1 --why rework", "note not-linked ACME K1"]}
+             "quality": ["describe lot ACME S-1 --expires 271127", "drill start S-1"], "record": ["link ACME B-1 S-1 --why rework", "note not-linked ACME K1"],
+             "settlement": ["settle ACME 2501 --tar --no-pdf"]}
 
 
 @pytest.mark.parametrize("role", WITHDRAWN)

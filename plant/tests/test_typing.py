@@ -238,7 +238,7 @@ def test_limits_of_a_test_are_shown_and_a_value_below_zero_is_read(at_work):
 
 
 def test_values_are_shown_and_taken_as_they_are_measured(at_work):
-    assert at_work.run("describe", "test", "ACME", "BRINE", "DENSITY", "--decimals", "3", "--unit", "kg/l").status == 0
+    assert at_work.run("describe", "test", "ACME", "BRINE", "DENSITY", "--decimals", "3", "--unit", "kg/l", "--results-too").status == 0
     status, text = typed(at_work, "result ACME B-1", ["DENSITY  limits 1.100 to 1.250", ("TEST: ", "1"), ("VALUE (limits 1.100 to 1.250): ", "1.18045"), "has 5 decimals",
                                                         ("1.250): ", "1180"), "VALUE: 1180 is out of the limits", ("DAY (", "103"), (CONFIRM, "value"), ("1.250): ", "1.18"),
                                                         (CONFIRM, "")])

@@ -136,6 +136,12 @@ def read_csv(file: pathlib.Path) -> list[list[str]]:
     return [[cell[2:-1] if cell[:2] == '="' and cell[-1] == '"' else cell for cell in row] for row in rows]
 
 
+def read_table(file: pathlib.Path) -> list[dict[str, str]]:
+    """The rows of a table beside a paper, by the names of its columns."""
+    heads = next(csv.reader(io.StringIO(file.read_bytes().decode(), newline="")))
+    return [dict(zip(heads, row)) for row in read_csv(file)]
+
+
 def words_of_table(file: pathlib.Path) -> set[str]:
     """The words that a table has on paper: numbers without commas, and days as dates where they are some."""
     rows = read_csv(file)

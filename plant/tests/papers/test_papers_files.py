@@ -15,6 +15,23 @@ NOTES = ("party add ACME NORD --name Nord --role customer", "receive ACME K7 BRI
          "describe lot ACME B-1 --made 261101", "describe recipe ACME BRINE-10 --allowance 1", "hold ACME B-1 --reason wet", "link ACME B-1 S-1 --why rework --amount 5", "void ACME K2 --reason wrong",
          "result ACME B-1 PH 5 105", "use ACME O-1 1 HOUSE W-101 TANK 5 105", "do ACME O-1 1 hold --reason pump")
 
+TWO = """
+material-add ACME PASTE kg
+recipe-add ACME TWO 1
+require ACME TWO 1 consumed ACME SALT 10
+require ACME TWO 1 produced ACME BRINE 10
+require ACME TWO 1 produced ACME PASTE 5
+> ACME POST /orders {"order":"T-1","recipe":"TWO","batches":2}
+"""
+BATCH = """
+open ACME T-1 MIXER
+do ACME T-1 {0} start
+actual KA{0} ACME T-1 {0} 1 produced BRINE ACME TB-{0} BAY1 10 250105
+actual KB{0} ACME T-1 {0} 1 produced PASTE ACME TP-{0} BAY1 5 250105
+do ACME T-1 {0} done
+close ACME T-1 {0}
+"""
+
 
 def optional_tables(document: str, folder: pathlib.Path) -> set[str]:
     """The tables of a document that may be missing, and aren't. The others are always there."""
@@ -46,8 +63,19 @@ def test_papers_have_the_files_that_the_page_names(at_work):
         done = at_work.run(*words.split())
         assert done.status == 0, (words, done)
     noted = tables_of(at_work, "noted")
+    noted["settlement"] |= tables_of_closed(at_work)
     assert [document for document, tables in plain.items() if tables] == ["takeout"]
     assert noted == {document: FILES[document][2] for document in noted}
+
+
+def tables_of_closed(plant: Plant) -> set[str]:
+    """The tables that may be missing of a settlement that is closed behind another one, which was corrected since."""
+    plant.lay(TWO + BATCH.format(1))
+    assert plant.run("settle", "ACME", 2501, plant.folder / "first", "--no-pdf").status == 0
+    plant.lay(BATCH.format(2))
+    assert plant.run("receive", "ACME", "K41", "PASTE", "TP-1C", "BAY1", 2, 250106, "--of", "TP-1", "--why", "correction").status == 0
+    assert plant.run("settle", "ACME", 2502, plant.folder / "second", "--no-pdf").status == 0
+    return optional_tables("settlement", plant.folder / "second")
 
 
 def test_a_drill_has_the_files_that_the_page_names(settled):

@@ -87,8 +87,27 @@ def test_decimals_stay_once_they_are_noted(described):
         assert described.run("note", "withdraw", note, "--reason", "it has three").status == 0
     done = described.run(*PH, "--decimals", 3)
     assert done.status == 0 and done.err == "  The limits are read as -0.005 to 0.009; toll has -5 to 9.\n"
-    done = described.run("describe", "test", "ACME", "BRINE", "DENSITY", "--decimals", 1)
+    density = ("describe", "test", "ACME", "BRINE", "DENSITY", "--decimals", 1)
+    before = described.run("list", "results", "--csv").out
+    done = described.run(*density)
+    assert done.status == 1 and "test DENSITY of ACME BRINE has 1 result without decimals: 1,180 would be read as 118.0" in done.err
+    assert "--results-too" in done.err and "material new ACME NAME MEASURE --test DENSITY LOW HIGH --decimals DENSITY 1" in done.err
+    assert described.run("list", "results", "--csv").out == before
+    done = described.run(*density, "--results-too")
     assert done.err == "  The limits are read as 110.0 to 125.0, and 1 result so too; toll has 1,100 to 1,250.\n"
+    assert described.lines()[-1]["words"][-3:] == ["--results-too", "--decimals", "1"]
+
+
+def test_a_result_with_decimals_names_the_note_that_is_missing(settled):
+    """Beside a journal with and without notes of values."""
+    for words in ((), ("describe", "test", "ACME", "BRINE", "DENSITY", "--unit", "g/l")):
+        assert not words or settled.run(*words).status == 0
+        done = settled.run("result", "ACME", "B-1", "PH", "7.25", 103)
+        assert done.status == 1 and done.out == "refused 2 BadAmount\n"
+        assert "Test PH of ACME BRINE has no decimals. If its limits -5 to 9 mean -0.05 to 0.09: `hilpoven describe test ACME BRINE PH --decimals 2`." in done.err
+    for words in (("B-1", "PHH", "7.25"), ("B-9", "PH", "7.25"), ("B-1", "PH", "10000000000")):
+        assert "describe test" not in settled.run("result", "ACME", *words, 103).err
+    assert settled.rows("SELECT count(*) FROM results WHERE test = 'PH'") == [(0,)]
 
 
 def test_decimals_may_change_while_all_values_are_zero(settled):

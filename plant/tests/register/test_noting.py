@@ -166,6 +166,36 @@ def test_status_lists_receipts_at_which_a_trace_may_end(settled):
     assert "receipts of what" not in settled.run("status", "--prometheus").out
 
 
+def test_opening_stock_is_answered_by_one_command(settled):
+    for number in range(30):
+        settled.toll("receive", "ACME", f"K{100 + number}", "BRINE", f"OPEN-{number}", "BAY1", 5, 101 if number < 20 else 103)
+    done = settled.run("status").out
+    assert "30 receipts of what batches make" in done and done.count("OPEN-") == 5 and "`hilpoven note not-linked ACME --until 103`" in done and "`hilpoven status --all` shows all" in done
+    assert settled.run("status", "--all").out.count("OPEN-") == 30
+    assert settled.run("note", "not-linked", "ACME", "K120", "K121", "K121", "K120").out == "2 receipts noted, 0 noted already\n"
+    assert settled.run("note", "not-linked", "ACME", "--until", 101).out == "20 receipts noted, 0 noted already\n"
+    assert "8 receipts of what batches make" in settled.run("status").out
+    assert settled.run("note", "not-linked", "ACME", "-", stdin="K122\n\nK123\nK120\n").out == "2 receipts noted, 1 noted already\n"
+    assert len(register_of(settled).not_linked) == 24
+    lines = len(settled.lines())
+    for words, status, why in ((("K124", "K999"), 1, "there is no receipt K999"), ((), 2, "either KEY .. or --until DAY"), (("K124", "--until", 103), 2, "either KEY .. or --until DAY"), (("--until", "x"), 2, "is no day")):
+        done = settled.run("note", "not-linked", "ACME", *words)
+        assert done.status == status and why in done.err and len(settled.lines()) == lines
+    assert settled.run("note", "not-linked", "BOLT", "--until", 999_999).out == "0 receipts noted, 0 noted already\n"
+    assert settled.run("note", "not-linked", "ACME", "--until", "9999999").out == "6 receipts noted, 0 noted already\n" and "receipts of what" not in settled.run("status").out
+
+
+def test_thousands_of_receipts_are_noted_in_lines_that_can_be_withdrawn_from(settled):
+    with settled.serve() as server:
+        for number in range(1_200):
+            assert server.tell("receive", "ACME", f"K{1000 + number}", "BRINE", f"OPEN-{number}", "BAY1", 5, 101).out == "accepted\n"
+    assert settled.run("note", "not-linked", "ACME", "--until", 101).out == "1,200 receipts noted, 0 noted already\n"
+    lines = [line for line in settled.lines() if line["event"] == "note"]
+    assert [len(line["notes"]) for line in lines] == [1_000, 200]
+    assert settled.run("note", "withdraw", f"{lines[0]['id']}.1000", "--reason", "came back").status == 0
+    assert "1 receipt of what batches make" in settled.run("status").out
+
+
 def test_status_tells_a_journal_that_can_t_be_read(settled):
     settled.journal.symlink_to("/dev/zero")
     done = settled.run("status")

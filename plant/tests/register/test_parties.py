@@ -50,11 +50,35 @@ def test_a_later_note_of_a_party_counts_and_both_stay(at_work):
     assert at_work.run("party", "add", "ACME", "NORD", "--name", "Nord Foods plc", "--role", "customer", "--role", "carrier").status == 0
     assert at_work.run("party", "add", "HOUSE", "NORD", "--name", "The plant's own", "--role", "supplier").status == 0
     assert [(party["owner"], party["name"], party["roles"], party["phone"]) for party in parties(at_work)] == [
-        ("ACME", "Nord Foods plc", "customer, carrier", ""), ("HOUSE", "The plant's own", "supplier", "")]
+        ("ACME", "Nord Foods plc", "customer, carrier", "+44 20 7946 0000"), ("HOUSE", "The plant's own", "supplier", "")]
     assert [party["owner"] for party in parties(at_work, "HOUSE")] == ["HOUSE"]
     assert json.loads(at_work.run("party", "list", "ACME", "--json").out)[0]["party"] == "NORD"
     names = [note["name"] for line in at_work.lines() if line["event"] == "note" for note in line["notes"]]
     assert names == ["Nord Foods Ltd", "Nord Foods plc", "The plant's own"]
+
+
+def test_what_is_not_named_of_a_party_stays_and_what_is_emptied_goes(at_work):
+    nord = ("party", "add", "ACME", "NORD")
+    assert at_work.run(*nord, "--name", "Nord", "--address", "1 Dock Road", "--contact", "Jane Doe", "--phone", "1", "--role", "customer").status == 0
+    assert at_work.run(*nord, "--phone", "2").status == 0
+    assert parties(at_work) == [{"owner": "ACME", "party": "NORD", "name": "Nord", "roles": "customer", "contact": "Jane Doe", "phone": "2", "address": "1 Dock Road"}]
+    assert at_work.run(*nord, "--empty", "contact", "--empty", "phone", "--role", "supplier").status == 0
+    assert parties(at_work) == [{"owner": "ACME", "party": "NORD", "name": "Nord", "roles": "supplier", "contact": "", "phone": "", "address": "1 Dock Road"}]
+    for words, why in (((), "nothing is given"), (("--phone", "3", "--empty", "phone"), "--phone is given"), (("--empty", "name"), "address")):
+        done = at_work.run(*nord, *words)
+        assert done.status == 2 and why in done.err
+    last = at_work.lines()[-1]["notes"][0]
+    assert last == {"kind": "party", "owner": "ACME", "party": "NORD", "roles": ["supplier"], "emptied": ["contact", "phone"]}
+
+
+def test_what_was_noted_before_is_noted_again_where_something_else_counts(at_work):
+    nord = ("party", "add", "ACME", "NORD", "--name", "Nord", "--role", "customer", "--phone")
+    for phone in ("1", "2", "1"):
+        assert at_work.run(*nord, phone).out.startswith("noted ")
+    assert parties(at_work)[0]["phone"] == "1" and at_work.run(*nord, "1").out.startswith("noted already as ")
+    for allowance in ("1.5", "2.0", "1.5"):
+        assert at_work.run("describe", "recipe", "ACME", "BRINE-10", "--allowance", allowance).status == 0
+    assert "allowance: 1.5 %" in at_work.run("describe", "recipe", "ACME", "BRINE-10").out
 
 
 @pytest.mark.parametrize("words, status, why", [

@@ -68,6 +68,7 @@ SUBCOMMANDS: Makers = {
     "status": imported("status", "status"),
     "journal": imported("journal", "journal_group"),
     "papers": imported("papers", "papers_group"),
+    "settle": imported("settling", "settle"),
     "labels": imported("labels", "labels"),
     "board": imported("board", "board"),
     "companion": imported("companion", "companion"),

@@ -15,7 +15,7 @@ from ..register.facts import LotFacts, MaterialFacts, OwnerFacts, RecipeFacts, T
 from ..register.note import Note
 from .groups import Group
 from .noting import record
-from .words import DATE, FILLED_TEXT, PERCENT, WORD, LotCommand, decimals_option, pass_context
+from .words import DATE, FILLED_TEXT, NAME, PERCENT, WORD, LotCommand, decimals_option, pass_context
 
 describe_group = Group(
     "describe",
@@ -86,19 +86,23 @@ def material(context: Context, owner: str, material: str, **given: str | None) -
 @click.argument("owner", metavar="OWNER", type=WORD)
 @click.argument("recipe", metavar="RECIPE", type=WORD)
 @click.option("--allowance", metavar="PERCENT", type=PERCENT, help="How much may be lost: 0.1 to 100, such as 1.5.")
+@click.option(
+    "--product", metavar="MATERIAL", type=NAME, help="Its main product; by default that of which it makes most."
+)
 @pass_context
-def recipe(context: Context, owner: str, recipe: str, **given: int | None) -> None:
+def recipe(context: Context, owner: str, recipe: str, **given: Any) -> None:
     """Notes how much of a recipe's materials may be lost by the contract, in percent of what is required for what was
-    made. `papers settlement` tells what is above it.
+    made; and which of its products is the main one, by which that is reckoned. `papers settlement` tells what is lost.
 
     Example: hilpoven describe recipe ACME BRINE-10 --allowance 1.5
     """
     with making.desk(context) as desk:
         describing.require_recipe(desk.base, owner, recipe)
-        facts = desk.register.recipes.get((owner, recipe))
-        overview = noted_overview(
-            f"recipe {recipe} of {owner}", allowance=percent_of(facts.allowance) if facts else None
-        )
+        if given["product"]:
+            describing.require_product(desk.base, owner, recipe, given["product"])
+        facts = desk.register.recipes.get((owner, recipe)) or RecipeFacts(owner, recipe)
+        allowance = percent_of(facts.allowance) if facts.allowance else None
+        overview = noted_overview(f"recipe {recipe} of {owner}", allowance=allowance, product=facts.product)
         give(desk, ("recipe", owner, recipe), RecipeFacts(owner, recipe, **members_of(given)), given, overview)
 
 
@@ -109,12 +113,14 @@ def recipe(context: Context, owner: str, recipe: str, **given: int | None) -> No
 @name_option
 @click.option("--unit", metavar="TEXT", type=FILLED_TEXT, help="The unit of its values.")
 @click.option("--method", metavar="TEXT", type=FILLED_TEXT, help="The method by which it is measured.")
+@click.option("--results-too", is_flag=True, help="The results that are there have these --decimals too: 702 is 7.02.")
 @pass_context
-def test(context: Context, owner: str, material: str, test: str, **given: Any) -> None:
+def test(context: Context, owner: str, material: str, test: str, results_too: bool, **given: Any) -> None:
     """Notes the full name of a test of a material, its unit, its method, and how many decimals its values have.
 
     With decimals, `result` takes 7.02, and limits and results are shown so. toll has whole numbers: it gets 702. Once
-    decimals are noted they stay, as values would be read differently.
+    decimals are noted they stay, as values would be read differently. A test that has results gets them only if these
+    were recorded so, which --results-too says.
 
     Example: hilpoven describe test ACME BRINE PH --unit pH --decimals 2 --method 'ISO 10523'
     """
@@ -122,14 +128,14 @@ def test(context: Context, owner: str, material: str, test: str, **given: Any) -
     with making.desk(context) as desk:
         limits = describing.limits_of(desk.base, *names)
         note, earlier = TestFacts(*names, **members_of(given)), facts_of_test(desk.register, *names)
-        describing.require_decimals(desk.base, desk.register, note)
+        describing.require_decimals(desk.base, desk.register, note, results_too)
         facts = joined(earlier, note)
         text = limits_text(limits, facts.decimals)
         title, decimals = f"test {test} of {owner} {material}", facts.decimals
         known = noted_overview(
             title, name=facts.name, unit=facts.unit, decimals=decimals, method=facts.method, limits=text
         )
-        give(desk, ("test", *names), note, given, known)
+        give(desk, ("test", *names, *(["--results-too"] if results_too else [])), note, given, known)
         count = len(describing.values_of(desk.base, *names))
     if facts.decimals != earlier.decimals:
         also = f", and {counted(count, 'results')} so too" if count else ""

@@ -14,10 +14,13 @@ from ..core.nearest import nearest
 from ..output.exports import as_csv, as_json
 from ..output.table import Row, counted, print_table
 from ..records.measures import as_number
+from ..records.movement_keys import OF_USE
 from ..records.rows import LotId, require_owner
 from ..register import expiry, file, making, usable
 from ..register.movements import facts_of
-from ..register.notes import Judgement, Link, Note, NotLinked, RowsLost, Why, Withdrawal
+from ..register.closings import closings_in
+from ..register.notes import Corrects, Judgement, Link, Note, NotLinked, RowsLost, Settled, Why, Withdrawal
+from ..register.suspects import suspects
 from . import day_checks, roles
 from .groups import Group
 from .lines import YES, YES_ABOUT
@@ -25,6 +28,8 @@ from .words import DAY, FILLED_TEXT, TEXT, WORD, LotCommand, OneOf, pass_context
 
 USE_ABOUT = f"{YES_ABOUT} Takes a lot that isn't released, and a closed batch, too."
 COLUMNS = ["note", "time", "who", "owner", "what", "stands"]
+OF_A_LINE = 1_000  # notes that a line of the journal gets
+MOST_TYPED = 1 << 20  # letters of keys on standard input
 why_option = click.option(
     "--why", type=OneOf([why.value for why in Why]), required=True, help="Why the one contains some of the other."
 )
@@ -133,7 +138,7 @@ def use(
     """
     number = batch_number(batch)
     values = [owner, order, str(number), of_owner, of_lot, sublot, as_number(amount), str(day)]
-    key = key or f"USE-{hashlib.sha256(' '.join(values).encode()).hexdigest()[:10].upper()}"
+    key = key or f"{OF_USE}{hashlib.sha256(' '.join(values).encode()).hexdigest()[:10].upper()}"
 
     def beside(context: Context, scrap: dict[str, str]) -> Beside:
         note = Link(owner, "", order, number, of_owner, of_lot, Why.USE, int(amount), reason)
@@ -182,6 +187,7 @@ def withdraw(context: Context, name: str, reason: str) -> None:
             raise Failure(f"note {name} is a signature or a hold, which nobody withdraws", REFUSED, advice)
         if isinstance(status.note, RowsLost):
             raise Failure(f"note {name} is what a restore noted, which nobody withdraws", REFUSED)
+        require_last_closing(desk, status.note, changed)
         same = [
             other.noted.name
             for other in desk.statuses
@@ -203,19 +209,77 @@ def changed_by(desk: making.Desk, note: Note) -> Note:
     return note
 
 
+def require_last_closing(desk: making.Desk, note: Note, changed: Note) -> None:
+    """Fails if a note is a closed settlement and not the last one of its owner, or is about one that was taken back."""
+    if not isinstance(changed, Settled):
+        return
+    if isinstance(note, Withdrawal):
+        advice = "`hilpoven settle` closes the month again, with another number"
+        raise Failure("a settlement that was taken back stays so", REFUSED, advice)
+    last = closings_in(desk.statuses, changed.owner)[-1].settled
+    if changed != last:
+        raise Failure(f"settlement {changed.number} isn't the last one of {changed.owner}: {last.number} is", REFUSED)
+
+
 @note_group.command("not-linked")
 @click.argument("owner", metavar="OWNER", type=WORD)
-@click.argument("key", metavar="KEY", type=WORD)
+@click.argument("keys", metavar="KEY ..", type=WORD, nargs=-1)
+@click.option("--until", metavar="DAY", type=DAY, help="All receipts until this day that `status` lists of OWNER.")
 @pass_context
-def not_linked(context: Context, owner: str, key: str) -> None:
-    """Notes that a receipt contains no lot that was here before, so that `status` no longer lists it.
+def not_linked(context: Context, owner: str, keys: tuple[str, ...], until: int | None) -> None:
+    """Notes that receipts contain no lot that was here before, so that `status` no longer lists them.
 
-    Example: hilpoven note not-linked ACME K2
+    `-` in the place of the keys reads them from standard input, one in a line. Opening stock takes --until, the day on
+    which it came.
+
+    Example: hilpoven note not-linked ACME K2 K3
     """
-    note = NotLinked(owner, key)
+    if bool(keys) == (until is not None):
+        raise Failure("note not-linked: either KEY .. or --until DAY", WRONG_USE)
+    if keys == ("-",):
+        keys = tuple(line.strip() for line in sys.stdin.read(MOST_TYPED).splitlines() if line.strip())
     with making.desk(context) as desk:
-        desk.require_receipt(owner, key)
-        record(desk, ["note", "not-linked", owner, key], note)
+        require_owner(desk.base, owner)
+        if until is not None:
+            listed = (each for each in suspects(desk.base, desk.register) if each.owner == owner and each.day <= until)
+            keys = tuple(each.key for each in listed)
+        for key in keys:
+            desk.require_receipt(owner, key)
+        words = ["note", "not-linked", owner, *(["--until", str(until)] if until is not None else [])]
+        record_each(desk, words, [NotLinked(owner, key) for key in dict.fromkeys(keys)])
+
+
+def record_each(desk: making.Desk, words: list[str], notes: list[NotLinked]) -> None:
+    """Adds notes to the journal, unless they stand already, and prints the name of the only one, or how many."""
+    if len(notes) == 1:
+        record(desk, words if "--until" in words else [*words, notes[0].key], notes[0])
+        return
+    new = [note for note in notes if desk.standing(note) is None]
+    for at in range(0, len(new), OF_A_LINE):
+        part = new[at : at + OF_A_LINE]
+        desk.record(words if "--until" in words else [*words, *(note.key for note in part)], *part)
+    click.echo(f"{counted(len(new), 'receipts')} noted, {len(notes) - len(new):,} noted already")
+
+
+@note_group.command("corrects")
+@click.argument("owner", metavar="OWNER", type=WORD)
+@click.argument("key", metavar="KEY", type=WORD)
+@click.argument("of_key", metavar="OF-KEY", type=WORD)
+@click.option("--of-owner", metavar="OWNER", type=WORD, help="Whose OF-KEY is: OWNER's, as by default, or another's.")
+@pass_context
+def corrects(context: Context, owner: str, key: str, of_key: str, of_owner: str | None) -> None:
+    """Notes that a receipt or a scrap is a correction, and of which movement: of the amount that OF-KEY recorded, which
+    was too small or too great. Settlements go by it.
+
+    Of a correction of which nothing is noted it follows from what became of its lot, if it can mean only one thing.
+
+    Example: hilpoven note corrects ACME K20 K12
+    """
+    note = Corrects(owner, key, of_owner or owner, of_key)
+    with making.desk(context) as desk:
+        making.require_correction(desk, note)
+        other = ["--of-owner", of_owner] if of_owner else []
+        record(desk, ["note", "corrects", owner, key, of_key, *other], note)
 
 
 @note_group.command("movement")

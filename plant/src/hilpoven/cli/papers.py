@@ -1,4 +1,5 @@
 """`hilpoven papers`: what is handed out about material, as pages, PDF and tables."""
+import functools
 import re
 from collections.abc import Callable
 from typing import Any
@@ -9,14 +10,15 @@ from ..core import forms
 from ..core.context import Context
 from ..core.failure import WRONG_USE, Failure
 from ..papers import batch_record, certificate as lot_certificate, delivery
-from ..papers import lot_card, recall_paper, settlement as owners_settlement, shipments, statement as owners_statement
+from ..papers import lot_card, months as owners_months, recall_paper, settlement as owners_settlement, shipments
+from ..papers import statement as owners_statement
 from ..papers import takeout as owners_takeout
 from ..papers.copies import Source
 from ..papers.printing import Document
 from ..records.days import today
 from ..records.rows import BatchId, LotId
 from .groups import Group
-from .words import DAY, PATH, LotCommand, pass_context
+from .words import DAY, MONTH, PATH, LotCommand, pass_context
 
 papers_group = Group(
     "papers",
@@ -173,22 +175,35 @@ def require_order(first: int, last: int) -> None:
 
 
 @papers_group.command()
-@between
+@click.argument("owner", metavar="OWNER")
+@click.option("--from", "first", metavar="DAY", type=DAY, help="The first day.")
+@click.option("--to", "last", metavar="DAY", type=DAY, help="The last day.")
+@click.option("--month", metavar="MONTH", type=MONTH, help="A month instead, YYMM: as it was closed, or as it is.")
 @paper
 @pass_context
-def settlement(context: Context, owner: str, first: int, last: int, **where: Any) -> None:
+def settlement(
+    context: Context, owner: str, first: int | None, last: int | None, month: int | None, **where: Any
+) -> None:
     """Makes an owner's settlement: what its batches consumed and produced between two days, against what their recipes
     require, with yield, loss, and what the contract allows (`describe recipe`).
 
-    A batch is settled once, on the last day of its actuals, when it is closed. Batches that go on are apart, and
-    neither rework nor returns count twice.
+    A batch is settled once, on the last day of its actuals, when it is closed. Batches that go on are apart. Rework,
+    returns and corrections count once.
+
+    With --month it is the paper of a month that was closed (`settle`), always the same; or, before, what it would have.
 
     Example: hilpoven papers settlement ACME --from 261101 --to 261130 settlement
     """
     check(owner=owner)
+    if month is not None and first is None and last is None:
+        make = functools.partial(owners_months.documents, journal=context.journal(), owner=owner, month=month)
+        give(context, f"settlement-{owner}-{month:04}", make, **where)
+        return
+    if month is not None or first is None or last is None:
+        raise Failure("settlement: either --from and --to, or --month", WRONG_USE)
     require_order(first, last)
-    name = f"settlement-{owner}-{first}-{last}"
-    give(context, name, lambda source: owners_settlement.documents(source, owner, first, last), **where)
+    make = functools.partial(owners_settlement.documents, owner=owner, first=first, last=last)
+    give(context, f"settlement-{owner}-{first}-{last}", make, **where)
 
 
 @papers_group.command()

@@ -2,9 +2,12 @@
 import click
 
 from ..core.context import Context
+from ..core.failure import WRONG_USE, Failure
+from ..core.forms import listed
 from ..output.table import Row, print_table
 from ..records.rows import require_owner
 from ..register import making
+from ..register.kinds import Emptied
 from ..register.notes import Party, Role
 from .groups import Group
 from .noting import record
@@ -23,7 +26,7 @@ party_group = Group(
 @party_group.command()
 @click.argument("owner", metavar="OWNER", type=WORD)
 @click.argument("party", metavar="PARTY", type=NAME)
-@click.option("--name", metavar="TEXT", type=FILLED_TEXT, required=True, help="Its full name.")
+@click.option("--name", metavar="TEXT", type=FILLED_TEXT, help="Its full name, which a new one has to have.")
 @click.option("--address", metavar="TEXT", type=FILLED_TEXT, help="Where it is, in one line.")
 @click.option("--contact", metavar="TEXT", type=FILLED_TEXT, help="Who is told of a recall.")
 @click.option("--phone", metavar="TEXT", type=FILLED_TEXT, help="At which number, at any hour.")
@@ -32,22 +35,45 @@ party_group = Group(
     "roles",
     type=OneOf([role.value for role in Role]),
     multiple=True,
-    required=True,
-    help="What it is to the owner; may be given several times.",
+    help="What it is to the owner, which a new one has to have; may be given several times: all of its roles.",
+)
+@click.option(
+    "--empty",
+    "emptied",
+    type=OneOf([emptied.value for emptied in Emptied]),
+    multiple=True,
+    help="What is known of it no longer; may be given several times.",
 )
 @pass_context
-def add(context: Context, owner: str, party: str, roles: tuple[str, ...], **texts: str | None) -> None:
-    """Notes a party of an owner, or what is new of it: the last note of a PARTY counts. HOUSE is the plant.
+def add(
+    context: Context, owner: str, party: str, roles: tuple[str, ...], emptied: tuple[str, ...], **texts: str | None
+) -> None:
+    """Notes a party of an owner, or what is new of it. What isn't given stays as it was noted; --empty takes it out.
+    HOUSE is the plant.
 
     A customer gets shipments, a supplier sends receipts, a carrier does neither.
 
     Example: hilpoven party add ACME NORD --name 'Nord Foods Ltd' --phone '+44 20 7946 0000' --role customer
     """
     given = {name: text for name, text in texts.items() if text}
-    note = Party(owner, party, roles=tuple(role for role in Role if role in roles), **given)
+    if both := [name for name in emptied if name in given]:
+        raise Failure(f"party add: --{both[0]} is given, and --empty {both[0]} too", WRONG_USE)
+    empty = tuple(name for name in Emptied if name in emptied)
+    note = Party(owner, party, roles=tuple(role for role in Role if role in roles), emptied=empty, **given)
     with making.desk(context) as desk:
         require_owner(desk.base, owner)
+        require_known(desk, note)
         record(desk, ["party", "add", owner, party], note)
+
+
+def require_known(desk: making.Desk, note: Party) -> None:
+    """Fails unless a note says something of a party that is there, or all that a new one has to have."""
+    if (note.owner, note.party) not in desk.parties:
+        missing = [option for option, value in (("--name", note.name), ("--role", note.roles)) if not value]
+        if missing:
+            raise Failure(f"{note.party} is new: party add needs {listed(missing)} of it", WRONG_USE)
+    elif note == Party(note.owner, note.party):
+        raise Failure("party add: nothing is given to note", WRONG_USE, "such as --phone TEXT")
 
 
 @party_group.command("list")

@@ -11,13 +11,14 @@ if TYPE_CHECKING:
 COMMANDS = {
     "record": (
         "order, cancel, open, do, close, receive, split, ship, scrap, result, actual, void, import, count import, "
-        "use, link, note withdraw, note not-linked, note movement"
+        "use, link, note withdraw, note not-linked, note movement, note corrects"
     ),
     "quality": "release, reject, sign, hold, describe lot, drill start, drill end",
     "master_data": (
         "unit-add, material-add, material new, test-add, recipe-add, require, party add, "
         "describe owner, describe material, describe recipe, describe test"
     ),
+    "settlement": "settle",
     "keys": "owner-add, owner add, owner key",
     "restore": "new, backup, restore, promote, register rebuild, carry-over",
 }
@@ -28,6 +29,7 @@ NOTED_BY = {  # by which command the notes of a kind are made, where it isn't of
     "party": "party add",
     "drill-start": "drill start",
     "drill-end": "drill end",
+    "settlement": "settle",
 }
 
 

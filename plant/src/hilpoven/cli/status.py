@@ -1,5 +1,6 @@
 """`hilpoven status`: is it well, and how full is it."""
 import sys
+from collections import Counter
 
 import click
 
@@ -10,7 +11,8 @@ from ..core.health import Health, health_of, metrics, pressing
 from ..output.table import Row, counted, print_table
 from .words import pass_context
 
-MOST = 12  # gauges that are shown, where none is above FULL; and receipts
+MOST = 12  # gauges that are shown, where none is above FULL
+FEW = 5  # receipts that are shown
 SUSPECTS = ["owner", "key", "lot", "material", "day"]
 
 
@@ -40,13 +42,26 @@ def print_gauges(health: Health, is_whole: bool) -> None:
 
 
 def print_suspects(health: Health, is_whole: bool) -> None:
-    """Prints the receipts that look as if a trace ended there: the newest, or all of them."""
+    """Prints the receipts that look as if a trace ended there: the newest few, or all of them; and what answers all of
+    an owner."""
     if not health.suspects:
         return
-    chosen = health.suspects if is_whole else health.suspects[:MOST]
+    chosen = health.suspects if is_whole else health.suspects[:FEW]
     count = counted(len(health.suspects), "receipts")
     click.echo(f"\n{count} of what batches make, into new lots without a link: a trace may end there.")
-    click.echo("`hilpoven link` says what each contains, `hilpoven note not-linked` that it contains nothing.")
+    click.echo(
+        "`hilpoven link` says what each contains, `hilpoven note not-linked OWNER KEY ..` that they contain nothing."
+    )
+    counts = Counter(suspect.owner for suspect in health.suspects)
+    for owner, number in sorted(counts.items()):
+        last = max(suspect.day for suspect in health.suspects if suspect.owner == owner)
+        if number > FEW:
+            click.echo(
+                f"{number:,} are of {owner}. If all of them are opening stock, or came anew: "
+                f"`hilpoven note not-linked {owner} --until {last}`."
+            )
+    if not is_whole and len(health.suspects) > FEW:
+        click.echo(f"The newest {FEW}; `hilpoven status --all` shows all:")
     print_table(
         SUSPECTS, [(suspect.owner, suspect.key, suspect.lot, suspect.material, suspect.day) for suspect in chosen]
     )
@@ -61,7 +76,8 @@ def status(context: Context, prometheus: bool, is_whole: bool) -> None:
 
     It checks the file's pages and that toll or its server opens it, that a server answers and that the newest backup
     is recent. It compares each owner's rows with each limit, in percent, those from 80 % on first. If days are YYMMDD
-    dates, it estimates from the last 90 days when an owner reaches a limit. Below, it lists receipts of what batches
+    dates, it estimates from up to 90 days behind the opening stock, and from at least 28, when an owner reaches a
+    limit. Below, it lists receipts of what batches
     make, at which a trace may end. It exits with 0 if all is well, with 1 if
     something needs attention, and with 3 if something failed.
 

@@ -9,7 +9,7 @@ from ..core.failure import tell
 from ..core.forms import DAY, NAME
 from ..core.grammar import Line
 from ..records.descriptions import facts_of_test
-from ..records.measures import value_word, whole_of
+from ..records.measures import decimals_in, value_word, whole_of
 from ..register import describing, making
 from ..register.facts import ResultFacts, TestFacts
 from ..register.kinds import split_sign
@@ -67,15 +67,17 @@ def beside_test(context: Context, values: Values, given: dict[str, Any]) -> Besi
 def read_result(context: Context, line: Line, words: list[str], given: dict[str, Any]) -> Typed:
     """The value of a result with the decimals of its test, and what is noted of one that is a bound."""
     typed = dict(zip(line.values, words))
-    office, (bound, _) = context.office(), split_sign(typed["VALUE"])
-    if not bound and not describing.has_measures(context.journal()):
+    office, (bound, number) = context.office(), split_sign(typed["VALUE"])
+    if not bound and not decimals_in(number) and not describing.has_measures(context.journal()):
         return Typed(words, given)
     day = NO_DAY if DAY.fault(typed["DAY"]) else int(typed["DAY"])
     names = typed["OWNER"], typed["LOT"], typed["TEST"]
     if any(map(NAME.fault, names)):
         return Typed(words, given)
     with snapshot.opened(office) as base:
-        word, facts = describing.result_of(base, context.register(base), *names, typed["VALUE"], day)
+        register = context.register(base)
+        word, facts = describing.result_of(base, register, *names, typed["VALUE"], day)
+        tell(describing.advice_on_decimals(base, describing.test_of_lot(base, register, *names), number))
     return Typed(measured(line, words, {"VALUE": word}), {**given, "facts": facts})
 
 

@@ -136,6 +136,25 @@ class Date(click.ParamType):
         self.fail(f"`{printable(word[:MOST_TOLD])}` is no date; a date is written 2027-11-27 or 271127", param, ctx)
 
 
+class Month(click.ParamType):
+    """A month, written as YYMM or as 2026-11; its days are dates."""
+
+    name = "month"
+
+    def convert(self, value: Any, param: click.Parameter | None, ctx: click.Context | None) -> int:
+        """Fails unless a word is one."""
+        from ..records.days import is_month
+
+        if isinstance(value, int):
+            return value
+        match = re.fullmatch(r"([0-9]{4})|20([0-9]{2})-([0-9]{2})", value)
+        month = int(match[1] or match[2] + match[3]) if match else 0
+        if not is_month(month):
+            shown = printable(value[:MOST_TOLD])
+            self.fail(f"`{shown}` is no month, which is written as YYMM, such as 2611, or as 2026-11", param, ctx)
+        return month
+
+
 class Percent(click.ParamType):
     """A part of a whole in percent, with one decimal at the most."""
 
@@ -214,7 +233,7 @@ SHEET = Operators(click.Path(readable=False), is_sheet=True)
 WORD = Word()
 TEXT, FILLED_TEXT = Text(may_be_empty=True), Text(may_be_empty=False)
 NAME = Name()
-DATE, PERCENT = Date(), Percent()
+DATE, MONTH, PERCENT = Date(), Month(), Percent()
 
 
 def decimals_type() -> click.IntRange:

@@ -91,6 +91,7 @@ class Roles(NamedTuple):
     record: list[str] | None = None  # what happens in the plant: movements, batches, results
     quality: list[str] | None = None  # what is judged: releases, rejections, signatures, holds
     master_data: list[str] | None = None  # units, materials, tests, recipes, parties
+    settlement: list[str] | None = None  # closed settlements of owners
     keys: list[str] | None = None  # owners and their keys
     restore: list[str] | None = None  # the office's files: new ones, backups, restores, later ones
 

@@ -74,7 +74,9 @@ def deliver(office: Office, journal: log.Journal, delivery: Delivery) -> None:
         with copies.opened(office, journal) as source:
             begin("reading it, and comparing with what toll says")
             program, papers = copies.version(office), delivery.make(source)
-            documents = [(document, footer_of(source, program, document.for_plant)) for document in papers]
+            documents = [
+                (document, document.footer or footer_of(source, program, document.for_plant)) for document in papers
+            ]
             issue = delivery.issue(papers)
         begin(f"writing {counted(len(papers), 'papers')}")
 

@@ -34,6 +34,8 @@ class Document:
     values: dict[str, Any]
     folder: str = ""
     texts: dict[str, str] = field(default_factory=dict)
+    footer: str = ""  # instead of that of the moment in which it is made
+    issued_on: str = ""  # its date of issue, if that isn't the day on which it is made
     is_across: bool = True  # whether its pages are wider than high, so that there is room for long tables
 
     @functools.cached_property
@@ -47,6 +49,7 @@ class Document:
         sheets = {sheet.name: sheet for sheet in self.on_paper}
         width = ACROSS if self.is_across else UPRIGHT
         values = {"title": self.title, "is_plants": self.for_plant, "footer": footer, "sheets": sheets, "width": width}
+        issue = issue._replace(day=self.issued_on or issue.day)
         values |= {"issue": None if self.for_plant else issue, **self.values}
         set_in_lines = {name: table for name, table in (tables or {}).items() if table.fits}
         return render(self.name, values, set_in_lines, [name for name in tables or {} if name not in set_in_lines])

@@ -35,7 +35,7 @@ NUMBERS |= {"batch", "segment", "number", "value"}
 TEXTS = {"measure", "use", "status", "state", "disposition", "kind", "void", "limits", quality.COLUMN}
 PARTIES = columns("party name:text roles:text contact:text phone:text address:text")
 JUDGED = columns("lot what:text day:day reason:text")
-RECIPES = columns("recipe allowance:text")
+RECIPES = columns("recipe allowance:text product")
 OWNER = columns("name:text address:text")
 CONTENTS = columns("file:text rows:number what:text")
 
@@ -118,7 +118,8 @@ def notes_of(source: Source, register: Register) -> list[Sheet]:
         for _, party in sorted(register.parties.items())
     ]
     allowances: list[Row] = [
-        (name, f"{facts.allowance / 10:.1f}") for (_, name), facts in sorted(register.recipes.items())
+        (name, f"{facts.allowance / 10:.1f}" if facts.allowance else None, facts.product or None)
+        for (_, name), facts in sorted(register.recipes.items())
     ]
     lots = lots_of(source.base, {link.contained for link in register.links})
     links = [link for link in register.links if link.contained in lots]

@@ -1,5 +1,6 @@
 """Days of movements: numbers that the plant chooses. Six digits that are a date of this century, YYMMDD, are one."""
 import re
+from calendar import monthrange
 from datetime import date, datetime, timedelta, timezone, tzinfo
 
 DATE = re.compile(r"([0-9]{4})-([0-9]{2})-([0-9]{2})")
@@ -56,6 +57,22 @@ def format_moment(text: str, zone: str = "") -> str:
 def format_day(day: int) -> str:
     """A day as people read it: a date if it is one, otherwise the number."""
     return str(date_of(day) or day)
+
+
+def is_month(month: int) -> bool:
+    """Whether a number is a month, written as YYMM, whose days are dates."""
+    return date_of(month * 100 + 1) is not None
+
+
+def days_of_month(month: int) -> tuple[int, int]:
+    """The first and the last day of a month."""
+    year, number = divmod(month, 100)
+    return month * 100 + 1, month * 100 + monthrange(2000 + year, number)[1]
+
+
+def format_month(month: int) -> str:
+    """A month as people read it."""
+    return f"{2000 + month // 100}-{month % 100:02}"
 
 
 def last_day_within(days: int, zone: str = "") -> int:

@@ -48,6 +48,13 @@ def fault(text: str, decimals: int) -> str:
     return ""
 
 
+def decimals_in(text: str) -> int:
+    """How many decimals a measured value has, as far as a test may have so many; 0 of another text."""
+    match = MEASURED.fullmatch(text)
+    count = len(match[3]) if match and match[3] else 0
+    return count if count <= MOST_DECIMALS else 0
+
+
 def digits_of(match: re.Match[str], decimals: int) -> str:
     """The digits of the number that `toll` has of a measured one, without its sign."""
     return (match[2] + (match[3] or "").ljust(decimals, "0")).lstrip("0") or "0"

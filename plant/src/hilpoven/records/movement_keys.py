@@ -7,6 +7,7 @@ from ..core.forms import name_fault
 from .schema import STANDING
 
 Base = sqlite3.Connection
+OF_COUNT, OF_USE = "COUNT-", "USE-"  # what keys begin with that a stock count makes, and `hilpoven use`
 BEGINNING = "SELECT mkey FROM moves WHERE owner = ? AND mkey GLOB ?"
 COLUMNS = "m.kind, m.lot_owner, m.lot, m.sublot, m.target, m.material, m.ord, m.number, m.segment, m.amount, m.day"
 SAME = f"""

@@ -3,11 +3,14 @@ import sqlite3
 
 from ..core.failure import REFUSED, Failure
 from ..core.forms import MOST_VALUE, VALUE
+from ..core.nearest import nearest
 from ..journal.log import Journal
 from ..records.descriptions import facts_of_test
-from ..records.measures import GROUP, as_measured, limits_text, value_word, whole_of
+from ..output.table import counted
+from ..records.measures import GROUP, as_measured, decimals_in, limits_text, value_word, whole_of
 from ..records.rows import LotId, require_lot, require_owner
 from ..records.overviews import row_of
+from ..records.schema import Role
 from . import file
 from .facts import LotFacts, ResultFacts, ResultId, TestFacts, joined
 from .kinds import Bound, split_sign
@@ -20,6 +23,9 @@ MATERIAL = "SELECT measure FROM materials WHERE owner = ? AND material = ?"
 MATERIALS = "SELECT material FROM materials WHERE owner = ?"
 RECIPE = "SELECT segments FROM recipes WHERE owner = ? AND recipe = ?"
 RECIPES = "SELECT recipe FROM recipes WHERE owner = ?"
+PRODUCTS = f"""
+SELECT DISTINCT material FROM requirements WHERE owner = ? AND recipe = ? AND role = {Role.PRODUCED:d}
+"""
 LIMITS = "SELECT low, high FROM tests WHERE owner = ? AND material = ? AND test = ?"
 TESTS = "SELECT test FROM tests WHERE owner = ? AND material = ?"
 MATERIAL_OF = "SELECT material FROM lots WHERE owner = ? AND lot = ?"
@@ -55,6 +61,14 @@ def require_recipe(base: Base, owner: str, recipe: str) -> None:
     row_of(base, RECIPE, (owner, recipe), "recipe", RECIPES)
 
 
+def require_product(base: Base, owner: str, recipe: str, material: str) -> None:
+    """Fails if a recipe doesn't make a material."""
+    products = [name for name, in base.execute(PRODUCTS, (owner, recipe))]
+    if material not in products:
+        advice = nearest(material, products, f"products of {recipe}")
+        raise Failure(f"recipe {recipe} of {owner} makes no {material}", REFUSED, advice)
+
+
 def limits_of(base: Base, owner: str, material: str, test: str) -> tuple[int, int]:
     """The limits of a test; fails if there is none."""
     require_material(base, owner, material)
@@ -68,12 +82,15 @@ def values_of(base: Base, owner: str, material: str, test: str) -> list[int]:
     return [value for value, in base.execute(VALUES, (owner, material, test))]
 
 
-def require_decimals(base: Base, register: Register, note: TestFacts) -> None:
-    """Fails if a test has other decimals already, so that a limit or a result of it would be read differently."""
+def require_decimals(base: Base, register: Register, note: TestFacts, has_meant: bool) -> None:
+    """Fails if a test has other decimals already, so that a limit or a result of it would be read differently; or
+    results without decimals, unless it is said that these are meant so."""
     names = note.owner, note.material, note.test
     noted = facts_of_test(register, *names).decimals
-    if not noted or note.decimals in (0, noted):
+    if note.decimals in (0, noted):
         return
+    if not noted:
+        return require_meant(base, note, has_meant)
     values = [*limits_of(base, *names), *values_of(base, *names)]
     if value := next(filter(None, values), 0):
         one, other = (as_measured(value, decimals, GROUP) for decimals in (noted, note.decimals))
@@ -84,6 +101,24 @@ def require_decimals(base: Base, register: Register, note: TestFacts) -> None:
             "if they were noted wrongly: `hilpoven note withdraw` takes them back, and all values are whole numbers "
             "until others are noted",
         )
+
+
+def require_meant(base: Base, note: TestFacts, has_meant: bool) -> None:
+    """Fails if a test has results without decimals that would be read differently, unless it is said that these are
+    meant so."""
+    results = values_of(base, note.owner, note.material, note.test)
+    if has_meant or not (value := next(filter(None, results), 0)):
+        return
+    one, other = (as_measured(value, decimals, GROUP) for decimals in (0, note.decimals))
+    raise Failure(
+        f"test {note.test} of {note.owner} {note.material} has {counted(len(results), 'results')} without decimals: "
+        f"{one} would be read as {other}",
+        REFUSED,
+        f"if each of them was recorded so, {one} for {other}: --results-too\n"
+        f"otherwise leave the test as it is, and add a material whose test has decimals from its first result on: "
+        f"`hilpoven material new {note.owner} NAME MEASURE --test {note.test} LOW HIGH --decimals {note.test} "
+        f"{note.decimals}`",
+    )
 
 
 def require_days(register: Register, note: LotFacts) -> None:
@@ -159,6 +194,19 @@ def result_of(
     require_result(base, register, (owner, lot, test, value, day), bound, facts)
     noted = ResultFacts(owner, lot, test, value, day, bound) if bound else None
     return text if is_plain else value_word(value), noted
+
+
+def advice_on_decimals(base: Base, facts: TestFacts | None, number: str) -> str:
+    """How decimals are noted of a test that has none, if a value has some; empty otherwise."""
+    count = decimals_in(number)
+    if facts is None or facts.decimals or not count:
+        return ""
+    owner, material, test = facts.owner, facts.material, facts.test
+    limits = limits_of(base, owner, material, test)
+    return (
+        f"Test {test} of {owner} {material} has no decimals. If its limits {limits_text(limits)} mean "
+        f"{limits_text(limits, count)}: `hilpoven describe test {owner} {material} {test} --decimals {count}`."
+    )
 
 
 def is_whole(text: str) -> bool:

@@ -20,6 +20,7 @@ class MovementFacts(Note):
     document that came or went with it."""
 
     KIND = "movement"
+    SUBJECT = ("owner", "key")
     key: str
     party: str = ""
     supplier_lot: str = ""
@@ -37,6 +38,7 @@ class OwnerFacts(Note):
     """The full name of an owner, and its address."""
 
     KIND = "owner"
+    SUBJECT = ("owner",)
     name: str = ""
     address: str = ""
 
@@ -51,6 +53,7 @@ class MaterialFacts(Note):
     """The full name of a material."""
 
     KIND = "material"
+    SUBJECT = ("owner", "material")
     material: str
     name: str = ""
 
@@ -62,16 +65,22 @@ class MaterialFacts(Note):
 
 @dataclass(frozen=True)
 class RecipeFacts(Note):
-    """How much of a recipe's materials may be lost by the contract, in tenths of a percent."""
+    """How much of a recipe's materials may be lost by the contract, in tenths of a percent, and which of its products
+    is the main one."""
 
     KIND = "recipe"
+    SUBJECT = ("owner", "recipe")
     recipe: str
     allowance: int = 0
+    product: str = ""
 
     @property
     def sentence(self) -> str:
         """Which recipe, and what is known of it."""
-        return f"recipe {self.recipe} of {self.owner}: allowance {percent_of(self.allowance)}"
+        allowance = percent_of(self.allowance) if self.allowance else ""
+        return (
+            f"recipe {self.recipe} of {self.owner}: {in_words({'allowance': allowance, 'main product': self.product})}"
+        )
 
 
 def percent_of(tenths: int) -> str:
@@ -84,6 +93,7 @@ class TestFacts(Note):
     """The full name of a test of a material, the unit of its values, how many decimals they have, and the method."""
 
     KIND = "test"
+    SUBJECT = ("owner", "material", "test")
     material: str
     test: str
     name: str = ""
@@ -103,6 +113,7 @@ class LotFacts(Note):
     """The days on which a lot was made, expires, and is to be tested again, as YYMMDD."""
 
     KIND = "lot"
+    SUBJECT = ("owner", "lot")
     lot: str
     made: int | None = None
     expires: int | None = None
@@ -126,6 +137,7 @@ class ResultFacts(Note):
     value and day aren't told apart."""
 
     KIND = "result"
+    SUBJECT = ("owner", "lot", "test", "value", "day")
     lot: str
     test: str
     value: int
@@ -144,7 +156,7 @@ class ResultFacts(Note):
         return f"result {result} on day {format_day(self.day)}: what was measured is {self.bound} it"
 
 
-Facts = TypeVar("Facts", MovementFacts, OwnerFacts, MaterialFacts, RecipeFacts, TestFacts, LotFacts)
+Facts = TypeVar("Facts", bound=Note)
 
 
 def joined(before: Facts | None, later: Facts) -> Facts:

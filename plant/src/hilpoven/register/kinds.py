@@ -19,6 +19,14 @@ class Role(StrEnum):
     CARRIER = "carrier"
 
 
+class Emptied(StrEnum):
+    """What a note may say to be empty of a party from now on."""
+
+    ADDRESS = "address"
+    CONTACT = "contact"
+    PHONE = "phone"
+
+
 class Bound(StrEnum):
     """Where the measured value is of a result whose value is a bound, as `<5` has it."""
 

@@ -4,7 +4,8 @@ from collections.abc import Callable
 
 # What stands behind the name of a lot in that of one that was made of it, and between hyphens in a key.
 BEHIND = re.compile(r"(?P<front>.+?)(-?(R|RW|RT|RET|C|CORR)|-[2-9])")
-IN_KEY = {"CORR", "RET", "RETURN", "RW", "REWORK"}
+CORRECTING = "CORR"
+IN_KEY = {CORRECTING, "RET", "RETURN", "RW", "REWORK"}
 
 
 def may_look_alike(lot: str, key: str) -> bool:

@@ -13,8 +13,8 @@ from ..core.failure import REFUSED, Failure
 from ..core.nearest import nearest
 from ..core.office import Office
 from ..journal.log import Journal
-from ..records.rows import BatchId, LotId, require_owner
-from ..records.schema import Kind
+from ..records.rows import BatchId, LotId, read_moves, require_owner
+from ..records.schema import STANDING, Kind
 from ..years import chain, earlier
 from . import file
 from .folding import AFTER
@@ -22,7 +22,7 @@ from .movements import GETS, RETURNS, SENDS, Parties, Task, require_party
 from .facts import MovementFacts
 from .meant import MEANT
 from .named_rows import RowReader
-from .notes import Link, Note, Party, Why, to_json
+from .notes import Corrects, Link, Note, Why, to_json
 from .standing import HAS_BATCH, HAS_LOT, Status, files_of, standing as standing_notes, statuses
 from .store import Register
 
@@ -36,6 +36,9 @@ HAS_RECEIPT_OF = f"{HAS_RECEIPT} AND lot = ?"
 HAS_MOVEMENT = "SELECT 1 FROM moves WHERE owner = ? AND mkey = ? AND kind = ?"
 MOVEMENTS = "SELECT mkey FROM moves WHERE owner = ? AND kind = ?"
 RECEIPTS = f"SELECT mkey FROM moves WHERE owner = ? AND kind = {Kind.RECEIVE:d}"
+KEYS = "SELECT mkey FROM moves WHERE owner = ?"
+STANDING_MOVE = f"m.owner = ? AND m.mkey = ? AND {STANDING}"
+MATERIAL_OF = "SELECT material FROM lots WHERE owner = ? AND lot = ?"
 MAKER = "SELECT ord, number FROM lots WHERE owner = ? AND lot = ?"
 
 
@@ -109,6 +112,11 @@ class Desk:
         if isinstance(link.container, BatchId) and link.of_owner == link.owner and row == link.container[1:]:
             raise Failure(f"lot {link.contained} was made by batch {link.container.name} itself", REFUSED)
 
+    def material_of(self, lot: LotId) -> tuple[str, str]:
+        """Whose the material of a lot is, and its name."""
+        rows = (base.execute(MATERIAL_OF, lot).fetchone() for base in self.bases)
+        return lot.owner, next(str(row[0]) for row in rows if row)
+
     def members(self, notes: Sequence[Note]) -> dict[str, Any]:
         """What stands in the line of the journal that has these notes; nothing of those that stand already."""
         new = [note for note in notes if self.standing(note) is None]
@@ -151,11 +159,18 @@ class Desk:
 
     @functools.cached_property
     def names_of_notes(self) -> dict[Note, str]:
-        """The notes about this file that stand, each with its first name."""
-        stand = [
-            status for status in self.statuses if status.note and not status.fault and status.noted.after == self.after
-        ]
-        return {status.note: status.noted.name for status in reversed(stand) if status.note}
+        """The notes about this file that stand, each with its first name. Where the last one about a thing counts, no
+        other one is there."""
+        names, lasts = dict[Note, str](), dict[tuple[object, ...], Note]()
+        for status in self.statuses:
+            note = status.note
+            if note is None or status.fault or status.noted.after != self.after:
+                continue
+            if note.SUBJECT and (before := lasts.get((note.KIND, *note.subject))) and before != note:
+                names.pop(before, None)
+            lasts[note.KIND, *note.subject] = note
+            names.setdefault(note, status.noted.name)
+        return names
 
     def standing(self, note: Note) -> str | None:
         """The name of a note about this file that says the same, and stands; `None` if there is none."""
@@ -164,8 +179,7 @@ class Desk:
     @functools.cached_property
     def parties(self) -> Parties:
         """The parties that stand, by owner and name."""
-        stand = [status.note for status in self.statuses if isinstance(status.note, Party) and not status.fault]
-        return {(party.owner, party.party): party for party in stand}
+        return self.register.parties
 
     def require_facts(self, facts: MovementFacts, is_to: bool, is_from: bool) -> None:
         """Fails unless there is such a movement, and what is noted of it may be noted of its kind."""
@@ -206,6 +220,33 @@ class Desk:
     def record(self, words: list[str], *notes: Note) -> str:
         """Adds notes to the journal; the name of the first one."""
         return self.journal.note(self.office.file, words, **self.all_members(notes))
+
+
+def plant_moves(base: Base) -> str:
+    """SQL: a standing movement of a key, which isn't one by which stock came over from an earlier file."""
+    return f"{STANDING_MOVE} AND {chain.NOT_CARRIED}" if chain.came_from(base) else STANDING_MOVE
+
+
+def require_correction(desk: Desk, note: Corrects) -> None:
+    """Fails unless a receipt or a scrap is there, and another movement of the same material, neither of them voided."""
+    rows = {}
+    for owner, key in ((note.owner, note.key), (note.of_owner, note.of_key)):
+        require_owner(desk.base, owner)
+        moves = (move for base in desk.bases for move in read_moves(base, plant_moves(base), (owner, key)))
+        row = rows[owner, key] = next(moves, None)
+        if row is None:
+            advice = nearest(key, desk.names(KEYS, owner), f"movements of {owner}")
+            raise Failure(f"there is no movement {key} of {owner} that stands", REFUSED, advice)
+    own, of = rows[note.owner, note.key], rows[note.of_owner, note.of_key]
+    assert own and of
+    if own.kind not in (Kind.RECEIVE, Kind.SCRAP):
+        raise Failure(f"{note.key} of {note.owner} is neither a receipt nor a scrap", REFUSED)
+    if (note.owner, note.key) == (note.of_owner, note.of_key):
+        raise Failure(f"{note.key} of {note.owner} doesn't correct itself", REFUSED)
+    materials = [desk.material_of(move.lot) for move in (own, of)]
+    if materials[0] != materials[1]:
+        both = " and ".join(" ".join(material) for material in materials)
+        raise Failure(f"{note.key} and {note.of_key} are of two materials, {both}", REFUSED)
 
 
 @contextlib.contextmanager

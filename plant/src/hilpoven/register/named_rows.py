@@ -4,7 +4,7 @@ from dataclasses import dataclass, field
 
 from .facts import LotFacts, MovementFacts, ResultFacts, TestFacts
 from .meant import TABLES, Base, Names, Row, where
-from .notes import DrillStart, Judgement, Link, NotLinked, Note, Reason
+from .notes import Corrects, DrillStart, Judgement, Link, NotLinked, Note, Reason
 
 FEW = 4  # lots whose first movements are looked for one by one
 READ = {table: f"SELECT {columns.all} FROM {table} WHERE {where(columns.names)}" for table, columns in TABLES.items()}
@@ -17,6 +17,9 @@ def named_by(note: Note) -> Iterator[tuple[str, Names]]:
     match note:
         case MovementFacts() | NotLinked():
             yield "moves", (note.owner, note.key)
+        case Corrects():
+            yield "moves", (note.owner, note.key)
+            yield "moves", (note.of_owner, note.of_key)
         case Link():
             yield from named_container(note)
             yield "lots", tuple(note.contained)

@@ -9,7 +9,14 @@ class Note:
     """What the plant notes for one owner."""
 
     KIND: ClassVar[str]
+    # What names the thing that a note is about, of a kind of which the last note counts.
+    SUBJECT: ClassVar[tuple[str, ...]] = ()
     owner: str
+
+    @property
+    def subject(self) -> tuple[object, ...]:
+        """What it is about, if the last note of that counts."""
+        return tuple(getattr(self, name) for name in self.SUBJECT)
 
     @property
     def sentence(self) -> str:

@@ -1,20 +1,22 @@
 """The notes of the register: what each says, and how it stands in a line of the journal."""
 import re
 from collections.abc import Callable
-from dataclasses import MISSING, asdict, dataclass, fields
+from dataclasses import MISSING, asdict, dataclass, fields, replace
 from typing import Any
 
 from .. import HOUSE
 from ..core.forms import AMOUNT, BATCH, COMMAND, DAY, MOST_VALUE, NAME, TEXT
 from ..core.grammar import LINES
-from ..records.days import date_of, format_day
+from ..records.days import date_of, format_day, is_month
 from ..records.measures import MOST_DECIMALS
 from ..records.rows import BatchId, LotId
-from .facts import LotFacts, MaterialFacts, MovementFacts, OwnerFacts, RecipeFacts, ResultFacts, TestFacts
-from .kinds import Bound
+from .facts import LotFacts, MaterialFacts, MovementFacts, OwnerFacts, RecipeFacts, ResultFacts, TestFacts, joined
+from .kinds import Bound, Emptied
 from .kinds import Role as Role
 from .kinds import Why as Why
 from .note import Note as Note
+from .settled import MOST_ALLOWANCE, READERS
+from .settled import Settled as Settled
 
 NAME_OF_NOTE = re.compile(r"[0-9a-f]{16}(\.([2-9]|[1-9][0-9]{1,3}))?")
 
@@ -55,21 +57,29 @@ class Link(Note):
 
 @dataclass(frozen=True)
 class Party(Note):
-    """A customer, a supplier or a carrier of an owner. The last note of a name counts."""
+    """A customer, a supplier or a carrier of an owner. The last note of a name counts, member by member; it may empty
+    some."""
 
     KIND = "party"
+    SUBJECT = ("owner", "party")
     party: str
-    name: str
+    name: str = ""
     address: str = ""
     contact: str = ""
     phone: str = ""
     roles: tuple[Role, ...] = ()
+    emptied: tuple[str, ...] = ()  # members that are empty from now on
 
     @property
     def sentence(self) -> str:
         """Who it is, and how it is reached."""
         facts = [self.name, *self.roles, self.address, self.contact, self.phone]
+        facts += [f"no {name}" for name in self.emptied]
         return f"party {self.party} of {self.owner}: {', '.join(filter(None, facts))}"
+
+    def over(self, before: "Party | None") -> "Party":
+        """The party with what an earlier note says of it, for what this one doesn't say."""
+        return replace(joined(before, self), emptied=(), **dict.fromkeys(self.emptied, ""))
 
 
 @dataclass(frozen=True)
@@ -83,6 +93,22 @@ class NotLinked(Note):
     def sentence(self) -> str:
         """Which receipt."""
         return f"receipt {self.key} of {self.owner} contains no lot that was here before"
+
+
+@dataclass(frozen=True)
+class Corrects(Note):
+    """What a receipt or a scrap recorded corrects what another movement did."""
+
+    KIND = "corrects"
+    SUBJECT = ("owner", "key")
+    key: str
+    of_owner: str
+    of_key: str
+
+    @property
+    def sentence(self) -> str:
+        """Which one corrects which."""
+        return f"{self.key} of {self.owner} corrects {self.of_key} of {self.of_owner}"
 
 
 @dataclass(frozen=True)
@@ -210,14 +236,27 @@ def because(reason: str) -> str:
 
 DESCRIPTIONS = (OwnerFacts, MaterialFacts, RecipeFacts, TestFacts, LotFacts, ResultFacts)
 ALL: tuple[type[Note], ...] = (
-    *(Link, Party, MovementFacts, NotLinked, Withdrawal, RowsLost, DrillStart, DrillEnd, Signed, Held, Reason),
+    *(
+        Link,
+        Party,
+        MovementFacts,
+        NotLinked,
+        Corrects,
+        Withdrawal,
+        RowsLost,
+        DrillStart,
+        DrillEnd,
+        Signed,
+        Held,
+        Reason,
+    ),
+    Settled,
     *DESCRIPTIONS,
 )
 KINDS = {kind.KIND: kind for kind in ALL}
 # The members that a note of each kind may have, and whether it has to have them.
 KNOWN = {kind: {member.name: member.default is MISSING for member in fields(kind)} for kind in ALL}
 FIRST_LOST = 5  # notes that are named where many lost their rows
-MOST_ALLOWANCE = 1_000  # tenths of a percent
 MAY_BE_ZERO = {"value", "day"}  # members of which 0 says something
 
 
@@ -254,8 +293,8 @@ def is_date(value: Any) -> bool:
 
 # What each member may be, by its name; any other is a text.
 MEMBERS: dict[str, Callable[[Any], bool]] = {
-    **{name: is_name for name in ("owner", "lot", "order", "of_owner", "of_lot", "party", "key")},
-    **{name: is_name for name in ("material", "test", "recipe")},
+    **{name: is_name for name in ("owner", "lot", "order", "of_owner", "of_lot", "party", "key", "of_key")},
+    **{name: is_name for name in ("material", "test", "recipe", "product")},
     **{name: is_date for name in ("made", "expires", "retest")},
     "batch": is_number(BATCH.fault),
     "amount": is_number(AMOUNT.fault),
@@ -263,10 +302,12 @@ MEMBERS: dict[str, Callable[[Any], bool]] = {
     "command": lambda value: isinstance(value, str) and (value in LINES or value in COMMAND.choices),
     "value": is_between(-MOST_VALUE, MOST_VALUE),
     "decimals": is_between(0, MOST_DECIMALS),
+    "month": lambda value: type(value) is int and is_month(value),
     "allowance": is_between(0, MOST_ALLOWANCE),
     "of": lambda value: isinstance(value, str) and NAME_OF_NOTE.fullmatch(value) is not None,
 }
 WORDS: dict[str, Callable[[Any], Any]] = {"why": Why, "bound": Bound}  # members that are a word of a list
+LISTS: dict[str, Callable[[Any], Any]] = {"roles": Role, "emptied": Emptied}  # members that are several such words
 # What a member of a link is where it says nothing of it: a batch may stand for its lots.
 OF_LINKS: dict[str, Any] = {"lot": "", "order": "", "batch": 0}
 
@@ -294,12 +335,12 @@ def from_json(value: Any) -> Note | None:
 
 def read_member(name: str, value: Any) -> Any:
     """A member of a note in its type; fails with ValueError if it can't be one."""
-    if name in WORDS:
-        return WORDS[name](value)
-    if name == "roles":
+    if reader := WORDS.get(name) or READERS.get(name):
+        return reader(value)
+    if name in LISTS:
         if not isinstance(value, list):
-            raise ValueError("roles are a list")
-        return tuple(map(Role, value))
+            raise ValueError(f"{name} are a list")
+        return tuple(map(LISTS[name], value))
     if name == "lost":
         if not isinstance(value, list) or not all(map(MEMBERS["of"], value)):
             raise ValueError("the names of notes are a list")

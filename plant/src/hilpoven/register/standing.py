@@ -22,7 +22,7 @@ from . import file
 from .facts import LotFacts, MaterialFacts, MovementFacts, OwnerFacts, RecipeFacts, ResultFacts, TestFacts, joined
 from .folding import Folded, Noted
 from .meant import EXACT, NAMED, is_in, row_of
-from .notes import Held, Judgement, Link, NotLinked, Note, Party, Reason, RowsLost, Withdrawal
+from .notes import Corrects, Held, Judgement, Link, NotLinked, Note, Party, Reason, RowsLost, Settled, Withdrawal
 from .store import Judged, Register
 
 Base = sqlite3.Connection
@@ -34,7 +34,7 @@ IS_REJECTED = f"SELECT 1 FROM lots WHERE owner = '{HOUSE}' AND lot = ? AND dispo
 IS_CANCELLED = f"SELECT 1 FROM orders WHERE owner = '{HOUSE}' AND ord = ? AND cancelled = 1"
 NUMBERS = {"VALUE", "DAY", "LOW", "HIGH"}
 # Which name nothing that a file has, or what all files of an office have in common.
-OF_ALL_FILES = (Party, Withdrawal, RowsLost, OwnerFacts, MaterialFacts, RecipeFacts, TestFacts)
+OF_ALL_FILES = (Party, Withdrawal, RowsLost, OwnerFacts, MaterialFacts, RecipeFacts, TestFacts, Settled)
 BY_RESTORE = "its row was lost by a restore"
 AGAIN = "SELECT called FROM again WHERE kind = ? AND file = ? AND owner = ? AND name = ?"
 
@@ -256,7 +256,8 @@ class Reader:
         """Adds a note that stands, other than a link."""
         match note:
             case Party():
-                register.parties[note.owner, note.party] = note
+                party = note.owner, note.party
+                register.parties[party] = note.over(register.parties.get(party))
             case OwnerFacts():
                 register.owners[note.owner] = joined(register.owners.get(note.owner), note)
             case MaterialFacts():
@@ -271,6 +272,10 @@ class Reader:
             case MovementFacts() | NotLinked():
                 if key := self.key(noted, note.owner, note.key):
                     add_of_movement(register, replace(note, key=key))
+            case Corrects():
+                key, of_key = self.key(noted, note.owner, note.key), self.key(noted, note.of_owner, note.of_key)
+                if key and of_key:
+                    register.corrects[note.owner, key] = note.of_owner, of_key
             case LotFacts() | ResultFacts():
                 if lot := self.lot(noted, note.owner, note.lot):
                     add_of_lot(register, replace(note, lot=lot))

@@ -37,6 +37,7 @@ class Register:
     judged: dict[LotId, list[Judged]] = field(default_factory=dict)  # the last one of each lot counts
     reasons: list[Reason] = field(default_factory=list)  # in the order in which they were noted
     recipes: dict[tuple[str, str], RecipeFacts] = field(default_factory=dict)  # by owner and recipe
+    corrects: dict[tuple[str, str], tuple[str, str]] = field(default_factory=dict)  # owner and key, and of which
     plants_test: str = ""  # by which the plant signs and holds lots, as the settings name it; empty if it has none
 
     def of(self, owner: str) -> "Register":
@@ -58,6 +59,7 @@ class Register:
             own(self.judged),
             [reason for reason in self.reasons if reason.owner == owner],
             own(self.recipes),
+            own(self.corrects),
             self.plants_test,
         )
 

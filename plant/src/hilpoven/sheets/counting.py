@@ -16,6 +16,7 @@ from ..core.forms import name_fault
 from ..core.grammar import LINES, Line
 from ..output.exports import as_cell, as_formula, csv_of
 from ..records.measures import as_number
+from ..records.movement_keys import OF_COUNT
 from ..records.rows import Base, LotId, lots_of, sublots_of
 from ..records.schema import Kind
 from ..register.making import Desk
@@ -26,14 +27,14 @@ from .sheet import Finding, Record, Sheet
 COLUMNS = ("owner", "lot", "sublot", "material", "measure", "disposition", "on_hand", "counted", "reason", "day")
 BESIDE = ("material", "measure", "disposition")  # columns that are for who counts, and aren't read
 NAMES = ("owner", "lot", "sublot", "material")
-FRONT = "COUNT-"  # of the keys by which differences are recorded
 NUMBERS = ("on_hand", "counted", "day")
 HELD = """
 SELECT s.owner, s.lot, s.sublot FROM sublots AS s JOIN lots AS l USING (owner, lot)
 WHERE s.amount > 0 AND (:owner IS NULL OR owner = :owner) AND (:material IS NULL OR l.material = :material)
 """
 IS_FOUND = f"""
-SELECT 1 FROM moves WHERE owner = ? AND mkey >= '{FRONT}' AND mkey < '{FRONT}Z' AND lot = ? AND kind = {Kind.RECEIVE:d}
+SELECT 1 FROM moves WHERE owner = ? AND mkey >= '{OF_COUNT}' AND mkey < '{OF_COUNT}Z' AND lot = ?
+  AND kind = {Kind.RECEIVE:d}
 """
 MOST_NAMES = 9  # lots of what was found of one lot
 WIDTHS = {"reason": 40, "counted": 14}
@@ -255,7 +256,7 @@ def key_of(record: Record) -> str:
     """The key by which a difference is recorded: the same one of the same row, however its numbers are written."""
     values = {**record.values, "counted": record.noted["counted"]}
     cells = [as_number(cell) if name in NUMBERS else cell for name, cell in values.items()]
-    return f"{FRONT}{hashlib.sha256(' '.join(cells).encode()).hexdigest()[:10].upper()}"
+    return f"{OF_COUNT}{hashlib.sha256(' '.join(cells).encode()).hexdigest()[:10].upper()}"
 
 
 def difference_of(desk: Desk, record: Record, key: str, material: str, taken: set[LotId], apart: Apart) -> Difference:

@@ -14,10 +14,18 @@ from dataclasses import dataclass
 from ..core import backups, snapshot
 from ..core.failure import REFUSED, Failure
 from ..core.office import Office
-from ..records.rows import LotId
+from ..records.rows import BatchId, LotId
+from ..register.settled import Place
 from . import chain
 from .chain import Part
 from .merging import merge
+
+PLACES_OF_ONE = "SELECT 1, ord, number, ord FROM batches WHERE owner = ?"
+PLACES = """
+SELECT b.file, coalesce((SELECT a.name FROM again AS a
+  WHERE a.kind = 'order' AND a.file = b.file AND a.owner = b.owner AND a.called = b.ord), b.ord), b.number, b.ord
+FROM batches AS b WHERE b.owner = ?
+"""
 
 
 @dataclass(frozen=True)
@@ -72,6 +80,13 @@ def parts_of(file: str, newest: sqlite3.Connection, copy: str, hash: str) -> lis
     files = chain.earlier_files(file, chain.came_from(newest))
     chain.require_unchanged(files)
     return [*files, Part(len(files) + 1, os.path.basename(file), copy, hash)]
+
+
+def places_of(base: sqlite3.Connection, owner: str, is_one: bool) -> dict[BatchId, Place]:
+    """The number of the file in which each batch of an owner is, and its order there, which may have another name over
+    all files; `is_one` where these are the tables of the only file."""
+    rows = base.execute(PLACES_OF_ONE if is_one else PLACES, (owner,))
+    return {BatchId(owner, called, number): (file, order, number) for file, order, number, called in rows}
 
 
 @contextlib.contextmanager
