@@ -1,4 +1,5 @@
 """An owner's month is closed once, by a number: what is on it, what is on the next one, and who can't change that."""
+import datetime
 import os
 
 import figures
@@ -157,6 +158,9 @@ def test_what_comes_late_is_on_the_next_settlement_and_the_earlier_one_stays(acm
     again = acme.folder / "again"
     run(acme, "papers", "settlement", "ACME", "--month", 2501, "--no-pdf", again)
     assert {path.name: path.read_bytes() for path in again.iterdir()} == {path.name: path.read_bytes() for path in (acme.folder / "ACME-2501").iterdir()}
+    acme.settle(time_zone="Pacific/Kiritimati" if datetime.datetime.now(datetime.timezone.utc).hour >= 10 else "Etc/GMT+12")  # where it is another day
+    run(acme, "papers", "settlement", "ACME", "--month", 2501, "--no-pdf", acme.folder / "of-another-day")
+    assert (acme.folder / "of-another-day" / "settlement.html").read_bytes() == (again / "settlement.html").read_bytes()
     page = (again / "settlement.html").read_text()
     assert "Settlement ACME-2501-1 of ACME, 2025-01" in page and "Closed on 20" in page
     third = settle(acme, 2503)

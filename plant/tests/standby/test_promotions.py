@@ -71,6 +71,24 @@ def test_a_promotion_up_to_a_piece_keeps_the_journal_and_the_changed_key(at_work
     assert at_work.run("verify").status == 0 and at_work.run("unit-add", "OVEN").out == "accepted\n"
 
 
+def test_a_promotion_up_to_a_piece_names_the_notes_that_lost_their_rows(at_work):
+    """A later shipment of the same key went to another customer."""
+    for party in ("NORD", "SPAS"):
+        assert at_work.run("party", "add", "ACME", party, "--name", party, "--role", "customer").status == 0
+    folder = at_work.folder / "follow"
+    follower = follower_of(at_work.db, folder, f"{os.uname().nodename}:{at_work.db}")
+    look(follower)
+    assert at_work.run("unit-add", "PRESS").status == 0
+    look(follower)
+    assert at_work.run("ship", "ACME", "K9", "S-1", "BAY1", 5, 103, "--to", "NORD", "--yes").out == "accepted\n"
+    look(follower)
+    done = at_work.run("promote", "--until", 1, folder)
+    assert done.status == 0 and "notes that lost what they are about: 1" in done.out and "NORD" in done.out
+    assert at_work.run("ship", "ACME", "K9", "S-1", "BAY1", 5, 103, "--yes").out == "accepted\n"  # the same values, without a customer
+    assert "NORD" not in at_work.run("show", "key", "ACME", "K9").out
+    assert "notes that lost what they are about: 1" in at_work.run("verify").out
+
+
 def test_on_a_standby_a_changed_key_is_known_to_nobody_until_another_is_made(at_work, pieces, standby):
     """No file has the key of now there."""
     done = standby.run("promote", "--until", 1, pieces)

@@ -190,7 +190,7 @@ def promote(context: Context, folder: str | None, until: int | None, is_check: b
 
     Example: hilpoven promote
     """
-    from ..register import file as register
+    from ..register import lost
     from ..standby import promoting
 
     rights.become_owner(context.file)
@@ -200,11 +200,10 @@ def promote(context: Context, folder: str | None, until: int | None, is_check: b
         tell_of(choice, f"the office of piece {choice.end} is sound; it was made at {last.at}, {age_of(last.at)} ago")
         return
     promoted, choice = promoting.promote(office, folder, context.place, context.journal(), until)
-    register.notes_of(context.journal())
-    last = promoted.last
+    last, lines = promoted.last, lost.lines_of(lost.note_lost(context))
     tell_of(choice, f"{context.file} is the office of piece {choice.end}, made at {last.at}, {age_of(last.at)} ago")
     aside = f"; what was there is in {promoted.aside}" if promoted.aside else ""
-    click.echo(printable(f"timeline {promoted.timeline} begins{aside}"))
+    click.echo("\n".join([printable(f"timeline {promoted.timeline} begins{aside}"), *lines]))
     tell("\n".join(promoted.notes))
     tell(f"Serve it: systemctl enable --now {context.place.unit}\nThen lead owners and the plant here.")
 

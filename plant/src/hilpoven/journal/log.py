@@ -19,6 +19,7 @@ NOTHING_DONE = "nothing is done that isn't noted there"
 BEGINNING = "0" * 64  # before the first line
 PIECE = 8_192  # bytes
 FLAGS = os.O_CLOEXEC | os.O_NOFOLLOW | os.O_NONBLOCK  # no link is followed, and no pipe is waited for
+MADE_AT = "made_at"  # a member of a promotion's line: the moment of the office that it puts in place
 IN_PLACE = "in_place"  # a member of an answer: another file has the office's place, also where something failed since
 NOBODY = 4_294_967_295  # the login of a process that no login began
 

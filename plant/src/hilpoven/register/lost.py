@@ -1,4 +1,4 @@
-"""Notes whose rows the office hasn't: what a restore notes of them, and what is told of them."""
+"""Notes whose rows the office hasn't: what a restore or a promotion notes of them, and what is told of them."""
 from collections.abc import Sequence
 from dataclasses import dataclass, field
 from typing import Any
@@ -9,7 +9,7 @@ from ..core.context import Context
 from ..core.failure import Failure, printable
 from ..journal import query
 from ..journal.history import listed
-from ..journal.log import Journal
+from ..journal.log import MADE_AT, Journal
 from ..records.accepted import rows_of
 from . import file
 from .folding import Noted
@@ -55,12 +55,16 @@ def behind(entries: Sequence[dict[str, Any]], at: int) -> Behind:
     return since
 
 
+def is_restoring(entry: dict[str, Any]) -> bool:
+    """Whether a line of the journal asks for an earlier office in the place of the file."""
+    return listed(entry, "words")[:1] in (["restore"], ["promote"]) and "sha256" in entry
+
+
 def end_of(entries: Sequence[dict[str, Any]], at: int) -> int:
     """How many lines the journal had when what a restore put in place was made; 0 if nobody knows."""
     restore = entries[at]
     words = [str(word) for word in listed(restore, "words")]
-    if words[1:2] == ["--at"]:
-        moment = words[2]
+    if moment := words[2] if words[1:2] == ["--at"] else str(restore.get(MADE_AT, "")):
         return next((place for place in range(at, 0, -1) if str(entries[place - 1].get("time")) <= moment), 0)
     digest = restore.get("sha256")
     places = [place for place in range(at) if "backup" in entries[place] and entries[place].get("sha256") == digest]
@@ -82,7 +86,7 @@ def note_lost(context: Context) -> list[Status]:
     folded = file.notes_of(journal)  # made anew where it was moved aside
     notes = folded.belonging(journal)
     entries = query.entries(journal.path, journal.file) if notes else []
-    places = [at for at, entry in enumerate(entries) if listed(entry, "words")[:1] == ["restore"] and "sha256" in entry]
+    places = [at for at, entry in enumerate(entries) if is_restoring(entry)]
     if not places:
         return []
     since = behind(entries, places[-1])

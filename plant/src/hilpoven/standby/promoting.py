@@ -8,7 +8,7 @@ from ..core.names import number_of
 from ..core.office import Answer, Office
 from ..core.server import Place
 from ..journal import query
-from ..journal.log import Journal
+from ..journal.log import MADE_AT, Journal
 from . import chain, journals, timeline
 from .chain import Built, Chain, Report
 from .piece import Header
@@ -110,7 +110,8 @@ def put(
     notes = [*beside.lines, *kept.lines]
     aside = journals.go_on(journal, beside)
     words = ["promote", *(["--until", str(until)] if until is not None else []), built.last.name]
-    with journal.noted(office.file, words, sha256=origin["sha256"], timeline=number) as note:
+    members = {"sha256": origin["sha256"], "timeline": number, MADE_AT: built.last.at}
+    with journal.noted(office.file, words, **members) as note:
         timeline.mark(folder, number, origin)
         timeline.begin(office.file, number, origin)
         backups.put_in_place(built.file, office.file)
