@@ -43,7 +43,7 @@ ALL = [named for named in commands(hilpoven) if named[0][0] not in LEFT_OUT]
 def typed(draw):
     """A subcommand with some of its options and as many words as come."""
     names, command = draw(any_of.sampled_from(ALL))
-    words = list(names)
+    words = [*names, *(["--check"] if names == ("follow",) else [])]  # without it, it follows until it is ended
     options = [parameter for parameter in command.params if isinstance(parameter, click.Option)]
     for option in draw(any_of.lists(any_of.sampled_from(options), max_size=3)) if options else []:
         words.append(option.opts[0])
