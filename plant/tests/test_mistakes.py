@@ -75,7 +75,7 @@ MISTAKES = [
     ("scrap ACME K9 S-1 BAY1 2000000000 101", 1, ["AMOUNT: `2000000000` is above 1,000,000,000"]),
     ("scrap ACME K9 S-1 BAY1 12345678901 101", 1, ["AMOUNT: `12345678901` has 11 digits, and 10 are read at most"]),
     ("scrap ACME K9 S-1 BAY1 5 27-11-2026", 1, ["DAY: `27-11-2026` is a date in a form that isn't read; a day is a number such as 261127 or a date such as 2026-11-27"]),
-    ("scrap ACME K9 S-1 BAY1 5 27-11-2026", 1, ["DAY: `27-11-2026` is a date"]),
+    ("scrap ACME K9 S-1 BAY1 5 27.11.2026", 1, ["DAY: `27.11.2026` is a date"]),
     ("scrap ACME K9 S-1 BAY1 5 20261127", 1, ["DAY: `20261127` is above 9,999,999"]),
     ("scrap ACME K9 S-1 BAY1 5 today", 1, ["DAY: `today` has"]),
     ("close ACME O-1 0", 1, ["BATCH: `0` is below 1"]),

@@ -2,7 +2,6 @@
 import contextlib
 import os
 import pathlib
-import secrets
 import sqlite3
 import string
 from collections.abc import Iterable
@@ -31,6 +30,8 @@ class Key:
 
 def random_key() -> Key:
     """A key that nobody guesses."""
+    import secrets
+
     return Key("".join(secrets.choice(LETTERS) for _ in range(KEY_LETTERS)), is_made=True)
 
 
