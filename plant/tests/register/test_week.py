@@ -75,8 +75,9 @@ def test_a_recall_on_paper_begins_with_who_has_it(week, tmp_path):
     for folder in (papers / "plant", papers / "owners" / "ACME"):
         assert shipped_of(folder) == {"S1": ("BU-0001", "", "650", "NORD", "LS 4711"), "S2": ("BU-0001", "", "300", "ALP", ""),
                                       "S3": ("BU-0003", "*", "905", "ALP", "LS 4712")}
-        got = {(row["noted_party"], row["noted_contact"], row["noted_phone"]): row["amount"] for row in table(folder / "recipients.csv")}
-        assert got == {("NORD", "Ms Lund", "+44 20 7946 0000"): "650", ("ALP", "Mr Frei", "+41 44 668 18 00"): "1205"}
+        got = {(row["noted_party"], row["noted_contact"], row["noted_phone"], row["lot"]): row["amount"] for row in table(folder / "recipients.csv")}
+        assert got == {("NORD", "Ms Lund", "+44 20 7946 0000", "BU-0001"): "650", ("ALP", "Mr Frei", "+41 44 668 18 00", "BU-0001"): "300",
+                       ("ALP", "Mr Frei", "+41 44 668 18 00", "BU-0003"): "905"}, table(folder / "recipients.csv")
         page = (folder / "recall.html").read_text()
         assert page.index("Who has it") < page.index("What to do first") and 'class="alarm"' not in page
         on_hand = {(row["lot"], row["noted"]): row["amount"] for row in table(folder / "sublots.csv") if row["lot"].startswith("BU")}
