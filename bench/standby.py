@@ -21,7 +21,7 @@ sys.path[:0] = [str(ROOT), str(ROOT / "plant" / "src")]
 from bench import offices  # noqa: E402
 from bench.offices import KEY, Genealogy, owner_name  # noqa: E402
 from hilpoven.core.client import request_of  # noqa: E402
-from hilpoven.standby import chain  # noqa: E402
+from hilpoven.care.standby import chain  # noqa: E402
 
 RATE, SECONDS, PAUSE = 200, 20, 25  # requests a second that change something; milliseconds between two that don't
 OWNERS, PLACED = 64, 500  # in the office that isn't at all limits: with room for more orders

@@ -8,9 +8,9 @@ import hypothesis
 import openpyxl
 from hypothesis import strategies as any_of
 from hilpoven.core.failure import Failure
-from hilpoven.sheets.reading import read
-from hilpoven.sheets.sheet import Asked, Sheet, likeness, text_of
-from hilpoven.sheets.values import ACTUALS, TRAPS, of_days, of_numbers
+from hilpoven.record.sheets.reading import read
+from hilpoven.record.sheets.sheet import Asked, Sheet, likeness, text_of
+from hilpoven.record.sheets.values import ACTUALS, TRAPS, of_days, of_numbers
 
 COLUMNS, NUMBERS = list(ACTUALS.columns), ACTUALS.of(of_numbers, of_days)
 FEW = hypothesis.settings(max_examples=60, deadline=None, database=None, suppress_health_check=[hypothesis.HealthCheck.function_scoped_fixture])

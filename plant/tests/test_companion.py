@@ -10,8 +10,8 @@ import time
 
 import pytest
 from conftest import HILPOVEN, Plant, environment
-from hilpoven.companion import folder as folders
-from hilpoven.companion import making
+from hilpoven.report.companion import folder as folders
+from hilpoven.report.companion import making
 from hilpoven.core import settings as site
 from test_kills import kill_at
 

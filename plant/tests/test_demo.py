@@ -16,8 +16,8 @@ from conftest import HILPOVEN, PATIENCE, ROOT, called, environment, eventually, 
 from hilpoven.cli import demo as cli_demo
 from hilpoven.core import settings as site
 from hilpoven.core.failure import Failure
-from hilpoven.demo import week
-from hilpoven.demo.week import Week, dated, working_days
+from hilpoven.care.demo import week
+from hilpoven.care.demo.week import Week, dated, working_days
 
 NOTHING_LEFT = 20  # seconds
 ENDED = "hilpoven: the demo is ended: nothing is served, and all of the sample week is removed"

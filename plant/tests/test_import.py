@@ -15,7 +15,7 @@ import openpyxl
 import pytest
 from conftest import ROOT, Plant, copied, eventually, script
 from hilpoven.core import client, server
-from hilpoven.journal.query import check
+from hilpoven.core.journal.query import check
 
 sys.path.append(str(ROOT))
 from bench import offices  # noqa: E402

@@ -16,9 +16,9 @@ import tracemalloc
 
 import pytest
 from conftest import HILPOVEN, called, environment, is_told
-from hilpoven.journal import log as journals
-from hilpoven.journal.log import Journal
-from hilpoven.journal.query import check
+from hilpoven.core.journal import log as journals
+from hilpoven.core.journal.log import Journal
+from hilpoven.core.journal.query import check
 from hilpoven.core import settings as site
 from hilpoven.core.office import Answer
 from hypothesis import given, settings, strategies

@@ -8,7 +8,7 @@ import time
 
 import pytest
 from conftest import Plant
-from hilpoven.journal.query import check
+from hilpoven.core.journal.query import check
 
 KILLED = pathlib.Path(__file__).with_name("killed.py")
 SHEET = """key,owner,order,batch,segment,use,material,lot_owner,lot,sublot,amount,day

@@ -4,7 +4,7 @@ import io
 import json
 
 import pytest
-from hilpoven.records.tables import LISTINGS
+from hilpoven.report.lists.tables import LISTINGS
 
 
 def listed(plant, name, *options):

@@ -8,7 +8,7 @@ import sys
 
 import pytest
 from conftest import HILPOVEN, command, environment
-from hilpoven.journal import log as journals
+from hilpoven.core.journal import log as journals
 
 RECEIPTS = "owner,key,material,lot,sublot,amount,day\nACME,K30,SALT,S-30,BAY1,5,102\n"
 

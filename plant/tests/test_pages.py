@@ -5,8 +5,8 @@ import hilpoven
 import pytest
 from conftest import ROOT
 from hilpoven.core import forms, grammar, meanings
-from hilpoven.records import gauge, schema
-from hilpoven.records.tables import LISTINGS
+from hilpoven.model import gauge, schema
+from hilpoven.report.lists.tables import LISTINGS
 
 COMMANDS = (ROOT / "docs" / "commands.md").read_text()
 REFUSALS = (ROOT / "docs" / "refusals.md").read_text()

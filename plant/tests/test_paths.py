@@ -15,7 +15,7 @@ from hilpoven.core import paths, rights
 from hilpoven.cli import hilpoven
 from hilpoven.cli import words as cli_words
 from hilpoven.core.failure import Failure
-from hilpoven.journal.query import check
+from hilpoven.core.journal.query import check
 
 SHEET = """key,owner,order,batch,segment,use,material,lot_owner,lot,sublot,amount,day
 K20,ACME,O-1,1,1,consumed,SALT,ACME,S-1,BAY1,1,102

@@ -6,8 +6,9 @@ import pytest
 from click.testing import CliRunner
 from conftest import Told
 from hilpoven.cli import hilpoven, roles
-from hilpoven.core import on_behalf, rights, settings as site
-from hilpoven.journal import log
+from hilpoven.record import on_behalf
+from hilpoven.core import rights, settings as site
+from hilpoven.core.journal import log
 
 # Users and groups that each Debian has: daemon, 1, is in the group daemon, and man, 6, in the group man.
 DAEMON, MAN = 1, 6

@@ -16,9 +16,9 @@ from conftest import ROOT
 from hilpoven.cli import hilpoven, setup as command
 from hilpoven.core import settings as site
 from hilpoven.core.failure import Failure
-from hilpoven.setup import machine as machines, steps
-from hilpoven.setup.machine import Machine, Ran
-from hilpoven.setup.plan import Plan
+from hilpoven.care.setup import machine as machines, steps
+from hilpoven.care.setup.machine import Machine, Ran
+from hilpoven.care.setup.plan import Plan
 
 HOST = "toll.north.example"
 TEMPLATE = (ROOT / "packaging" / "nginx.conf").read_text()

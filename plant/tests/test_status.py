@@ -10,10 +10,10 @@ import types
 import pytest
 from conftest import ROOT, Plant, copied, make_office, script
 from hilpoven import OFFICE_VERSION, VERSION
-from hilpoven.core import health
-from hilpoven.records import gauge
-from hilpoven.register.store import Register
-from hilpoven.register.suspects import suspects
+from hilpoven.care import health
+from hilpoven.model import gauge
+from hilpoven.model.register.store import Register
+from hilpoven.model.register.suspects import suspects
 
 sys.path.append(str(ROOT))
 

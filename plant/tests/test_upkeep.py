@@ -12,12 +12,13 @@ import time
 
 import pytest
 from conftest import Plant, change_log_at_rest, command, copied, environment
-from hilpoven.core import backups, settings as site
+from hilpoven.care import backups
+from hilpoven.core import settings as site
 from hilpoven.core.grammar import LINES
 from hilpoven.core.office import Office
-from hilpoven.journal.log import Journal
-from hilpoven.journal.query import check
-from hilpoven.records import accepted
+from hilpoven.core.journal.log import Journal
+from hilpoven.core.journal.query import check
+from hilpoven.record import accepted
 
 
 def test_new_makes_an_office_and_nothing_else_does(plant):

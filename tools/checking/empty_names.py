@@ -5,7 +5,7 @@ import sys
 
 EMPTY = {"it", "found", "told", "look_at", "thing", "made", "said", "there", "what", "whose", "more"}
 # Fields of JSON that the documents name, and the ends of the paths of the sources that have them.
-FIELDS = {"made": ("plant/src/hilpoven/register/facts.py", "plant/src/hilpoven/companion/lots.py", "plant/tests/register/test_facts.py")}
+FIELDS = {"made": ("plant/src/hilpoven/model/notes/facts.py", "plant/src/hilpoven/report/companion/lots.py", "plant/tests/register/test_facts.py")}
 PARTS = ("id", "arg", "attr", "name", "asname", "rest")  # where a node of a source has a name
 
 

@@ -44,7 +44,7 @@ class Pages:
                                   declared(sources.code, *DECLARED), declared(sources.specs | sources.proofs, DEFINED))
         self.code_files = {name for path in sources.code for name in (path.name, f"{path.parent.name}/{path.name}")}
         plant = root / "plant" / "src" / "hilpoven"
-        self.folders = [root, root / "docs", plant, *plant.glob("*/"), sources.crates, *crates,
+        self.folders = [root, root / "docs", plant, *plant.glob("**/"), sources.crates, *crates,
                         *(crate / "specs" for crate in crates)]
 
     def mistakes(self) -> Iterator[str]:

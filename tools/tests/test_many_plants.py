@@ -7,9 +7,9 @@ import pytest
 from conftest import ROOT
 
 sys.path.insert(0, str(ROOT / "plant" / "src"))
-from hilpoven.setup.machine import Machine  # noqa: E402
-from hilpoven.setup.plan import Plan  # noqa: E402
-from hilpoven.setup.site import site_of  # noqa: E402
+from hilpoven.care.setup.machine import Machine  # noqa: E402
+from hilpoven.care.setup.plan import Plan  # noqa: E402
+from hilpoven.care.setup.site import site_of  # noqa: E402
 
 PLANTS = {"acme": ("acme.example.com", 801), "bolt": ("bolt.example.org", 802)}
 LOGS = {"acme": "toll.log", "bolt": "toll-bolt.log"}

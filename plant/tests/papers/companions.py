@@ -8,12 +8,12 @@ from typing import Any
 
 from conftest import Plant
 from hilpoven.core import settings as site
-from hilpoven.journal.log import Journal
-from hilpoven.register import standing
-from hilpoven.register.facts import LotFacts, MaterialFacts, MovementFacts, OwnerFacts, ResultFacts, TestFacts
-from hilpoven.register.kinds import Bound, Role, Why
-from hilpoven.register.note import Note
-from hilpoven.register.notes import Held, Link, NotLinked, Party, Reason, Signed, Withdrawal, to_json
+from hilpoven.core.journal.log import Journal
+from hilpoven.model.register import standing
+from hilpoven.model.notes.facts import LotFacts, MaterialFacts, MovementFacts, OwnerFacts, ResultFacts, TestFacts
+from hilpoven.model.notes.kinds import Bound, Role, Why
+from hilpoven.model.notes.note import Note
+from hilpoven.model.notes.notes import Held, Link, NotLinked, Party, Reason, Signed, Withdrawal, to_json
 from looks import FIGURE, Papers
 from offices import HOUSE, Filled
 
@@ -150,7 +150,7 @@ class Known(Filled):
 
     def links_of(self, owner: str) -> list[Link]:
         """The links that the journal has of an owner, with those that were withdrawn."""
-        from hilpoven.register.notes import from_json
+        from hilpoven.model.notes.notes import from_json
 
         notes = [from_json(value) for line in self.plant.lines() for value in line.get("notes", ())]
         return [note for note in notes if isinstance(note, Link) and note.owner == owner]

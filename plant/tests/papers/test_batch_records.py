@@ -4,7 +4,7 @@ import re
 
 import figures
 import pytest
-from hilpoven.journal import log
+from hilpoven.core.journal import log
 
 SHEET = """key,owner,order,batch,segment,use,material,lot_owner,lot,sublot,amount,day
 K22,ACME,O-1,2,1,consumed,SALT,ACME,S-1,BAY1,30,103

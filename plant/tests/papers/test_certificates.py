@@ -12,10 +12,10 @@ from decimal import Decimal
 import figures
 import pytest
 from conftest import Plant, site
-from hilpoven.journal.log import Journal
-from hilpoven.register import facts
-from hilpoven.register.kinds import Role
-from hilpoven.register.notes import Party, to_json
+from hilpoven.core.journal.log import Journal
+from hilpoven.model.notes import facts
+from hilpoven.model.notes.kinds import Role
+from hilpoven.model.notes.notes import Party, to_json
 
 OWNERS = ("ACME", "BOLT")
 FEW, MANY = 12, 200  # certificates

@@ -4,7 +4,7 @@ import os
 
 import figures
 import pytest
-from hilpoven.journal.log import Journal
+from hilpoven.core.journal.log import Journal
 
 MADE = """
 owner-add ACME ACMEKEY1

@@ -14,7 +14,7 @@ import time
 
 import pytest
 from conftest import HILPOVEN, ROOT, Plant
-from hilpoven.papers import copies
+from hilpoven.report.papers import copies
 
 KILLED = ROOT / "plant" / "tests" / "killed.py"
 RECALL = ("papers", "recall", "HOUSE", "W-101")

@@ -10,9 +10,9 @@ import zoneinfo
 import figures
 import pytest
 from conftest import HILPOVEN, Plant, environment, script
-from hilpoven.journal import log
-from hilpoven.papers import printing
-from hilpoven.records.days import day_of
+from hilpoven.core.journal import log
+from hilpoven.report.papers import printing
+from hilpoven.core.days import day_of
 from test_certificates import PLANT, Page, settle
 from test_papers_texts import SHIPPED
 
@@ -158,7 +158,7 @@ def test_shares_are_those_of_the_owners_page(at_work):
 
 def printing_share(part: int, whole: int) -> str:
     """What a paper says of a part of a whole."""
-    from hilpoven.papers.sheets import percent
+    from hilpoven.report.papers.sheets import percent
 
     return percent(part, whole)
 

@@ -5,10 +5,10 @@ import pathlib
 import figures
 import pytest
 from conftest import Plant, copied, script
-from hilpoven.journal.log import Journal
-from hilpoven.papers import printing
-from hilpoven.register.below import HEADING
-from hilpoven.register.notes import Link, Why, to_json
+from hilpoven.core.journal.log import Journal
+from hilpoven.report.papers import printing
+from hilpoven.model.below import HEADING
+from hilpoven.model.notes.notes import Link, Why, to_json
 
 BEGUN = """
 owner-add ACME ACMEKEY1

@@ -6,8 +6,8 @@ from random import Random
 import figures
 import pytest
 from closure import closure, linked_edges, reading, recorded_edges
-from hilpoven.journal.log import Journal
-from hilpoven.register.notes import Link, Why, to_json
+from hilpoven.core.journal.log import Journal
+from hilpoven.model.notes.notes import Link, Why, to_json
 from looks import Papers
 from offices import HOUSE, Filled
 

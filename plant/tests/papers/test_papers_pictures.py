@@ -2,8 +2,8 @@
 import re
 
 import pytest
-from hilpoven.papers import pictures
-from hilpoven.papers.pictures import OVERLAP, SHEET, SMALLEST
+from hilpoven.report.papers import pictures
+from hilpoven.report.papers.pictures import OVERLAP, SHEET, SMALLEST
 
 ACROSS, DOWN = (side / SMALLEST for side in SHEET)
 

@@ -6,8 +6,8 @@ import shlex
 import figures
 import pytest
 from conftest import AT_WORK, Plant
-from hilpoven.papers import printing
-from hilpoven.register import quality
+from hilpoven.report.papers import printing
+from hilpoven.model.register import quality
 from test_papers_texts import SHIPPED
 
 RECALL = ("papers", "recall", "HOUSE", "W-101")

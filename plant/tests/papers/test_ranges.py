@@ -2,8 +2,8 @@
 import re
 
 import pytest
-from hilpoven.papers.ranges import on_paper
-from hilpoven.papers.sheets import Sheet, columns
+from hilpoven.report.papers.ranges import on_paper
+from hilpoven.report.papers.sheets import Sheet, columns
 from hypothesis import given, strategies
 
 HEADS = columns("disposition:word owner lot sublot amount:number measure=unit:text@beside")

@@ -2,9 +2,9 @@
 from datetime import date, timedelta
 
 import pytest
-from hilpoven.papers.sheets import Column
-from hilpoven.records.days import date_of, day_of, format_day
-from hilpoven.years import pace
+from hilpoven.report.papers.sheets import Column
+from hilpoven.core.days import date_of, day_of, format_day
+from hilpoven.care.years import pace
 
 DATES = {260101: date(2026, 1, 1), 261231: date(2026, 12, 31), 280229: date(2028, 2, 29), 690101: date(2069, 1, 1), 991231: date(2099, 12, 31)}
 NUMBERS = [0, 7, 101, 10_101, 99_999, 260_000, 260_100, 261_301, 260_230, 270_229, 999_999, 1_261_127, 9_999_999]

@@ -3,7 +3,7 @@ from decimal import Decimal
 
 import pytest
 from hilpoven.core.failure import Failure
-from hilpoven.records import measures
+from hilpoven.model import measures
 from hypothesis import given, settings
 from hypothesis import strategies as any_of
 

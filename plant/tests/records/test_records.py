@@ -5,11 +5,11 @@ import sqlite3
 
 import pytest
 from conftest import ROOT
-from hilpoven.records import answers
-from hilpoven.records.genealogy import Genealogy
-from hilpoven.records.recall import RecallLine, TraceLine
-from hilpoven.records.rows import LotId
-from hilpoven.records.schema import ACTUAL_OF, INCOMING, OUTGOING, Disposition, Kind, Role, State
+from hilpoven.model import answers
+from hilpoven.model.genealogy import Genealogy
+from hilpoven.model.recall import RecallLine, TraceLine
+from hilpoven.model.rows import LotId
+from hilpoven.model.schema import ACTUAL_OF, INCOMING, OUTGOING, Disposition, Kind, Role, State
 
 
 def test_each_kind_comes_in_goes_out_or_splits():

@@ -5,8 +5,8 @@ from conftest import Plant
 from hilpoven.core import snapshot
 from hilpoven.core.context import Context
 from hilpoven.core.settings import load
-from hilpoven.register import standing
-from hilpoven.register.store import Register
+from hilpoven.model.register import standing
+from hilpoven.model.register.store import Register
 
 NOTED = re.compile(r"noted ([0-9a-f]{16})\n")
 

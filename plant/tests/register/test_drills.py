@@ -10,7 +10,7 @@ import tarfile
 
 import pytest
 from conftest import Plant, command
-from hilpoven.register import file
+from hilpoven.model.register import file
 from lying import liar
 from notes import register_of
 from test_week import REACHED, table

@@ -3,7 +3,7 @@ import datetime
 import re
 
 import pytest
-from hilpoven.records import days
+from hilpoven.core import days
 from test_parties import RELEASED, rows_of
 
 SHIP = ("ship", "ACME", "K70", "B-1", "TOTE1", 5)

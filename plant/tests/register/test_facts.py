@@ -6,14 +6,14 @@ from conftest import Plant
 from hilpoven.core import snapshot
 from hilpoven.core.context import Context
 from hilpoven.core.settings import load
-from hilpoven.journal.log import Journal
-from hilpoven.records.descriptions import describe_lot
-from hilpoven.records.rows import LotId, require_lot
-from hilpoven.register import facts
-from hilpoven.register.kinds import Bound
-from hilpoven.register.notes import KINDS, from_json, to_json
-from hilpoven.register.standing import standing_over_all
-from hilpoven.years import history
+from hilpoven.core.journal.log import Journal
+from hilpoven.model.descriptions import describe_lot
+from hilpoven.model.rows import LotId, require_lot
+from hilpoven.model.notes import facts
+from hilpoven.model.notes.kinds import Bound
+from hilpoven.model.notes.notes import KINDS, from_json, to_json
+from hilpoven.model.register.standing import standing_over_all
+from hilpoven.model.years import history
 from notes import cut_off, register_of
 
 BRINE = ("ACME", "BRINE")

@@ -3,8 +3,8 @@ import pytest
 from conftest import Plant
 from hilpoven.core.context import Context
 from hilpoven.core.settings import load
-from hilpoven.register import standing
-from hilpoven.years import history
+from hilpoven.model.register import standing
+from hilpoven.model.years import history
 from notes import cut_off, links, noted, register_of
 
 GONE = "receive ACME K8 SALT S-8 BAY1 5 101"  # a lot that will have nothing on hand

@@ -6,11 +6,23 @@ import time
 import pytest
 from conftest import eventually
 from hilpoven.core.office import Answer
-from hilpoven.journal.log import Journal
-from hilpoven.journal.query import check
-from hilpoven.register import facts, file, folding
-from hilpoven.register.kinds import Bound
-from hilpoven.register.notes import KINDS, Link, MovementFacts, NotLinked, Party, Role, Why, Withdrawal, from_json, to_json
+from hilpoven.core.journal.log import Journal
+from hilpoven.core.journal.query import check
+from hilpoven.model.notes import facts
+from hilpoven.model.register import file, folding
+from hilpoven.model.notes.kinds import Bound
+from hilpoven.model.notes.notes import (
+    KINDS,
+    Link,
+    MovementFacts,
+    NotLinked,
+    Party,
+    Role,
+    Why,
+    Withdrawal,
+    from_json,
+    to_json,
+)
 from hypothesis import example, given, settings
 from hypothesis import strategies as any_of
 

@@ -7,10 +7,10 @@ from random import Random
 
 import pytest
 from conftest import Plant
-from hilpoven.journal.log import Journal
-from hilpoven.records import gauge
-from hilpoven.register.below import HEADING
-from hilpoven.register.notes import Link, Why, to_json
+from hilpoven.core.journal.log import Journal
+from hilpoven.model import gauge
+from hilpoven.model.below import HEADING
+from hilpoven.model.notes.notes import Link, Why, to_json
 
 LINKS, SECONDS = 1_000, 5
 

@@ -8,8 +8,8 @@ import sqlite3
 import pytest
 from hilpoven.core import rights
 from hilpoven.core.office import Answer
-from hilpoven.journal.log import Journal
-from hilpoven.register import file
+from hilpoven.core.journal.log import Journal
+from hilpoven.model.register import file
 from notes import links, noted, register_of
 
 ONE = [("ACME B-1", "ACME S-1")]

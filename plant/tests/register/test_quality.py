@@ -6,8 +6,8 @@ import json
 
 import pytest
 from hilpoven.core import settings as site
-from hilpoven.journal import log
-from hilpoven.register.notes import from_json
+from hilpoven.core.journal import log
+from hilpoven.model.notes.notes import from_json
 from notes import cut_off
 
 QUALITY = '[quality]\ntest = "QA"\n'

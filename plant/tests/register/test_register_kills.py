@@ -5,9 +5,9 @@ import pathlib
 
 import pytest
 from conftest import Plant
-from hilpoven.journal.log import Journal
-from hilpoven.journal.query import check
-from hilpoven.register import file, folding
+from hilpoven.core.journal.log import Journal
+from hilpoven.core.journal.query import check
+from hilpoven.model.register import file, folding
 from notes import links, noted
 from test_kills import kill_at, put, steps
 

@@ -5,7 +5,7 @@ import subprocess
 import pytest
 from conftest import HILPOVEN, PATIENCE, Plant, eventually, forked, script
 from hilpoven.core import settings as site
-from hilpoven.journal import log
+from hilpoven.core.journal import log
 
 RESULTS = "owner,lot,test,value,day\n"
 SHIPMENTS = "owner,key,lot,sublot,amount,day\n"

@@ -4,7 +4,7 @@ import os
 
 import pytest
 from conftest import copied
-from hilpoven.register import file
+from hilpoven.model.register import file
 from notes import links, noted, register_of
 
 PARTIES = [("party", "add", "ACME", party, "--name", f"{party} Ltd", "--role", "customer") for party in ("NORD", "SUED")]

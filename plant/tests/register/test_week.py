@@ -5,7 +5,7 @@ import pathlib
 
 import pytest
 from conftest import Plant
-from hilpoven.register.below import HEADING
+from hilpoven.model.below import HEADING
 from week import PREPARED, WEEK, lived
 
 REACHED = {  # by a recall of a lot: the lots that links add, with their steps, disposition, and what is on hand and was shipped

@@ -4,9 +4,9 @@ import pathlib
 import sqlite3
 import tempfile
 
-from hilpoven.standby import chain
-from hilpoven.standby.book import Book
-from hilpoven.standby.follower import Follower
+from hilpoven.care.standby import chain
+from hilpoven.care.standby.book import Book
+from hilpoven.care.standby.follower import Follower
 
 
 def follower_of(db: pathlib.Path, folder: pathlib.Path, office: str = "here", timeline: int = 1) -> Follower:

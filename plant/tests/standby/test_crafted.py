@@ -10,7 +10,7 @@ import pytest
 from conftest import Plant
 from following import follower_of, look
 from hilpoven.core.failure import Failure
-from hilpoven.standby import chain, piece
+from hilpoven.care.standby import chain, piece
 
 HEAD = {
     "kind": ["file", "", 3, None], "office": ["", 3, None, "\x1b[2J"], "timeline": [0, 9_999, 10**9, "1", None], "chain": ["../../../x", "0" * 12, 3, None],

@@ -7,13 +7,13 @@ import subprocess
 import pytest
 from conftest import ROOT, Plant
 from following import follower_of, look
-from hilpoven.journal.query import check
-from hilpoven.standby import chain
+from hilpoven.core.journal.query import check
+from hilpoven.care.standby import chain
 
 KILLED = ROOT / "plant" / "tests" / "killed.py"
 FOLLOW = """
 import sys
-from hilpoven.standby import follower
+from hilpoven.care.standby import follower
 from hilpoven.cli import main
 looks = []
 def step(self, real=follower.Follower.step):

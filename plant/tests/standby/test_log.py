@@ -10,7 +10,7 @@ import pytest
 from following import built, follower_of, look, rows_of
 from hypothesis import given, settings
 from hypothesis.strategies import binary, booleans
-from hilpoven.standby import capture, checksums, wal
+from hilpoven.care.standby import capture, checksums, wal
 
 TABLE = "CREATE TABLE t (number INTEGER PRIMARY KEY, text TEXT NOT NULL)"
 

@@ -14,7 +14,7 @@ from collections.abc import Iterator
 import pytest
 from conftest import HILPOVEN, Plant, Server, environment
 from hilpoven.core.client import PlantSocket
-from hilpoven.standby import chain
+from hilpoven.care.standby import chain
 
 LIMIT = 3.0  # seconds
 LINES = [  # which are given again and again, with numbers; each leaves one row more, or releases a lot

@@ -6,7 +6,7 @@ import shutil
 import pytest
 from conftest import Plant
 from following import follower_of, look
-from hilpoven.standby import book, chain, piece
+from hilpoven.care.standby import book, chain, piece
 
 LAST = 6
 

@@ -9,9 +9,9 @@ import pytest
 from conftest import Plant
 from following import follower_of, look
 from hilpoven.core import settings as site
-from hilpoven.journal.log import Journal
-from hilpoven.journal.query import check
-from hilpoven.standby import chain, journals
+from hilpoven.core.journal.log import Journal
+from hilpoven.core.journal.query import check
+from hilpoven.care.standby import chain, journals
 
 OLD, NEW = "ACMEKEY1", "ANOTHERKEY2"
 

@@ -12,11 +12,11 @@ from dataclasses import asdict
 import pytest
 from conftest import HILPOVEN, Plant, environment, eventually
 from following import follower_of, look
-from hilpoven.standby import book, chain, piece, state
-from hilpoven.standby.remote import ListedFile, Remote, files_in
-from hilpoven.standby.removal import Removal, Trouble
-from hilpoven.standby.sender import Sender
-from hilpoven.standby.state import State
+from hilpoven.care.standby import book, chain, piece, state
+from hilpoven.care.standby.remote import ListedFile, Remote, files_in
+from hilpoven.care.standby.removal import Removal, Trouble
+from hilpoven.care.standby.sender import Sender
+from hilpoven.care.standby.state import State
 from restricted import IS_THERE, rsh_into
 
 AGO = 9 * 86_400.0  # seconds; pieces stay for seven days

@@ -5,7 +5,7 @@ import subprocess
 
 import pytest
 from conftest import HILPOVEN, Plant, environment, eventually
-from hilpoven.standby import chain
+from hilpoven.care.standby import chain
 from restricted import IS_THERE, rsh_into
 
 pytestmark = pytest.mark.skipif(not IS_THERE, reason="needs rsync with rrsync")

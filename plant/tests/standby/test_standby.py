@@ -13,8 +13,8 @@ from conftest import HILPOVEN, ROOT, Plant, change_log_at_rest, environment, eve
 from following import follower_of, look
 from hilpoven.core import settings as site
 from hilpoven.core.failure import Failure
-from hilpoven.journal.query import check
-from hilpoven.standby import chain, state
+from hilpoven.core.journal.query import check
+from hilpoven.care.standby import chain, state
 
 
 @contextlib.contextmanager

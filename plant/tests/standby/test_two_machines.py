@@ -13,7 +13,7 @@ import time
 
 import pytest
 from conftest import HILPOVEN, Plant, environment, eventually
-from hilpoven.standby import chain
+from hilpoven.care.standby import chain
 from restricted import line_of
 
 NEEDS = ("ip", "rsync", "rrsync", "ssh", "ssh-keygen", "/usr/sbin/sshd")

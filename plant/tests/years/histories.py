@@ -8,7 +8,7 @@ from dataclasses import dataclass, field
 from random import Random
 
 from hilpoven.core.private_server import PrivateServer
-from hilpoven.years.steps import Step
+from hilpoven.care.years.steps import Step
 
 OWNERS = ("ACME", "BOLT")
 KEYS = {owner: f"{owner}KEY1" for owner in OWNERS}

@@ -13,7 +13,7 @@ import pytest
 from conftest import Plant
 from hilpoven.core import private_server
 from hilpoven.core.snapshot import hash_of
-from hilpoven.years import steps
+from hilpoven.care.years import steps
 
 READY = ("do ACME O-1 1 done", "close ACME O-1 1")
 

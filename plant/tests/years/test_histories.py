@@ -13,12 +13,13 @@ from conftest import Plant
 from hilpoven.core import private_server
 from hilpoven.core.office import Office
 from hilpoven.core.private_server import PrivateServer
-from hilpoven.records import overviews, statement
-from hilpoven.records.genealogy import Genealogy
-from hilpoven.records.recall import recall_lines
-from hilpoven.records.rows import LotId
-from hilpoven.years import history
-from hilpoven.years.steps import Step
+from hilpoven.report.lists import overviews
+from hilpoven.report import statement
+from hilpoven.model.genealogy import Genealogy
+from hilpoven.model.recall import recall_lines
+from hilpoven.model.rows import LotId
+from hilpoven.model.years import history
+from hilpoven.care.years.steps import Step
 from hypothesis import HealthCheck, Phase, given, settings, strategies
 from histories import CUT, KEYS, OWNERS, Growing, accepts, called_again, named_again, renamed
 

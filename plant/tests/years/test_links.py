@@ -10,14 +10,14 @@ from conftest import Plant
 from histories import called_again
 from hilpoven.core.office import Office
 from hilpoven.core.private_server import PrivateServer
-from hilpoven.journal.log import Journal
-from hilpoven.records.genealogy import Genealogy
-from hilpoven.records.rows import LotId
-from hilpoven.register import below
-from hilpoven.register.folding import AFTER
-from hilpoven.register.notes import Link, Note, Why, Withdrawal, to_json
-from hilpoven.register.standing import standing_over_all
-from hilpoven.years import history
+from hilpoven.core.journal.log import Journal
+from hilpoven.model.genealogy import Genealogy
+from hilpoven.model.rows import LotId
+from hilpoven.model import below
+from hilpoven.model.register.folding import AFTER
+from hilpoven.model.notes.notes import Link, Note, Why, Withdrawal, to_json
+from hilpoven.model.register.standing import standing_over_all
+from hilpoven.model.years import history
 
 MOST_LOTS = 8  # of a history, of which traces are compared
 WAYS = ("forward", "back")

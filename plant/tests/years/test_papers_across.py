@@ -9,7 +9,7 @@ import test_histories
 from conftest import Plant
 from histories import OWNERS
 from hilpoven.core.office import Office
-from hilpoven.years import history
+from hilpoven.model.years import history
 
 EVERYBODY = ("HOUSE", *OWNERS)
 OVER = re.compile(r'<p class="for">Over all \d files of the office, as `hilpoven years recall [^<]*</p>\n')

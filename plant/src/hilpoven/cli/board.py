@@ -5,8 +5,9 @@ import click
 
 from ..core import paths
 from ..core.context import Context
-from ..papers import board_rows, copies, printing
-from ..records.days import now
+from ..report.board import board_rows
+from ..report.papers import copies, printing
+from ..core.days import now
 from .words import PATH, pass_context
 
 RELOADS, TURNS, STALE = 30, 8, 180  # seconds until it is read anew, until a list turns its page, and until it is old

@@ -8,11 +8,11 @@ from .. import HOUSE
 from ..core import names
 from ..core.context import Context
 from ..core.failure import REFUSED, WRONG_USE, Failure
-from ..output.table import print_table
-from ..records.days import day_of, today
-from ..years import steps
-from ..years.carrying import COMMAND, Work, has_owner, hindrances, prepared
-from ..years.carrying import carry_over as carry
+from ..core.table import print_table
+from ..core.days import day_of, today
+from ..care.years import steps
+from ..care.years.carrying import COMMAND, Work, has_owner, hindrances, prepared
+from ..care.years.carrying import carry_over as carry
 from .words import DAY, NAME, PATH, pass_context
 
 NEW = "next.db"

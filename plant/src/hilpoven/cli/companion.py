@@ -1,12 +1,12 @@
 """`hilpoven companion`: a file for each owner with what `toll` doesn't tell it."""
 import click
 
-from ..companion import folder as folders, making
+from ..report.companion import folder as folders, making
 from ..core import rights, settings as site
 from ..core.context import Context
 from ..core.failure import WRONG_USE, Failure, printable
 from ..core.settings import Settings
-from ..output.table import counted
+from ..core.table import counted
 from .words import PATH, pass_context
 
 

@@ -13,7 +13,7 @@ from ..core import settings as site, snapshot
 from ..core.context import Context
 from ..core.failure import Failure
 from ..core.grammar import MOVEMENTS, NEXT, Line, in_capitals
-from ..records.choices import ALL_NAMES, Place
+from ..record.choices import ALL_NAMES, Place
 
 PROGRAM = "hilpoven"
 MOST_WAIT = 0.3  # seconds for a lock that somebody has

@@ -8,9 +8,9 @@ import click
 
 from ..core import paths
 from ..core.failure import REFUSED, WRONG_USE, Failure
-from ..sheets.importing import MOST_BYTES
-from ..sheets.options import sheet_of
-from ..sheets.sheet import Sheet, text_of
+from ..record.sheets.importing import MOST_BYTES
+from ..record.sheets.options import sheet_of
+from ..record.sheets.sheet import Sheet, text_of
 from .sheet_options import with_options
 from .words import PATH, SHEET
 

@@ -5,18 +5,19 @@ from typing import Any
 
 import click
 
-from ..core import asking, client, meanings, snapshot
+from ..record import asking
+from ..core import client, meanings, snapshot
 from ..core.context import Context
 from ..core.failure import FAULT, REFUSED, WRONG_USE, Failure, printable, tell_line
 from ..core.office import Office
-from ..output.table import counted
-from ..records.days import day_of, today
-from ..records.rows import require_owner
-from ..register import making
-from ..sheets import counting, doubtful_days
-from ..sheets.counting import Count, Difference, Outcome
-from ..sheets.options import read_source
-from ..sheets.values import COUNTS
+from ..core.table import counted
+from ..core.days import day_of, today
+from ..model.rows import require_owner
+from ..record import making
+from ..record.sheets import counting, doubtful_days
+from ..record.sheets.counting import Count, Difference, Outcome
+from ..record.sheets.options import read_source
+from ..record.sheets.values import COUNTS
 from .groups import Group
 from .sheet_options import of_one_kind, yes_option
 from .words import DAY, SHEET, WORD, pass_context

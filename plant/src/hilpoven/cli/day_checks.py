@@ -3,7 +3,7 @@ it is."""
 from ..core.context import Context
 from ..core.failure import REFUSED, Failure
 from ..core.grammar import NEXT, Line, faults, written
-from ..records.days import day_of, today
+from ..core.days import day_of, today
 from .words import at_terminal
 
 ADVICE = "--yes takes it"

@@ -6,11 +6,11 @@ from ..core import snapshot
 from ..core.context import Context
 from ..core.failure import Failure
 from ..core.grammar import MOVEMENTS, Line
-from ..records.doubtful_days import read_days
-from ..records.measures import value_of
-from ..records.rows import LotId
-from ..register.standing import HAS_KEY, HAS_RESULT
-from ..years import earlier
+from ..model.doubtful_days import read_days
+from ..model.measures import value_of
+from ..model.rows import LotId
+from ..model.register.standing import HAS_KEY, HAS_RESULT
+from ..model.years import earlier
 
 
 def doubt_of(context: Context, line: Line, values: dict[str, str]) -> str:

@@ -15,11 +15,11 @@ from ..core import client, rights, settings as site
 from ..core.context import Context
 from ..core.failure import WRONG_USE, Failure, tell_line
 from ..core.scratch import held_back
-from ..demo import companions
-from ..demo.site import Listener, Site
-from ..demo.week import HERE, Week, working_days
-from ..papers import guard
-from ..records.days import today
+from ..care.demo import companions
+from ..care.demo.site import Listener, Site
+from ..care.demo.week import HERE, Week, working_days
+from ..report.papers import guard
+from ..core.days import today
 from . import hilpoven
 from .giving import give
 from .words import pass_context

@@ -5,14 +5,14 @@ import click
 
 from ..core.context import Context
 from ..core.failure import tell
-from ..output.table import Value, counted
-from ..records.descriptions import facts_of_test
-from ..records.measures import limits_text
-from ..records.rows import LotId, require_owner
-from ..records.overviews import Overview
-from ..register import describing, making
-from ..register.facts import LotFacts, MaterialFacts, OwnerFacts, RecipeFacts, TestFacts, joined, percent_of
-from ..register.note import Note
+from ..core.table import Value, counted
+from ..model.descriptions import facts_of_test
+from ..model.measures import limits_text
+from ..model.rows import LotId, require_owner
+from ..report.lists.overviews import Overview
+from ..record import describing, making
+from ..model.notes.facts import LotFacts, MaterialFacts, OwnerFacts, RecipeFacts, TestFacts, joined, percent_of
+from ..model.notes.note import Note
 from .groups import Group
 from .noting import record
 from .words import DATE, FILLED_TEXT, NAME, PERCENT, WORD, LotCommand, decimals_option, pass_context

@@ -8,11 +8,12 @@ from ..core import paths, rights, scanned
 from ..core.context import Context
 from ..core.failure import REFUSED, WRONG_USE, Failure, tell
 from ..core.forms import listed
-from ..papers import delivery, drill_paper, printing
-from ..records.rows import LotId
-from ..register import drills, making
-from ..register.drills import Drill
-from ..register.notes import DrillEnd, DrillStart, Withdrawal
+from ..report.papers import delivery, drill_paper, printing
+from ..model.rows import LotId
+from ..model.register import drills
+from ..record import making
+from ..model.register.drills import Drill
+from ..model.notes.notes import DrillEnd, DrillStart, Withdrawal
 from .groups import Group
 from .papers import give, paper
 from .words import TEXT, WORD, pass_context

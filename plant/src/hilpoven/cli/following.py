@@ -13,13 +13,13 @@ from .groups import Group
 from .words import PATH, Operators, pass_context
 
 if TYPE_CHECKING:
-    from ..standby.follower import Follower
-    from ..standby.promoting import Choice
+    from ..care.standby.follower import Follower
+    from ..care.standby.promoting import Choice
 
 
 def folder_of(context: Context) -> str:
     """The folder of this machine that has the office's pieces."""
-    from ..standby import lag
+    from ..care.standby import lag
 
     return lag.folder_of(context.file, context.settings.follow.to)
 
@@ -68,7 +68,8 @@ def follow_group(ctx: click.Context, to: str | None, is_check: bool) -> None:
 
 def check(context: Context) -> None:
     """Fails if the target was promoted; what can't be asked is told alone."""
-    from ..standby import chain, follower, remote, sender, timeline
+    from ..care.standby import chain, follower, remote, sender
+    from ..core import timeline
 
     target, own = context.settings.follow.to, timeline.number_of(context.file)
     if remote.is_remote(target):
@@ -98,10 +99,11 @@ def follow(context: Context) -> None:
 
 def follower_of(context: Context, folder: str) -> "Follower":
     """The follower of the office into a folder."""
-    from ..standby import remote, timeline
-    from ..standby.book import Book
-    from ..standby.follower import Follower
-    from ..standby.sender import Sender
+    from ..care.standby import remote
+    from ..core import timeline
+    from ..care.standby.book import Book
+    from ..care.standby.follower import Follower
+    from ..care.standby.sender import Sender
 
     settings, file, own = context.settings.follow, context.file, timeline.number_of(context.file)
     office = f"{os.uname().nodename}:{file}"
@@ -131,9 +133,9 @@ def follow_status(context: Context, folder: str | None) -> None:
 
     Example: hilpoven follow status
     """
-    from ..records.days import zone_of
-    from ..standby import timeline
-    from ..standby.lag import lag_of
+    from ..core.days import zone_of
+    from ..core import timeline
+    from ..care.standby.lag import lag_of
 
     timeline.require_latest(context.file)
     lag = lag_of(context.file, folder := folder or folder_of(context), zone_of(context.settings.time_zone))
@@ -155,7 +157,7 @@ def follow_verify(context: Context, folder: str | None) -> None:
 
     Example: hilpoven follow verify
     """
-    from ..standby import chain
+    from ..care.standby import chain
 
     wrong = False
     chains = chain.chains_in(folder := folder or folder_of(context))
@@ -190,8 +192,8 @@ def promote(context: Context, folder: str | None, until: int | None, is_check: b
 
     Example: hilpoven promote
     """
-    from ..register import lost
-    from ..standby import promoting
+    from ..care import lost
+    from ..care.standby import promoting
 
     rights.become_owner(context.file)
     folder, office = folder or folder_of(context), context.unseen_office()

@@ -8,13 +8,13 @@ import click
 
 from ..core.context import Context
 from ..core.failure import REFUSED, WRONG_USE, Failure, printable, tell_line
-from ..output.progress import bar
-from ..output.table import counted
-from ..sheets import doubtful_days
-from ..sheets.importing import Import
-from ..sheets.options import read_source
-from ..sheets.noting import decimals_of, notes_beside
-from ..sheets.values import RESULTS
+from ..core.progress import bar
+from ..core.table import counted
+from ..record.sheets import doubtful_days
+from ..record.sheets.importing import Import
+from ..record.sheets.options import read_source
+from ..record.sheets.noting import decimals_of, notes_beside
+from ..record.sheets.values import RESULTS
 from .sheet_options import with_options, yes_option
 from .words import SHEET, pass_context
 

@@ -9,11 +9,11 @@ import click
 from ..core import settings as site
 from ..core.context import Context
 from ..core.failure import REFUSED, WRONG_USE, Failure, printable, tell
-from ..journal import history, query
-from ..journal.history import COLUMNS, JournalEntry
-from ..output.exports import as_csv, as_json
-from ..output.table import print_table
-from ..records.days import format_moment, moment_in
+from ..core.journal import history, query
+from ..core.journal.history import COLUMNS, JournalEntry
+from ..core.exports import as_csv, as_json
+from ..core.table import print_table
+from ..core.days import format_moment, moment_in
 from .groups import Group
 from .words import PATH, pass_context
 

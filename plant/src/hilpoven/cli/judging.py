@@ -5,17 +5,19 @@ from collections.abc import Iterator
 
 import click
 
-from ..core import asking, lock
+from ..record import asking
+from ..core import lock
 from ..core.context import Context
 from ..core.failure import REFUSED, Failure, tell
 from ..core.grammar import LINES
-from ..journal import log
-from ..records.days import day_of, today
-from ..records.rows import Base, Lot, LotId, require_lot, tests_of
-from ..register import making, quality
-from ..register.notes import Held, Judgement, Signed
-from ..register.recorders import recorders
-from ..register.store import Register
+from ..core.journal import log
+from ..core.days import day_of, today
+from ..model.rows import Base, Lot, LotId, require_lot, tests_of
+from ..record import making
+from ..model.register import quality
+from ..model.notes.notes import Held, Judgement, Signed
+from ..record.recorders import recorders
+from ..model.register.store import Register
 from . import roles
 from .words import DAY, FILLED_TEXT, WORD, LotCommand, pass_context
 

@@ -7,9 +7,9 @@ import click
 from ..core import paths
 from ..core.context import Context
 from ..core.failure import WRONG_USE, Failure
-from ..papers import copies, labels as sublot_labels, printing
-from ..records.days import today
-from ..records.rows import LotId
+from ..report.papers import copies, labels as sublot_labels, printing
+from ..core.days import today
+from ..model.rows import LotId
 from .words import NAME, PATH, LotCommand, OneOf, pass_context
 
 

@@ -9,12 +9,12 @@ from typing import Any, NamedTuple
 
 import click
 
-from ..core.asking import Beside
+from ..record.asking import Beside
 from ..core.context import Context
 from ..core.failure import WRONG_USE, Failure
 from ..core.grammar import Line
-from ..register import likeness
-from ..register.kinds import Why
+from ..model.notes import likeness
+from ..model.notes.kinds import Why
 from .words import FILLED_TEXT, NAME, TEXT, WORD, OneOf, decimals_option
 
 WHYS = [why.value for why in Why]
@@ -142,7 +142,8 @@ def has_days(context: Context) -> bool:
     """Whether the plant noted days of lots."""
     if not context.may_have_notes:
         return False
-    from ..register import describing, facts
+    from ..record import describing
+    from ..model.notes import facts
 
     return describing.has_noted(context.journal(), facts.LotFacts)
 

@@ -6,7 +6,8 @@ from typing import TYPE_CHECKING, Any
 
 import click
 
-from ..core import asking, scanned
+from ..record import asking
+from ..core import scanned
 from ..core.context import Context
 from ..core.failure import WRONG_USE, Failure, tell
 from ..core.grammar import MOVEMENTS, NEXT, OWNER_ADD, TO, Line, in_capitals, in_days
@@ -143,7 +144,7 @@ def with_today(context: Context, line: Line, named: dict[str, Any]) -> dict[str,
         return named
     if named.get("day") is not None:
         raise Failure(f"{line.name}: --{TODAY} and --day both say the day", WRONG_USE, "leave one of them out")
-    from ..records.days import day_of, today
+    from ..core.days import day_of, today
 
     day = str(day_of(today(context.settings.time_zone)))
     tell(f"DAY: --{TODAY} is {day}")

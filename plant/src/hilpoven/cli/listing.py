@@ -8,9 +8,9 @@ from ..core import scanned, snapshot
 from ..core.context import Context
 from ..core.failure import WRONG_USE, Failure, tell
 from ..core.forms import listed
-from ..output.table import Row, print_table
-from ..records.schema import Kind
-from ..records.tables import FILTERS, LISTINGS, Listing
+from ..core.table import Row, print_table
+from ..model.schema import Kind
+from ..report.lists.tables import FILTERS, LISTINGS, Listing
 from .groups import Group, lazily
 from .words import DAY, WORD, OneOf, pass_context
 
@@ -81,12 +81,12 @@ def list_command(name: str, listing: Listing) -> click.Command:
         asked = {filter_name: value for filter_name, value in given.items() if value is not None}
         columns, rows, reasons = read(context, name, asked, only_open)
         if expiring is not None:
-            from ..records.days import last_day_within
-            from ..records.noted import expiring_lots
+            from ..core.days import last_day_within
+            from ..report.lists.noted import expiring_lots
 
             rows = expiring_lots(columns, rows, last_day_within(expiring, context.settings.time_zone))
         if form:
-            from ..output.exports import as_csv, as_json
+            from ..core.exports import as_csv, as_json
 
             click.echo({"csv": as_csv, "json": as_json}[form](columns, rows), nl=False)
         elif rows:
@@ -108,12 +108,12 @@ def read(context: Context, name: str, asked: dict[str, Any], only_open: bool) ->
         columns = list(listing.columns)
         rows: list[Row] = [tuple(row) for row in base.execute(listing.sql(asked, only_open), asked)]
         if not rows and (asked or only_open):
-            from ..records import absence
+            from ..report.lists import absence
 
             return Listed(columns, rows, absence.reasons(base, name, asked, only_open))
         if not listing.noted or not context.may_have_notes:
             return Listed(columns, rows, [])
-        from ..records.noted import NOTED
+        from ..report.lists.noted import NOTED
 
         return Listed(*NOTED[listing.noted](columns, rows, context.register(base), base), [])
 

@@ -4,17 +4,18 @@ from typing import NamedTuple
 
 import click
 
-from ..core import asking, snapshot
+from ..record import asking
+from ..core import snapshot
 from ..core.context import Context
 from ..core.failure import REFUSED, WRONG_USE, Failure, tell
 from ..core.grammar import LINES, Line, faults, written
 from ..core.office import pass_on
-from ..records.descriptions import facts_of_test
-from ..records.measures import limits_text, value_of
-from ..records.rows import Base, require_owner
-from ..register.describing import LIMITS, MATERIAL
-from ..register.quality import LIMIT
-from ..register.store import Register
+from ..model.descriptions import facts_of_test
+from ..model.measures import limits_text, value_of
+from ..model.rows import Base, require_owner
+from ..record.describing import LIMITS, MATERIAL
+from ..model.register.quality import LIMIT
+from ..model.register.store import Register
 from . import value_notes
 from .groups import Group
 from .words import WORD, decimals_type, pass_context

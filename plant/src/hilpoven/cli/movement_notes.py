@@ -1,12 +1,12 @@
 """The notes beside a receipt or a shipment: the party that sent or gets it, and the document that goes with it."""
 from typing import Any
 
-from ..core.asking import Beside
+from ..record.asking import Beside
 from ..core.context import Context
-from ..records.rows import LotId
-from ..register import expiry, making
-from ..register.movements import GETS, Task, facts_of, require_party
-from ..register.facts import MovementFacts
+from ..model.rows import LotId
+from ..record import expiry, making
+from ..model.notes.movements import GETS, Task, facts_of, require_party
+from ..model.notes.facts import MovementFacts
 
 Values = dict[str, str]  # of the movement, by their names
 

@@ -1,14 +1,15 @@
 """Lines whose key is the next free one: it is found, told, and another one is taken if somebody else had it first."""
 from contextlib import ExitStack
 
-from ..core import asking, snapshot
-from ..core.asking import Given, MakeBeside
+from ..record import asking
+from ..core import snapshot
+from ..record.asking import Given, MakeBeside
 from ..core.context import Context
 from ..core.failure import REFUSED, Failure, tell
 from ..core.grammar import NEXT, Line, faults, written
 from ..core.office import Office
-from ..records.movement_keys import keys_of_same, next_key
-from ..years import earlier
+from ..model.movement_keys import keys_of_same, next_key
+from ..model.years import earlier
 from . import terminal
 from .words import at_terminal
 

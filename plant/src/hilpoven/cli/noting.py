@@ -4,23 +4,25 @@ import sys
 
 import click
 
-from ..core import asking, scanned
-from ..core.asking import Beside
+from ..record import asking
+from ..core import scanned
+from ..record.asking import Beside
 from ..core.context import Context
 from ..core.failure import REFUSED, WRONG_USE, Failure
 from ..core.forms import BATCH, MOST_VALUE
 from ..core.grammar import LINES
-from ..core.nearest import nearest
-from ..output.exports import as_csv, as_json
-from ..output.table import Row, counted, print_table
-from ..records.measures import as_number
-from ..records.movement_keys import OF_USE
-from ..records.rows import LotId, require_owner
-from ..register import expiry, file, making, usable
-from ..register.movements import facts_of
-from ..register.closings import closings_in
-from ..register.notes import Corrects, Judgement, Link, Note, NotLinked, RowsLost, Settled, Why, Withdrawal
-from ..register.suspects import suspects
+from ..model.nearest import nearest
+from ..core.exports import as_csv, as_json
+from ..core.table import Row, counted, print_table
+from ..model.measures import as_number
+from ..model.movement_keys import OF_USE
+from ..model.rows import LotId, require_owner
+from ..record import expiry, making, usable
+from ..model.register import file
+from ..model.notes.movements import facts_of
+from ..model.register.closings import closings_in
+from ..model.notes.notes import Corrects, Judgement, Link, Note, NotLinked, RowsLost, Settled, Why, Withdrawal
+from ..model.register.suspects import suspects
 from . import day_checks, roles
 from .groups import Group
 from .lines import YES, YES_ABOUT

@@ -5,7 +5,8 @@ from collections.abc import Sequence
 import click
 
 from .. import HOUSE
-from ..core import asking, on_behalf, scanned
+from ..record import asking, on_behalf
+from ..core import scanned
 from ..core.context import Context
 from ..core.failure import WRONG_USE, Failure, tell
 from ..core.grammar import LINES, faults

@@ -5,11 +5,11 @@ import click
 
 from .. import HOUSE
 from ..core import meanings
-from ..core.asking import BLOTTED
+from ..record.asking import BLOTTED
 from ..core.context import Context
 from ..core.failure import WRONG_USE, Failure, tell
 from ..core.forms import name_fault, secret_fault
-from ..core.keys import CHANGE, KEY_LETTERS, Key, change_key, random_key
+from ..care.keys import CHANGE, KEY_LETTERS, Key, change_key, random_key
 from ..core.office import Answer, pass_on
 from .groups import Group
 from .words import pass_context

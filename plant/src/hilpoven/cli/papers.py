@@ -9,14 +9,14 @@ import click
 from ..core import forms
 from ..core.context import Context
 from ..core.failure import WRONG_USE, Failure
-from ..papers import batch_record, certificate as lot_certificate, delivery
-from ..papers import lot_card, months as owners_months, recall_paper, settlement as owners_settlement, shipments
-from ..papers import statement as owners_statement
-from ..papers import takeout as owners_takeout
-from ..papers.copies import Source
-from ..papers.printing import Document
-from ..records.days import today
-from ..records.rows import BatchId, LotId
+from ..report.papers import batch_record, certificate as lot_certificate, delivery
+from ..report.papers import lot_card, months as owners_months, recall_paper, settlement as owners_settlement, shipments
+from ..report.papers import statement as owners_statement
+from ..report.papers import takeout as owners_takeout
+from ..report.papers.copies import Source
+from ..report.papers.printing import Document
+from ..core.days import today
+from ..model.rows import BatchId, LotId
 from .groups import Group
 from .words import DAY, MONTH, PATH, LotCommand, pass_context
 

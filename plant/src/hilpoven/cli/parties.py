@@ -4,11 +4,11 @@ import click
 from ..core.context import Context
 from ..core.failure import WRONG_USE, Failure
 from ..core.forms import listed
-from ..output.table import Row, print_table
-from ..records.rows import require_owner
-from ..register import making
-from ..register.kinds import Emptied
-from ..register.notes import Party, Role
+from ..core.table import Row, print_table
+from ..model.rows import require_owner
+from ..record import making
+from ..model.notes.kinds import Emptied
+from ..model.notes.notes import Party, Role
 from .groups import Group
 from .noting import record
 from .words import FILLED_TEXT, NAME, WORD, OneOf, pass_context
@@ -91,7 +91,7 @@ def list_command(context: Context, owner: str | None, form: str | None) -> None:
             require_owner(desk.base, owner)
         rows = [row_of(party) for _, party in sorted(desk.parties.items()) if owner in (None, party.owner)]
     if form:
-        from ..output.exports import as_csv, as_json
+        from ..core.exports import as_csv, as_json
 
         click.echo({"csv": as_csv, "json": as_json}[form](COLUMNS, rows), nl=False)
     elif rows:

@@ -10,15 +10,15 @@ from ..core.context import Context
 from ..core.failure import REFUSED, WRONG_USE, Failure, printable, tell, tell_line
 from ..core.forms import Form
 from ..core.grammar import MOVEMENTS, NEXT, TO, Line, in_capitals, in_days, written
-from ..core.nearest import nearest
-from ..output.table import formatted
-from ..records.choices import Choice, Place
-from ..records.days import date_of, day_of, today
-from ..records.measures import form_of, limits_text, whole_of
-from ..register import describing
-from ..register.kinds import split_sign
-from ..register.movements import GETS, party_fault
-from ..register.store import Register
+from ..model.nearest import nearest
+from ..core.table import formatted
+from ..record.choices import Choice, Place
+from ..core.days import date_of, day_of, today
+from ..model.measures import form_of, limits_text, whole_of
+from ..record import describing
+from ..model.notes.kinds import split_sign
+from ..model.notes.movements import GETS, party_fault
+from ..model.register.store import Register
 from . import terminal
 from .lines import quoted
 from .value_notes import NO_DAY, decimals_of

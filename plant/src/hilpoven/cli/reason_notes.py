@@ -1,9 +1,9 @@
 """The note beside a command that takes a reason."""
 from .. import HOUSE
-from ..core.asking import Beside
+from ..record.asking import Beside
 from ..core.context import Context
-from ..register import making
-from ..register.notes import Reason
+from ..record import making
+from ..model.notes.notes import Reason
 
 
 def beside(context: Context, name: str, values: dict[str, str], reason: str) -> Beside:

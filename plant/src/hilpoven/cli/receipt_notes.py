@@ -4,13 +4,14 @@ from typing import Any
 import click
 
 from ..core import scanned
-from ..core.asking import Beside
+from ..record.asking import Beside
 from ..core.context import Context
-from ..records.rows import LotId
-from ..register import likeness, making
-from ..register.movements import RETURNS, SENDS, Task
-from ..register.notes import Link, NotLinked, Note, Why
-from ..register.standing import HAS_LOT
+from ..model.rows import LotId
+from ..model.notes import likeness
+from ..record import making
+from ..model.notes.movements import RETURNS, SENDS, Task
+from ..model.notes.notes import Link, NotLinked, Note, Why
+from ..model.register.standing import HAS_LOT
 from .movement_notes import facts_beside
 from .words import OneOf, at_terminal
 

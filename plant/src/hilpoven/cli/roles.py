@@ -6,7 +6,7 @@ from ..core.grammar import LINES
 from ..core.rights import require_role
 
 if TYPE_CHECKING:
-    from ..register.note import Note
+    from ..model.notes.note import Note
 
 COMMANDS = {
     "record": (
@@ -49,7 +49,7 @@ def require_to_withdraw(context: Context, note: "Note") -> None:
 
 def maker_of(note: "Note") -> str:
     """The command that makes such a note; empty where it is of the role of `note withdraw`."""
-    from ..register.notes import Reason
+    from ..model.notes.notes import Reason
 
     if isinstance(note, Reason):
         return note.command if note.command in LINES else "do"

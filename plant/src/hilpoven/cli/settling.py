@@ -7,8 +7,8 @@ import click
 from ..core.context import Context
 from ..core.failure import REFUSED, Failure
 from ..core.office import SUPERSEDED
-from ..papers import months
-from ..records.days import date_of, days_of_month, format_month, today
+from ..report.papers import months
+from ..core.days import date_of, days_of_month, format_month, today
 from .papers import check, give, paper
 from .words import MONTH, pass_context
 
@@ -30,7 +30,7 @@ def settle(context: Context, owner: str, month: int, **where: Any) -> None:
     check(owner=owner)
     require_over(context, month)
     if os.path.lexists(context.file + SUPERSEDED):
-        from ..standby import timeline
+        from ..core import timeline
 
         timeline.require_latest(context.file)
     journal, words = context.journal(), ["settle", owner, f"{month:04}"]

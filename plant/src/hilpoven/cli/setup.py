@@ -9,9 +9,9 @@ import click
 from .. import HOUSE
 from ..core import rights, settings as site
 from ..core.failure import WRONG_USE, Failure, printable, tell_line
-from ..setup.machine import Machine
-from ..setup.plan import Plan
-from ..setup.steps import Setup, take
+from ..care.setup.machine import Machine
+from ..care.setup.plan import Plan
+from ..care.setup.steps import Setup, take
 from .words import PATH
 
 MAY_BE_ROOT = {"sudo", "wheel", "admin"}  # groups whose members may become root by sudo

@@ -4,7 +4,7 @@ from typing import Any
 
 import click
 
-from ..sheets.values import KINDS
+from ..record.sheets.values import KINDS
 from .lines import YES, YES_ABOUT
 
 OPTIONS = [

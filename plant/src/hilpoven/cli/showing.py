@@ -5,7 +5,7 @@ import click
 
 from ..core import snapshot
 from ..core.context import Context
-from ..records import master_data, overviews
+from ..report.lists import master_data, overviews
 from .groups import Group
 from .words import WORD, LotCommand, pass_context
 

@@ -7,8 +7,8 @@ import click
 from ..core import rights
 from ..core.context import Context
 from ..core.failure import printable
-from ..core.health import Health, health_of, metrics, pressing
-from ..output.table import Row, counted, print_table
+from ..care.health import Health, health_of, metrics, pressing
+from ..core.table import Row, counted, print_table
 from .words import pass_context
 
 MOST = 12  # gauges that are shown, where none is above FULL

@@ -9,16 +9,18 @@ from typing import Any
 
 import click
 
-from ..core import backups, paths, rights, settings as site, snapshot
+from ..care import backups
+from ..core import paths, rights, settings as site, snapshot
 from ..core.context import Context
 from ..core.failure import FAULT, REFUSED, WRONG_USE, Failure, printable, tell
 from ..core.office import has_bytes
-from ..journal import query
-from ..journal.log import Journal
-from ..records import accepted, answered
-from ..records.days import moment_in
-from ..register import file as register, lost, reports
-from ..years import chain
+from ..core.journal import query
+from ..core.journal.log import Journal
+from ..record import accepted, answered
+from ..core.days import moment_in
+from ..model.register import file as register
+from ..care import lost, reports
+from ..model.years import chain
 from .words import MOST_TOLD, PATH, Operators, pass_context
 
 
@@ -180,7 +182,7 @@ def restored(context: Context, backup: str | None, is_foreign: bool) -> tuple[st
 
 def restored_at(context: Context, moment: float) -> tuple[str, str]:
     """Puts the office of a moment in place; what it is, and the folder where what was there is now."""
-    from ..standby import promoting
+    from ..care.standby import promoting
     from .following import folder_of
 
     office, folder = context.unseen_office(), folder_of(context)
@@ -246,7 +248,7 @@ class Answered:
 
     def lacking(self, copy: str) -> list[str]:
         """What is told of what a copy of the file and its earlier files lack."""
-        from ..standby import kept, lag
+        from ..care.standby import kept, lag
 
         file, follow = self.context.file, self.context.settings.follow
         backups.settle(copy)

@@ -3,17 +3,17 @@ import sqlite3
 from typing import Any
 
 from ..core import snapshot
-from ..core.asking import Beside
+from ..record.asking import Beside
 from ..core.context import Context
 from ..core.failure import tell
 from ..core.forms import DAY, NAME
 from ..core.grammar import Line
-from ..records.descriptions import facts_of_test
-from ..records.measures import decimals_in, value_word, whole_of
-from ..register import describing, making
-from ..register.facts import ResultFacts, TestFacts
-from ..register.kinds import split_sign
-from ..register.store import Register
+from ..model.descriptions import facts_of_test
+from ..model.measures import decimals_in, value_word, whole_of
+from ..record import describing, making
+from ..model.notes.facts import ResultFacts, TestFacts
+from ..model.notes.kinds import split_sign
+from ..model.register.store import Register
 from .line_notes import Typed
 
 Values = dict[str, str]  # of a line, by their names

@@ -126,7 +126,7 @@ class Date(click.ParamType):
 
     def convert(self, value: Any, param: click.Parameter | None, ctx: click.Context | None) -> int:
         """The day; fails if it is no date."""
-        from ..records.days import date_of, day_in
+        from ..core.days import date_of, day_in
 
         word = str(value)
         if (day := day_in(word)) is not None:
@@ -143,7 +143,7 @@ class Month(click.ParamType):
 
     def convert(self, value: Any, param: click.Parameter | None, ctx: click.Context | None) -> int:
         """Fails unless a word is one."""
-        from ..records.days import is_month
+        from ..core.days import is_month
 
         if isinstance(value, int):
             return value
@@ -209,7 +209,7 @@ class Day(click.ParamType):
 
     def convert(self, value: Any, param: click.Parameter | None, ctx: click.Context | None) -> int:
         """The day; fails if the text is neither a day nor a date that stands for one."""
-        from ..records.days import day_in
+        from ..core.days import day_in
 
         text = str(value)
         if (day := day_in(text)) is not None:
@@ -238,7 +238,7 @@ DATE, MONTH, PERCENT = Date(), Month(), Percent()
 
 def decimals_type() -> click.IntRange:
     """How many decimals the values of a test may have."""
-    from ..records.measures import MOST_DECIMALS
+    from ..model.measures import MOST_DECIMALS
 
     return click.IntRange(1, MOST_DECIMALS)
 

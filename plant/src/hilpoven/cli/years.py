@@ -9,20 +9,20 @@ import click
 from ..core.context import Context
 from ..core.failure import REFUSED, Failure, printable, tell
 from ..core.office import Office
-from ..output.exports import as_csv
-from ..output.table import Row, Value, print_table
-from ..records import statement as statements
-from ..records import overviews
-from ..records.answers import recall_of
-from ..records.days import format_day
-from ..records.genealogy import FORWARD, Genealogy, Trace
-from ..records.recall import RecallLine, recall_lines
-from ..records.rows import Lot, LotId, require_owner
-from ..register.below import MARK
-from ..register.notes import Link
-from ..register.standing import standing_over_all
-from ..years import history
-from ..years.history import History
+from ..core.exports import as_csv
+from ..core.table import Row, Value, print_table
+from ..report import statement as statements
+from ..report.lists import overviews
+from ..model.answers import recall_of
+from ..core.days import format_day
+from ..model.genealogy import FORWARD, Genealogy, Trace
+from ..model.recall import RecallLine, recall_lines
+from ..model.rows import Lot, LotId, require_owner
+from ..model.below import MARK
+from ..model.notes.notes import Link
+from ..model.register.standing import standing_over_all
+from ..model.years import history
+from ..model.years.history import History
 from .groups import Group
 from .words import DAY, LotCommand, pass_context
 

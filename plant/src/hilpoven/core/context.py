@@ -12,9 +12,9 @@ from .settings import Settings
 if TYPE_CHECKING:
     from sqlite3 import Connection
 
-    from ..journal.log import Journal
-    from ..register.stops import Stops
-    from ..register.store import Register
+    from .journal.log import Journal
+    from ..record.stops import Stops
+    from ..model.register.store import Register
     from .server import Place
 
 
@@ -38,7 +38,7 @@ class Context:
         """The office, whose file is there, to be worked on with its owner's rights; fails if it is superseded."""
         rights.become_owner(self.file)
         if os.path.lexists(self.file + SUPERSEDED):
-            from ..standby import timeline
+            from . import timeline
 
             timeline.require_latest(self.file)
         return self.office_to_read()
@@ -59,7 +59,7 @@ class Context:
 
     def journal(self) -> "Journal":
         """The office's journal."""
-        from ..journal import log as journals
+        from .journal import log as journals
 
         return journals.Journal(
             journals.adopted(site.journal_of(self.settings, self.file), self.file), self.file, self.unnoted
@@ -72,26 +72,26 @@ class Context:
 
     def register(self, base: "Connection") -> "Register":
         """What the plant noted that stands, of an office of whose file these are the tables."""
-        from ..register import file
-        from ..register.store import Register
+        from ..model.register import file
+        from ..model.register.store import Register
 
         journal, plants_test = self.journal(), self.settings.quality.test
         if not file.has_notes(journal):
             return Register(plants_test=plants_test)
-        from ..register.standing import standing
+        from ..model.register.standing import standing
 
         return replace(standing(journal, base), plants_test=plants_test)
 
     @functools.cached_property
     def stops(self) -> "Stops":
         """What of the plant's lots is refused before `toll` is asked."""
-        from ..register.stops import Stops
+        from ..record.stops import Stops
 
         return Stops(self)
 
     def office_to_export(self, *words: str, is_seldom: bool = True) -> Office:
         """The office, of which data is about to be handed out, which is noted. What a timer does every minute isn't."""
-        from ..journal import log as journals
+        from .journal import log as journals
 
         office = self.office_to_read()
         if is_seldom or journals.has_login():

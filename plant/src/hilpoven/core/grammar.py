@@ -155,7 +155,7 @@ def date_as_day(word: str) -> int | None:
     """The day that stands for a date; `None` where a word is none."""
     if word.isdecimal():
         return None
-    from ..records.days import day_in
+    from .days import day_in
 
     return day_in(word)
 

@@ -45,7 +45,7 @@ def prefix_fault(prefix: str) -> str:
 
 def zone_fault(name: str) -> str:
     """What is wrong with the name of a time zone."""
-    from ..records.days import zone_of
+    from .days import zone_of
 
     try:
         zone_of(name)

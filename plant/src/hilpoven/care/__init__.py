@@ -1,0 +1,1 @@
+"""What keeps an office safe: backups, another machine, years, and what is wrong."""

@@ -1,0 +1,136 @@
+"""The chain that a follower writes: what its next piece follows, and what it has of the journal and earlier files."""
+import os
+import shutil
+from contextlib import AbstractContextManager
+from dataclasses import dataclass, field
+from datetime import datetime, timezone
+
+from ...core import names, scratch, snapshot
+from ...core.failure import Failure
+from . import chain, lines, piece
+from .capture import Digests, Place
+from .chain import Chain
+from .lines import Taken
+from .piece import NOTHING, SNAPSHOT, Header, Writer
+
+DAY = len("2026-11-29")
+
+
+def now() -> str:
+    """The time in UTC."""
+    return datetime.now(timezone.utc).isoformat(timespec="milliseconds").replace("+00:00", "Z")
+
+
+@dataclass
+class Book:
+    """The chain of pieces of an office, which a follower writes into a folder of this machine."""
+
+    folder: str
+    file: str  # the office's
+    journal: str
+    office: str  # the file with its machine
+    timeline: int
+    reserve: int = 0  # bytes that stay free on the folder's disk
+    chain: str = field(default_factory=lambda: os.urandom(6).hex())
+    last: Header | None = None
+    before: str = NOTHING  # the SHA-256 of the header that the next piece follows
+    snapshot: Header | None = None  # the newest
+    taken: Taken = Taken()
+    named: dict[str, str] = field(default_factory=dict)  # the earlier files that the chain names last
+    earlier: dict[str, str] = field(default_factory=dict)  # those that there are
+
+    def go_on(self, of: Chain) -> None:
+        """Goes on behind the last piece of a chain."""
+        self.chain, self.snapshot = of.name, chain.opened(of.snapshots[max(of.snapshots)]).header
+        last = chain.opened(of.newest).header
+        self.note(last, last.before if last.is_snapshot and last.number else last.hash)
+        self.named = self.earlier = chain.last_earlier(of)
+
+    def note(self, header: Header, hash: str) -> None:
+        """Has the next piece follow this one."""
+        self.last, self.before = header, hash
+        self.taken = Taken(header.journal_from + header.journal, header.journal_hash)
+
+    @property
+    def number(self) -> int:
+        """The number of the last piece."""
+        return self.last.number if self.last else 0
+
+    @property
+    def is_snapshot_due(self) -> bool:
+        """Whether a day has begun since the newest snapshot, and something was written."""
+        newest = self.snapshot
+        return newest is None or newest.at[:DAY] != now()[:DAY] and newest.number != self.number
+
+    @property
+    def needs_earlier(self) -> bool:
+        """Whether there are other earlier files than the chain names."""
+        return self.earlier != self.named
+
+    def new_lines(self) -> lines.Lines:
+        """What the journal has behind what was taken."""
+        return lines.behind(self.journal, self.taken)
+
+    def writer(self, kind: str, size: int) -> "AbstractContextManager[Writer]":
+        """A piece of about so many bytes; fails if it would leave less room on the disk than is kept free."""
+        free = shutil.disk_usage(self.folder).free
+        if free - size < self.reserve:
+            kept, free = self.reserve // 1_000_000, free // 1_000_000
+            raise Failure(f"the disk of {self.folder} has {free:,} MB free, and {kept:,} are kept for the office")
+        return piece.writer(self.folder, kind)
+
+    def finish(self, new_piece: Writer, place: Place, page_size: int, size: int) -> Header:
+        """Adds the journal's new lines, all of them to a snapshot, and the header, and gives a piece its name."""
+        kind = new_piece.kind
+        new = lines.behind(self.journal, Taken() if kind == SNAPSHOT else self.taken)
+        new.copy(new_piece.lines)
+        if kind == SNAPSHOT or self.needs_earlier:
+            new_piece.name_earlier(self.earlier)
+        header = Header(
+            kind=kind,
+            office=self.office,
+            timeline=self.timeline,
+            chain=self.chain,
+            number=self.number + (kind != SNAPSHOT),
+            before=self.before,
+            at=now(),
+            page_size=page_size,
+            pages=new_piece.pages,
+            size=size,
+            journal_from=new.start,
+            journal=new_piece.journal,
+            journal_hash=new.taken.hash,
+            earlier=new_piece.earlier,
+            sha256=new_piece.digest.hexdigest(),
+            log=piece.as_values(place.log),
+            file=list(place.file),
+        )
+        new_piece.finish(header)
+        self.named = dict(self.earlier)
+        if kind == SNAPSHOT:
+            self.snapshot = header
+        if kind != SNAPSHOT or self.last is None:
+            self.note(header, header.hash)
+        return header
+
+    def digests(self) -> Digests:
+        """The digests of all pages behind the last piece, which are read from the folder."""
+        of = next((candidate for candidate in chain.chains_in(self.folder) if candidate.name == self.chain), None)
+        if of is None or not of.snapshots:
+            return Digests()
+        return chain.digests(chain.pieces_of(of, max(of.snapshots), of.last))
+
+    def collect_earlier(self) -> None:
+        """Copies the office's earlier files into the folder, each once, by its SHA-256."""
+        digests = dict[str, str]()
+        for path in names.earlier_files(self.file):
+            digest = snapshot.hash_of(path)
+            target = chain.earlier_path(self.folder, digest)
+            if not os.path.exists(target):
+                with scratch.folder(self.folder) as room:
+                    copy = os.path.join(room, "copy")
+                    snapshot.copy_file(path, copy)
+                    scratch.sync(copy)
+                    os.rename(copy, target)
+            digests[os.path.basename(path)] = digest
+        self.earlier = digests

@@ -1,0 +1,83 @@
+"""What the pieces of a standby on this machine have had of an office, and its files have no longer."""
+import os
+from collections.abc import Iterator, Sequence
+from dataclasses import dataclass
+from datetime import datetime
+
+from ...core import scratch
+from ...model.schema import Disposition
+from ...model.years.chain import address_of, reading
+from ..years.exchanging import APPENDED
+from . import chain, piece
+from ...core import timeline
+from .chain import Chain, Report
+
+# The rows that never go, and what they never lose, by what they are called.
+LASTING = {
+    **{table: f"SELECT {columns} FROM {{0}}.{table}" for table, columns in APPENDED.items() if table != "owners"},
+    "owners": "SELECT owner FROM {0}.owners",
+    "cancelled orders": "SELECT owner, ord FROM {0}.orders WHERE cancelled = 1",
+    "rejected lots": f"SELECT owner, lot FROM {{0}}.lots WHERE disposition = {Disposition.REJECTED:d}",
+}
+
+
+@dataclass(frozen=True)
+class Kept:
+    """The pieces of an office's file in a folder, of its timeline; since when they count, as another file may have been
+    in its place before; and until when, as more comes while this is looked at."""
+
+    folder: str
+    file: str
+    since: datetime | None
+    until: datetime
+
+    def lacking(self, files: Sequence[str]) -> list[str]:
+        """The rows that pieces have had and none of these files has, in words."""
+        lost: dict[str, None] = {}
+        if not os.path.isdir(self.folder):
+            return []
+        for of in self.chains():
+            with scratch.folder(os.path.dirname(self.file)) as room:
+                for state in self.states(of, os.path.join(room, "state.db")):
+                    lost.update(dict.fromkeys(missing_rows(state, files)))
+        return list(lost)
+
+    def chains(self) -> list[Chain]:
+        """The chains of this office's timeline that have a snapshot."""
+        number, office = timeline.number_of(self.file), f"{os.uname().nodename}:{self.file}"
+        own = [of for of in chain.chains_in(self.folder) if of.timeline == number and of.snapshots]
+        return [of for of in own if chain.office_of(of) == office]
+
+    def states(self, of: Chain, path: str) -> Iterator[str]:
+        """The file that pieces give, made at a path: the last one, and each before a piece for which all of the file
+        was looked at, as the log alone didn't tell what had come. Between those rows come and none goes."""
+        start, end = Report(of, self.folder, is_deep=False).look().route
+        last = None
+        for one in chain.pieces_of(of, start, end):
+            if datetime.fromisoformat(one.header.at) > self.until:
+                break
+            if one.header.kind == piece.FILE and last and self.counts(last.at):
+                yield path
+            with open(path, "r+b" if last else "xb") as base:
+                for number, page in one.pages():
+                    os.pwrite(base.fileno(), page, (number - 1) * len(page))
+                os.ftruncate(base.fileno(), one.header.size * one.header.page_size)
+            last = one.header
+        if last and self.counts(last.at):
+            yield path
+
+    def counts(self, at: str) -> bool:
+        """Whether a state is of the file that is in place now."""
+        return self.since is None or datetime.fromisoformat(at) > self.since
+
+
+def missing_rows(state: str, files: Sequence[str]) -> Iterator[str]:
+    """The rows of a state of an office that none of its files has."""
+    with reading(state) as base:
+        names = [f"file_{number}" for number in range(len(files))]
+        for name, file in zip(names, files):
+            base.execute(f"ATTACH ? AS {name}", (address_of(file),))
+        for kind, sql in LASTING.items():
+            others = " EXCEPT ".join(sql.format(name) for name in names)
+            for row in base.execute(f"{sql.format('main')} EXCEPT {others}"):
+                yield f"{kind}: {' '.join(map(str, row))}"

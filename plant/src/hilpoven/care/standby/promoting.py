@@ -1,0 +1,197 @@
+"""An office that is made of pieces: of the last ones on another machine, or of those up to a moment on its own."""
+import os
+from dataclasses import dataclass, field
+
+from .. import backups, keys
+from ...core import lock, paths, scratch, snapshot
+from ...core.failure import FAULT, REFUSED, Failure
+from ...core.names import number_of
+from ...core.office import Answer, Office
+from ...core.server import Place
+from ...core.journal import query
+from ...core.journal.log import MADE_AT, Journal
+from . import chain, journals
+from ...core import timeline
+from .chain import Built, Chain, Report
+from .piece import Header
+
+
+@dataclass(frozen=True)
+class Choice:
+    """Which pieces an office is made of: a snapshot, and those behind it up to the last."""
+
+    chain: Chain
+    start: int
+    end: int
+    newest: tuple[int, int]  # the same of the newest office that pieces of the chain give
+    notes: tuple[str, ...] = ()  # what is wrong with others
+
+
+@dataclass(frozen=True)
+class Made:
+    """What was put in place: the last piece, its timeline, the folder where what was there is now, and what is told of
+    the journal and of keys."""
+
+    last: Header
+    timeline: int
+    aside: str
+    notes: list[str] = field(default_factory=list)
+
+
+def latest(folder: str, until: int | None = None) -> Choice:
+    """All pieces of a folder's newest chain, which are looked at, or those up to a number; fails if one of them can't
+    be used."""
+    of = chain.newest_in(folder)
+    report = Report(of, folder).look()
+    start, end = report.route if until is None else report.route_to(until)
+    if until is None and end != of.last:
+        lost = of.last - end
+        raise Failure(
+            f"{lost:,} of {of.last:,} pieces can't be used: {'; '.join(report.wrong[:5])}",
+            REFUSED,
+            f"get them anew, or `promote --until {end}` makes the office of {chain.at_of(of, end)} without them",
+        )
+    return Choice(of, start, end, report.route, tuple(report.wrong))
+
+
+def at_moment(folder: str, moment: float, last_timeline: int) -> Choice:
+    """The pieces up to a moment, in seconds since 1970, of the newest chain that begins before it."""
+    chains = [
+        candidate
+        for candidate in chain.chains_in(folder)
+        if candidate.timeline <= last_timeline and candidate.snapshots
+    ]
+    for of in reversed(chains):
+        first = chain.opened(of.snapshots[of.first_snapshot]).header
+        if chain.seconds_of(first.at) <= moment:
+            end = chain.last_before(of, moment)
+            report = Report(of, folder).look()
+            start, end = report.route_to(end)
+            return Choice(of, start, end, report.route, tuple(report.wrong))
+    raise Failure(f"no snapshot in {folder} is as old as that", REFUSED, oldest(chains))
+
+
+def oldest(chains: list[Chain]) -> str:
+    """From when on offices can be made."""
+    times = [chain.at_of(candidate, candidate.first_snapshot) for candidate in chains]
+    return f"the oldest is of {min(times)}" if times else ""
+
+
+def promote(office: Office, folder: str, place: Place, journal: Journal, until: int | None) -> tuple[Made, Choice]:
+    """Makes the office of a folder's pieces and begins the next timeline. What was in the file's place is moved aside.
+    The journal stays or becomes longer, whatever pieces are used."""
+    folder = paths.private(folder)
+    backups.stop_on_server(office.file, place)
+    choice = latest(folder, until)
+    with scratch.folder(os.path.dirname(office.file)) as room:
+        built = made_of(choice, office, room)
+        lines = newest_lines(choice, built, room)
+        bring_earlier(built, folder, office.file)
+        with lock.held(office.file, office.wait):
+            backups.stop_on_server(office.file, place)
+            promoted = put(office, folder, journal, choice, built, lines, until)
+    require_opening(office, promoted.aside)
+    return promoted, choice
+
+
+def put(
+    office: Office, folder: str, journal: Journal, choice: Choice, built: Built, lines: str, until: int | None
+) -> Made:
+    """Puts the office and the lines of the journal that pieces gave in place, under the lock. The folder is marked
+    before the file has its name, so that no two offices go on."""
+    beside = journals.compared(journal.path, lines, built.journal)
+    number = 1 + max(choice.chain.timeline, timeline.number_of(office.file), timeline.latest(os.listdir(folder)))
+    present = office.file if beside.is_newer else ""
+    kept = keys.keep(built.file, present, beside.longer, beside.point, beside.changed_keys)
+    origin = {
+        "chain": choice.chain.name,
+        "piece": choice.end,
+        "at": built.last.at,
+        "sha256": snapshot.hash_of(built.file),
+    }
+    notes = [*beside.lines, *kept.lines]
+    aside = journals.go_on(journal, beside)
+    words = ["promote", *(["--until", str(until)] if until is not None else []), built.last.name]
+    members = {"sha256": origin["sha256"], "timeline": number, MADE_AT: built.last.at}
+    with journal.noted(office.file, words, **members) as note:
+        timeline.mark(folder, number, origin)
+        timeline.begin(office.file, number, origin)
+        backups.put_in_place(built.file, office.file)
+        note.answer = Answer(0, "; ".join([f"timeline {number}", *notes]) + "\n", "")
+    return Made(built.last, number, aside, notes)
+
+
+def newest_lines(choice: Choice, built: Built, room: str) -> str:
+    """The journal of the newest office that pieces of a chain give, if it goes on with that of the chosen ones; else
+    theirs."""
+    if choice.newest[1] == choice.end:
+        return built.journal
+    path = os.path.join(room, "newest.journal")
+    chain.build_journal(chain.pieces_of(choice.chain, *choice.newest), path)
+    return path if query.common(built.journal, path) == os.path.getsize(built.journal) else built.journal
+
+
+def tried(office: Office, folder: str, until: int | None) -> tuple[Header, Choice]:
+    """Makes the office of a folder's pieces and looks at it, and leaves nothing of it."""
+    choice = latest(paths.private(folder), until)
+    with scratch.folder(os.path.dirname(office.file)) as room:
+        return made_of(choice, office, room).last, choice
+
+
+def restore_at(office: Office, folder: str, place: Place, journal: Journal, moment: float) -> Made:
+    """Puts the office of a moment in the file's place, as a restore puts a backup there. The journal stays."""
+    folder = paths.private(folder)
+    backups.stop_on_server(office.file, place)
+    number = timeline.number_of(office.file)
+    choice = at_moment(folder, moment, number)
+    with scratch.folder(os.path.dirname(office.file)) as room:
+        built = made_of(choice, office, room)
+        if not os.path.lexists(journal.path):
+            snapshot.copy_file(newest_lines(choice, built, room), lines := os.path.join(room, "lines.journal"))
+            backups.put_in_place(lines, journal.path)
+        words, digest = ["restore", "--at", built.last.at, built.last.name], snapshot.hash_of(built.file)
+        aside = backups.replace(office, built.file, place, journal, words, digest, built.journal)
+    return Made(built.last, number, aside)
+
+
+def made_of(choice: Choice, office: Office, room: str) -> Built:
+    """The office that pieces give, looked at as a backup is."""
+    built = chain.build(chain.pieces_of(choice.chain, choice.start, choice.end), room)
+    backups.settle(built.file)
+    backups.require_sound(office, built.file)
+    backups.require_sums(built.file)
+    return built
+
+
+def bring_earlier(built: Built, folder: str, file: str) -> None:
+    """Puts the earlier files that pieces name beside the office's file, where they aren't yet. What is looked at is a
+    copy, which nobody changes meanwhile."""
+    for name, digest in built.earlier.items():
+        source, target = chain.earlier_path(folder, digest), os.path.join(os.path.dirname(file), name)
+        copy = os.path.join(os.path.dirname(built.file), "earlier.db")
+        if not number_of(file, name) or not copied(source, copy) or snapshot.hash_of(copy) != digest:
+            raise Failure(f"{source} isn't the earlier file {name}", REFUSED)
+        if not os.path.lexists(target):
+            os.chmod(copy, 0o400)
+            backups.put_in_place(copy, target)
+        elif snapshot.hash_of(target) != digest:
+            raise Failure(f"{target} is another file than the pieces name", REFUSED, "move it elsewhere")
+
+
+def copied(source: str, target: str) -> bool:
+    """Whether a file that is no link could be copied."""
+    try:
+        if os.path.isfile(source):
+            snapshot.copy_file(source, target)
+            return True
+    except OSError:
+        pass
+    return False
+
+
+def require_opening(office: Office, aside: str) -> None:
+    """Fails if `toll` doesn't open what was put in place."""
+    answer = office.ask_patiently(["stock", "HOUSE"])
+    if answer.status:
+        advice = f"what was there is in {aside}" if aside else ""
+        raise Failure(f"toll doesn't open what was put in place: {answer.error.strip()}", FAULT, advice)

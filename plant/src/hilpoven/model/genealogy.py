@@ -1,0 +1,190 @@
+"""Which lots went into which, by recorded actuals and by the plant's links, and in how few steps."""
+from collections import defaultdict
+from collections.abc import Callable, Iterable
+from dataclasses import dataclass
+from functools import cached_property
+from itertools import groupby
+from operator import itemgetter
+
+from .. import HOUSE
+from .notes.notes import Link
+from .rows import Base, BatchId, LotId, owners_of
+from .schema import IS_ACTUAL, STANDING, Kind
+
+# DISTINCT, and what differs most first: grouping by segments takes twice the time.
+ACTUALS = f"""
+SELECT DISTINCT m.number, m.ord, m.lot, m.kind, m.segment, m.lot_owner
+FROM moves AS m WHERE m.owner = ? AND {IS_ACTUAL} AND {STANDING}
+"""
+FORWARD, BACK = "forward", "back"
+
+Segments = dict[LotId, int]
+
+
+@dataclass(frozen=True)
+class Trace:
+    """The lots that end a chain of recorded edges and links from a lot, and those that end one of recorded edges alone,
+    each with the fewest steps, by steps and by name."""
+
+    steps: dict[LotId, int]
+    recorded: dict[LotId, int]
+
+    @property
+    def noted(self) -> dict[LotId, int]:
+        """The lots that links add, or to which they shorten the way."""
+        return {lot: steps for lot, steps in self.steps.items() if self.is_noted(lot)}
+
+    def is_noted(self, lot: LotId) -> bool:
+        """Whether links add this lot of the trace, or shorten the way to it."""
+        return self.recorded.get(lot) != self.steps[lot]
+
+
+class Genealogy:
+    """What batches consumed and produced, by their standing actuals, and what lots contain, by links between lots that
+    are there. An owner's batches are read when a trace reaches it.
+
+    A lot went into another if a batch consumed it in a segment that isn't after the last one that produced the other,
+    or if a link says so of the other, or of a batch that produced it.
+    """
+
+    def __init__(self, base: Base, links: Iterable[Link] = ()) -> None:
+        self.base = base
+        self.consumed: dict[BatchId, Segments] = defaultdict(dict)  # with the first segment
+        self.produced: dict[BatchId, Segments] = defaultdict(dict)  # with the last segment
+        self.links = [link for link in links if self.is_drawn(link)]
+        self._consumers: dict[LotId, list[BatchId]] = defaultdict(list)
+        self._producers: dict[LotId, list[BatchId]] = defaultdict(list)
+        self._links_of: dict[LotId, list[Link]] = defaultdict(list)
+        self._links_in: dict[LotId | BatchId, list[Link]] = defaultdict(list)
+        self._read: set[str] = set()
+        self._owners_of_batches = {link.owner for link in self.links if not link.lot}
+        for link in self.links:
+            self._links_of[link.contained].append(link)
+            self._links_in[link.container].append(link)
+
+    def is_drawn(self, link: Link) -> bool:
+        """Whether a link leads to an owner from its own lots or from HOUSE's, and the tables have its lots: a restored
+        backup may be older than a note."""
+        lots = [link.contained, *([link.container] if isinstance(link.container, LotId) else [])]
+        sql = "SELECT 1 FROM lots WHERE owner = ? AND lot = ?"
+        is_there = all(self.base.execute(sql, lot).fetchone() for lot in lots)
+        return is_there and link.of_owner in (link.owner, HOUSE)
+
+    @cached_property
+    def everybody(self) -> list[str]:
+        """HOUSE and the owners."""
+        return [HOUSE, *owners_of(self.base)]
+
+    def read_batches(self, owner: str) -> None:
+        """Reads what an owner's batches consumed and produced, once."""
+        if owner in self._read:
+            return
+        self._read.add(owner)
+        rows = self.base.execute(ACTUALS, (owner,))
+        for (number, order), of_batch in groupby(rows, itemgetter(0, 1)):
+            batch = BatchId(owner, order, number)
+            uses = {
+                Kind.CONSUMED: (self.consumed[batch], self._consumers, min),
+                Kind.PRODUCED: (self.produced[batch], self._producers, max),
+            }
+            for _, _, name, kind, segment, lot_owner in of_batch:
+                lot, (segments, batches, chosen) = LotId(lot_owner, name), uses[kind]
+                if lot in segments:
+                    segments[lot] = chosen(segments[lot], segment)
+                else:
+                    segments[lot] = segment
+                    batches[lot].append(batch)
+
+    def consumers(self, lot: LotId) -> list[BatchId]:
+        """The batches that consumed a lot: its owner's, and of a lot of HOUSE those of all owners."""
+        for owner in self.everybody if lot.owner == HOUSE else [lot.owner]:
+            self.read_batches(owner)
+        return self._consumers.get(lot, [])
+
+    def producers(self, lot: LotId) -> list[BatchId]:
+        """The batches that produced a lot, which are its owner's."""
+        self.read_batches(lot.owner)
+        return self._producers.get(lot, [])
+
+    def products(self, batch: BatchId, lot: LotId) -> list[LotId]:
+        """The lots that a lot went into by one batch, by recorded actuals."""
+        first = self.consumed[batch][lot]
+        return [product for product, last in self.produced.get(batch, {}).items() if last >= first]
+
+    def sources(self, batch: BatchId, lot: LotId) -> list[LotId]:
+        """The lots that a lot was made of by one batch, by recorded actuals."""
+        last = self.produced[batch][lot]
+        return [source for source, first in self.consumed.get(batch, {}).items() if first <= last]
+
+    def lots_of(self, container: LotId | BatchId) -> list[LotId]:
+        """The lots that the container of a link is or stands for."""
+        if isinstance(container, LotId):
+            return [container]
+        self.read_batches(container.owner)
+        return list(self.produced.get(container, {}))
+
+    def links_of(self, lot: LotId) -> list[Link]:
+        """The links that say what contains a lot."""
+        return self._links_of.get(lot, [])
+
+    def links_in(self, lot: LotId) -> list[Link]:
+        """The links that say what a lot contains: its own, and those of the batches that produced it."""
+        batches = self.producers(lot) if lot.owner in self._owners_of_batches else []
+        containers: list[LotId | BatchId] = [lot, *batches]
+        return [link for container in containers for link in self._links_in.get(container, [])]
+
+    def links_about(self, lot: LotId) -> list[Link]:
+        """The links that say what a lot contains, or what contains it, in the order in which they were noted."""
+        of_lot = {*self.links_in(lot), *self.links_of(lot)}
+        return [link for link in self.links if link in of_lot]
+
+    def links_in_batch(self, batch: BatchId) -> list[Link]:
+        """The links that say what a batch contains: its own, and those of the lots that it produced."""
+        if not self.links:
+            return []
+        containers = {batch, *self.lots_of(batch)}
+        return [link for link in self.links if link.container in containers]
+
+    def recorded_onward(self, lot: LotId) -> set[LotId]:
+        """The lots that a lot went into in one step, by recorded actuals."""
+        return {product for batch in self.consumers(lot) for product in self.products(batch, lot)}
+
+    def recorded_backward(self, lot: LotId) -> set[LotId]:
+        """The lots that a lot was made of in one step, by recorded actuals."""
+        return {source for batch in self.producers(lot) for source in self.sources(batch, lot)}
+
+    def linked_onward(self, lot: LotId) -> set[LotId]:
+        """The lots that contain a lot by a link."""
+        return {container for link in self.links_of(lot) for container in self.lots_of(link.container)}
+
+    def linked_backward(self, lot: LotId) -> set[LotId]:
+        """The lots that a lot contains by a link."""
+        return {link.contained for link in self.links_in(lot)}
+
+    def onward(self, lot: LotId) -> list[LotId]:
+        """The lots that a lot went into in one step, by recorded actuals and links."""
+        return sorted(self.recorded_onward(lot) | self.linked_onward(lot))
+
+    def backward(self, lot: LotId) -> list[LotId]:
+        """The lots that a lot was made of in one step, by recorded actuals and links."""
+        return sorted(self.recorded_backward(lot) | self.linked_backward(lot))
+
+    def trace(self, start: LotId, way: str) -> Trace:
+        """The lots that a lot went into (`forward`) or was made of (`back`)."""
+        all_edges, recorded = {
+            FORWARD: (self.onward, self.recorded_onward),
+            BACK: (self.backward, self.recorded_backward),
+        }[way]
+        by_actuals = fewest_steps(start, recorded)
+        return Trace(fewest_steps(start, all_edges) if self.links else by_actuals, by_actuals)
+
+
+def fewest_steps(start: LotId, neighbours: Callable[[LotId], Iterable[LotId]]) -> dict[LotId, int]:
+    """The lots that end a chain from a lot, each with the fewest steps, by steps and by name."""
+    steps, queue = {start: 0}, [start]
+    for lot in queue:
+        for neighbour in neighbours(lot):
+            if neighbour not in steps:
+                steps[neighbour] = steps[lot] + 1
+                queue.append(neighbour)
+    return dict(sorted(steps.items(), key=lambda entry: (entry[1], entry[0])))

@@ -1,0 +1,1 @@
+"""What notes say, and how they are written."""

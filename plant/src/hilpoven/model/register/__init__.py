@@ -1,0 +1,1 @@
+"""The notes of an office, and what they are about."""

@@ -1,1 +1,0 @@
-"""How tables and progress are printed."""

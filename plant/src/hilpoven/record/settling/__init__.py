@@ -1,0 +1,1 @@
+"""What a month's settlement has, and closing it."""

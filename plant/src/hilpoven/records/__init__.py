@@ -1,1 +1,0 @@
-"""What the office's tables hold, read from copies."""

@@ -1,0 +1,124 @@
+"""Makes the companions of an office, of one copy of its file; an office without change costs a look at three files."""
+import contextlib
+import gc
+import os
+import time
+from collections.abc import Callable, Iterator
+from dataclasses import dataclass
+from typing import TYPE_CHECKING, Any
+
+from ... import VERSION
+from ...core import snapshot
+from .folder import MARK, READABLE, Folder, name_of, opened
+
+if TYPE_CHECKING:
+    from ...core.context import Context
+    from ...core.office import Office
+
+UNSETTLED = -1, -1, -1  # of a file that changes just now: another change may not show in its stamp
+FRONT = '{{"made":"{}",'  # of each companion: since when it says what it says
+FRONT_BYTES = len(FRONT.format("2026-11-28T18:04:00Z"))
+
+
+@dataclass(frozen=True)
+class Counts:
+    """How many companions a run wrote, left as they were, and removed."""
+
+    written: int = 0
+    unchanged: int = 0
+    removed: int = 0
+
+
+def sources(context: "Context") -> dict[str, Any]:
+    """What companions are made of: the stamps of the file, of its log and of the journal, which has the plant's notes,
+    and what the settings and this version of the command add."""
+    file, settings = context.file, context.settings
+    stamps = [snapshot.stamp_of(path) for path in (file, f"{file}-wal", context.journal().path)]
+    by = [VERSION, *settings.plant[:3], settings.quality.test]
+    return {"stamps": [list(stamp if snapshot.is_settled(stamp) else UNSETTLED) for stamp in stamps], "by": by}
+
+
+def settled_sources(context: "Context") -> dict[str, Any]:
+    """The same once more, where a file was changed just now."""
+    if list(UNSETTLED) in (of := sources(context))["stamps"]:
+        time.sleep(snapshot.SETTLED / 1e9)
+        return sources(context)
+    return of
+
+
+@dataclass(frozen=True)
+class Age:
+    """The seconds since the companions of an office were those of now, and whether its file changed since."""
+
+    seconds: float
+    is_old: bool
+
+
+def age_of(context: "Context", path: str) -> Age | None:
+    """How old the companions in a folder are; `None` where there are none, or none that can be seen."""
+    if not os.path.isfile(os.path.join(path, MARK)):
+        return None
+    with opened(path) as folder:
+        return Age(max(0.0, time.time() - folder.looked_after()), not is_current(folder, sources(context)))
+
+
+def is_current(folder: Folder, made_of: dict[str, Any]) -> bool:
+    """Whether the companions of a folder are those of now: all are there, and what they are made of is unchanged."""
+    mark = folder.mark()
+    is_same = {name: mark.get(name) for name in made_of} == made_of and list(UNSETTLED) not in made_of["stamps"]
+    return is_same and mark.get("owners") == sorted(folder.owners())
+
+
+def refresh(context: "Context", folder: Folder, office: Callable[[], "Office"]) -> Counts:
+    """Makes the companions of a folder anew where something changed since; `office` is asked for then alone."""
+    if is_current(folder, sources(context)):
+        folder.touch()
+        return Counts(unchanged=len(folder.owners()))
+    of = office()
+    made_of = settled_sources(context)  # before the copy, so that a later change shows
+    with uncollected():
+        counts = write(context, folder, of)
+    folder.put_mark({**made_of, "owners": sorted(folder.owners())})
+    return counts
+
+
+@contextlib.contextmanager
+def uncollected() -> Iterator[None]:
+    """Has Python not look for cycles meanwhile, of which companions have none: that takes a sixth of the time."""
+    was_enabled = gc.isenabled()
+    gc.disable()
+    try:
+        yield
+    finally:
+        if was_enabled:
+            gc.enable()
+
+
+def write(context: "Context", folder: Folder, office: "Office") -> Counts:
+    """Writes the companions of all owners, and removes those of owners that aren't there. One that says the same is
+    left as it is: otherwise its owner would see when others work."""
+    from ..papers import copies
+    from .contents import contents_of
+    from .subject import subjects
+
+    written, owners = 0, set()
+    made_at = time.strftime("%Y-%m-%dT%H:%M:%SZ", time.gmtime())
+    with copies.tables(office) as base:
+        for subject in subjects(base, context.register(base)):
+            content = encoded(contents_of(subject, context.settings.plant), made_at)
+            owners.add(subject.owner)
+            if folder.read(name_of(subject.owner))[FRONT_BYTES:] != content[FRONT_BYTES:]:
+                folder.give(name_of(subject.owner), content, READABLE)
+                written += 1
+    gone = folder.owners() - owners
+    for owner in gone:
+        folder.remove(owner)
+    return Counts(written, len(owners) - written, len(gone))
+
+
+def encoded(contents: dict[str, Any], made_at: str) -> bytes:
+    """A companion's bytes."""
+    import json
+
+    text = json.dumps(contents, ensure_ascii=False, separators=(",", ":"))
+    return (FRONT.format(made_at) + text[1:]).encode()

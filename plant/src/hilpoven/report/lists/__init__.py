@@ -1,0 +1,1 @@
+"""The lists, and what is shown of one thing."""
