@@ -5,7 +5,7 @@ import sys
 import pytest
 from conftest import ROOT
 
-HEAVY = {"bz2", "csv", "difflib", "email", "gzip", "html", "http", "http.client", "jinja2", "lzma", "numpy", "odf", "openpyxl", "pathlib", "platform", "random",
+HEAVY = {"bz2", "csv", "difflib", "email", "gzip", "html", "http", "http.client", "jinja2", "lzma", "odf", "openpyxl", "pathlib", "platform", "random",
          "rich", "secrets", "shutil", "sqlite3", "ssl", "tempfile", "tomllib", "urllib.parse", "weasyprint", "xml", "zipfile", "zlib"}
 LOADED = "import sys, atexit; atexit.register(lambda: print('\\n', *sys.modules, file=sys.stderr)); sys.argv[0] = 'hilpoven'; from hilpoven.cli import main; main()"
 OWN = {"hilpoven", "hilpoven.cli", "hilpoven.cli.groups", "hilpoven.cli.roles", "hilpoven.cli.words", "hilpoven.core", "hilpoven.core.context", "hilpoven.core.failure", "hilpoven.core.forms",

@@ -95,11 +95,11 @@ rm -rf "$folder"
 exit "$status"
 """
 PLANT_NEEDS = ("python3-pytest", "python3-hypothesis", "python3-click", "python3-jinja2", "weasyprint", "graphviz", "python3-openpyxl",
-               "python3-numpy", "python3-odf", "python3-segno", "poppler-utils", "zbar-tools", "man-db", "openssl", "rsync", "sqlite3",
+               "python3-odf", "python3-segno", "poppler-utils", "zbar-tools", "man-db", "openssl", "rsync", "sqlite3",
                "tzdata")
 # The Build-Depends of debian/control.
 BUILD_NEEDS = ("debhelper", "dh-python", "dpkg-dev", "git", "pybuild-plugin-pyproject", "python3-all", "python3-click", "python3-jinja2",
-               "python3-numpy", "python3-odf", "python3-openpyxl", "python3-setuptools")
+               "python3-odf", "python3-openpyxl", "python3-setuptools")
 TESTS_NEED = (*PLANT_NEEDS, *BUILD_NEEDS, "shellcheck", "python3-pyflakes", "python3-yaml", "nginx-light", "openssl", "curl", "systemd", "mandoc",
               "python3-jsonschema", "libjson-validator-perl", "nodejs", "strace", "valgrind")
 
@@ -116,7 +116,7 @@ BESIDE = [
     Part("sql-texts", [PYTHON, "tools/sql-texts", "--check"], minutes=5),
     Part("check-names", [PYTHON, "tools/check-docs", "names"], minutes=5),
     Part("shell", shell_words, ("git", "shellcheck"), 5),
-    Part("python", python_words, ("git", "python3-pyflakes", "mypy", "black", "python3-click", "python3-jinja2", "python3-numpy"), 5),
+    Part("python", python_words, ("git", "python3-pyflakes", "mypy", "black", "python3-click", "python3-jinja2"), 5),
     Part("check-worked", [PYTHON, "tools/check-worked"], memory=3.2 * GB),
     Part("page-tests", ["node", "--test", "page/tests"], ("nodejs",), 10),
     Part("tools-tests", [*PYTEST, "tools/tests"], TESTS_NEED),

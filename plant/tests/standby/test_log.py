@@ -10,7 +10,7 @@ import pytest
 from following import built, follower_of, look, rows_of
 from hypothesis import given, settings
 from hypothesis.strategies import binary, booleans
-from hilpoven.care.standby import capture, checksums, wal
+from hilpoven.care.standby import capture, wal
 
 TABLE = "CREATE TABLE t (number INTEGER PRIMARY KEY, text TEXT NOT NULL)"
 
@@ -156,7 +156,7 @@ def test_checksums_are_those_of_sqlite_in_both_orders(tmp_path, page_size, monke
 @settings(deadline=None)
 @given(content=binary(min_size=8, max_size=400).map(lambda content: content[: len(content) // 8 * 8]), is_big=booleans())
 def test_a_checksum_is_that_of_its_words(content, is_big):
-    assert checksums.sums_of(content, is_big) == sums_by_words(content, ">" if is_big else "<")
+    assert wal.sums_behind(content, [(0, 0)], is_big) == [sums_by_words(content, ">" if is_big else "<")]
 
 
 def test_frames_that_were_written_over_are_told_as_a_gap(tmp_path):
