@@ -9,7 +9,7 @@ import time
 
 import pytest
 from conftest import HILPOVEN, Plant, called, command, copied, environment, is_told
-from hilpoven.core import office, rights, scratch
+from hilpoven.core import files, office, rights, scratch
 from hilpoven.core.failure import is_visible, printable
 from hilpoven.core.forms import TEXT
 from hilpoven.core.exports import as_cell
@@ -131,7 +131,7 @@ def test_help_is_a_word_too(at_work):
 # Temporary folders
 
 def test_a_folder_that_was_just_made_is_nobody_else_s_to_hold(tmp_path, monkeypatch):
-    folder = tmp_path / f"{scratch.PREFIX}0123456789abcdef"
+    folder = tmp_path / f"{files.HIDDEN}0123456789abcdef"
     folder.mkdir()
     holds = []
     held = scratch.held

@@ -7,7 +7,7 @@ import time
 
 import pytest
 from conftest import command, environment
-from hilpoven.core import snapshot
+from hilpoven.core import files
 
 
 @contextlib.contextmanager
@@ -44,7 +44,7 @@ def test_reading_waits_for_the_lock_too(at_work):
 
 def test_a_settled_file_is_copied_while_others_may_take_the_lock(at_work, monkeypatch):
     """Owners are refused while the lock is held: no byte of the office is copied under it."""
-    copied, of = [], snapshot.copy_file
+    copied, of = [], files.copy
 
     def copy_file(source, target):
         with open(f"{at_work.db}.lock", "a") as lock:
@@ -53,14 +53,14 @@ def test_a_settled_file_is_copied_while_others_may_take_the_lock(at_work, monkey
         of(source, target)
 
     time.sleep(0.05)
-    monkeypatch.setattr(snapshot, "copy_file", copy_file)
+    monkeypatch.setattr(files, "copy", copy_file)
     assert "S-1" in at_work.run("list", "lots").out
     assert copied[0] == "office.db" and set(copied) <= {"office.db", "office.db-wal"}
 
 
 def test_what_others_write_during_a_copy_is_in_it(at_work, monkeypatch):
     """A command is recorded between the copying of the file and that of its log; then one is, and the file is written from the log."""
-    of, commands = snapshot.copy_file, iter(["unit-add PRESS", "unit-add OVEN"])
+    of, commands = files.copy, iter(["unit-add PRESS", "unit-add OVEN"])
 
     def copy_file(source, target):
         of(source, target)
@@ -69,7 +69,7 @@ def test_what_others_write_during_a_copy_is_in_it(at_work, monkeypatch):
             assert at_work.toll(*command.split()).out == "accepted\n"
 
     time.sleep(0.05)
-    monkeypatch.setattr(snapshot, "copy_file", copy_file)
+    monkeypatch.setattr(files, "copy", copy_file)
     assert "PRESS" in at_work.run("list", "units").out
     assert "OVEN" in at_work.run("list", "units").out
 

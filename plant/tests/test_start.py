@@ -8,7 +8,7 @@ from conftest import ROOT
 HEAVY = {"bz2", "csv", "difflib", "email", "gzip", "html", "http", "http.client", "jinja2", "lzma", "odf", "openpyxl", "pathlib", "platform", "random",
          "rich", "secrets", "shutil", "sqlite3", "ssl", "tempfile", "tomllib", "urllib.parse", "weasyprint", "xml", "zipfile", "zlib"}
 LOADED = "import sys, atexit; atexit.register(lambda: print('\\n', *sys.modules, file=sys.stderr)); sys.argv[0] = 'hilpoven'; from hilpoven.cli import main; main()"
-OWN = {"hilpoven", "hilpoven.cli", "hilpoven.cli.groups", "hilpoven.cli.roles", "hilpoven.cli.words", "hilpoven.core", "hilpoven.core.context", "hilpoven.core.failure", "hilpoven.core.forms",
+OWN = {"hilpoven", "hilpoven.cli", "hilpoven.cli.groups", "hilpoven.cli.roles", "hilpoven.cli.words", "hilpoven.core", "hilpoven.core.context", "hilpoven.core.failure", "hilpoven.core.files", "hilpoven.core.forms",
        "hilpoven.core.grammar", "hilpoven.core.lock", "hilpoven.core.office", "hilpoven.core.rights", "hilpoven.core.scanned", "hilpoven.core.scratch", "hilpoven.core.settings"}
 QUESTION = OWN | {"hilpoven.cli.lines", "hilpoven.record", "hilpoven.record.asking", "hilpoven.core.meanings", "hilpoven.core.names"}
 NOTED = QUESTION | {"hilpoven.cli.line_notes", "hilpoven.model", "hilpoven.model.notes", "hilpoven.model.notes.kinds", "hilpoven.model.notes.likeness"}

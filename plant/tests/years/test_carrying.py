@@ -12,7 +12,7 @@ import time
 import pytest
 from conftest import Plant
 from hilpoven.core import private_server
-from hilpoven.core.snapshot import hash_of
+from hilpoven.core.files import hash_of
 from hilpoven.care.years import steps
 
 READY = ("do ACME O-1 1 done", "close ACME O-1 1")

@@ -9,12 +9,12 @@ import time
 from ..core.journal import log as journals, query
 from ..core.journal.log import IN_PLACE, Journal
 from ..model.schema import IS_INCOMING, STANDING, Kind
+from ..core import files, lock, paths, scratch, server, snapshot
 from . import keys
-from ..core import lock, paths, scratch, server, snapshot
 from ..core.failure import FAULT, REFUSED, WRONG_USE, Failure, tell
 from ..core.office import Answer, Office
 from ..core.server import Place
-from ..core.snapshot import hash_of
+from ..core.files import hash_of
 
 STAMP = r"[0-9]{8}-[0-9]{6}"
 MARK = r"[0-9a-f]{8}"  # of an office, before the stamp; earlier versions wrote none
@@ -105,14 +105,14 @@ def make(office: Office, folder: str, keep: int, days: int, journal: Journal) ->
         digest = hash_of(copy)
         if not mark_of(journal):
             journal.exported(office.file, ["backup"])  # its first line, from which on the office has a mark
-        with paths.locked(folder):
+        with scratch.held(folder, None):
             target = free_name(office.file, folder, mark_of(journal))
             name = os.path.basename(target)
             with journal.noted(office.file, ["backup", name], backup=name, sha256=digest) as note:
                 with journal.locked():
-                    snapshot.copy_file(journal.path, f"{copy}.journal")
-                put_in_place(f"{copy}.journal", f"{target}.journal")
-                put_in_place(copy, target)
+                    files.copy(journal.path, f"{copy}.journal")
+                files.put_in_place(f"{copy}.journal", f"{target}.journal")
+                files.put_in_place(copy, target)
                 note.answer = Answer(0, f"{name}, sha256 {digest}\n", "")
             prune(office, folder, keep, days, journal, target)
     return target
@@ -146,9 +146,7 @@ def prune(office: Office, folder: str, keep: int, days: int, journal: Journal, n
         return
     with journal.noted(office.file, ["prune", *(os.path.basename(path) for path in old)]) as note:
         for path in old:
-            for end in (*BELONGING, ".lock", JOURNAL, *REGISTER):
-                with contextlib.suppress(FileNotFoundError):
-                    os.unlink(path + end)
+            files.remove(path, *BELONGING, ".lock", JOURNAL, *REGISTER)
         note.answer = Answer(0, "removed\n", "")
 
 
@@ -174,9 +172,7 @@ def settle(copy: str) -> None:
             base.execute("PRAGMA wal_checkpoint(TRUNCATE)")
     except sqlite3.Error as error:
         raise Failure(f"{copy} can't be settled: {error}") from error
-    for end in ("-wal", "-shm"):
-        with contextlib.suppress(FileNotFoundError):
-            os.unlink(copy + end)
+    files.remove(copy, "-wal", "-shm")
 
 
 def require_sound(office: Office, copy: str) -> None:
@@ -190,20 +186,10 @@ def require_sound(office: Office, copy: str) -> None:
     if report != [("ok",)]:
         raise Failure(f"{copy} is damaged: {report[0][0]}")
     tried = f"{copy}.tried"
-    snapshot.copy_file(copy, tried)
+    files.copy(copy, tried)
     answer = office.ask(["stock", "HOUSE"], tried)
     if answer.status:
         raise Failure(f"{copy} is no office: {(answer.error or answer.output).strip()}")
-
-
-def put_in_place(copy: str, target: str) -> None:
-    """Gives a copy another name on the same disk, once its bytes are there."""
-    try:
-        scratch.sync(copy)
-        os.rename(copy, target)
-        scratch.sync(os.path.dirname(target))
-    except OSError as error:
-        raise Failure(f"{error.filename or target}: {error.strerror}") from error
 
 
 def restore(office: Office, backup: str, place: Place, journal: Journal, is_foreign: bool) -> str:
@@ -258,7 +244,7 @@ def replace(
             stop_on_server(office.file, place)
             kept = keys.keep(copy, office.file, journal.path, query.common(journal.path, lines_then))
             aside = move_aside(office.file)
-            put_in_place(copy, office.file)
+            files.put_in_place(copy, office.file)
             note.members[IN_PLACE] = True
         answer = office.ask_patiently(["stock", "HOUSE"])
         if answer.status:
@@ -281,11 +267,11 @@ def bring_journal(backup: str, copy: str, journal: Journal) -> None:
     """Puts the journal that lies beside a backup in the office's place, where no journal is there."""
     if os.path.lexists(journal.path) or not os.path.isfile(backup + JOURNAL):
         return
-    snapshot.copy_file(backup + JOURNAL, copy)
+    files.copy(backup + JOURNAL, copy)
     if wrong := query.check(copy, file=journal.file).wrong:
         advice = f"put the right journal to {journal.path} first"
         raise Failure(f"{backup + JOURNAL} isn't whole: {wrong[0]}", REFUSED, advice)
-    put_in_place(copy, journal.path)
+    files.put_in_place(copy, journal.path)
 
 
 def copy_backup(backup: str, copy: str, wait: float) -> None:
@@ -323,8 +309,8 @@ def move_aside(file: str, *others: str) -> str:
     for path in moved:
         with contextlib.suppress(FileNotFoundError):
             os.rename(path, os.path.join(aside, os.path.basename(path)))
-            scratch.sync(aside)
-            scratch.sync(os.path.dirname(path))
+            files.sync(aside)
+            files.sync(os.path.dirname(path))
     return aside
 
 

@@ -1,5 +1,5 @@
-"""The lock of an office's file, FILE.lock, under which nobody else works on it, and how commands of the plant record in
-it: many at a time, or one alone."""
+"""How files are locked; the lock of an office's file, FILE.lock, under which nobody else works on it, and how commands
+of the plant record in it: many at a time, or one alone."""
 import contextlib
 import fcntl
 import os
@@ -11,6 +11,23 @@ from .rights import advice
 
 PAUSE = 0.05  # seconds between two tries
 BLINK = 0.005  # the same of what is held for milliseconds
+
+
+def take(descriptor: int, wait: float | None = 0.0, kind: int = fcntl.LOCK_EX, pause: float = PAUSE) -> bool:
+    """Locks an open file or folder, alone or beside others (`kind`); whether that was possible within so many seconds.
+    Without a number of seconds it waits as long as another has it."""
+    if wait is None:
+        fcntl.flock(descriptor, kind)
+        return True
+    ends = time.monotonic() + wait
+    while True:
+        try:
+            fcntl.flock(descriptor, kind | fcntl.LOCK_NB)
+            return True
+        except BlockingIOError:
+            if time.monotonic() >= ends:
+                return False
+            time.sleep(pause)
 
 
 def name_of(file: str) -> str:
@@ -40,24 +57,13 @@ def create(file: str) -> int:
 @contextlib.contextmanager
 def held(file: str, wait: float) -> Iterator[None]:
     """Holds the lock of a file; fails where somebody else has it for longer than `wait` seconds."""
-    descriptor, ends = opened(file), time.monotonic() + wait
+    descriptor = opened(file)
     try:
-        while not try_lock(descriptor):
-            if time.monotonic() >= ends:
-                raise Failure(f"somebody else has the lock of {file}", advice=holders(name_of(file)))
-            time.sleep(PAUSE)
+        if not take(descriptor, wait):
+            raise Failure(f"somebody else has the lock of {file}", advice=holders(name_of(file)))
         yield
     finally:
         os.close(descriptor)
-
-
-def try_lock(descriptor: int) -> bool:
-    """Takes the lock, where nobody else has it."""
-    try:
-        fcntl.flock(descriptor, fcntl.LOCK_EX | fcntl.LOCK_NB)
-    except BlockingIOError:
-        return False
-    return True
 
 
 @contextlib.contextmanager
@@ -105,17 +111,11 @@ def hold(stack: contextlib.ExitStack, path: str, kind: int) -> bool:
         descriptor = os.open(path, os.O_RDONLY | os.O_CLOEXEC)
     except OSError as error:
         raise Failure(f"{path} can't be opened: {error.strerror}", advice=advice(path, error)) from error
-    tried = contextlib.ExitStack()
-    tried.callback(os.close, descriptor)
-    try:
-        fcntl.flock(descriptor, kind | fcntl.LOCK_NB)
-        if os.path.samestat(os.stat(path), os.fstat(descriptor)):
+    with contextlib.ExitStack() as tried, contextlib.suppress(FileNotFoundError):
+        tried.callback(os.close, descriptor)
+        if take(descriptor, kind=kind) and os.path.samestat(os.stat(path), os.fstat(descriptor)):
             stack.push(tried.pop_all())
             return True
-    except (BlockingIOError, FileNotFoundError):
-        pass
-    finally:
-        tried.close()
     return False
 
 

@@ -1,14 +1,13 @@
 """Where output goes. Its folder is found once and then used as it was opened. No link is followed, nothing is written
 over an office's files, and other files are replaced only if that is asked for."""
 import contextlib
-import fcntl
 import os
 import pathlib
 import stat
 from collections.abc import Iterator
 from dataclasses import dataclass
 
-from . import rights, scratch
+from . import files, lock, rights
 from .failure import FAULT, WRONG_USE, Failure
 
 # How the names of an office's files and backups end.
@@ -37,17 +36,6 @@ def private(folder: str) -> str:
                 f"a folder of {mine}'s own is needed, such as by chmod 700 {path}",
             )
     return path
-
-
-@contextlib.contextmanager
-def locked(folder: str) -> Iterator[None]:
-    """Holds a folder while its names change, where all who change them do so."""
-    descriptor = os.open(folder, FOLDER)
-    try:
-        fcntl.flock(descriptor, fcntl.LOCK_EX)
-        yield
-    finally:
-        os.close(descriptor)
 
 
 @dataclass(frozen=True)
@@ -79,15 +67,18 @@ class Target:
 
     def give(self, content: str | bytes) -> None:
         """Writes a file, whole or not at all, with the rights of the one that it replaces."""
-        with self.room() as (room, _), open(f"{open_path(room)}/made", "xb") as file:
-            file.write(content.encode() if isinstance(content, str) else content)
-            file.flush()
+
+        def prepare(descriptor: int) -> None:
+            self.require_free()
             with contextlib.suppress(FileNotFoundError):
                 state = os.stat(self.name, dir_fd=self.folder, follow_symlinks=False)
-                os.fchmod(file.fileno(), state.st_mode & 0o777)
+                os.fchmod(descriptor, state.st_mode & 0o777)
                 if os.geteuid() == 0:
-                    os.fchown(file.fileno(), state.st_uid, state.st_gid)
-            self.put(room, "made")
+                    os.fchown(descriptor, state.st_uid, state.st_gid)
+
+        whole = content.encode() if isinstance(content, str) else content
+        with self.writing():
+            files.replace(f"{open_path(self.folder)}/{self.name}", whole, 0o666, prepare=prepare)
 
     def put(self, room: int, name: str) -> None:
         """Gives what was made in a room its name."""
@@ -97,18 +88,24 @@ class Target:
     @contextlib.contextmanager
     def room(self) -> Iterator[tuple[int, str]]:
         """A folder of this user's alone beside the target, open, and its path, that is removed at the end."""
-        name = scratch.PREFIX + os.urandom(8).hex()
-        try:
+        name = files.hidden_name()
+        with self.writing():
             os.mkdir(name, 0o700, dir_fd=self.folder)
             room = os.open(name, FOLDER, dir_fd=self.folder)
             try:
-                fcntl.flock(room, fcntl.LOCK_EX)
+                lock.take(room, wait=None)
                 yield room, os.path.join(self.parent, name)
             finally:
                 os.close(room)
                 import shutil
 
                 shutil.rmtree(name, ignore_errors=True, dir_fd=self.folder)
+
+    @contextlib.contextmanager
+    def writing(self) -> Iterator[None]:
+        """Has a fault of the disk name the target."""
+        try:
+            yield
         except BrokenPipeError:
             raise
         except OSError as error:

@@ -1,7 +1,7 @@
 """Folders for what is made, which go at the end, also where a signal ends this process; what a kill left goes with
 the next."""
 import contextlib
-import fcntl
+import errno
 import os
 import signal
 import sys
@@ -9,9 +9,9 @@ import time
 from collections.abc import Iterator
 from types import FrameType
 
+from . import files, lock
 from .failure import Failure
 
-PREFIX = ".hilpoven."
 LEFT_SINCE = 60  # seconds since a folder was made that nobody works in
 ENDING = (signal.SIGHUP, signal.SIGINT, signal.SIGTERM)
 
@@ -42,7 +42,7 @@ def held_back() -> Iterator[None]:
 @contextlib.contextmanager
 def folder(parent: str) -> Iterator[str]:
     """A folder in `parent`, for this user alone, that is removed at the end."""
-    path = os.path.join(parent, PREFIX + os.urandom(8).hex())
+    path = os.path.join(parent, files.hidden_name())
     try:
         make(parent, path)
         with held(path):
@@ -73,42 +73,38 @@ def remove(folder: str) -> None:
 
 
 @contextlib.contextmanager
-def held(folder: str) -> Iterator[None]:
-    """Holds a folder, which shows that somebody works in it; fails with BlockingIOError where another holds it."""
+def held(folder: str, wait: float | None = 0.0) -> Iterator[None]:
+    """Holds a folder, which shows that somebody works in it; fails with BlockingIOError where another holds it for
+    longer than so many seconds (`lock.take`)."""
     descriptor = os.open(folder, os.O_RDONLY | os.O_DIRECTORY | os.O_CLOEXEC | os.O_NOFOLLOW)
     try:
-        fcntl.flock(descriptor, fcntl.LOCK_EX | fcntl.LOCK_NB)
+        if not lock.take(descriptor, wait):
+            raise BlockingIOError(errno.EWOULDBLOCK, "another holds it", folder)
         yield
     finally:
         os.close(descriptor)
 
 
 def remove_left(parent: str) -> None:
-    """Removes the folders of this user that a kill left, which nobody holds."""
+    """Removes the files and folders of this user that a kill left before they were whole, which nobody holds."""
     left = []
     with contextlib.suppress(PermissionError):
-        left = [os.path.join(parent, name) for name in os.listdir(parent) if name.startswith(PREFIX)]
-    for folder in left:
+        left = [os.path.join(parent, name) for name in os.listdir(parent) if name.startswith(files.HIDDEN)]
+    for path in left:
         with contextlib.suppress(OSError):
             # one that was just made isn't taken, since who made it is about to hold it
-            if is_old(folder):
-                with held(folder):
-                    if is_old(folder):
-                        remove(folder)
+            if not is_old(path):
+                continue
+            if not os.path.isdir(path):
+                os.unlink(path)
+                continue
+            with held(path):
+                if is_old(path):
+                    remove(path)
 
 
-def is_old(folder: str) -> bool:
-    """Whether a folder is this user's, and nothing came into it or went for so long that a kill may have left it."""
-    state = os.stat(folder, follow_symlinks=False)
+def is_old(path: str) -> bool:
+    """Whether a file or a folder is this user's, and nothing came into it or went for so long that a kill may have left
+    it."""
+    state = os.stat(path, follow_symlinks=False)
     return state.st_uid == os.geteuid() and state.st_mtime < time.time() - LEFT_SINCE
-
-
-def sync(path: str) -> None:
-    """Has a file, or the names in a folder, on the disk."""
-    descriptor = os.open(path, os.O_RDONLY | os.O_CLOEXEC)
-    try:
-        os.fsync(descriptor)
-    except OSError as error:
-        raise OSError(error.errno, error.strerror, path) from error
-    finally:
-        os.close(descriptor)

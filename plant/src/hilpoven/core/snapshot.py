@@ -1,15 +1,13 @@
 """A copy of an office's file as it stands at one moment. The file itself is never opened by SQLite, so a server that
 has it open need not open it anew."""
 import contextlib
-import errno
 import os
 import sqlite3
 import time
 from collections.abc import Iterator
-from io import BufferedReader, BufferedWriter
 
 from .. import OFFICE_VERSION
-from . import lock, scratch
+from . import files, lock, scratch
 from .failure import Failure
 from .office import Office
 
@@ -67,54 +65,16 @@ def stamp_of(file: str) -> Stamp:
 
 def copy_both(file: str, target: str) -> None:
     """Copies a file and its log."""
-    copy_file(file, target)
+    files.copy(file, target)
     copy_log(file, target)
 
 
 def copy_log(file: str, target: str) -> None:
     """Copies the log of a file, where it has one; otherwise the copy has none either."""
     try:
-        copy_file(f"{file}-wal", f"{target}-wal")
+        files.copy(f"{file}-wal", f"{target}-wal")
     except FileNotFoundError:
-        with contextlib.suppress(FileNotFoundError):
-            os.unlink(f"{target}-wal")
-
-
-def copy_file(source: str, target: str) -> None:
-    """Copies a file's bytes, within the disk where it can: none of them then goes through this process. No link is
-    followed."""
-    with open(os.open(source, os.O_RDONLY | os.O_NOFOLLOW | os.O_CLOEXEC), "rb") as reader:
-        try:
-            flags = os.O_WRONLY | os.O_CREAT | os.O_TRUNC | os.O_NOFOLLOW | os.O_CLOEXEC
-            with open(os.open(target, flags, 0o600), "wb") as writer:
-                copy_bytes(reader, writer)
-        except OSError as error:
-            if error.errno == errno.EIO:
-                raise
-            raise Failure(f"{target} can't be written: {error.strerror}") from error
-
-
-def copy_bytes(reader: BufferedReader, writer: BufferedWriter) -> None:
-    """Copies all bytes of a file to another."""
-    left = os.fstat(reader.fileno()).st_size
-    with contextlib.suppress(OSError):
-        while left and (count := os.copy_file_range(reader.fileno(), writer.fileno(), left)):
-            left -= count
-    if left:
-        reader.seek(0)
-        writer.truncate(0)
-        writer.seek(0)
-        import shutil
-
-        shutil.copyfileobj(reader, writer, 1 << 20)
-
-
-def hash_of(path: str) -> str:
-    """The SHA-256 of a file."""
-    import hashlib
-
-    with open(path, "rb") as file:
-        return hashlib.file_digest(file, "sha256").hexdigest()
+        files.remove(f"{target}-wal")
 
 
 @contextlib.contextmanager
@@ -122,9 +82,7 @@ def opened(office: Office) -> Iterator[sqlite3.Connection]:
     """The tables of a copy. Nothing of it is left, however this process ends: its names go once it is open."""
     with copied(office) as path, contextlib.closing(sqlite3.connect(path)) as base:
         require_office(base, office.file)
-        for end in ("", "-wal", "-shm"):
-            with contextlib.suppress(FileNotFoundError):
-                os.unlink(path + end)
+        files.remove(path, "", "-wal", "-shm")
         yield base
 
 

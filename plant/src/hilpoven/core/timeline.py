@@ -11,7 +11,7 @@ import re
 from collections.abc import Iterable
 from typing import Any
 
-from . import scratch
+from . import files, scratch
 from .failure import REFUSED, Failure
 from .office import SUPERSEDED
 
@@ -43,9 +43,9 @@ def write(path: str, content: dict[str, Any]) -> None:
         with open(temporary, "x") as file:
             json.dump(content, file)
             file.write("\n")
-        scratch.sync(temporary)
+        files.sync(temporary)
         os.rename(temporary, path)
-    scratch.sync(folder)
+    files.sync(folder)
 
 
 def begin(file: str, number: int, origin: dict[str, Any]) -> None:

@@ -1,5 +1,4 @@
 """Files that setup writes. Each says so, with the sum of its lines, so that none of another hand is replaced."""
-import contextlib
 import enum
 import hashlib
 import os
@@ -7,7 +6,7 @@ import re
 import stat
 from dataclasses import dataclass
 
-from ...core import paths, scratch
+from ...core import files, paths
 from ...core.failure import WRONG_USE, Failure
 
 MARK = "# hilpoven setup wrote this file, and leaves it alone once it is changed. SHA-256 of the lines below: "
@@ -41,7 +40,7 @@ class Written:
         try:
             if not stat.S_ISREG(os.lstat(self.path).st_mode):
                 return State.FOREIGN
-            with open(os.open(self.path, os.O_RDONLY | os.O_NOFOLLOW | os.O_NONBLOCK), errors="replace") as file:
+            with open(os.open(self.path, files.READ), errors="replace") as file:
                 content = file.read()
         except FileNotFoundError:
             return State.ABSENT
@@ -75,24 +74,11 @@ def sum_of(text: str) -> str:
 def write(path: str, text: str, is_new: bool) -> None:
     """Writes a file that everybody may read, whole or not at all, in a folder that nobody else may change. A new one
     replaces nothing."""
-    folder = paths.private(os.path.dirname(path))
-    temporary = os.path.join(folder, scratch.PREFIX + os.urandom(8).hex())
-    descriptor = os.open(temporary, os.O_WRONLY | os.O_CREAT | os.O_EXCL | os.O_NOFOLLOW, 0o600)
+    target = os.path.join(paths.private(os.path.dirname(path)), os.path.basename(path))
     try:
-        with open(descriptor, "w") as file:
-            file.write(text)
-            file.flush()
-            os.fchmod(file.fileno(), MODE)
-            os.fsync(file.fileno())
-        if is_new:
-            os.link(temporary, path)
-        else:
-            os.rename(temporary, path)
+        files.replace(target, text.encode(), is_new=is_new, prepare=lambda descriptor: os.fchmod(descriptor, MODE))
     except FileExistsError:
         raise Failure(f"{path} is there, and setup didn't write it", WRONG_USE) from None
-    finally:
-        with contextlib.suppress(FileNotFoundError):
-            os.unlink(temporary)
 
 
 def take_back(path: str, before: str) -> None:

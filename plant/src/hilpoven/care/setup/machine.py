@@ -1,6 +1,5 @@
 """The machine on which an office is set up: where its files are, how its programs run, and what answers on it."""
 import contextlib
-import fcntl
 import os
 import re
 import shutil
@@ -13,7 +12,7 @@ from collections.abc import Callable, Iterator
 from dataclasses import dataclass
 from typing import NamedTuple
 
-from ...core import client, settings as site
+from ...core import client, lock, settings as site
 from ...core.failure import WRONG_USE, Failure
 from ...core.journal import log
 
@@ -53,10 +52,8 @@ class Machine:
         """Lets no other setup take its steps meanwhile."""
         flags = os.O_RDWR | os.O_CREAT | os.O_NOFOLLOW | os.O_CLOEXEC
         with open(os.open(self.lock, flags, 0o600)) as file:
-            try:
-                fcntl.flock(file, fcntl.LOCK_EX | fcntl.LOCK_NB)
-            except BlockingIOError:
-                raise Failure("another setup is under way") from None
+            if not lock.take(file.fileno()):
+                raise Failure("another setup is under way")
             yield
 
     def run(self, words: list[str], user: str | None = None) -> Ran:

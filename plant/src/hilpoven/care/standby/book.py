@@ -5,7 +5,7 @@ from contextlib import AbstractContextManager
 from dataclasses import dataclass, field
 from datetime import datetime, timezone
 
-from ...core import names, scratch, snapshot
+from ...core import files, names, scratch
 from ...core.failure import Failure
 from . import chain, lines, piece
 from .capture import Digests, Place
@@ -124,13 +124,13 @@ class Book:
         """Copies the office's earlier files into the folder, each once, by its SHA-256."""
         digests = dict[str, str]()
         for path in names.earlier_files(self.file):
-            digest = snapshot.hash_of(path)
+            digest = files.hash_of(path)
             target = chain.earlier_path(self.folder, digest)
             if not os.path.exists(target):
                 with scratch.folder(self.folder) as room:
                     copy = os.path.join(room, "copy")
-                    snapshot.copy_file(path, copy)
-                    scratch.sync(copy)
+                    files.copy(path, copy)
+                    files.sync(copy)
                     os.rename(copy, target)
             digests[os.path.basename(path)] = digest
         self.earlier = digests

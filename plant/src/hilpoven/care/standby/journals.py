@@ -4,6 +4,7 @@ from dataclasses import dataclass
 from enum import Enum, auto
 
 from .. import backups, keys
+from ...core import files
 from ...core.failure import Failure
 from ...core.journal import query
 from ...core.journal.log import Journal
@@ -84,7 +85,7 @@ def go_on(journal: Journal, beside: Beside) -> str:
         add_lines(journal, beside)
     aside = backups.move_aside(journal.file, *([journal.path] if beside.is_another else []))
     if beside.relation in (Relation.NONE, Relation.ANOTHER):
-        backups.put_in_place(beside.pieces, journal.path)
+        files.put_in_place(beside.pieces, journal.path)
     journal.move(journal.file)
     return aside
 

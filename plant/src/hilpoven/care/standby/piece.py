@@ -16,7 +16,7 @@ from dataclasses import asdict, dataclass
 from datetime import datetime
 from typing import IO, Any
 
-from ...core import scratch
+from ...core import files
 from ...core.failure import Failure
 from .capture import Place
 from .wal import Position
@@ -246,8 +246,8 @@ class Writer:
         self.file.seek(0)
         self.file.write(header.as_bytes())
         self.file.close()
-        scratch.sync(self.path)
-        scratch.sync(self.folder)
+        files.sync(self.path)
+        files.sync(self.folder)
         os.rename(self.path, os.path.join(self.folder, header.name))
         return header
 

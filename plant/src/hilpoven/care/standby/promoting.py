@@ -3,7 +3,7 @@ import os
 from dataclasses import dataclass, field
 
 from .. import backups, keys
-from ...core import lock, paths, scratch, snapshot
+from ...core import files, lock, paths, scratch
 from ...core.failure import FAULT, REFUSED, Failure
 from ...core.names import number_of
 from ...core.office import Answer, Office
@@ -103,12 +103,7 @@ def put(
     number = 1 + max(choice.chain.timeline, timeline.number_of(office.file), timeline.latest(os.listdir(folder)))
     present = office.file if beside.is_newer else ""
     kept = keys.keep(built.file, present, beside.longer, beside.point, beside.changed_keys)
-    origin = {
-        "chain": choice.chain.name,
-        "piece": choice.end,
-        "at": built.last.at,
-        "sha256": snapshot.hash_of(built.file),
-    }
+    origin = {"chain": choice.chain.name, "piece": choice.end, "at": built.last.at, "sha256": files.hash_of(built.file)}
     notes = [*beside.lines, *kept.lines]
     aside = journals.go_on(journal, beside)
     words = ["promote", *(["--until", str(until)] if until is not None else []), built.last.name]
@@ -116,7 +111,7 @@ def put(
     with journal.noted(office.file, words, **members) as note:
         timeline.mark(folder, number, origin)
         timeline.begin(office.file, number, origin)
-        backups.put_in_place(built.file, office.file)
+        files.put_in_place(built.file, office.file)
         note.answer = Answer(0, "; ".join([f"timeline {number}", *notes]) + "\n", "")
     return Made(built.last, number, aside, notes)
 
@@ -147,9 +142,9 @@ def restore_at(office: Office, folder: str, place: Place, journal: Journal, mome
     with scratch.folder(os.path.dirname(office.file)) as room:
         built = made_of(choice, office, room)
         if not os.path.lexists(journal.path):
-            snapshot.copy_file(newest_lines(choice, built, room), lines := os.path.join(room, "lines.journal"))
-            backups.put_in_place(lines, journal.path)
-        words, digest = ["restore", "--at", built.last.at, built.last.name], snapshot.hash_of(built.file)
+            files.copy(newest_lines(choice, built, room), lines := os.path.join(room, "lines.journal"))
+            files.put_in_place(lines, journal.path)
+        words, digest = ["restore", "--at", built.last.at, built.last.name], files.hash_of(built.file)
         aside = backups.replace(office, built.file, place, journal, words, digest, built.journal)
     return Made(built.last, number, aside)
 
@@ -169,12 +164,12 @@ def bring_earlier(built: Built, folder: str, file: str) -> None:
     for name, digest in built.earlier.items():
         source, target = chain.earlier_path(folder, digest), os.path.join(os.path.dirname(file), name)
         copy = os.path.join(os.path.dirname(built.file), "earlier.db")
-        if not number_of(file, name) or not copied(source, copy) or snapshot.hash_of(copy) != digest:
+        if not number_of(file, name) or not copied(source, copy) or files.hash_of(copy) != digest:
             raise Failure(f"{source} isn't the earlier file {name}", REFUSED)
         if not os.path.lexists(target):
             os.chmod(copy, 0o400)
-            backups.put_in_place(copy, target)
-        elif snapshot.hash_of(target) != digest:
+            files.put_in_place(copy, target)
+        elif files.hash_of(target) != digest:
             raise Failure(f"{target} is another file than the pieces name", REFUSED, "move it elsewhere")
 
 
@@ -182,7 +177,7 @@ def copied(source: str, target: str) -> bool:
     """Whether a file that is no link could be copied."""
     try:
         if os.path.isfile(source):
-            snapshot.copy_file(source, target)
+            files.copy(source, target)
             return True
     except OSError:
         pass

@@ -6,7 +6,7 @@ from collections.abc import Callable, Iterator
 from dataclasses import dataclass
 
 from .. import backups
-from ...core import lock, names, private_server, scratch, snapshot
+from ...core import files, lock, names, private_server, scratch, snapshot
 from ...core.failure import tell
 from ...core.office import Answer, Office
 from ...core.server import Place
@@ -96,7 +96,7 @@ def hindrances(work: Work) -> list[str]:
         faults = backups.checked_tables(base) or accepted.lacking(base, rows)
         reasons += [f"verify: {fault}" for fault in faults]
     tried = f"{work.copy}.tried"
-    snapshot.copy_file(work.copy, tried)
+    files.copy(work.copy, tried)
     answer = work.office.ask(["stock", "HOUSE"], tried)
     if answer.status:
         reasons.append(f"verify: toll doesn't open it: {answer.error.strip()}")
@@ -162,7 +162,7 @@ def fill_and_exchange(work: Work, earlier: str, note: Callable[[str], None]) -> 
             with bar("the new file is filled", steps.count(base)) as advance:
                 Filling(after, keys, advance).fill(steps.stages(base, work.receipts))
             note("both files are compared")
-            snapshot.copy_file(work.copy, tried)
+            files.copy(work.copy, tried)
             with private_server.opened(office.program, tried) as before:
                 comparing.require_same_stock(before, after, keys)
         backups.settle(new)

@@ -11,7 +11,7 @@ from collections.abc import Iterable
 from dataclasses import dataclass
 
 from .. import backups
-from ...core import names, scratch, snapshot
+from ...core import files, names, scratch, snapshot
 from ...core.failure import Failure
 from ...core.office import Office
 from ...core.server import Place
@@ -52,18 +52,18 @@ def exchange(
     with scratch.folder(folder) as room:
         old, fresh = os.path.join(room, "old.db"), os.path.join(room, "new.db")
         snapshot.copy_both(office.file, old)
-        mark(old, chain.Carried(chain.INTO, os.path.basename(office.file), snapshot.hash_of(new), at))
+        mark(old, chain.Carried(chain.INTO, os.path.basename(office.file), files.hash_of(new), at))
         os.chmod(old, READ_ONLY)
-        hash = snapshot.hash_of(old)
-        snapshot.copy_file(new, fresh)
+        hash = files.hash_of(old)
+        files.copy(new, fresh)
         mark(fresh, chain.Carried(chain.FROM, earlier, hash, at), moves)
         os.chmod(fresh, stat.S_IMODE(os.stat(office.file).st_mode))
         backups.require_sound(office, fresh)
-        backups.put_in_place(old, os.path.join(folder, earlier))
-        backups.put_in_place(fresh, target)
+        files.put_in_place(old, os.path.join(folder, earlier))
+        files.put_in_place(fresh, target)
     settle_in_place(office.file)
     backups.stop_on_server(office.file, place)
-    backups.put_in_place(target, office.file)
+    files.put_in_place(target, office.file)
     return Exchange(os.path.join(folder, earlier), hash)
 
 

@@ -1,6 +1,5 @@
 """The journal: who did what when. Each line is JSON and has the SHA-256 of the line before it."""
 import contextlib
-import fcntl
 import hashlib
 import json
 import os
@@ -10,7 +9,7 @@ from dataclasses import dataclass, field
 from datetime import datetime, timezone
 from typing import Any
 
-from .. import rights, scratch
+from .. import files, lock, rights
 from ..failure import FAULT, Failure
 from ..office import Answer
 from ..rights import STARTED_AS, name_of
@@ -18,7 +17,6 @@ from ..rights import STARTED_AS, name_of
 NOTHING_DONE = "nothing is done that isn't noted there"
 BEGINNING = "0" * 64  # before the first line
 PIECE = 8_192  # bytes
-FLAGS = os.O_CLOEXEC | os.O_NOFOLLOW | os.O_NONBLOCK  # no link is followed, and no pipe is waited for
 MADE_AT = "made_at"  # a member of a promotion's line: the moment of the office that it puts in place
 IN_PLACE = "in_place"  # a member of an answer: another file has the office's place, also where something failed since
 NOBODY = 4_294_967_295  # the login of a process that no login began
@@ -176,9 +174,9 @@ class Journal:
         """The journal, open for adding to it, while nobody else does. It is a file of the office's user, and no
         link."""
         is_new = not os.path.lexists(self.path)
-        descriptor = os.open(self.path, os.O_RDWR | os.O_APPEND | os.O_CREAT | FLAGS, 0o600)
+        descriptor = os.open(self.path, os.O_RDWR | os.O_APPEND | os.O_CREAT | files.SAFE, 0o600)
         try:
-            fcntl.flock(descriptor, fcntl.LOCK_EX)
+            lock.take(descriptor, wait=None)
             owner = rights.owner_number(self.file)
             if is_new and os.geteuid() == 0:
                 os.fchown(descriptor, owner, -1)
@@ -189,7 +187,7 @@ class Journal:
         finally:
             os.close(descriptor)
         if is_new:
-            scratch.sync(os.path.dirname(self.path) or ".")
+            files.sync(os.path.dirname(self.path) or ".")
 
 
 def doer(file: str) -> dict[str, str]:
@@ -246,17 +244,16 @@ def adopted(path: str, file: str) -> str:
     if path != f"{file}.journal" or old == path or os.path.lexists(path):
         return path
     try:
-        descriptor = os.open(old, os.O_RDONLY | FLAGS)
+        descriptor = os.open(old, files.READ)
     except OSError as error:
         return old if isinstance(error, PermissionError) else path
     try:
-        fcntl.flock(descriptor, fcntl.LOCK_EX)
+        lock.take(descriptor, wait=None)
         last = file_in(descriptor)
         is_anothers = not stat.S_ISREG(os.fstat(descriptor).st_mode) or last != file and os.path.lexists(last)
         if is_anothers or os.path.lexists(path):
             return path
-        os.rename(old, path)
-        scratch.sync(os.path.dirname(path))
+        files.rename(old, path)
         return path
     except OSError:
         return old

@@ -8,8 +8,9 @@ from itertools import chain, pairwise
 from typing import Any
 
 from ..failure import Failure, printable
+from ..files import READ
 from ..rights import advice
-from .log import BEGINNING, FLAGS, entry_of, hash_of
+from .log import BEGINNING, entry_of, hash_of
 
 
 @dataclass
@@ -27,7 +28,7 @@ class Checked:
 def lines_of(path: str) -> Iterator[bytes]:
     """The lines of a journal with their ends, one after another; none where there is no journal."""
     try:
-        with open(os.open(path, os.O_RDONLY | FLAGS), "rb") as file:
+        with open(os.open(path, READ), "rb") as file:
             yield from file
     except FileNotFoundError:
         return

@@ -4,18 +4,16 @@ The journal is the truth. Where the file is missing, the next reader makes it; w
 read from the journal, which is told, and `hilpoven register rebuild` makes it anew.
 """
 import contextlib
-import fcntl
 import json
 import os
 import sqlite3
 import stat
-import time
 from collections.abc import Iterator
 from dataclasses import dataclass
 
-from ...core import lock, rights, scratch, snapshot
+from ...core import files, lock, rights, snapshot
 from ...core.failure import REFUSED, Failure, tell
-from ...core.journal.log import FLAGS, Journal
+from ...core.journal.log import Journal
 from . import folding
 from .folding import Folded, Place, as_text, continues, fold_on, from_text
 
@@ -115,19 +113,20 @@ def held_file(path: str, file: str) -> Iterator[int]:
     is_new = not os.path.lexists(path)
     if os.path.islink(path):
         raise Unusable("it is a link", MOVE)
-    descriptor = os.open(path, os.O_RDWR | os.O_CREAT | FLAGS, 0o600)
+    descriptor = os.open(path, os.O_RDWR | os.O_CREAT | files.SAFE, 0o600)
     try:
         state, owner = os.fstat(descriptor), rights.owner_number(file)
         if not stat.S_ISREG(state.st_mode) or state.st_uid not in (owner, os.geteuid(), 0):
             raise Unusable("it is no file of the office's user", MOVE)
-        lock_soon(descriptor)
+        if not lock.take(descriptor, PATIENCE):
+            raise Unusable("another process has it", "")  # which may be stopped: it holds up no recall
         if is_new and os.geteuid() == 0:
             os.fchown(descriptor, owner, -1)
         yield descriptor
     finally:
         os.close(descriptor)
     if is_new:
-        scratch.sync(os.path.dirname(path))
+        files.sync(os.path.dirname(path))
 
 
 @contextlib.contextmanager
@@ -140,18 +139,6 @@ def tables(path: str) -> Iterator[sqlite3.Connection]:
         base.execute("PRAGMA trusted_schema = OFF")
         require_tables(base)
         yield base
-
-
-def lock_soon(descriptor: int) -> None:
-    """Locks a file; fails where another has it for long, so that nobody who is stopped there holds up a recall."""
-    ends = time.monotonic() + PATIENCE
-    while True:
-        try:
-            return fcntl.flock(descriptor, fcntl.LOCK_EX | fcntl.LOCK_NB)
-        except BlockingIOError:
-            if time.monotonic() >= ends:
-                raise Unusable("another process has it", "") from None
-            time.sleep(lock.PAUSE)
 
 
 def is_same(path: str, descriptor: int) -> bool:

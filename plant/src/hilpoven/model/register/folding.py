@@ -8,10 +8,11 @@ from collections.abc import Iterator
 from dataclasses import dataclass, field, fields
 from typing import TYPE_CHECKING, Any
 
+from ...core.files import READ
 from ...core.failure import Failure
 from ...core.rights import advice
 from ...core.journal.history import who
-from ...core.journal.log import FLAGS, Journal, entry_of, hash_of
+from ...core.journal.log import Journal, entry_of, hash_of
 from ...core.journal.query import Files
 from .meant import MEANT, Row, rows_in
 
@@ -156,7 +157,7 @@ def continues(path: str, place: Place) -> bool:
 def opened(path: str) -> Iterator[int | None]:
     """A journal, open for reading; `None` where there is none. No link is followed."""
     try:
-        descriptor = os.open(path, os.O_RDONLY | FLAGS)
+        descriptor = os.open(path, READ)
     except FileNotFoundError:
         yield None
         return

@@ -12,7 +12,7 @@ from collections.abc import Iterable, Iterator
 from dataclasses import dataclass
 
 from ...core.failure import Failure
-from ...core.snapshot import hash_of
+from ...core.files import hash_of
 
 TABLES = """
 CREATE TABLE IF NOT EXISTS carried (way TEXT NOT NULL, file TEXT NOT NULL, hash TEXT NOT NULL, at TEXT NOT NULL) STRICT;

@@ -12,7 +12,7 @@ from collections.abc import Iterator
 from dataclasses import dataclass
 
 from ...care import backups
-from ...core import snapshot
+from ...core import files, snapshot
 from ...core.failure import REFUSED, Failure
 from ...core.office import Office
 from ..rows import BatchId, LotId
@@ -109,6 +109,6 @@ def opened(office: Office, owner: str = "") -> Iterator[History]:
         backups.settle(copy)
         with chain.reading(copy) as newest:
             snapshot.require_office(newest, office.file)
-            parts = parts_of(office.file, newest, copy, snapshot.hash_of(copy))
+            parts = parts_of(office.file, newest, copy, files.hash_of(copy))
         with merged(parts, owner) as base:
             yield History(base, parts, copy)

@@ -1,6 +1,5 @@
 """The folder of an office's companions: a file for each owner, and one that says of what they were made."""
 import contextlib
-import fcntl
 import json
 import os
 import re
@@ -10,15 +9,13 @@ from collections.abc import Iterator
 from dataclasses import dataclass
 from typing import Any
 
-from ...core import paths
+from ...core import files, lock, paths
 from ...core.failure import FAULT, WRONG_USE, Failure
-from ...core.lock import PAUSE
 
 MARK = ".companions"  # by which a folder is known as one of companions: of what they were made, and whose there are
 MAKING = ".making"  # what isn't whole yet
 NAME = re.compile(r"([A-Z0-9][A-Z0-9-]{0,15})\.json")  # of an owner's companion
 READABLE, PRIVATE = 0o640, 0o600  # the site reads companions as the folder's group, and nothing else there
-FILE_FLAGS = os.O_NOFOLLOW | os.O_CLOEXEC | os.O_NONBLOCK
 
 
 @dataclass(frozen=True)
@@ -31,7 +28,7 @@ class Folder:
     def read(self, name: str) -> bytes:
         """The bytes of a file; none where it isn't there, is no file, or can't be read."""
         with contextlib.suppress(OSError):
-            with open(os.open(name, os.O_RDONLY | FILE_FLAGS, dir_fd=self.descriptor), "rb") as file:
+            with open(os.open(name, files.READ, dir_fd=self.descriptor), "rb") as file:
                 return file.read() if stat.S_ISREG(os.fstat(file.fileno()).st_mode) else b""
         return b""
 
@@ -44,24 +41,13 @@ class Folder:
     def give(self, name: str, content: bytes, mode: int) -> None:
         """Writes a file, whole or not at all. What replaces a file has another second, by which, beside its size, nginx
         tells one from the other."""
-        self.clear()
-        flags = os.O_WRONLY | os.O_CREAT | os.O_EXCL | FILE_FLAGS
-        try:
-            with open(os.open(MAKING, flags, PRIVATE, dir_fd=self.descriptor), "wb") as file:
-                file.write(content)
-                file.flush()
-                second = max(int(time.time()), self.second_of(name) + 1)
-                os.utime(file.fileno(), (second, second))
-                os.fchmod(file.fileno(), mode)
-                os.fsync(file.fileno())
-            os.rename(MAKING, name, src_dir_fd=self.descriptor, dst_dir_fd=self.descriptor)
-        finally:
-            self.clear()
 
-    def clear(self) -> None:
-        """Removes what isn't whole, as a kill leaves it."""
-        with contextlib.suppress(FileNotFoundError):
-            os.unlink(MAKING, dir_fd=self.descriptor)
+        def prepare(descriptor: int) -> None:
+            second = max(int(time.time()), self.second_of(name) + 1)
+            os.utime(descriptor, (second, second))
+            os.fchmod(descriptor, mode)
+
+        files.replace(f"{paths.open_path(self.descriptor)}/{name}", content, made=MAKING, prepare=prepare)
 
     def second_of(self, name: str) -> int:
         """The second of a file's time; 0 where there is none."""
@@ -84,7 +70,6 @@ class Folder:
 
     def put_mark(self, mark: dict[str, Any]) -> None:
         """Notes of what the companions were made, once they are on the disk."""
-        os.fsync(self.descriptor)
         self.give(MARK, json.dumps(mark).encode(), PRIVATE)
 
     def touch(self) -> None:
@@ -131,11 +116,5 @@ def held(path: str, wait: float) -> Iterator[Folder]:
 
 def take(folder: Folder, wait: float) -> None:
     """Locks a folder; fails where another run has it for longer than `wait` seconds."""
-    ends = time.monotonic() + wait
-    while True:
-        try:
-            return fcntl.flock(folder.descriptor, fcntl.LOCK_EX | fcntl.LOCK_NB)
-        except BlockingIOError:
-            if time.monotonic() >= ends:
-                raise Failure(f"another run makes the companions in {folder.path}", FAULT) from None
-            time.sleep(PAUSE)
+    if not lock.take(folder.descriptor, wait):
+        raise Failure(f"another run makes the companions in {folder.path}", FAULT)
