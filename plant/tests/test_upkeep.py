@@ -18,7 +18,7 @@ from hilpoven.core.grammar import LINES
 from hilpoven.core.office import Office
 from hilpoven.core.journal.log import Journal
 from hilpoven.core.journal.query import check
-from hilpoven.record import accepted
+from hilpoven.model import accepted
 
 
 def test_new_makes_an_office_and_nothing_else_does(plant):

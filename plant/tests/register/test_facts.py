@@ -12,6 +12,7 @@ from hilpoven.model.rows import LotId, require_lot
 from hilpoven.model.notes import facts
 from hilpoven.model.notes.kinds import Bound
 from hilpoven.model.notes.notes import KINDS, from_json, to_json
+from hilpoven.model.register import standing
 from hilpoven.model.register.standing import standing_over_all
 from hilpoven.model.years import history
 from notes import cut_off, register_of
@@ -37,7 +38,7 @@ def described(plant: Plant, lot: str, owner: str = "ACME"):
     """What papers and lists get of a lot."""
     context = Context(load(), str(plant.db))
     with snapshot.opened(context.office()) as base:
-        return describe_lot(base, context.register(base).of(owner), require_lot(base, LotId(owner, lot)))
+        return describe_lot(base, standing.register_of(context, base).of(owner), require_lot(base, LotId(owner, lot)))
 
 
 def values(plant: Plant) -> dict[str, str]:

@@ -10,7 +10,7 @@ from random import Random
 
 import pytest
 from conftest import Plant
-from hilpoven.core import private_server
+from hilpoven.core import days, private_server
 from hilpoven.core.office import Office
 from hilpoven.core.private_server import PrivateServer
 from hilpoven.report.lists import overviews
@@ -166,7 +166,7 @@ def compare(plant: Plant, one: pathlib.Path, served: PrivateServer, cuts: int, c
             assert (overview.facts, overview.tables) == (expected.facts, expected.tables)
         compare_alone(plant, cut)
         for owner in EVERYBODY:
-            for first, last in ((statement.FIRST_DAY, statement.LAST_DAY), (260103, 260108)):
+            for first, last in ((days.FIRST_DAY, days.LAST_DAY), (260103, 260108)):
                 (lots, of_house), (expected, expected_of_house) = (stated_by_command(side.base, owner, first, last) for side in (cut, whole))
                 assert sorted(same(lots)) == stated(whole.copy, owner, first, last) == expected
                 assert sorted(same(of_house)) == sorted(expected_of_house)
@@ -194,7 +194,7 @@ def compare_alone(plant: Plant, cut: history.History) -> None:
     """What is asked of an owner is told of its rows and HOUSE's as it is told of all."""
     for owner in EVERYBODY:
         with history.opened(Office(str(plant.db), plant.program, 10.0), owner) as alone:
-            assert statement.read_statement(alone.base, owner, 0, statement.LAST_DAY) == statement.read_statement(cut.base, owner, 0, statement.LAST_DAY)
+            assert statement.read_statement(alone.base, owner, 0, days.LAST_DAY) == statement.read_statement(cut.base, owner, 0, days.LAST_DAY)
             for lot, in cut.base.execute("SELECT lot FROM lots WHERE owner = ?", (owner,)).fetchall():
                 assert recalled(alone.base, owner, lot) == recalled(cut.base, owner, lot)
                 assert traced(alone.base, owner, lot, "back") == traced(cut.base, owner, lot, "back")

@@ -100,7 +100,7 @@ def make(office: Office, folder: str, keep: int, days: int, journal: Journal) ->
     ones of the newest days; the path of the new one. The journal notes its hash before it has its name."""
     folder = paths.private(folder)
     with snapshot.copied(office, folder) as copy:
-        settle(copy)
+        snapshot.settle(copy)
         require_sound(office, copy)
         digest = hash_of(copy)
         if not mark_of(journal):
@@ -164,17 +164,6 @@ def last_of_days(backups: list[str]) -> list[str]:
     return list(last.values())
 
 
-def settle(copy: str) -> None:
-    """Takes what the log of a copy holds into the copy, so that it is one file."""
-    try:
-        with contextlib.closing(sqlite3.connect(copy)) as base:
-            snapshot.require_office(base, "the copy")
-            base.execute("PRAGMA wal_checkpoint(TRUNCATE)")
-    except sqlite3.Error as error:
-        raise Failure(f"{copy} can't be settled: {error}") from error
-    files.remove(copy, "-wal", "-shm")
-
-
 def require_sound(office: Office, copy: str) -> None:
     """Fails where SQLite or `toll` finds a copy damaged. `toll` is given another one, since it may bring a file to a
     newer version when it opens it."""
@@ -206,7 +195,7 @@ def restore(office: Office, backup: str, place: Place, journal: Journal, is_fore
     with scratch.folder(os.path.dirname(office.file)) as room:
         copy = os.path.join(room, "copy.db")
         copy_backup(backup, copy, office.wait)
-        settle(copy)
+        snapshot.settle(copy)
         require_sound(office, copy)
         require_sums(copy)
         digest = hash_of(copy)

@@ -3,7 +3,7 @@ import contextlib
 import os
 import sqlite3
 import time
-from collections.abc import Sequence
+from collections.abc import Callable, Sequence
 from dataclasses import dataclass, field
 from datetime import date, datetime
 
@@ -174,13 +174,22 @@ def check_backups(context: Context, health: Health) -> None:
         health.attention.append(f"the newest backup is {hours:,.0f} hours old")
 
 
-def check_companions(context: Context, health: Health) -> None:
-    """Looks whether the owners' companions are as new as the file, where the office has any."""
-    from ..report.companion import making
+@dataclass(frozen=True)
+class Age:
+    """The seconds since the companions of an office were those of now, and whether its file changed since."""
 
+    seconds: float
+    is_old: bool
+
+
+AgeOf = Callable[[Context, str], Age | None]  # of the companions in a folder
+
+
+def check_companions(context: Context, health: Health, age_of: AgeOf) -> None:
+    """Looks whether the owners' companions are as new as the file, where the office has any."""
     folder = site.companions_of(context.settings)
     try:
-        age = making.age_of(context, folder) if folder and context.file == site.office_of(context.settings) else None
+        age = age_of(context, folder) if folder and context.file == site.office_of(context.settings) else None
     except Failure as failure:
         health.attention.append(failure.message)
         return
@@ -246,9 +255,12 @@ def labels(gauge: Gauge) -> str:
     return f'{{owner="{owner}",of="{kind}"}}'
 
 
-def health_of(context: Context) -> Health:
-    """All that is found of an office."""
+def health_of(context: Context, age_of: AgeOf) -> Health:
+    """All that is found of an office, whose companions are made elsewhere."""
     health = Health()
-    for check in (check_file, check_server, check_backups, check_companions, check_standby):
-        check(context, health)
+    check_file(context, health)
+    check_server(context, health)
+    check_backups(context, health)
+    check_companions(context, health, age_of)
+    check_standby(context, health)
     return health

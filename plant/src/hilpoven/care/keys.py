@@ -1,7 +1,6 @@
 """Owners' keys, which stand on no command line and in no log."""
 import contextlib
 import os
-import pathlib
 import sqlite3
 import string
 from collections.abc import Iterable
@@ -56,7 +55,7 @@ def change_key(office: Office, owner: str, key: str) -> None:
     It is the one write to the tables that isn't `toll`'s: the rows after it are those of the history whose
     `owner-add` had this key, and nothing else of a history depends on a key.
     """
-    address = f"{pathlib.Path(office.file).as_uri()}?mode=rw"
+    address = snapshot.address_of(office.file, "rw")
     try:
         with lock.held(office.file, office.wait), contextlib.closing(
             sqlite3.connect(address, uri=True, timeout=10)

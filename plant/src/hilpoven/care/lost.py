@@ -8,9 +8,9 @@ from ..core import snapshot
 from ..core.context import Context
 from ..core.failure import Failure, printable
 from ..core.journal import query
-from ..core.journal.history import listed
+from ..core.journal.query import listed
 from ..core.journal.log import MADE_AT, Journal
-from ..record.accepted import rows_of
+from ..model.accepted import rows_of
 from ..model.register import file
 from ..model.register.folding import Noted
 from ..model.register.meant import NAMED

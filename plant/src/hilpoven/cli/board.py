@@ -5,7 +5,7 @@ import click
 
 from ..core import paths
 from ..core.context import Context
-from ..report.board import board_rows
+from ..report.board.panels import panels
 from ..report.papers import copies, printing
 from ..core.days import now
 from .words import PATH, pass_context
@@ -34,12 +34,12 @@ def board(context: Context, target: str | None, force: bool) -> None:
     with paths.target(target, force) if target else contextlib.nullcontext() as page:
         now_in_plant = now(context.settings.time_zone)
         with copies.opened(context.office_to_export("board", is_seldom=False), context.journal()) as source:
-            panels = board_rows.panels(source)
+            all_panels = panels(source)
         text = printing.render(
             "board",
             {
-                "panels": panels,
-                "is_noted": any(row.is_noted for panel in panels for row in panel.rows),
+                "panels": all_panels,
+                "is_noted": any(row.is_noted for panel in all_panels for row in panel.rows),
                 "made_at": f"{now_in_plant:%Y-%m-%d %H:%M}",
                 "seconds": int(now_in_plant.timestamp()),
                 "reloads": RELOADS,

@@ -5,7 +5,7 @@ import sys
 import click
 
 from .. import HOUSE
-from ..core import names
+from ..core import names, server
 from ..core.context import Context
 from ..core.failure import REFUSED, WRONG_USE, Failure
 from ..core.table import print_table
@@ -129,7 +129,13 @@ def carry_over(context: Context, new: str | None, day: int | None, is_plan: bool
     target = target_of(context.file, new)
     office = context.office_to_read() if is_plan else context.office()
     with prepared(
-        office, context.place, context.journal(), target, str(carried_on), is_plan, tuple(dict.fromkeys(without))
+        office,
+        server.place_of(context),
+        context.journal(),
+        target,
+        str(carried_on),
+        is_plan,
+        tuple(dict.fromkeys(without)),
     ) as work:
         note("the file is looked at")
         require_owners(work)

@@ -6,7 +6,7 @@ from typing import TYPE_CHECKING
 
 import click
 
-from ..core import paths, rights, scratch, settings as site
+from ..core import paths, rights, scratch, server, settings as site
 from ..core.context import Context
 from ..core.failure import REFUSED, WRONG_USE, Failure, printable, tell, tell_line
 from .groups import Group
@@ -201,13 +201,13 @@ def promote(context: Context, folder: str | None, until: int | None, is_check: b
         last, choice = promoting.tried(office, folder, until)
         tell_of(choice, f"the office of piece {choice.end} is sound; it was made at {last.at}, {age_of(last.at)} ago")
         return
-    promoted, choice = promoting.promote(office, folder, context.place, context.journal(), until)
+    promoted, choice = promoting.promote(office, folder, server.place_of(context), context.journal(), until)
     last, lines = promoted.last, lost.lines_of(lost.note_lost(context))
     tell_of(choice, f"{context.file} is the office of piece {choice.end}, made at {last.at}, {age_of(last.at)} ago")
     aside = f"; what was there is in {promoted.aside}" if promoted.aside else ""
     click.echo("\n".join([printable(f"timeline {promoted.timeline} begins{aside}"), *lines]))
     tell("\n".join(promoted.notes))
-    tell(f"Serve it: systemctl enable --now {context.place.unit}\nThen lead owners and the plant here.")
+    tell(f"Serve it: systemctl enable --now {server.place_of(context).unit}\nThen lead owners and the plant here.")
 
 
 def tell_of(choice: "Choice", line: str) -> None:

@@ -9,8 +9,9 @@ import click
 from ..core import settings as site
 from ..core.context import Context
 from ..core.failure import REFUSED, WRONG_USE, Failure, printable, tell
-from ..core.journal import history, query
-from ..core.journal.history import COLUMNS, JournalEntry
+from ..report import history
+from ..core.journal import query
+from ..report.history import COLUMNS, JournalEntry
 from ..core.exports import as_csv, as_json
 from ..core.table import print_table
 from ..core.days import format_moment, moment_in
@@ -140,7 +141,7 @@ def verify(context: Context, heads: tuple[str, ...]) -> None:
     for finding in [*checked.wrong, *checked.notes]:
         click.echo(finding)
     for entry in checked.unanswered:
-        click.echo(printable(f"{entry.get('time')} {history.who(entry)}: {history.asked(entry)}: {history.UNKNOWN}"))
+        click.echo(printable(f"{entry.get('time')} {query.who(entry)}: {history.asked(entry)}: {history.UNKNOWN}"))
     click.echo(
         f"{checked.lines} lines{'' if checked.wrong else ', whole'}, {len(checked.unanswered)} without an answer; "
         f"head {checked.lines} {checked.head}"

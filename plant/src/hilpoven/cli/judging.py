@@ -18,6 +18,7 @@ from ..model.register import quality
 from ..model.notes.notes import Held, Judgement, Signed
 from ..record.recorders import recorders
 from ..model.register.store import Register
+from ..model.register.standing import register_of
 from . import roles
 from .words import DAY, FILLED_TEXT, WORD, LotCommand, pass_context
 
@@ -44,7 +45,7 @@ def sign(context: Context, owner: str, lot: str, reason: str | None, day: int | 
     note = Signed(owner, lot, day_given(context, day), reason or "")
     with desk_alone(context, note) as desk:
         asked = require_lot(desk.base, LotId(owner, lot))
-        register = context.register(desk.base)
+        register = register_of(context, desk.base)
         status = quality.statuses(desk.base, register, asked.id).get(asked.id)
         is_signed = status is not None and status.state == quality.State.SIGNED
         if not is_signed:

@@ -5,11 +5,11 @@ Most lines have none, so what makes them is imported where it is needed.
 from collections.abc import Callable
 from dataclasses import dataclass
 from functools import partial
-from typing import Any, NamedTuple
+from typing import Any
 
 import click
 
-from ..record.asking import Beside
+from ..record.asking import Beside, Typed
 from ..core.context import Context
 from ..core.failure import WRONG_USE, Failure
 from ..core.grammar import Line
@@ -20,13 +20,6 @@ from .words import FILLED_TEXT, NAME, TEXT, WORD, OneOf, decimals_option
 WHYS = [why.value for why in Why]
 Values = dict[str, str]  # of a line, by their names
 Given = dict[str, Any]  # the options of the notes, by their names
-
-
-class Typed(NamedTuple):
-    """The words of a line as they are given to `toll`, and what was given beside them."""
-
-    words: list[str]
-    given: Given
 
 
 def as_typed(_: Context, __: Line, words: list[str], given: Given) -> Typed:

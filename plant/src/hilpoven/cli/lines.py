@@ -1,5 +1,4 @@
 """The 25 lines of `toll` as subcommands, whose values are typed in order or behind their names."""
-import re
 import sys
 from functools import partial
 from typing import TYPE_CHECKING, Any
@@ -11,7 +10,7 @@ from ..core import scanned
 from ..core.context import Context
 from ..core.failure import WRONG_USE, Failure, tell
 from ..core.grammar import MOVEMENTS, NEXT, OWNER_ADD, TO, Line, in_capitals, in_days
-from .words import at_terminal
+from .words import at_terminal, quoted
 
 if TYPE_CHECKING:
     from .line_notes import LineNotes
@@ -197,8 +196,3 @@ def miscounted(line: Line, words: list[str], missing: list[str]) -> str:
         return f"{line.name}: {', '.join(left)} {'is' if len(left) == 1 else 'are'} missing"
     surplus = words[len(missing) :]
     return f"{line.name}: {len(surplus)} more than its {len(line.values)} values: {' '.join(map(quoted, surplus))}"
-
-
-def quoted(word: str) -> str:
-    """A word as it is told back: in quotes unless its letters need none."""
-    return word if re.fullmatch(r"[\w.:/-]+", word) else repr(word)

@@ -113,9 +113,10 @@ def read(context: Context, name: str, asked: dict[str, Any], only_open: bool) ->
             return Listed(columns, rows, absence.reasons(base, name, asked, only_open))
         if not listing.noted or not context.may_have_notes:
             return Listed(columns, rows, [])
+        from ..model.register.standing import register_of
         from ..report.lists.noted import NOTED
 
-        return Listed(*NOTED[listing.noted](columns, rows, context.register(base), base), [])
+        return Listed(*NOTED[listing.noted](columns, rows, register_of(context, base), base), [])
 
 
 list_group = Group(

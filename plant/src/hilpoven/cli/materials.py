@@ -16,6 +16,7 @@ from ..model.rows import Base, require_owner
 from ..record.describing import LIMITS, MATERIAL
 from ..model.register.quality import LIMIT
 from ..model.register.store import Register
+from ..model.register.standing import register_of
 from . import value_notes
 from .groups import Group
 from .words import WORD, decimals_type, pass_context
@@ -74,7 +75,7 @@ def new(
     own = [(plants_test, str(LIMIT), str(LIMIT))] if plants_test else []
     office = context.office()
     with snapshot.opened(office) as base:
-        register = context.register(base)
+        register = register_of(context, base)
         steps = [step_of("material-add", [owner, material, measure])]
         steps += [step_of_test(register, owner, material, test, dict(decimals)) for test in [*tests, *own]]
         require_owner(base, owner)

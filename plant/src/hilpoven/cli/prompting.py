@@ -16,11 +16,13 @@ from ..record.choices import Choice, Place
 from ..core.days import date_of, day_of, today
 from ..model.measures import form_of, limits_text, whole_of
 from ..record import describing
+from ..record.stops import Stops
 from ..model.notes.kinds import split_sign
 from ..model.notes.movements import GETS, party_fault
 from ..model.register.store import Register
+from ..model.register.standing import register_of
 from . import terminal
-from .lines import quoted
+from .words import quoted
 from .value_notes import NO_DAY, decimals_of
 from .words import MOST_TOLD
 
@@ -58,7 +60,7 @@ class Tables:
 
     def register(self, base: sqlite3.Connection) -> Register:
         """What the plant noted, which is read when it is needed."""
-        self.noted = self.noted or self.context.register(base)
+        self.noted = self.noted or register_of(self.context, base)
         return self.noted
 
 
@@ -242,7 +244,7 @@ class Dialogue:
         """What is told against the test of a result that is the plant's own, against a bound that doesn't say whether
         the value is within the limits, and against a value that couldn't be told from another one of its day."""
         if values.get("TEST") == self.context.settings.quality.test:
-            return self.context.stops.why_no_result(values)
+            return self.context.once(Stops).why_no_result(values)
         if "VALUE" not in values:
             return ""
         names, day = (values["OWNER"], values["LOT"], values["TEST"]), int(values.get("DAY", NO_DAY))

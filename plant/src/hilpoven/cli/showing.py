@@ -8,6 +8,7 @@ from ..core.context import Context
 from ..report.lists import master_data, overviews
 from .groups import Group
 from .words import WORD, LotCommand, pass_context
+from ..model.register.standing import register_of
 
 
 def show_command(
@@ -20,7 +21,7 @@ def show_command(
     @pass_context
     def show(context: Context, as_json: bool, **given: str) -> None:
         with snapshot.opened(context.office_to_read()) as base:
-            register = {"register": context.register(base)} if has_notes else {}
+            register = {"register": register_of(context, base)} if has_notes else {}
             overview = make(base, *given.values(), **register)
         click.echo(overview.as_json()) if as_json else overview.print()
 

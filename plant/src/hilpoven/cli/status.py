@@ -9,6 +9,7 @@ from ..core.context import Context
 from ..core.failure import printable
 from ..care.health import Health, health_of, metrics, pressing
 from ..core.table import Row, counted, print_table
+from ..report.companion import making
 from .words import pass_context
 
 MOST = 12  # gauges that are shown, where none is above FULL
@@ -84,7 +85,7 @@ def status(context: Context, prometheus: bool, is_whole: bool) -> None:
     Example: hilpoven status
     """
     rights.become_owner(context.file)
-    health = health_of(context)
+    health = health_of(context, making.age_of)
     if prometheus:
         click.echo(metrics(health), nl=False)
         sys.exit(health.code)

@@ -10,13 +10,14 @@ from typing import Any
 import click
 
 from ..care import backups
-from ..core import paths, rights, settings as site, snapshot
+from ..core import paths, rights, server, settings as site, snapshot
 from ..core.context import Context
 from ..core.failure import FAULT, REFUSED, WRONG_USE, Failure, printable, tell
 from ..core.office import has_bytes
 from ..core.journal import query
 from ..core.journal.log import Journal
-from ..record import accepted, answered
+from ..model import accepted
+from ..record import answered
 from ..core.days import moment_in
 from ..model.register import file as register
 from ..care import lost, reports
@@ -177,7 +178,7 @@ def restored(context: Context, backup: str | None, is_foreign: bool) -> tuple[st
     """Puts a backup in place; its name, and the folder where what was there is now."""
     name = str(backup)
     path, office = chosen(context, name), context.unseen_office()
-    return name, backups.restore(office, path, context.place, context.journal(), is_foreign)
+    return name, backups.restore(office, path, server.place_of(context), context.journal(), is_foreign)
 
 
 def restored_at(context: Context, moment: float) -> tuple[str, str]:
@@ -186,7 +187,7 @@ def restored_at(context: Context, moment: float) -> tuple[str, str]:
     from .following import folder_of
 
     office, folder = context.unseen_office(), folder_of(context)
-    restored = promoting.restore_at(office, folder, context.place, context.journal(), moment)
+    restored = promoting.restore_at(office, folder, server.place_of(context), context.journal(), moment)
     return f"the office of {restored.last.at}", restored.aside
 
 
@@ -251,7 +252,7 @@ class Answered:
         from ..care.standby import kept, lag
 
         file, follow = self.context.file, self.context.settings.follow
-        backups.settle(copy)
+        snapshot.settle(copy)
         with chain.reading(copy) as base:
             earlier = [part.path for part in chain.earlier_files(file, chain.came_from(base))]
         with contextlib.ExitStack() as stack:

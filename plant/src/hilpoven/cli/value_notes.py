@@ -14,7 +14,8 @@ from ..record import describing, making
 from ..model.notes.facts import ResultFacts, TestFacts
 from ..model.notes.kinds import split_sign
 from ..model.register.store import Register
-from .line_notes import Typed
+from ..model.register.standing import register_of
+from ..record.asking import Typed
 
 Values = dict[str, str]  # of a line, by their names
 LIMITS = ("LOW", "HIGH")
@@ -37,7 +38,7 @@ def read_limits(context: Context, line: Line, words: list[str], given: dict[str,
     office, decimals = context.office(), given["decimals"]
     if not decimals and describing.has_measures(context.journal()):
         with snapshot.opened(office) as base:
-            decimals = decimals_of(base, context.register(base), dict(zip(line.values, words)))
+            decimals = decimals_of(base, register_of(context, base), dict(zip(line.values, words)))
     return Typed(with_limits(line, words, decimals or 0), given)
 
 
@@ -75,7 +76,7 @@ def read_result(context: Context, line: Line, words: list[str], given: dict[str,
     if any(map(NAME.fault, names)):
         return Typed(words, given)
     with snapshot.opened(office) as base:
-        register = context.register(base)
+        register = register_of(context, base)
         word, facts = describing.result_of(base, register, *names, typed["VALUE"], day)
         tell(describing.advice_on_decimals(base, describing.test_of_lot(base, register, *names), number))
     return Typed(measured(line, words, {"VALUE": word}), {**given, "facts": facts})

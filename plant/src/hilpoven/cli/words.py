@@ -252,3 +252,8 @@ def decimals_option() -> click.Option:
 DAY = Day()
 
 pass_context = click.make_pass_decorator(Context)
+
+
+def quoted(word: str) -> str:
+    """A word as it is told back: in quotes unless its letters need none."""
+    return word if re.fullmatch(r"[\w.:/-]+", word) else repr(word)

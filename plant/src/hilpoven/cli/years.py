@@ -14,7 +14,7 @@ from ..core.table import Row, Value, print_table
 from ..report import statement as statements
 from ..report.lists import overviews
 from ..model.answers import recall_of
-from ..core.days import format_day
+from ..core.days import FIRST_DAY, LAST_DAY, format_day
 from ..model.genealogy import FORWARD, Genealogy, Trace
 from ..model.recall import RecallLine, recall_lines
 from ..model.rows import Lot, LotId, require_owner
@@ -181,8 +181,8 @@ def lot_card(context: Context, owner: str, lot: str, file: str, is_json: bool) -
 
 @years_group.command("statement")
 @click.argument("owner", metavar="OWNER")
-@click.option("--from", "first", metavar="DAY", type=DAY, default=statements.FIRST_DAY, help="From this day on.")
-@click.option("--to", "last", metavar="DAY", type=DAY, default=statements.LAST_DAY, help="Up to this day.")
+@click.option("--from", "first", metavar="DAY", type=DAY, default=FIRST_DAY, help="From this day on.")
+@click.option("--to", "last", metavar="DAY", type=DAY, default=LAST_DAY, help="Up to this day.")
 @csv_option
 @pass_context
 def statement(context: Context, owner: str, first: int, last: int, is_csv: bool) -> None:

@@ -1,21 +1,18 @@
 """What a command stands on: the settings, and the office that it is for."""
 import functools
 import os
+from collections.abc import Callable
 from dataclasses import dataclass, field, replace
-from typing import TYPE_CHECKING
+from typing import Any, TypeVar
 
-from . import rights, settings as site
+from . import paths, rights, settings as site, timeline
 from .failure import Failure
+from .journal import log as journals
+from .journal.log import Journal
 from .office import SUPERSEDED, Office, require_file
 from .settings import Settings
 
-if TYPE_CHECKING:
-    from sqlite3 import Connection
-
-    from .journal.log import Journal
-    from ..record.stops import Stops
-    from ..model.register.store import Register
-    from .server import Place
+Known = TypeVar("Known")
 
 
 @dataclass
@@ -25,6 +22,7 @@ class Context:
     settings: Settings
     db: str = ""
     unnoted: list[Failure] = field(default_factory=list)  # why answers couldn't be noted
+    known: dict[Any, Any] = field(default_factory=dict, init=False)  # what `once` made, by what makes it
 
     @functools.cached_property
     def file(self) -> str:
@@ -38,8 +36,6 @@ class Context:
         """The office, whose file is there, to be worked on with its owner's rights; fails if it is superseded."""
         rights.become_owner(self.file)
         if os.path.lexists(self.file + SUPERSEDED):
-            from . import timeline
-
             timeline.require_latest(self.file)
         return self.office_to_read()
 
@@ -51,16 +47,12 @@ class Context:
     def unseen_office(self) -> Office:
         """The office, whose file may not be there. A member works on none in a folder that others may change."""
         if rights.is_member():
-            from . import paths
-
             paths.private(os.path.dirname(self.file))
         settings = self.settings
         return Office(self.file, site.program(settings), settings.wait, settings.quality.test)
 
-    def journal(self) -> "Journal":
+    def journal(self) -> Journal:
         """The office's journal."""
-        from .journal import log as journals
-
         return journals.Journal(
             journals.adopted(site.journal_of(self.settings, self.file), self.file), self.file, self.unnoted
         )
@@ -70,41 +62,19 @@ class Context:
         """Whether there is a journal or a register, so that the plant may have noted something."""
         return any(map(os.path.lexists, (site.journal_of(self.settings, self.file), f"{self.file}.register")))
 
-    def register(self, base: "Connection") -> "Register":
-        """What the plant noted that stands, of an office of whose file these are the tables."""
-        from ..model.register import file
-        from ..model.register.store import Register
-
-        journal, plants_test = self.journal(), self.settings.quality.test
-        if not file.has_notes(journal):
-            return Register(plants_test=plants_test)
-        from ..model.register.standing import standing
-
-        return replace(standing(journal, base), plants_test=plants_test)
-
-    @functools.cached_property
-    def stops(self) -> "Stops":
-        """What of the plant's lots is refused before `toll` is asked."""
-        from ..record.stops import Stops
-
-        return Stops(self)
+    def once(self, make: "Callable[[Context], Known]") -> Known:
+        """What something makes of this, which it does once."""
+        if make not in self.known:
+            self.known[make] = make(self)
+        known: Known = self.known[make]
+        return known
 
     def office_to_export(self, *words: str, is_seldom: bool = True) -> Office:
         """The office, of which data is about to be handed out, which is noted. What a timer does every minute isn't."""
-        from .journal import log as journals
-
         office = self.office_to_read()
         if is_seldom or journals.has_login():
             self.journal().exported(self.file, list(words))
         return office
-
-    @property
-    def place(self) -> "Place":
-        """Where a server of the office is expected."""
-        from .server import Place
-
-        name, is_of_settings = self.settings.office, self.file == site.office_of(self.settings)
-        return Place(f"toll@{name}" if name else "toll", self.settings.port if is_of_settings else 0)
 
     def end(self) -> None:
         """Fails where an answer couldn't be noted: it was given all the same."""

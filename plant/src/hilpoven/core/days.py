@@ -5,6 +5,7 @@ from datetime import date, datetime, timedelta, timezone, tzinfo
 
 DATE = re.compile(r"([0-9]{4})-([0-9]{2})-([0-9]{2})")
 DATED_YEARS = range(2010, 2100)  # as YYMMDD an earlier day would have fewer digits
+FIRST_DAY, LAST_DAY = 0, 9_999_999
 
 
 def date_of(day: int) -> date | None:

@@ -1,5 +1,4 @@
 """Tables for spreadsheets and programs: as CSV and as JSON."""
-import csv
 import io
 import json
 import re
@@ -29,6 +28,8 @@ def as_cell(value: Value) -> Value:
 
 def csv_of(cells: Iterable[Row], end: str = "\n") -> str:
     """Rows of cells as CSV (RFC 4180)."""
+    import csv
+
     text = io.StringIO()
     csv.writer(text, lineterminator=end).writerows(cells)
     return text.getvalue()

@@ -3,6 +3,7 @@ import re
 from typing import NamedTuple
 
 from . import forms
+from .days import day_in
 from .failure import printable
 from .forms import Form
 
@@ -155,8 +156,6 @@ def date_as_day(word: str) -> int | None:
     """The day that stands for a date; `None` where a word is none."""
     if word.isdecimal():
         return None
-    from .days import day_in
-
     return day_in(word)
 
 

@@ -5,6 +5,9 @@ import re
 from collections import defaultdict
 from typing import Any
 
+# What `toll import` answers to a row.
+OUTCOME = re.compile(r" *\d+ (accepted|repeated|refused \d+ \w+|bad-record|fault \w+)")
+
 
 @functools.cache
 def table(name: str) -> dict[str, dict[str, Any]]:

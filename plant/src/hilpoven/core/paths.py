@@ -2,7 +2,6 @@
 over an office's files, and other files are replaced only if that is asked for."""
 import contextlib
 import os
-import pathlib
 import stat
 from collections.abc import Iterator
 from dataclasses import dataclass
@@ -19,13 +18,21 @@ FOLDER = os.O_RDONLY | os.O_DIRECTORY | os.O_NOFOLLOW | os.O_CLOEXEC
 SQLITE = b"SQLite format 3\0"
 
 
+def up_from(path: str) -> Iterator[str]:
+    """A folder and all above it."""
+    yield path
+    while path != "/":
+        path = os.path.dirname(path)
+        yield path
+
+
 def private(folder: str) -> str:
     """A folder without links on its way; fails where another than this user and root may change what is in it, or what
     it is."""
     path = os.path.realpath(folder)
     if not os.path.isdir(path):
         raise Failure(f"{folder} is no folder", WRONG_USE)
-    for each in [path, *map(str, pathlib.Path(path).parents)]:
+    for each in up_from(path):
         state = os.stat(each)
         may_others = state.st_mode & 0o022 and not (each != path and state.st_mode & stat.S_ISVTX)
         if state.st_uid not in (0, os.geteuid()) or may_others:

@@ -5,7 +5,9 @@ import socket
 from dataclasses import dataclass
 from typing import NamedTuple
 
+from . import settings as site
 from .client import PATIENCE, PlantSocket
+from .context import Context
 
 
 @dataclass(frozen=True)
@@ -14,6 +16,12 @@ class Place:
 
     unit: str
     port: int
+
+
+def place_of(context: Context) -> Place:
+    """Where a server of the office of a command is expected."""
+    name, is_of_settings = context.settings.office, context.file == site.office_of(context.settings)
+    return Place(f"toll@{name}" if name else "toll", context.settings.port if is_of_settings else 0)
 
 
 def greeting(file: str) -> str:

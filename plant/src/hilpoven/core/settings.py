@@ -5,6 +5,7 @@ import re
 from collections.abc import Callable
 from typing import Any, NamedTuple
 
+from .days import zone_of
 from .failure import WRONG_USE, Failure
 from .forms import TEXT, name_fault
 from .rights import advice
@@ -45,8 +46,6 @@ def prefix_fault(prefix: str) -> str:
 
 def zone_fault(name: str) -> str:
     """What is wrong with the name of a time zone."""
-    from .days import zone_of
-
     try:
         zone_of(name)
     except (OSError, ValueError, LookupError):

@@ -98,3 +98,21 @@ def require_office(base: sqlite3.Connection, file: str) -> None:
             f"{file} has version {number}, and {OFFICE_VERSION} is read",
             advice="a command or a question of `toll` brings an older one to it",
         )
+
+
+def address_of(file: str, mode: str) -> str:
+    """How SQLite opens a file that is there, and makes none; `mode` is `ro` or `rw`."""
+    import pathlib
+
+    return f"{pathlib.Path(file).as_uri()}?mode={mode}"
+
+
+def settle(copy: str) -> None:
+    """Takes what the log of a copy holds into the copy, so that it is one file."""
+    try:
+        with contextlib.closing(sqlite3.connect(copy)) as base:
+            require_office(base, "the copy")
+            base.execute("PRAGMA wal_checkpoint(TRUNCATE)")
+    except sqlite3.Error as error:
+        raise Failure(f"{copy} can't be settled: {error}") from error
+    files.remove(copy, "-wal", "-shm")

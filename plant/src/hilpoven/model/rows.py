@@ -11,6 +11,8 @@ from .schema import INCOMING, ON_HAND, OPEN_TESTS, ORIGIN, REQUIREMENTS, STANDIN
 
 Base = sqlite3.Connection
 
+PLURALS = {"batch": "batches"}
+
 
 class LotId(NamedTuple):
     """A lot, by its owner and its name."""
@@ -239,3 +241,13 @@ def require_lot(base: Base, lot: LotId) -> Lot:
         return row
     names = [name for name, in base.execute("SELECT lot FROM lots WHERE owner = ?", (lot.owner,))]
     raise Failure(f"there is no lot {lot}", REFUSED, nearest(lot.name, names, f"lots of {lot.owner}"))
+
+
+def row_of(base: Base, sql: str, words: tuple[str, ...], kind: str, names: str) -> tuple[Any, ...]:
+    """The row of a thing; fails with the nearest names if there is none."""
+    row = base.execute(sql, words).fetchone()
+    if row is None:
+        known = [str(name) for name, in base.execute(names, words[:-1])]
+        advice = nearest(words[-1], known, PLURALS.get(kind, f"{kind}s"))
+        raise Failure(f"there is no {kind} {' '.join(words)}", REFUSED, advice)
+    return tuple(row)

@@ -8,10 +8,10 @@ from typing import Any
 
 from ..core.failure import printable
 from ..core.journal import sitelog
-from ..core.journal.history import listed
+from ..core.journal.query import listed
 from ..core.journal.sitelog import Request
 from ..core.table import counted
-from .accepted import has_replaced
+from ..model.accepted import has_replaced
 from ..model.schema import Disposition
 
 FIRST = 10  # requests that are told where the files lack many

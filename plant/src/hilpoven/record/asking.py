@@ -1,17 +1,15 @@
 """How a line is given to `toll`: what is typed is looked at, noted in the journal, and the answer is explained."""
 from collections.abc import Callable
-from typing import TYPE_CHECKING, Any, NamedTuple
+from typing import Any, NamedTuple
 
 from .. import HOUSE
 from ..core import lock, meanings
 from ..core.context import Context
 from ..core.failure import WRONG_USE, Failure, printable, tell
 from ..core.grammar import OWNER_ADD, Line, faults, unsayable, written
+from ..core.journal.log import Journal
 from ..core.names import earlier_files
 from ..core.office import Answer, Office, pass_on
-
-if TYPE_CHECKING:
-    from ..core.journal.log import Journal
 
 BLOTTED = "********"  # in place of a key
 TRACES = ("recall", "trace")  # the questions to which links add lots
@@ -87,7 +85,7 @@ def asked(
     office: Office,
     line: Line,
     words: list[str],
-    journal: "Journal | None" = None,
+    journal: Journal | None = None,
     ask: Callable[[list[str]], Answer] | None = None,
     is_use: bool = False,
     **members: Any,
@@ -112,7 +110,11 @@ def stopped_by_quality(context: Context, line: Line, words: list[str], is_use: b
     values = dict(zip(line.values, words))
     is_own_test = line.name == "result" and values["TEST"] == context.settings.quality.test
     is_judged = line.name in TAKES or is_use or is_own_test
-    return context.stops.answer(line, values, is_use) if is_judged else None
+    if not is_judged:
+        return None
+    from .stops import Stops
+
+    return context.once(Stops).answer(line, values, is_use)
 
 
 def given(
@@ -120,7 +122,7 @@ def given(
     office: Office,
     line: Line,
     words: list[str],
-    journal: "Journal | None" = None,
+    journal: Journal | None = None,
     ask: Callable[[list[str]], Answer] | None = None,
     **members: Any,
 ) -> Answer:
@@ -169,3 +171,10 @@ def explain(office: Office, line: Line, words: list[str], answer: Answer) -> Non
         from ..model.years import earlier
 
         tell(earlier.hint(office, line, words, refusal))
+
+
+class Typed(NamedTuple):
+    """The words of a line as they are given to `toll`, and what was given beside them."""
+
+    words: list[str]
+    given: dict[str, Any]

@@ -100,7 +100,7 @@ def connection(context: Context, office: Office) -> Iterator[socket.socket]:
     """A connection at which owners ask the office: to the server at the port of the settings, if it is the office's
     user's, otherwise to one that is begun for this and ends behind it."""
     with contextlib.ExitStack() as stack:
-        port = context.place.port
+        port = server.place_of(context).port
         peer = server.connected(port, rights.owner_number(office.file)) if port else None
         if peer is None:
             plant = stack.enter_context(contextlib.closing(client.PlantSocket(office.file)))

@@ -2,11 +2,11 @@
 and consumption of lots that are held by a note alone, of which `toll` has nothing; and what a batch would use of a lot
 that is held. Each line is looked at while it is recorded (`core/lock.py`), so no hold comes in between."""
 import os
-from collections.abc import Callable, Mapping
+from collections.abc import Mapping, Sequence
 from dataclasses import dataclass, field
-from typing import TYPE_CHECKING
 
 from ..core import snapshot
+from ..core.context import Context
 from ..core.failure import REFUSED
 from ..core.grammar import LINES, Line
 from ..core.office import Answer
@@ -14,11 +14,8 @@ from ..model.rows import LotId
 from ..model.schema import IS_OUTGOING, Kind
 from ..model.years.earlier import MOVE, MOVE_COLUMNS, lot_of, move_of
 from ..model.register import file, folding, quality
+from ..model.register.standing import register_of
 from ..model.notes.notes import Held, Signed, from_json
-
-if TYPE_CHECKING:
-    from ..core.context import Context
-    from .sheets.sheet import Record
 
 TAKEN = f"SELECT owner, mkey, {MOVE_COLUMNS} FROM moves AS m WHERE m.lot_owner = ? AND m.lot = ? AND {IS_OUTGOING}"
 # A test of a lot that has the name of the plant's own and other limits.
@@ -43,7 +40,7 @@ class Stops:
     """What is refused over the office of a command. The office is read again whenever the journal has another signature
     or hold."""
 
-    context: "Context"
+    context: Context
     read_to: int | None = None  # how many bytes of the journal were looked at; `None` before the first time
     known: NotesAlone = NotesAlone()
 
@@ -54,6 +51,10 @@ class Stops:
         else:
             why = self.why_not_used(line, values) if is_use else self.why_not_taken(line, values)
         return Answer(REFUSED, "", f"refused by hilpoven: {why}\n") if why else None
+
+    def answer_to_actual(self, words: Sequence[str]) -> Answer | None:
+        """The same to an actual, by its words."""
+        return self.answer(LINES["actual"], dict(zip(LINES["actual"].values, words)), is_use=False)
 
     def why_no_result(self, values: Mapping[str, str]) -> str:
         """Why a result is none that is typed; empty if its lot is there, and has another test of this name: a lot that
@@ -81,7 +82,7 @@ class Stops:
         """The same of what is scrapped because a batch uses it, which `toll` records of each lot."""
         lot, movement = LotId(*lot_of(dict(values))), movement_of(line, values)
         with snapshot.opened(self.context.office_to_read()) as base:
-            status = quality.statuses(base, self.context.register(base), lot).get(lot)
+            status = quality.statuses(base, register_of(self.context, base), lot).get(lot)
             known = base.execute(MOVE, (values["OWNER"], values["KEY"])).fetchone()
         is_recorded = movement is not None and known == movement[2:]
         if is_recorded or status is None or status.state != quality.State.HELD:
@@ -102,29 +103,13 @@ class Stops:
         if not any(noted.is_own and isinstance(from_json(noted.value), Held) for noted in notes):
             return NotesAlone()
         with snapshot.opened(self.context.office_to_read()) as base:
-            statuses = quality.statuses(base, self.context.register(base))
+            statuses = quality.statuses(base, register_of(self.context, base))
             held = {
                 lot: status
                 for lot, status in statuses.items()
                 if status.is_note_alone and status.state == quality.State.HELD
             }
             return NotesAlone(held, frozenset(row for lot in held for row in base.execute(TAKEN, lot)))
-
-    def left_of(
-        self, records: "list[Record]", note: "Callable[[Record, str], None]", advance: Callable[[int], None]
-    ) -> "list[Record]":
-        """The records of a sheet of actuals that are left to be given; of the others their answer is noted."""
-        if not self.notes_alone().held:
-            return records
-        line, left = LINES["actual"], []
-        for record in records:
-            values = {value: record.values[value.lower().replace("-", "_")] for value in line.values}
-            if why := self.why_not_taken(line, values):
-                note(record, f"refused by hilpoven: {why}")
-                advance(1)
-            else:
-                left.append(record)
-        return left
 
 
 def movement_of(line: Line, values: Mapping[str, str]) -> Movement | None:

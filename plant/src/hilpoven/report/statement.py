@@ -8,7 +8,6 @@ from ..model.genealogy import Genealogy
 from ..model.rows import Base, BatchId, Lot, LotId, Move, lots_of, moves_of, read_lots, read_moves
 from ..model.schema import STANDING, Kind
 
-FIRST_DAY, LAST_DAY = 0, 9_999_999
 COUNTED = (Kind.RECEIVE, Kind.PRODUCED, Kind.CONSUMED, Kind.SCRAP, Kind.SHIP)  # in the order of a statement's columns
 AMOUNTS = ("opening", *(kind.total for kind in COUNTED), "closing", "unexplained")
 OF_HOUSE = f"m.owner = ? AND m.lot_owner <> m.owner AND m.day BETWEEN ? AND ? AND {STANDING}"

@@ -3,7 +3,7 @@ import os
 from dataclasses import dataclass, field
 
 from .. import backups, keys
-from ...core import files, lock, paths, scratch
+from ...core import files, lock, paths, scratch, snapshot, timeline
 from ...core.failure import FAULT, REFUSED, Failure
 from ...core.names import number_of
 from ...core.office import Answer, Office
@@ -11,7 +11,6 @@ from ...core.server import Place
 from ...core.journal import query
 from ...core.journal.log import MADE_AT, Journal
 from . import chain, journals
-from ...core import timeline
 from .chain import Built, Chain, Report
 from .piece import Header
 
@@ -152,7 +151,7 @@ def restore_at(office: Office, folder: str, place: Place, journal: Journal, mome
 def made_of(choice: Choice, office: Office, room: str) -> Built:
     """The office that pieces give, looked at as a backup is."""
     built = chain.build(chain.pieces_of(choice.chain, choice.start, choice.end), room)
-    backups.settle(built.file)
+    snapshot.settle(built.file)
     backups.require_sound(office, built.file)
     backups.require_sums(built.file)
     return built

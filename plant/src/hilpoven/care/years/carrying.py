@@ -12,7 +12,7 @@ from ...core.office import Answer, Office
 from ...core.server import Place
 from ...core.journal import log, query
 from ...core.progress import bar
-from ...record import accepted
+from ...model import accepted
 from ...model.register import file as register
 from ...model.years import chain
 from . import comparing, exchanging, steps
@@ -75,7 +75,7 @@ def prepared(
         else:
             backups.stop_on_server(office.file, place)
             snapshot.copy_both(office.file, copy)
-        backups.settle(copy)
+        snapshot.settle(copy)
         with chain.reading(copy) as base:
             row = chain.came_from(base)
         receipts = steps.Receipts(f"C{names.next_number(office.file)}", day)
@@ -165,7 +165,7 @@ def fill_and_exchange(work: Work, earlier: str, note: Callable[[str], None]) -> 
             files.copy(work.copy, tried)
             with private_server.opened(office.program, tried) as before:
                 comparing.require_same_stock(before, after, keys)
-        backups.settle(new)
+        snapshot.settle(new)
         comparing.require_same(work.copy, new, work.without)
         note("the new file is put in place")
         return exchanging.exchange(office, work.place, new, work.target, earlier, work.receipts.keys(base))

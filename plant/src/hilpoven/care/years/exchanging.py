@@ -74,7 +74,7 @@ def mark(path: str, row: chain.Carried, moves: Iterable[tuple[str, str]] = ()) -
             chain.put(base, row, moves)
     except sqlite3.Error as error:
         raise Failure(f"{path} can't be written: {error}") from error
-    backups.settle(path)
+    snapshot.settle(path)
 
 
 def settle_in_place(file: str) -> None:

@@ -150,3 +150,15 @@ def note_answer(entry: dict[str, Any], open_of: dict[str, dict[str, Any]]) -> No
         open_of[str(entry.get("id"))] = entry
     elif entry.get("event") == "told":
         open_of.pop(str(entry.get("of")), None)
+
+
+def who(entry: dict[str, Any]) -> str:
+    """The login, and whose rights it had where these are another's."""
+    login, user = str(entry.get("login")), str(entry.get("user"))
+    return login if login == user else f"{login} as {user}"
+
+
+def listed(entry: dict[str, Any], member: str) -> list[Any]:
+    """A list of an entry; an empty one where the entry has something else."""
+    value = entry.get(member)
+    return value if isinstance(value, list) else []

@@ -132,9 +132,7 @@ def held_file(path: str, file: str) -> Iterator[int]:
 @contextlib.contextmanager
 def tables(path: str) -> Iterator[sqlite3.Connection]:
     """The tables of a register that is held; fails where the file has others."""
-    import pathlib
-
-    address = f"{pathlib.Path(path).as_uri()}?mode=rw"
+    address = snapshot.address_of(path, "rw")
     with contextlib.closing(sqlite3.connect(address, uri=True, isolation_level=None)) as base:
         base.execute("PRAGMA trusted_schema = OFF")
         require_tables(base)

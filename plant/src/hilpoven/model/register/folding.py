@@ -6,18 +6,16 @@ import os
 import re
 from collections.abc import Iterator
 from dataclasses import dataclass, field, fields
-from typing import TYPE_CHECKING, Any
+from typing import Any
 
 from ...core.files import READ
 from ...core.failure import Failure
 from ...core.rights import advice
-from ...core.journal.history import who
 from ...core.journal.log import Journal, entry_of, hash_of
-from ...core.journal.query import Files
+from ...core.journal.query import Files, who
+from ..notes.note import Note
+from ..notes.notes import from_json
 from .meant import MEANT, Row, rows_in
-
-if TYPE_CHECKING:
-    from ..notes.note import Note
 
 MARK = b'"notes": [{"'  # what each line with a note has, and a text never has: there a quote stands behind a backslash
 MOVED, TOLD, FILE = b'"moved"', b'"event": "told"', b'"file": '
@@ -43,10 +41,8 @@ class Noted:
     meant: tuple[Row, ...] | None = ()  # the rows that it means, as far as its line has them; `None` if they are none
 
     @functools.cached_property
-    def note(self) -> "Note | None":
+    def note(self) -> Note | None:
         """The note that it is; `None` if it can't be read. It is read once."""
-        from ..notes.notes import from_json
-
         return from_json(self.value)
 
 

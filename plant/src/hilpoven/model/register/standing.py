@@ -10,6 +10,7 @@ from dataclasses import dataclass, replace
 from typing import NamedTuple
 
 from ... import HOUSE
+from ...core.context import Context
 from ...core.grammar import LINES, faults
 from ...core.journal.log import Journal
 from ..measures import value_of
@@ -350,6 +351,13 @@ def read(journal: Journal, newest: Base, whole: Base | None = None) -> Register:
 def standing(journal: Journal, base: Base) -> Register:
     """The notes that stand, of an office of whose file this is a copy."""
     return read(journal, base)
+
+
+def register_of(context: Context, base: Base) -> Register:
+    """What the plant noted that stands, of the office of a command, of whose file these are the tables."""
+    journal = context.journal()
+    register = standing(journal, base) if file.has_notes(journal) else Register()
+    return replace(register, plants_test=context.settings.quality.test)
 
 
 def standing_over_all(journal: Journal, history: History) -> Register:

@@ -6,11 +6,11 @@ which stock came over, which are no receipts of the plant.
 """
 import contextlib
 import os
-import pathlib
 import sqlite3
 from collections.abc import Iterable, Iterator
 from dataclasses import dataclass
 
+from ...core import snapshot
 from ...core.failure import Failure
 from ...core.files import hash_of
 
@@ -72,7 +72,7 @@ def came_from(base: sqlite3.Connection) -> Carried | None:
 
 def address_of(path: str) -> str:
     """How SQLite opens a file that nobody writes and that has no log, so that it makes nothing beside it."""
-    return f"{pathlib.Path(path).as_uri()}?mode=ro&immutable=1"
+    return f"{snapshot.address_of(path, 'ro')}&immutable=1"
 
 
 @contextlib.contextmanager

@@ -3,17 +3,16 @@ again, and a lot that came from them takes no receipt that it wouldn't have take
 import functools
 import os
 import sqlite3
-from collections.abc import Callable, Sequence
+from collections.abc import Sequence
 from dataclasses import dataclass
 
 from ... import HOUSE
 from ...core import names
 from ...core.failure import REFUSED
-from ...core.grammar import LINES, Line
+from ...core.grammar import Line
 from ...core.office import Answer, Office
 from ..schema import INCOMING, ON_HAND, Kind
 from ..schema import MOVE_COLUMNS as MOVE_COLUMNS
-from ...record.sheets.sheet import Record
 from . import chain
 
 MOVE = f"SELECT {MOVE_COLUMNS} FROM moves WHERE owner = ? AND mkey = ?"
@@ -143,20 +142,3 @@ def hint(office: Office, line: Line, words: Sequence[str], refusal: str) -> str:
     own = os.path.basename(office.file)
     first = f"ATTENTION: this is of {own} alone, which came from {files[0].name}: what stayed there isn't in it."
     return f"{first}\nOver all files: {command}"
-
-
-def left_of(
-    office: Office, records: list[Record], note: Callable[[Record, str], None], advance: Callable[[int], None]
-) -> list[Record]:
-    """The records of a sheet of actuals that are left to be given; of the others their answer is noted."""
-    if not files_of(office):
-        return records
-    line, left = LINES["actual"], []
-    for record in records:
-        known = answer(office, line, [record.values[value.lower().replace("-", "_")] for value in line.values])
-        if known:
-            note(record, (known.output or known.error).strip())
-            advance(1)
-        else:
-            left.append(record)
-    return left

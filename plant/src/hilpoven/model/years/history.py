@@ -11,7 +11,6 @@ import sqlite3
 from collections.abc import Iterator
 from dataclasses import dataclass
 
-from ...care import backups
 from ...core import files, snapshot
 from ...core.failure import REFUSED, Failure
 from ...core.office import Office
@@ -106,7 +105,7 @@ def merged(parts: list[Part], owner: str = "") -> Iterator[sqlite3.Connection]:
 def opened(office: Office, owner: str = "") -> Iterator[History]:
     """Reads all files of an office, for what is asked about one owner, or about all."""
     with snapshot.copied(office) as copy:
-        backups.settle(copy)
+        snapshot.settle(copy)
         with chain.reading(copy) as newest:
             snapshot.require_office(newest, office.file)
             parts = parts_of(office.file, newest, copy, files.hash_of(copy))

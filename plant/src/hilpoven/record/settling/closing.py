@@ -17,7 +17,7 @@ from ...core.days import date_of, days_of_month
 from ...model.rows import BatchId
 from ...model.schema import Role
 from .settlement import WHYS, Line, Made, Product, Reader, Receipts, Run, Settlement
-from ...report.statement import FIRST_DAY
+from ...core.days import FIRST_DAY
 
 FIGURES = ("actual", "expected", "loss", "allowed", "above")  # of a line, in which it may change
 LINE = ("recipe", "use", "source", "material", "measure")  # by which lines are told apart

@@ -1,7 +1,6 @@
 """A sheet of actuals, receipts, shipments or results goes to `toll`, and what came of each row is reported by the
 sheet's rows."""
 import os
-import re
 import signal
 import sqlite3
 import tempfile
@@ -10,9 +9,11 @@ from collections import Counter
 from collections.abc import Callable, Iterator
 from contextlib import contextmanager
 from dataclasses import dataclass, field
+from functools import partial
 from typing import Any
 
 from .. import asking
+from ..stops import Stops
 from ...core import client, lock, meanings, scratch, snapshot
 from ...core.context import Context
 from ...core.failure import FAULT, REFUSED, Failure, printable, tell, tell_line
@@ -26,6 +27,7 @@ from ...model.years import earlier
 from .sheet import Record, Sheet, text_of
 from .values import ACTUALS, RECEIPTS, RESULTS, SHIPMENTS
 
+ACTUAL = LINES["actual"]
 MOST_BYTES = 1_048_576  # of a file that `toll` imports
 FIRST, LEAST, MOST = 500, 100, 20_000  # records in one import of `toll`
 QUICK, SLOW = 0.5, 3.0  # seconds: after a quicker one more records are given, after a slower one fewer
@@ -33,7 +35,6 @@ THERE = "there already"  # a result with the same value and day
 GIVEN_BY = {RECEIPTS.name: "receive", SHIPMENTS.name: "ship", RESULTS.name: "result"}  # the line of each
 UNANSWERED = "toll ended without an answer"
 NEW, OLD = "accepted", ("repeated", THERE)
-OUTCOME = re.compile(r" *\d+ (accepted|repeated|refused \d+ \w+|bad-record|fault \w+)")
 
 
 @dataclass
@@ -77,15 +78,29 @@ class Import:
     def give_actuals(self) -> None:
         """Gives actuals by `toll import`, in parts, each noted in the journal with its keys."""
         took = 0.0
-        records = earlier.left_of(self.office, self.sheet.records, self.note, self.advance)
+        records, stops = self.sheet.records, self.context.once(Stops)
+        if earlier.files_of(self.office):
+            records = self.left_of(records, partial(earlier.answer, self.office, ACTUAL))
         with scratch.folder(tempfile.gettempdir()) as folder:
             for part in chunks(records, lambda: took):
                 begun = time.monotonic()
                 with lock.recording(self.office.file, self.office.wait):
-                    left = self.context.stops.left_of(part, self.note, self.advance)
+                    left = self.left_of(part, stops.answer_to_actual) if stops.notes_alone().held else part
                     if left and not self.give_part(left, os.path.join(folder, "actuals.csv")):
                         return
                 took = time.monotonic() - begun
+
+    def left_of(self, records: list[Record], answered: Callable[[list[str]], Answer | None]) -> list[Record]:
+        """The actuals that are left to be given; of those that are answered without `toll` the answer is noted."""
+        left = []
+        for record in records:
+            answer = answered([record.values[value.lower().replace("-", "_")] for value in ACTUAL.values])
+            if answer:
+                self.note(record, (answer.output or answer.error).strip())
+                self.advance(1)
+            else:
+                left.append(record)
+        return left
 
     def give_part(self, part: list[Record], path: str) -> bool:
         """Gives a part of the actuals; whether all of it was answered."""
@@ -98,7 +113,7 @@ class Import:
         )
         answer = self.office.ask_patiently(["import", path])
         journal.answered(entry, answer)
-        outcomes = [match[1] for match in map(OUTCOME.fullmatch, answer.output.splitlines()) if match]
+        outcomes = [match[1] for match in map(meanings.OUTCOME.fullmatch, answer.output.splitlines()) if match]
         for record, outcome in zip(part, outcomes):
             self.note(record, outcome)
         self.advance(len(part))

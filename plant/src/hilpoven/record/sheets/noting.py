@@ -14,6 +14,7 @@ from ...model.notes.kinds import Bound, split_sign
 from ...model.notes.movements import GETS, SENDS, Parties, party_fault
 from .sheet import Finding, Record, Sheet
 from .values import ACTUALS, RESULTS, SHIPMENTS
+from ...model.register.standing import register_of
 
 COLUMNS = {"to": GETS, "from": SENDS}  # whose values are parties, with what each does
 Beside = dict[int, dict[str, Any]]  # what stands in the journal beside rows, by their numbers
@@ -26,7 +27,7 @@ def decimals_of(context: Context) -> dict[tuple[str, ...], int]:
     if not describing.has_measures(context.journal()):
         return {}
     with snapshot.opened(office) as base:
-        noted = [(key, facts.decimals) for key, facts in context.register(base).tests.items() if facts.decimals]
+        noted = [(key, facts.decimals) for key, facts in register_of(context, base).tests.items() if facts.decimals]
         return {
             (owner, lot, test): decimals
             for (owner, material, test), decimals in noted

@@ -1,19 +1,23 @@
 """Makes the companions of an office, of one copy of its file; an office without change costs a look at three files."""
 import contextlib
 import gc
+import json
 import os
 import time
 from collections.abc import Callable, Iterator
 from dataclasses import dataclass
-from typing import TYPE_CHECKING, Any
+from typing import Any
 
 from ... import VERSION
+from ...care.health import Age
 from ...core import snapshot
+from ...core.context import Context
+from ...core.office import Office
+from ..papers import copies
+from .contents import contents_of
 from .folder import MARK, READABLE, Folder, name_of, opened
-
-if TYPE_CHECKING:
-    from ...core.context import Context
-    from ...core.office import Office
+from .subject import subjects
+from ...model.register.standing import register_of
 
 UNSETTLED = -1, -1, -1  # of a file that changes just now: another change may not show in its stamp
 FRONT = '{{"made":"{}",'  # of each companion: since when it says what it says
@@ -29,7 +33,7 @@ class Counts:
     removed: int = 0
 
 
-def sources(context: "Context") -> dict[str, Any]:
+def sources(context: Context) -> dict[str, Any]:
     """What companions are made of: the stamps of the file, of its log and of the journal, which has the plant's notes,
     and what the settings and this version of the command add."""
     file, settings = context.file, context.settings
@@ -38,7 +42,7 @@ def sources(context: "Context") -> dict[str, Any]:
     return {"stamps": [list(stamp if snapshot.is_settled(stamp) else UNSETTLED) for stamp in stamps], "by": by}
 
 
-def settled_sources(context: "Context") -> dict[str, Any]:
+def settled_sources(context: Context) -> dict[str, Any]:
     """The same once more, where a file was changed just now."""
     if list(UNSETTLED) in (of := sources(context))["stamps"]:
         time.sleep(snapshot.SETTLED / 1e9)
@@ -46,15 +50,7 @@ def settled_sources(context: "Context") -> dict[str, Any]:
     return of
 
 
-@dataclass(frozen=True)
-class Age:
-    """The seconds since the companions of an office were those of now, and whether its file changed since."""
-
-    seconds: float
-    is_old: bool
-
-
-def age_of(context: "Context", path: str) -> Age | None:
+def age_of(context: Context, path: str) -> Age | None:
     """How old the companions in a folder are; `None` where there are none, or none that can be seen."""
     if not os.path.isfile(os.path.join(path, MARK)):
         return None
@@ -69,7 +65,7 @@ def is_current(folder: Folder, made_of: dict[str, Any]) -> bool:
     return is_same and mark.get("owners") == sorted(folder.owners())
 
 
-def refresh(context: "Context", folder: Folder, office: Callable[[], "Office"]) -> Counts:
+def refresh(context: Context, folder: Folder, office: Callable[[], Office]) -> Counts:
     """Makes the companions of a folder anew where something changed since; `office` is asked for then alone."""
     if is_current(folder, sources(context)):
         folder.touch()
@@ -94,17 +90,13 @@ def uncollected() -> Iterator[None]:
             gc.enable()
 
 
-def write(context: "Context", folder: Folder, office: "Office") -> Counts:
+def write(context: Context, folder: Folder, office: Office) -> Counts:
     """Writes the companions of all owners, and removes those of owners that aren't there. One that says the same is
     left as it is: otherwise its owner would see when others work."""
-    from ..papers import copies
-    from .contents import contents_of
-    from .subject import subjects
-
     written, owners = 0, set()
     made_at = time.strftime("%Y-%m-%dT%H:%M:%SZ", time.gmtime())
     with copies.tables(office) as base:
-        for subject in subjects(base, context.register(base)):
+        for subject in subjects(base, register_of(context, base)):
             content = encoded(contents_of(subject, context.settings.plant), made_at)
             owners.add(subject.owner)
             if folder.read(name_of(subject.owner))[FRONT_BYTES:] != content[FRONT_BYTES:]:
@@ -118,7 +110,5 @@ def write(context: "Context", folder: Folder, office: "Office") -> Counts:
 
 def encoded(contents: dict[str, Any], made_at: str) -> bytes:
     """A companion's bytes."""
-    import json
-
     text = json.dumps(contents, ensure_ascii=False, separators=(",", ":"))
     return (FRONT.format(made_at) + text[1:]).encode()

@@ -2,10 +2,10 @@
 from ... import HOUSE
 from ...model.register.store import Register
 from ...model.gauge import OF_OWNER
-from ...model.rows import Base
+from ...model.rows import Base, row_of
 from ...model.schema import ON_HAND, ORIGIN, Disposition, Role
 from .tables import LISTINGS
-from .overviews import NOTHING_NOTED, RECIPE, Overview, require_owner, row_of
+from .overviews import NOTHING_NOTED, RECIPE, Overview, require_owner
 
 PARTY_COLUMNS = ["party", "name", "roles", "contact", "phone"]
 LOTS = f"""

@@ -9,6 +9,7 @@ from ... import HOUSE
 from ...core.failure import REFUSED, Failure, printable
 from ...core.forms import BATCH
 from ...model.nearest import nearest
+from ...core.exports import with_texts
 from ...core.table import Row, Value, formatted, print_table
 from ...model.register import quality
 from ...model.notes.facts import LotFacts
@@ -19,7 +20,7 @@ from ...model.register.store import Register
 from ...model.descriptions import facts_of_test, shown_result
 from ...model.genealogy import Genealogy
 from ...model.measures import shown
-from ...model.rows import BatchId, LotId, lots_of, read_batches, read_moves
+from ...model.rows import BatchId, LotId, lots_of, read_batches, read_moves, row_of
 from ...model.schema import (
     BATCH_NAME,
     CLOSED,
@@ -37,7 +38,6 @@ from ...model.schema import REQUIREMENTS, TESTS
 from .tables import LISTINGS
 
 Base = sqlite3.Connection
-PLURALS = {"batch": "batches"}
 NOTED = "noted by the plant"
 NOTHING_NOTED = Register()
 LINK_COLUMNS = ["owner", "lot", "batch", "contains", "of owner", "of lot", "why", "reason"]
@@ -85,8 +85,6 @@ class Overview:
 
     def as_json(self) -> str:
         """The same for a program."""
-        from ...core.exports import with_texts
-
         texts = {name: with_texts(*table) for name, table in self.tables.items()}
         tables = {
             name: [dict(zip([column.replace("_", " ") for column in columns], row)) for row in rows]
@@ -99,16 +97,6 @@ def link_row(link: Link) -> Row:
     """The row of a link, with `LINK_COLUMNS`."""
     lot, batch = (link.lot, None) if link.lot else (None, f"{link.order}/{link.batch}")
     return link.owner, lot, batch, link.amount, link.of_owner, link.of_lot, link.why.value, link.reason
-
-
-def row_of(base: Base, sql: str, words: tuple[str, ...], kind: str, names: str) -> Row:
-    """The row of a thing; fails with the nearest names if there is none."""
-    row = base.execute(sql, words).fetchone()
-    if row is None:
-        known = [str(name) for name, in base.execute(names, words[:-1])]
-        advice = nearest(words[-1], known, PLURALS.get(kind, f"{kind}s"))
-        raise Failure(f"there is no {kind} {' '.join(words)}", REFUSED, advice)
-    return tuple(row)
 
 
 def require_owner(base: Base, owner: str) -> None:

@@ -5,7 +5,7 @@ from dataclasses import dataclass
 from typing import Any
 
 from ...core.failure import printable
-from ...core.journal.history import JournalEntry, between
+from ..history import JournalEntry, between
 from ...core.journal.log import Journal
 from ...model.balance import Balance
 from ...model.rows import LotId

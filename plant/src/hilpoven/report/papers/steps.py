@@ -8,7 +8,7 @@ from ...core.grammar import LINES
 from ...core.journal import query
 from ...core.journal.log import Journal
 from ...model.rows import Base, BatchId
-from ...record.sheets.importing import OUTCOME
+from ...core.meanings import OUTCOME
 from .sheets import Row, Sheet, columns
 
 COLUMNS = columns("time=UTC:text who:text step:text")

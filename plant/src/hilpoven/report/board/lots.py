@@ -14,7 +14,7 @@ from ...model.below import MARK
 from ...record.expiry import last_day
 from ...model.notes.notes import Link
 from ..papers.agreement import agree_on_all
-from .board_rows import MOST_ROWS, Count, Panel, Row, some_of
+from .rows import MOST_ROWS, Count, Panel, Row, some_of
 from ..papers.copies import Source
 
 SOON = 30  # days within which a lot expires that is shown

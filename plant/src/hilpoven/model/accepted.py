@@ -7,10 +7,10 @@ from typing import Any
 from .. import HOUSE
 from ..core.failure import printable
 from ..core.grammar import LINES, MOVEMENTS
-from ..core.journal.history import listed
+from ..core.journal.query import listed
 from ..core.journal.log import IN_PLACE
-from .sheets.importing import OUTCOME
-from ..model.years.chain import Carried, came_from
+from ..core.meanings import OUTCOME
+from .years.chain import Carried, came_from
 
 # The row that a line adds, by its values. Other lines, such as `do` and `release`, change a row.
 ROWS = {

@@ -1,7 +1,6 @@
 """What is on the board, by the tables of a copy, which are compared with `toll`: what needs somebody comes first."""
 from collections import Counter
-from dataclasses import astuple, dataclass, field
-from typing import NamedTuple
+from dataclasses import astuple
 
 from ... import HOUSE
 from ...model import gauge
@@ -14,15 +13,14 @@ from ...model.below import MARK
 from ...model.notes.notes import Link
 from ..papers.agreement import agree, agree_on_all
 from ..papers.copies import Source
+from .lots import lots
+from .rows import MOST_ROWS, Count, Panel, Row, some_of
 
 WAITING = f"""
 SELECT listed.owner, listed.[order], listed.recipe, listed.batches, listed.opened
 FROM ({LISTINGS['orders'].sql()}) AS listed JOIN orders AS o ON o.owner = listed.owner AND o.ord = listed.[order]
 WHERE listed.status = 'open' AND listed.opened < listed.batches ORDER BY o.rowid
 """
-MOST_ROWS = 10  # of a panel; its counts are of all
-LINE, EDGE = 49, 20  # pixels of a screen of 1,920 by 1,080: of a line, and around those of a row
-COUNTS_OF_LINE = 34  # letters of the counts below a head that are surely in one line
 ROOM_OF_UNITS, ROOM_OF_ORDERS, LAST_ROOM = 913, 236, 69  # pixels for the counts and one page of a panel
 
 # The states of batches that somebody has to see to, the most urgent first, and those of them that are an alarm.
@@ -39,81 +37,10 @@ TROUBLE = (
 ALARMS = TROUBLE[:4]
 
 
-class Count(NamedTuple):
-    """How many rows of a panel are in a state, and whether that is an alarm."""
-
-    number: int
-    word: str
-    is_alarm: bool = False
-
-    @property
-    def text(self) -> str:
-        """It in words."""
-        return f"{self.number:,} {self.word}"
-
-
-@dataclass
-class Row:
-    """A row: what it is about, what is said of it, how much of what is required was consumed and produced, and whether
-    it is an alarm."""
-
-    about: str
-    beside: str
-    below: str
-    consumed: int | None = None
-    produced: int | None = None
-    is_alarm: bool = False
-
-    @property
-    def is_noted(self) -> bool:
-        """Whether some of it was noted by the plant."""
-        return MARK in self.beside + self.below
-
-    @property
-    def height(self) -> int:
-        """How high it is."""
-        return EDGE + LINE * (1 + bool(self.below) + (self.consumed is not None or self.produced is not None))
-
-
-@dataclass
-class Panel:
-    """A panel of the board: its head, what is said beside it, its first rows, the most urgent first and then the
-    oldest, how many there are, how much room it has, what it says without rows, and the counts below its head."""
-
-    title: str
-    beside: str
-    rows: list[Row]
-    total: int
-    room: int
-    empty: str
-    counts: list[Count] = field(default_factory=list)
-
-    @property
-    def lines_of_counts(self) -> int:
-        """How many lines the counts take at the most; an alarm has a sign and a frame besides."""
-        letters = sum(len(count.text) + 2 + 2 * count.is_alarm for count in self.counts)
-        return -(-letters // COUNTS_OF_LINE)
-
-    def pages(self) -> list[list[Row]]:
-        """The rows in pages."""
-        pages: list[list[Row]] = []
-        room = self.room - LINE * self.lines_of_counts
-        left = 0
-        for row in self.rows:
-            if row.height > left:
-                pages.append([])
-                left = room
-            pages[-1].append(row)
-            left -= row.height
-        return pages
-
-
 def panels(source: Source) -> list[Panel]:
     """All panels: the units', and those beside it."""
-    from . import board_lots
-
     owners = [HOUSE, *owners_of(source.newest.base)]
-    return [units(source), board_lots.lots(source, owners), orders(source, owners), limits(source)]
+    return [units(source), lots(source, owners), orders(source, owners), limits(source)]
 
 
 def urgency(state: State) -> int:
@@ -154,11 +81,6 @@ def unit(source: Source, batch: Batch, links: list[Link]) -> Row:
     contained = [link.of_lot for link in links if link.container == batch.id]
     also = f", also {some_of(contained)} {MARK}" if contained else ""
     return Row(batch.unit, batch.state.word, f"{batch.id}{also}", consumed, produced, batch.state in ALARMS)
-
-
-def some_of(names: list[str]) -> str:
-    """The first of some names, and how many more there are."""
-    return names[0] + (f" and {len(names) - 1} more" if len(names) > 1 else "")
 
 
 def share(requirements: list[tuple[int, int]]) -> int | None:

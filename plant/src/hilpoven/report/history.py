@@ -2,8 +2,10 @@
 from dataclasses import dataclass
 from typing import Any
 
-from ..failure import Failure
-from . import query
+from ..core.failure import Failure
+from ..core.journal import query, sitelog
+from ..core.journal.query import listed, who
+from ..model.notes.notes import from_json
 
 COLUMNS = ["time", "who", "where", "what", "answer"]
 UNKNOWN = "asked, answer unknown"
@@ -55,12 +57,6 @@ def shown(entries: list[dict[str, Any]]) -> list[JournalEntry]:
     ]
 
 
-def who(entry: dict[str, Any]) -> str:
-    """The login, and whose rights it had where these are another's."""
-    login, user = str(entry.get("login")), str(entry.get("user"))
-    return login if login == user else f"{login} as {user}"
-
-
 def asked(entry: dict[str, Any]) -> str:
     """What was asked, in words."""
     words = ["moved", "from", entry.get("from")] if entry.get("event") == "moved" else listed(entry, "words")
@@ -71,16 +67,8 @@ def sentences(entry: dict[str, Any]) -> list[str]:
     """What the notes of an entry say, one after another."""
     if "notes" not in entry:
         return []
-    from ...model.notes.notes import from_json
-
     notes = [from_json(value) for value in listed(entry, "notes")]
     return [note.sentence if note else "what can't be read" for note in notes]
-
-
-def listed(entry: dict[str, Any], member: str) -> list[Any]:
-    """A list of an entry; an empty one where the entry has something else."""
-    value = entry.get(member)
-    return value if isinstance(value, list) else []
 
 
 def words_of(entry: dict[str, Any]) -> frozenset[str]:
@@ -111,8 +99,6 @@ def answered(entry: dict[str, Any] | None) -> str:
 
 def of_owners(paths: list[str], with_questions: bool) -> list[JournalEntry]:
     """What owners asked over HTTP, as the site's log has it."""
-    from . import sitelog
-
     return [
         JournalEntry(
             request.time.isoformat(timespec="milliseconds").replace("+00:00", "Z"),
