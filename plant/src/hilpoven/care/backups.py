@@ -5,13 +5,14 @@ import re
 import sqlite3
 import tempfile
 import time
+from typing import NamedTuple
 
 from ..core.journal import log as journals, query
 from ..core.journal.log import IN_PLACE, Journal
 from ..model.schema import IS_INCOMING, STANDING, Kind
 from ..core import files, lock, paths, scratch, server, snapshot
 from . import keys
-from ..core.failure import FAULT, REFUSED, WRONG_USE, Failure, tell
+from ..core.failure import FAULT, REFUSED, WRONG_USE, Failure
 from ..core.office import Answer, Office
 from ..core.server import Place
 from ..core.files import hash_of
@@ -181,8 +182,16 @@ def require_sound(office: Office, copy: str) -> None:
         raise Failure(f"{copy} is no office: {(answer.error or answer.output).strip()}")
 
 
-def restore(office: Office, backup: str, place: Place, journal: Journal, is_foreign: bool) -> str:
-    """Puts a backup in the place of the file, which is moved aside with its log; the folder where it is now.
+class Replaced(NamedTuple):
+    """A file that another one has the place of: the folder where it is now, empty if there was none, and what is told
+    of its owners' keys."""
+
+    aside: str
+    notes: list[str]
+
+
+def restore(office: Office, backup: str, place: Place, journal: Journal, is_foreign: bool) -> Replaced:
+    """Puts a backup in the place of the file, which is moved aside with its log.
 
     All is looked at over the copy that is put in place: SQLite, `toll`, the sums, and whether the journal notes its
     hash, unless it is to be foreign. The journal that lies beside the backup comes back where none is there.
@@ -225,9 +234,8 @@ def require_own(file: str, backup: str, journal: Journal) -> None:
 
 def replace(
     office: Office, copy: str, place: Place, journal: Journal, words: list[str], digest: str, lines_then: str
-) -> str:
-    """Puts a copy that was looked at in the place of the file, which the journal notes; the folder where the file is
-    now. Keys that were changed since stay: those behind the lines that the journal had then, by a file of them."""
+) -> Replaced:
+    """Puts a copy that was looked at in the place of the file, which the journal notes. Keys that were changed since stay: those behind the lines that the journal had then, by a file of them."""
     with journal.noted(office.file, words, sha256=digest) as note:
         with lock.held(office.file, office.wait):
             stop_on_server(office.file, place)
@@ -241,8 +249,7 @@ def replace(
             raise Failure(f"toll doesn't open what was put in place: {answer.error.strip()}", FAULT, advice)
         moved = [f"what was there is in {aside}"] if aside else []
         note.answer = Answer(0, "; ".join(["restored", *moved, *kept.lines]) + "\n", "")
-    tell("\n".join(kept.lines))
-    return aside
+    return Replaced(aside, kept.lines)
 
 
 def require_sums(copy: str) -> None:

@@ -14,6 +14,7 @@ from ..core.failure import FAULT, REFUSED, WRONG_USE, Failure, printable
 from ..core.grammar import LINES
 from . import roles
 from .groups import Group, Makers, imported, lazily
+from .output import show, tell
 from .words import PATH
 
 ABOUT = """The plant's command of the order and lot genealogy office.
@@ -127,7 +128,7 @@ class Commands(Group):
             sys.exit(REFUSED)
         except (click.ClickException, Failure) as error:
             error.message = printable(error.message)
-            error.show()
+            show(error) if isinstance(error, Failure) else error.show()
             sys.exit(error.exit_code)
         sys.exit(status if isinstance(status, int) else 0)
 
@@ -156,7 +157,7 @@ def hilpoven(context: click.Context, db: str | None, office: str, wait: float | 
             f"{context.invoked_subcommand} makes an office of its own: leave --db and --office out", WRONG_USE
         )
     settings = site.Settings() if is_of_another else site.load(office=office, db=db or "")
-    context.obj = Context(settings, db or "").waiting(wait)
+    context.obj = Context(settings, db or "", tell=tell).waiting(wait)
     context.call_on_close(context.obj.end)
     roles.require(context.obj, context.invoked_subcommand or "")
 
@@ -198,7 +199,7 @@ def end(why: str, advice: str = "") -> NoReturn:
     """Ends with a fault that no command has foreseen."""
     failure = Failure(why, FAULT, advice)
     try:
-        failure.show()
+        show(failure)
     except OSError:
         silence(sys.stderr)
     sys.exit(failure.exit_code)

@@ -8,10 +8,11 @@ from .. import HOUSE
 from ..core import names, server
 from ..core.context import Context
 from ..core.failure import REFUSED, WRONG_USE, Failure
-from ..core.table import print_table
+from .output import print_table, tell
+from .progress import bar
 from ..core.days import day_of, today
 from ..care.years import steps
-from ..care.years.carrying import COMMAND, Work, has_owner, hindrances, prepared
+from ..care.years.carrying import COMMAND, Telling, Work, has_owner, hindrances, prepared
 from ..care.years.carrying import carry_over as carry
 from .words import DAY, NAME, PATH, pass_context
 
@@ -67,7 +68,7 @@ def require_owners(work: Work) -> None:
 
 def do(work: Work) -> None:
     """Carries the office over, and prints what was done."""
-    done = carry(work, note)
+    done = carry(work, Telling(note, tell, bar))
     if done:
         click.echo(
             f"{work.office.file} is the new file; {done.earlier} is the earlier one, read-only, sha256 {done.hash}"

@@ -8,7 +8,8 @@ import click
 from ..record import asking
 from ..core import client, meanings, snapshot
 from ..core.context import Context
-from ..core.failure import FAULT, REFUSED, WRONG_USE, Failure, printable, tell_line
+from ..core.failure import FAULT, REFUSED, WRONG_USE, Failure, printable
+from .output import tell_line
 from ..core.office import Office
 from ..core.table import counted
 from ..core.days import day_of, today

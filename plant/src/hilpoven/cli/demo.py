@@ -13,7 +13,8 @@ import click
 
 from ..core import client, rights, settings as site
 from ..core.context import Context
-from ..core.failure import WRONG_USE, Failure, tell_line
+from ..core.failure import WRONG_USE, Failure
+from .output import tell, tell_line
 from ..core.scratch import held_back
 from ..care.demo import companions
 from ..care.demo.site import Listener, Site
@@ -89,7 +90,7 @@ def week_in(folder: str, program: str) -> Iterator[Week]:
     with open(os.path.join(HERE, SETTINGS)) as lines, open(os.path.join(folder, SETTINGS), "x") as settings:
         settings.write(f"toll = {json.dumps(program)}\n{lines.read()}")
     os.environ.pop("HILPOVEN_SETTINGS", None)  # those of another office, if it is set
-    context = Context(site.load(settings.name))
+    context = Context(site.load(settings.name), tell=tell)
     tell_line("hilpoven: a sample week begins, which takes some seconds")
     reply = give(context, ["new"])
     if reply.status:

@@ -4,7 +4,7 @@ from typing import Any
 import click
 
 from ..core.context import Context
-from ..core.failure import tell
+from .output import tell
 from ..core.table import Value, counted
 from ..model.descriptions import facts_of_test
 from ..model.measures import limits_text
@@ -15,6 +15,7 @@ from ..model.notes.facts import LotFacts, MaterialFacts, OwnerFacts, RecipeFacts
 from ..model.notes.note import Note
 from .groups import Group
 from .noting import record
+from .showing import print_overview
 from .words import DATE, FILLED_TEXT, NAME, PERCENT, WORD, LotCommand, decimals_option, pass_context
 
 describe_group = Group(
@@ -34,7 +35,7 @@ def give(desk: making.Desk, words: tuple[str, ...], note: Note, given: dict[str,
     if options:
         record(desk, ["describe", *words, *options], note)
     else:
-        overview.print()
+        print_overview(overview)
 
 
 def members_of(given: dict[str, Any]) -> dict[str, Any]:

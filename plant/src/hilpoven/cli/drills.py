@@ -6,16 +6,17 @@ import click
 
 from ..core import paths, rights, scanned
 from ..core.context import Context
-from ..core.failure import REFUSED, WRONG_USE, Failure, tell
+from ..core.failure import REFUSED, WRONG_USE, Failure
+from .output import tell
 from ..core.forms import listed
-from ..report.papers import delivery, drill_paper, printing
+from ..report.papers import drill_paper, printing
 from ..model.rows import LotId
 from ..model.register import drills
 from ..record import making
 from ..model.register.drills import Drill
 from ..model.notes.notes import DrillEnd, DrillStart, Withdrawal
 from .groups import Group
-from .papers import give, paper
+from .papers import give, paper, require_place
 from .words import TEXT, WORD, pass_context
 
 drill_group = Group(
@@ -141,7 +142,7 @@ def paper_command(context: Context, name: str, folder: str | None, tar: bool, no
 
 def require_paper(folder: str | None, tar: bool, no_pdf: bool) -> None:
     """Fails if a paper can't be made there."""
-    delivery.require_place(folder, tar)
+    require_place(folder, tar)
     if not no_pdf:
         printing.require_printer()
     if folder:

@@ -8,7 +8,8 @@ import click
 
 from ..core import paths, rights, scratch, server, settings as site
 from ..core.context import Context
-from ..core.failure import REFUSED, WRONG_USE, Failure, printable, tell, tell_line
+from ..core.failure import REFUSED, WRONG_USE, Failure, printable
+from .output import tell, tell_line
 from .groups import Group
 from .words import PATH, Operators, pass_context
 

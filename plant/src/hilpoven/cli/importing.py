@@ -6,9 +6,11 @@ from typing import Any
 
 import click
 
+from ..core import meanings
 from ..core.context import Context
-from ..core.failure import REFUSED, WRONG_USE, Failure, printable, tell_line
-from ..core.progress import bar
+from ..core.failure import REFUSED, WRONG_USE, Failure, printable
+from .output import tell, tell_line
+from .progress import bar
 from ..core.table import counted
 from ..record.sheets import doubtful_days
 from ..record.sheets.importing import Import
@@ -42,6 +44,8 @@ def import_command(context: Context, path: str, check: bool, are_meant: bool, **
     decimals = decimals_of(context) if given["what"] == RESULTS.name else None
     sheet, sha256 = read_source(path, {**given, "required": required, "decimals_of": decimals})
     beside = {} if sheet.wrong else notes_beside(context, sheet)
+    for remark in sheet.remarks:
+        tell_line(remark)
     doubtful_days.check(context, sheet, are_meant)
     for finding in sorted([*sheet.wrong, *sheet.refused, *sheet.let]):
         click.echo(str(finding), err=True)
@@ -60,4 +64,9 @@ def import_command(context: Context, path: str, check: bool, are_meant: bool, **
     with bar(given["what"], len(sheet.records)) as advance:
         given_sheet = Import(context, office, sheet, source, advance, beside)
         given_sheet.run()
-    sys.exit(given_sheet.report(given["what"]))
+    for line in given_sheet.lines(given["what"]):
+        click.echo(line)
+    if end := given_sheet.end():
+        tell_line(end)
+        tell(meanings.explained("faults", meanings.fault_in(given_sheet.fault), {}))
+    sys.exit(given_sheet.status)

@@ -8,7 +8,8 @@ import click
 from ..record import asking
 from ..core import lock
 from ..core.context import Context
-from ..core.failure import REFUSED, Failure, tell
+from ..core.failure import REFUSED, Failure
+from .output import tell
 from ..core.grammar import LINES
 from ..core.journal import log
 from ..core.days import day_of, today
@@ -19,7 +20,7 @@ from ..model.notes.notes import Held, Judgement, Signed
 from ..record.recorders import recorders
 from ..model.register.store import Register
 from ..model.register.standing import register_of
-from . import roles
+from . import answers, roles
 from .words import DAY, FILLED_TEXT, WORD, LotCommand, pass_context
 
 RESULTS = {Signed: quality.LIMIT, Held: quality.LIMIT - 1}  # of the plant's own test
@@ -133,4 +134,4 @@ def report(context: Context, recorded: asking.Given | str) -> None:
         click.echo(f"noted {recorded}")
         tell("The lot's material hasn't the plant's own test, so hilpoven alone goes by this, and toll doesn't.")
     else:
-        sys.exit(asking.report(context, LINES["result"], recorded))
+        sys.exit(answers.report(context, LINES["result"], recorded))

@@ -5,10 +5,11 @@ from typing import TYPE_CHECKING, Any
 
 import click
 
-from ..record import asking
 from ..core import scanned
 from ..core.context import Context
-from ..core.failure import WRONG_USE, Failure, tell
+from ..core.failure import WRONG_USE, Failure
+from . import answers
+from .output import tell
 from ..core.grammar import MOVEMENTS, NEXT, OWNER_ADD, TO, Line, in_capitals, in_days
 from .words import at_terminal, quoted
 
@@ -98,7 +99,7 @@ class LineCommand(click.Command):
             from . import next_key
 
             sys.exit(next_key.run(ctx.obj, self.line, typed, beside))
-        sys.exit(asking.run(ctx.obj, self.line, typed, beside))
+        sys.exit(answers.run(ctx.obj, self.line, typed, beside))
 
     def typed(self, context: Context, words: list[str], named: dict[str, Any], given: dict[str, Any]) -> list[str]:
         """The values in the line's order. A label's text fills three of them. At a terminal those that are missing are

@@ -7,9 +7,10 @@ import click
 from ..record import asking
 from ..core import snapshot
 from ..core.context import Context
-from ..core.failure import REFUSED, WRONG_USE, Failure, tell
+from ..core.failure import REFUSED, WRONG_USE, Failure
+from .output import pass_on, tell, tell_all
 from ..core.grammar import LINES, Line, faults, written
-from ..core.office import pass_on
+
 from ..model.descriptions import facts_of_test
 from ..model.measures import limits_text, value_of
 from ..model.rows import Base, require_owner
@@ -128,7 +129,7 @@ def give(context: Context, step: Step) -> None:
     answer = asking.asked(context, office, line, words, **noted)
     click.echo(f"{described(step)}: ", nl=not answer.output)
     pass_on(answer)
-    asking.explain(office, line, words, answer)
+    tell_all(asking.explained(office, line, words, answer))
     if answer.status:
         sys.exit(answer.status)
 

@@ -1,16 +1,16 @@
 """Lines whose key is the next free one: it is found, told, and another one is taken if somebody else had it first."""
 from contextlib import ExitStack
 
-from ..record import asking
 from ..core import snapshot
 from ..record.asking import Given, MakeBeside
 from ..core.context import Context
-from ..core.failure import REFUSED, Failure, tell
+from ..core.failure import REFUSED, Failure
+from .output import tell
 from ..core.grammar import NEXT, Line, faults, written
 from ..core.office import Office
 from ..model.movement_keys import keys_of_same, next_key
 from ..model.years import earlier
-from . import terminal
+from . import answers, terminal
 from .words import at_terminal
 
 TAKEN = ("refused 35 KeyConflict\n", "repeated\n")  # what toll answers if the key was free a moment ago
@@ -21,8 +21,8 @@ def run(context: Context, line: Line, typed: list[str], beside: MakeBeside | Non
     """Gives a line with the next free key to `toll`; its exit status."""
     words = written(line, with_key(line, typed, f"{context.settings.key_prefix}1"))[0]
     if faults(line, words):
-        return asking.run(context, line, with_key(line, typed, f"{context.settings.key_prefix}1"), beside)
-    return asking.report(context, line, given(context, line, typed, beside))
+        return answers.run(context, line, with_key(line, typed, f"{context.settings.key_prefix}1"), beside)
+    return answers.report(context, line, given(context, line, typed, beside))
 
 
 def given(context: Context, line: Line, typed: list[str], beside: MakeBeside | None) -> Given:
@@ -30,7 +30,7 @@ def given(context: Context, line: Line, typed: list[str], beside: MakeBeside | N
     office = context.office()
     for _ in range(TRIES):
         words = with_key(line, typed, free_key(context, office, line, typed))
-        answered = asking.give(context, line, words, beside)
+        answered = answers.give(context, line, words, beside)
         if answered.answer.output not in TAKEN:
             break
         tell(f"KEY: {words[line.values.index('KEY')]} was taken meanwhile")

@@ -4,7 +4,6 @@ import sys
 
 import click
 
-from ..record import asking
 from ..core import scanned
 from ..record.asking import Beside
 from ..core.context import Context
@@ -13,7 +12,8 @@ from ..core.forms import BATCH, MOST_VALUE
 from ..core.grammar import LINES
 from ..model.nearest import nearest
 from ..core.exports import as_csv, as_json
-from ..core.table import Row, counted, print_table
+from ..core.table import Row, counted
+from .output import print_table
 from ..model.measures import as_number
 from ..model.movement_keys import OF_USE
 from ..model.rows import LotId, require_owner
@@ -23,7 +23,7 @@ from ..model.notes.movements import facts_of
 from ..model.register.closings import closings_in
 from ..model.notes.notes import Corrects, Judgement, Link, Note, NotLinked, RowsLost, Settled, Why, Withdrawal
 from ..model.register.suspects import suspects
-from . import day_checks, roles
+from . import answers, day_checks, roles
 from .groups import Group
 from .lines import YES, YES_ABOUT
 from .words import DAY, FILLED_TEXT, TEXT, WORD, LotCommand, OneOf, pass_context
@@ -154,7 +154,7 @@ def use(
     scrap = [of_owner, key, of_lot, sublot, amount, str(day)]
     if not is_meant:
         day_checks.require_meant(context, LINES["scrap"], scrap)
-    sys.exit(asking.run(context, LINES["scrap"], scrap, beside))
+    sys.exit(answers.run(context, LINES["scrap"], scrap, beside))
 
 
 note_group = Group(

@@ -8,9 +8,10 @@ from .. import HOUSE
 from ..record import asking, on_behalf
 from ..core import scanned
 from ..core.context import Context
-from ..core.failure import WRONG_USE, Failure, tell
+from ..core.failure import WRONG_USE, Failure
+from .output import pass_on, tell, tell_all
 from ..core.grammar import LINES, faults
-from ..core.office import pass_on
+
 from . import roles
 from .lines import miscounted
 from .words import FILLED_TEXT, WORD, OneOf, pass_context
@@ -45,6 +46,6 @@ def for_command(context: Context, owner: str, name: str, values: Sequence[str], 
     office = context.office()
     done = on_behalf.ask(context, office, on_behalf.Request(owner, line, tuple(values)), said_by)
     pass_on(done.answer)
-    asking.explain(office, whole, words, done.answer)
+    tell_all(asking.explained(office, whole, words, done.answer))
     tell(done.remark if name == "order" else "")
     sys.exit(done.answer.status)

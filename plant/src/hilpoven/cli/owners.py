@@ -7,10 +7,11 @@ from .. import HOUSE
 from ..core import meanings
 from ..record.asking import BLOTTED
 from ..core.context import Context
-from ..core.failure import WRONG_USE, Failure, tell
+from ..core.failure import WRONG_USE, Failure
+from .output import pass_on, tell
 from ..core.forms import name_fault, secret_fault
 from ..care.keys import CHANGE, KEY_LETTERS, Key, change_key, random_key
-from ..core.office import Answer, pass_on
+from ..core.office import Answer
 from .groups import Group
 from .words import pass_context
 

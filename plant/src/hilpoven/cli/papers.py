@@ -1,6 +1,7 @@
 """`hilpoven papers`: what is handed out about material, as pages, PDF and tables."""
 import functools
 import re
+import sys
 from collections.abc import Callable
 from typing import Any
 
@@ -18,6 +19,8 @@ from ..report.papers.printing import Document
 from ..core.days import today
 from ..model.rows import BatchId, LotId
 from .groups import Group
+from .output import tell
+from .progress import say_done, steps
 from .words import DAY, MONTH, PATH, LotCommand, pass_context
 
 papers_group = Group(
@@ -45,15 +48,26 @@ def check(**words: str) -> None:
             raise Failure(f"{name.upper()}: `{word}` {fault}", WRONG_USE)
 
 
+def require_place(folder: str | None, tar: bool) -> None:
+    """Fails if it isn't said where papers go, or if they can't go there."""
+    if tar == bool(folder):
+        raise Failure("either FOLDER or --tar says where the papers go", WRONG_USE)
+    if tar and sys.stdout.isatty():
+        raise Failure("--tar is for a pipe or a file, and standard output is a terminal", WRONG_USE)
+
+
 def give(
     context: Context, name: str, make: Callable[[Source], list[Document]], folder: str | None, tar: bool, no_pdf: bool
 ) -> None:
     """Makes papers, and gives them, which the journal notes."""
-    delivery.require_place(folder, tar)
+    require_place(folder, tar)
     office = context.office_to_export("papers", name)
     day = today(context.settings.time_zone)
-    task = delivery.Delivery(name, make, context.settings.plant, day, not no_pdf, folder)
-    delivery.deliver(office, context.journal(), task)
+    target = folder or sys.stdout.buffer
+    task = delivery.Delivery(name, make, context.settings.plant, day, not no_pdf, target)
+    with steps() as begin:
+        written = delivery.deliver(office, context.journal(), task, begin, tell)
+    say_done(written)
 
 
 @papers_group.command(cls=LotCommand)

@@ -4,7 +4,8 @@ import click
 from ..core.context import Context
 from ..core.failure import WRONG_USE, Failure
 from ..core.forms import listed
-from ..core.table import Row, print_table
+from ..core.table import Row
+from .output import print_table
 from ..model.rows import require_owner
 from ..record import making
 from ..model.notes.kinds import Emptied

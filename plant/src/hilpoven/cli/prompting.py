@@ -7,7 +7,8 @@ from typing import NamedTuple
 
 from ..core import scanned, snapshot
 from ..core.context import Context
-from ..core.failure import REFUSED, WRONG_USE, Failure, printable, tell, tell_line
+from ..core.failure import REFUSED, WRONG_USE, Failure, printable
+from .output import tell, tell_line
 from ..core.forms import Form
 from ..core.grammar import MOVEMENTS, NEXT, TO, Line, in_capitals, in_days, written
 from ..model.nearest import nearest

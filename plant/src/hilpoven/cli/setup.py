@@ -8,7 +8,8 @@ import click
 
 from .. import HOUSE
 from ..core import rights, settings as site
-from ..core.failure import WRONG_USE, Failure, printable, tell_line
+from ..core.failure import WRONG_USE, Failure, printable
+from .output import tell_line
 from ..care.setup.machine import Machine
 from ..care.setup.plan import Plan
 from ..care.setup.steps import Setup, take

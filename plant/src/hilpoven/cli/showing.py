@@ -5,10 +5,28 @@ import click
 
 from ..core import snapshot
 from ..core.context import Context
+from ..core.failure import printable
+from ..core.table import formatted
 from ..report.lists import master_data, overviews
 from .groups import Group
+from .output import print_table
 from .words import WORD, LotCommand, pass_context
 from ..model.register.standing import register_of
+
+
+def print_overview(overview: overviews.Overview) -> None:
+    """Prints what is shown of a thing, for people."""
+    click.echo(printable(overview.title))
+    for name, value in overview.facts.items():
+        click.echo(printable(f"  {name}: {overview.words.get(name) or formatted(value, name)}"))
+    for name, (columns, rows) in overview.tables.items():
+        click.echo()
+        if rows:
+            print_table(columns, rows, name)
+        else:
+            click.echo(f"{name}: none")
+    if overview.remarks:
+        click.echo("\n" + "\n".join(map(printable, overview.remarks)))
 
 
 def show_command(
@@ -23,7 +41,7 @@ def show_command(
         with snapshot.opened(context.office_to_read()) as base:
             register = {"register": register_of(context, base)} if has_notes else {}
             overview = make(base, *given.values(), **register)
-        click.echo(overview.as_json()) if as_json else overview.print()
+        click.echo(overview.as_json()) if as_json else print_overview(overview)
 
     option = click.Option(["--json", "as_json"], is_flag=True, help="As JSON, for a program.")
     return (LotCommand if name == "lot" else click.Command)(

@@ -8,7 +8,8 @@ from ..core import rights
 from ..core.context import Context
 from ..core.failure import printable
 from ..care.health import Health, health_of, metrics, pressing
-from ..core.table import Row, counted, print_table
+from ..core.table import Row, counted
+from .output import print_table
 from ..report.companion import making
 from .words import pass_context
 

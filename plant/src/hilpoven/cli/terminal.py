@@ -4,7 +4,8 @@ import sys
 from collections.abc import Iterator, Sequence
 from contextlib import contextmanager
 
-from ..core.failure import REFUSED, Failure, tell_line
+from ..core.failure import REFUSED, Failure
+from .output import tell_line
 
 UNREADABLE = "\ufffd"  # in place of an answer that is no UTF-8
 

@@ -12,7 +12,8 @@ import click
 from ..care import backups
 from ..core import paths, rights, server, settings as site, snapshot
 from ..core.context import Context
-from ..core.failure import FAULT, REFUSED, WRONG_USE, Failure, printable, tell
+from ..core.failure import FAULT, REFUSED, WRONG_USE, Failure, printable
+from .output import tell
 from ..core.office import has_bytes
 from ..core.journal import query
 from ..core.journal.log import Journal
@@ -34,7 +35,7 @@ def new(context: Context, file: str | None) -> None:
 
     Example: hilpoven new /var/lib/toll/office.db
     """
-    new_context = Context(context.settings, file or context.db, context.unnoted)
+    new_context = Context(context.settings, file or context.db, context.unnoted, context.tell)
     if has_bytes(new_context.file):
         raise Failure(f"{new_context.file} is there already", WRONG_USE)
     if has_bytes(f"{new_context.file}-wal"):
@@ -178,7 +179,9 @@ def restored(context: Context, backup: str | None, is_foreign: bool) -> tuple[st
     """Puts a backup in place; its name, and the folder where what was there is now."""
     name = str(backup)
     path, office = chosen(context, name), context.unseen_office()
-    return name, backups.restore(office, path, server.place_of(context), context.journal(), is_foreign)
+    replaced = backups.restore(office, path, server.place_of(context), context.journal(), is_foreign)
+    tell("\n".join(replaced.notes))
+    return name, replaced.aside
 
 
 def restored_at(context: Context, moment: float) -> tuple[str, str]:
@@ -188,6 +191,7 @@ def restored_at(context: Context, moment: float) -> tuple[str, str]:
 
     office, folder = context.unseen_office(), folder_of(context)
     restored = promoting.restore_at(office, folder, server.place_of(context), context.journal(), moment)
+    tell("\n".join(restored.notes))
     return f"the office of {restored.last.at}", restored.aside
 
 

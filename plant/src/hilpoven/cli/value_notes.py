@@ -5,7 +5,7 @@ from typing import Any
 from ..core import snapshot
 from ..record.asking import Beside
 from ..core.context import Context
-from ..core.failure import tell
+from .output import tell
 from ..core.forms import DAY, NAME
 from ..core.grammar import Line
 from ..model.descriptions import facts_of_test

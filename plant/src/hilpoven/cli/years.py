@@ -7,10 +7,12 @@ from dataclasses import replace
 import click
 
 from ..core.context import Context
-from ..core.failure import REFUSED, Failure, printable, tell
+from ..core.failure import REFUSED, Failure, printable
+from .output import tell
 from ..core.office import Office
 from ..core.exports import as_csv
-from ..core.table import Row, Value, print_table
+from ..core.table import Row, Value
+from .output import print_table
 from ..report import statement as statements
 from ..report.lists import overviews
 from ..model.answers import recall_of
@@ -24,6 +26,7 @@ from ..model.register.standing import standing_over_all
 from ..model.years import history
 from ..model.years.history import History
 from .groups import Group
+from .showing import print_overview
 from .words import DAY, LotCommand, pass_context
 
 years_group = Group(
@@ -175,7 +178,7 @@ def lot_card(context: Context, owner: str, lot: str, file: str, is_json: bool) -
         start = whole.lot(owner, lot, file)
         register = standing_over_all(context.journal(), whole)
         overview = overviews.lot(whole.base, *start, replace(register, plants_test=context.settings.quality.test))
-        click.echo(overview.as_json()) if is_json else overview.print()
+        click.echo(overview.as_json()) if is_json else print_overview(overview)
         tell_sources(whole, start)
 
 

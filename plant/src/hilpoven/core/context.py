@@ -15,6 +15,10 @@ from .settings import Settings
 Known = TypeVar("Known")
 
 
+def silent(_: str) -> None:
+    """Tells nobody."""
+
+
 @dataclass
 class Context:
     """The settings, and what the words before the command say of the office."""
@@ -22,6 +26,7 @@ class Context:
     settings: Settings
     db: str = ""
     unnoted: list[Failure] = field(default_factory=list)  # why answers couldn't be noted
+    tell: Callable[[str], None] = silent  # what is noticed on the way
     known: dict[Any, Any] = field(default_factory=dict, init=False)  # what `once` made, by what makes it
 
     @functools.cached_property
@@ -54,7 +59,7 @@ class Context:
     def journal(self) -> Journal:
         """The office's journal."""
         return journals.Journal(
-            journals.adopted(site.journal_of(self.settings, self.file), self.file), self.file, self.unnoted
+            journals.adopted(site.journal_of(self.settings, self.file), self.file), self.file, self.unnoted, self.tell
         )
 
     @property

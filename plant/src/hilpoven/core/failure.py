@@ -1,6 +1,5 @@
 """What ends a command of the plant, told in a line and an exit status."""
 import re
-import sys
 
 REFUSED, WRONG_USE, FAULT = 1, 2, 3  # the statuses have the meanings that `toll` gives them
 # Letters of Unicode's property Default_Ignorable_Code_Point that Python counts as printable, and the empty Braille
@@ -33,19 +32,3 @@ class Failure(Exception):
     def __init__(self, why: str, status: int = FAULT, advice: str = "") -> None:
         super().__init__(why)
         self.message, self.exit_code, self.advice = why, status, advice
-
-    def show(self) -> None:
-        """Writes the reason, and the advice under it, on standard error."""
-        tell_line(f"hilpoven: {printable(self.message)}")
-        tell(self.advice)
-
-
-def tell(text: str) -> None:
-    """Writes lines on standard error, beside what `toll` answers."""
-    for line in filter(None, text.split("\n")):
-        tell_line(f"  {printable(line)}")
-
-
-def tell_line(line: str) -> None:
-    """Writes a line on standard error."""
-    print(line, file=sys.stderr, flush=True)

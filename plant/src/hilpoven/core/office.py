@@ -1,7 +1,6 @@
 """An office in a file: whether it is there, and what `toll` answers over it."""
 import os
 import stat
-import sys
 import time
 from collections.abc import Callable
 from typing import NamedTuple
@@ -56,14 +55,6 @@ class Office(NamedTuple):
             if time.monotonic() >= ends:
                 return answer
             time.sleep(lock.PAUSE)
-
-
-def pass_on(answer: Answer) -> None:
-    """Prints what `toll` answered, unchanged."""
-    sys.stdout.write(answer.output)
-    sys.stdout.flush()
-    sys.stderr.write(answer.error)
-    sys.stderr.flush()
 
 
 def require_file(file: str) -> None:

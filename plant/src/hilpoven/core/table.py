@@ -1,6 +1,4 @@
 """Tables as they are printed, for a terminal and as plain text."""
-import os
-import sys
 from collections.abc import Iterator, Sequence
 
 from .failure import printable
@@ -54,22 +52,14 @@ def filled(columns: Sequence[str], rows: Sequence[Row]) -> tuple[list[str], list
     return [columns[at] for at in places], [[row[at] for at in places] for row in rows]
 
 
-def print_table(columns: Sequence[str], rows: Sequence[Row], title: str = "") -> None:
-    """Prints a table; on a terminal without the columns in which nothing stands, and no wider than the terminal says
-    that it is. Elsewhere a row is one line, and a value that is wider than `WIDEST` makes no other row wider."""
-    most = 0
-    if sys.stdout.isatty():
-        most = os.get_terminal_size(sys.stdout.fileno()).columns
-        columns, rows = filled(columns, rows)
+def table_lines(columns: Sequence[str], rows: Sequence[Row], most: int = 0) -> Iterator[str]:
+    """The lines of a table: of a row one, in which a value that is wider than `WIDEST` makes no other row wider, or as
+    many as a terminal that is `most` letters wide needs."""
     numbers = [is_number(rows, at) for at in range(len(columns))]
     texts = [list(columns), *([printable(cell) for cell in map(formatted, row, columns)] for row in rows)]
     widths = [min(max(len(line[at]) for line in texts), WIDEST) for at in range(len(columns))]
-    print(
-        "\n".join(
-            [*([title] if title else []), *(line for row in texts for line in lines_of(row, widths, numbers, most))]
-        ),
-        flush=True,
-    )
+    for text in texts:
+        yield from lines_of(text, widths, numbers, most)
 
 
 def lines_of(row: list[str], widths: list[int], numbers: list[bool], most: int) -> Iterator[str]:

@@ -1,15 +1,15 @@
 """How a line is given to `toll`: what is typed is looked at, noted in the journal, and the answer is explained."""
-from collections.abc import Callable
+from collections.abc import Callable, Iterator
 from typing import Any, NamedTuple
 
 from .. import HOUSE
 from ..core import lock, meanings
 from ..core.context import Context
-from ..core.failure import WRONG_USE, Failure, printable, tell
+from ..core.failure import WRONG_USE, Failure, printable
 from ..core.grammar import OWNER_ADD, Line, faults, unsayable, written
 from ..core.journal.log import Journal
 from ..core.names import earlier_files
-from ..core.office import Answer, Office, pass_on
+from ..core.office import Answer, Office
 
 BLOTTED = "********"  # in place of a key
 TRACES = ("recall", "trace")  # the questions to which links add lots
@@ -25,6 +25,22 @@ class Beside(NamedTuple):
     is_use: bool = False
 
 
+class Typed(NamedTuple):
+    """The words of a line as they are given to `toll`, and what was given beside them."""
+
+    words: list[str]
+    given: dict[str, Any]
+
+
+class Read(NamedTuple):
+    """A line before it is given: its words as `toll` gets them, which of them are read otherwise than they were typed,
+    and what is wrong with them."""
+
+    words: list[str]
+    notes: list[str]
+    wrong: list[str]
+
+
 class Given(NamedTuple):
     """A line as it was given to `toll`: its words, what is wrong with them, what is told once it is accepted, and the
     answer."""
@@ -38,46 +54,43 @@ class Given(NamedTuple):
 MakeBeside = Callable[[Context, dict[str, str]], Beside]
 
 
-def run(context: Context, line: Line, typed: list[str], beside: MakeBeside | None = None) -> int:
-    """Gives a line to `toll`; its exit status."""
-    return report(context, line, give(context, line, typed, beside))
-
-
-def give(context: Context, line: Line, typed: list[str], beside: MakeBeside | None = None) -> Given:
-    """Gives a line to `toll`. What is noted beside it is made of its values, where all can be read."""
+def read(line: Line, typed: list[str]) -> Read:
+    """The words of a line as `toll` gets them."""
     words, notes = written(line, typed)
-    wrong = faults(line, words)
-    tell("\n".join(notes))
-    if unsayable(words):
-        advice = "\n".join(wrong) or f"{unsayable(words)[0]!r} is a word of no line"
+    return Read(words, notes, faults(line, words))
+
+
+def give(context: Context, line: Line, read: Read, beside: MakeBeside | None = None) -> Given:
+    """Gives a line to `toll`. What is noted beside it is made of its values, where all can be read."""
+    if unsayable(read.words):
+        advice = "\n".join(read.wrong) or f"{unsayable(read.words)[0]!r} is a word of no line"
         raise Failure(f"{line.name} can't be asked so", WRONG_USE, advice)
-    office = context.office()
-    noted = Beside() if wrong or beside is None else beside(context, dict(zip(line.values, words)))
-    return Given(words, wrong, noted.hint, asked(context, office, line, words, is_use=noted.is_use, **noted.members))
+    office, values = context.office(), dict(zip(line.values, read.words))
+    noted = Beside() if read.wrong or beside is None else beside(context, values)
+    answer = asked(context, office, line, read.words, is_use=noted.is_use, **noted.members)
+    return Given(read.words, read.wrong, noted.hint, answer)
 
 
-def report(context: Context, line: Line, given: Given) -> int:
-    """Prints what `toll` answered, and explains it; the exit status."""
-    office, words, answer = context.office(), given.words, given.answer
-    pass_on(answer)
-    if line.name in TRACES and not answer.status:
-        print_below(context, office, [line.name, *words], answer)
-    tell("\n".join(given.wrong))
-    explain(office, line, words, answer)
-    tell(given.hint if answer.output == "accepted\n" else "")
-    return answer.status
-
-
-def print_below(context: Context, office: Office, words: list[str], answer: Answer) -> None:
-    """Prints what the plant's links add to a recall or a trace, below it."""
+def below(context: Context, line: Line, given: Given) -> list[str]:
+    """What the plant's links add to a recall or a trace, below what `toll` answers."""
+    if line.name not in TRACES or given.answer.status:
+        return []
     from ..model.register import file
 
-    journal = context.journal()
-    if file.has_notes(journal):
-        from ..model import below
+    office, journal = context.office(), context.journal()
+    if not file.has_notes(journal):
+        return []
+    from ..model import below
 
-        for text in below.lines_below(office, journal, words, answer):
-            print(text, flush=True)
+    return list(below.lines_below(office, journal, [line.name, *given.words], given.answer))
+
+
+def remarks(context: Context, line: Line, given: Given) -> Iterator[str]:
+    """What is told beside an answer: what is wrong with the words, what the answer means, and what comes next."""
+    yield from given.wrong
+    yield from explained(context.office(), line, given.words, given.answer)
+    if given.answer.output == "accepted\n":
+        yield given.hint
 
 
 def asked(
@@ -145,36 +158,29 @@ def known_earlier(office: Office, line: Line, words: list[str]) -> Answer | None
     return earlier.answer(office, line, words)
 
 
-def explain(office: Office, line: Line, words: list[str], answer: Answer) -> None:
-    """Tells what a refusal or a fault means, what to look at, and what earlier files have."""
+def explained(office: Office, line: Line, words: list[str], answer: Answer) -> Iterator[str]:
+    """What a refusal or a fault means, what to look at, and what earlier files have."""
     refusal, fault = meanings.refusal_in(answer.output), meanings.fault_in(answer.error)
     values = dict(zip(line.values, map(printable, words)))
-    if refusal:
+    is_opened = line.name == "open" and answer.output == "accepted\n"
+    if refusal or is_opened:
         from . import hints
 
-        tell(meanings.explained("refusals", refusal, {"OWNER": HOUSE, **values}))
-        tell(hints.of_refusal(office, line, refusal, values))
+        if refusal:
+            yield meanings.explained("refusals", refusal, {"OWNER": HOUSE, **values})
+            yield hints.of_refusal(office, line, refusal, values)
+        else:
+            yield hints.opened(office, *words)
     elif fault:
-        tell(meanings.explained("faults", fault, values))
+        yield meanings.explained("faults", fault, values)
         if fault == "Locked":
-            tell(lock.holders(lock.name_of(office.file)))
+            yield lock.holders(lock.name_of(office.file))
     if line.name == OWNER_ADD and answer.output == "accepted\n":
-        tell(
+        yield (
             "Its key stood on a command line, where others may have seen it: "
             f"`hilpoven owner key {words[0]}` gives it another one."
         )
-    if line.name == "open" and answer.output == "accepted\n":
-        from . import hints
-
-        tell(hints.opened(office, *words))
     if earlier_files(office.file):
         from ..model.years import earlier
 
-        tell(earlier.hint(office, line, words, refusal))
-
-
-class Typed(NamedTuple):
-    """The words of a line as they are given to `toll`, and what was given beside them."""
-
-    words: list[str]
-    given: dict[str, Any]
+        yield earlier.hint(office, line, words, refusal)

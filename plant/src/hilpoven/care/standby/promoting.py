@@ -144,8 +144,8 @@ def restore_at(office: Office, folder: str, place: Place, journal: Journal, mome
             files.copy(newest_lines(choice, built, room), lines := os.path.join(room, "lines.journal"))
             files.put_in_place(lines, journal.path)
         words, digest = ["restore", "--at", built.last.at, built.last.name], files.hash_of(built.file)
-        aside = backups.replace(office, built.file, place, journal, words, digest, built.journal)
-    return Made(built.last, number, aside)
+        replaced = backups.replace(office, built.file, place, journal, words, digest, built.journal)
+    return Made(built.last, number, *replaced)
 
 
 def made_of(choice: Choice, office: Office, room: str) -> Built:

@@ -3,15 +3,15 @@ import contextlib
 import os
 import sqlite3
 from collections.abc import Callable, Iterator
+from contextlib import AbstractContextManager
 from dataclasses import dataclass
+from typing import NamedTuple
 
 from .. import backups
 from ...core import files, lock, names, private_server, scratch, snapshot
-from ...core.failure import tell
 from ...core.office import Answer, Office
 from ...core.server import Place
 from ...core.journal import log, query
-from ...core.progress import bar
 from ...model import accepted
 from ...model.register import file as register
 from ...model.years import chain
@@ -49,6 +49,14 @@ class Work:
                 rows = f"SELECT rowid, * FROM main.{table} WHERE owner NOT IN temp.leaving"
                 base.execute(f"CREATE TEMP VIEW {table} AS {rows}")
             yield base
+
+
+class Telling(NamedTuple):
+    """How a carry-over tells what it does: a step that begins, a line of what was found, and how far long work is."""
+
+    step: Callable[[str], None]
+    line: Callable[[str], None]
+    bar: Callable[[str, int], AbstractContextManager[Callable[[int], None]]]
 
 
 def workroom(file: str) -> str:
@@ -124,7 +132,7 @@ def why_it_stays(base: sqlite3.Connection, owner: str) -> list[str]:
     return [*reasons[:MOST_HELD], *rest, *orders]
 
 
-def carry_over(work: Work, note: Callable[[str], None]) -> exchanging.Exchange | None:
+def carry_over(work: Work, tell: Telling) -> exchanging.Exchange | None:
     """Carries the office over, which the journal notes; `None` if that had been done, as nothing was recorded since."""
     is_left = not any(has_owner(work.copy, owner) for owner in work.without)
     is_done = bool(work.earlier) and is_left and comparing.is_fresh(work.earlier[-1].path, work.copy)
@@ -135,10 +143,12 @@ def carry_over(work: Work, note: Callable[[str], None]) -> exchanging.Exchange |
     words = [COMMAND, os.path.basename(work.target), "--day", work.receipts.day, *leaving]
     with work.journal.noted(work.office.file, words) as entry:
         for path in exchanging.clear(work.office, work.copy, work.target, {file.path for file in work.earlier}):
-            tell(f"a carry-over was stopped: {os.path.basename(path)}, which it left, is removed, and it begins anew")
+            tell.line(
+                f"a carry-over was stopped: {os.path.basename(path)}, which it left, is removed, and it begins anew"
+            )
         number = names.next_number(work.office.file)
         work.receipts = steps.Receipts(f"C{number}", work.receipts.day)
-        done = fill_and_exchange(work, f"{names.front_of(work.office.file)}-{number}.db", note)
+        done = fill_and_exchange(work, f"{names.front_of(work.office.file)}-{number}.db", tell)
         name = os.path.basename(done.earlier)
         entry.answer = Answer(0, f"carried over; {name} is the earlier file, sha256 {done.hash}\n", "")
     return done
@@ -153,19 +163,19 @@ def settle_journal(journal: log.Journal, is_done: bool) -> None:
             journal.answered(str(entry.get("id")), answer)
 
 
-def fill_and_exchange(work: Work, earlier: str, note: Callable[[str], None]) -> exchanging.Exchange:
+def fill_and_exchange(work: Work, earlier: str, tell: Telling) -> exchanging.Exchange:
     """Fills the new file, compares it, and puts it in the office's place."""
     office, new, tried = work.office, os.path.join(os.path.dirname(work.copy), "new.db"), f"{work.copy}.tried"
     with work.reading() as base:
         keys = dict(base.execute("SELECT owner, okey FROM owners").fetchall())
         with private_server.opened(office.program, new) as after:
-            with bar("the new file is filled", steps.count(base)) as advance:
+            with tell.bar("the new file is filled", steps.count(base)) as advance:
                 Filling(after, keys, advance).fill(steps.stages(base, work.receipts))
-            note("both files are compared")
+            tell.step("both files are compared")
             files.copy(work.copy, tried)
             with private_server.opened(office.program, tried) as before:
                 comparing.require_same_stock(before, after, keys)
         snapshot.settle(new)
         comparing.require_same(work.copy, new, work.without)
-        note("the new file is put in place")
+        tell.step("the new file is put in place")
         return exchanging.exchange(office, work.place, new, work.target, earlier, work.receipts.keys(base))

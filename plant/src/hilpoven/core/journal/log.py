@@ -4,7 +4,7 @@ import hashlib
 import json
 import os
 import stat
-from collections.abc import Iterator
+from collections.abc import Callable, Iterator
 from dataclasses import dataclass, field
 from datetime import datetime, timezone
 from typing import Any
@@ -64,8 +64,14 @@ class Note:
 class Journal:
     """The journal of an office's file, to which lines are added."""
 
-    def __init__(self, path: str, file: str = "", unnoted: list[Failure] | None = None) -> None:
-        self.path, self.file = path, file
+    def __init__(
+        self,
+        path: str,
+        file: str = "",
+        unnoted: list[Failure] | None = None,
+        tell: Callable[[str], None] = lambda _: None,
+    ) -> None:
+        self.path, self.file, self.tell = path, file, tell  # who reads its notes tells what is noticed then
         self.unnoted = [] if unnoted is None else unnoted  # why answers couldn't be noted
         self.is_series, self.held = False, list[dict[str, Any]]()  # answers that go to the disk with the next line
 

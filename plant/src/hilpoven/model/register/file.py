@@ -12,7 +12,7 @@ from collections.abc import Iterator
 from dataclasses import dataclass
 
 from ...core import files, lock, rights, snapshot
-from ...core.failure import REFUSED, Failure, tell
+from ...core.failure import REFUSED, Failure
 from ...core.journal.log import Journal
 from . import folding
 from .folding import Folded, Place, as_text, continues, fold_on, from_text
@@ -69,7 +69,7 @@ def notes_of(journal: Journal) -> Folded:
             KNOWN[path] = Known(snapshot.stamp_of(path), folded)
             return folded
     except (OSError, sqlite3.Error, Unusable) as error:
-        tell(f"The register {path} isn't used, and notes are read from the journal: {reason_of(error)}.")
+        journal.tell(f"The register {path} isn't used, and notes are read from the journal: {reason_of(error)}.")
     fold_on(journal.path, folded)
     return folded
 

@@ -16,7 +16,7 @@ from .. import asking
 from ..stops import Stops
 from ...core import client, lock, meanings, scratch, snapshot
 from ...core.context import Context
-from ...core.failure import FAULT, REFUSED, Failure, printable, tell, tell_line
+from ...core.failure import FAULT, REFUSED, Failure, printable
 from ...core.grammar import LINES
 from ...core.office import Answer, Office
 from ...core.journal import log as journals
@@ -143,18 +143,19 @@ class Import:
                         standing.add(result_of(record))
                 self.advance(1)
 
-    def report(self, kind: str) -> int:
-        """Prints the rows that didn't go in, with the reason, then the sums, then what ended the import, if a fault
-        did; the exit status."""
+    @property
+    def status(self) -> int:
+        """The exit status."""
+        return self.signal or (FAULT if self.fault else REFUSED if self.rows or self.sheet.refused else 0)
+
+    def lines(self, kind: str) -> list[str]:
+        """The rows that didn't go in, with the reason, then the sums."""
+        lines = []
         for row, name, outcome in sorted(self.rows):
             refusal = meanings.refusal_in(outcome)
             means = f": {meanings.meaning('refusals', refusal)}" if refusal else ""
-            print(printable(f"row {row} ({name}): {outcome}{means}"))
-        print(self.summary(kind), flush=True)
-        if self.fault:
-            self.report_fault()
-        is_refused = self.rows or self.sheet.refused
-        return self.signal or (FAULT if self.fault else REFUSED if is_refused else 0)
+            lines.append(printable(f"row {row} ({name}): {outcome}{means}"))
+        return [*lines, self.summary(kind)]
 
     def summary(self, kind: str) -> str:
         """What came of the sheet, in a line."""
@@ -168,8 +169,10 @@ class Import:
         new = "" if self.counts[NEW] or self.fault else "; nothing was new"
         return f"{counted(len(self.sheet.records) + unread, kind)}: {', '.join(outcomes)}{new}"
 
-    def report_fault(self) -> None:
-        """Reports what ended the import, and how many of the rows that got no answer the file has."""
+    def end(self) -> str:
+        """What ended the import, if a fault did, and how many of the rows that got no answer the file has."""
+        if not self.fault:
+            return ""
         left = [record for record in self.sheet.records if record.row not in self.answered]
         try:
             count = self.recorded(left)
@@ -177,8 +180,7 @@ class Import:
         except (Failure, sqlite3.Error) as error:
             stand = f"an unknown number of them are recorded ({error})"
         rows = f"{self.fault}: {counted(len(left), 'rows')} got no answer, and {stand}"
-        tell_line(printable(f"{rows}. Import the sheet again: what stands is told as there already"))
-        tell(meanings.explained("faults", meanings.fault_in(self.fault), {}))
+        return printable(f"{rows}. Import the sheet again: what stands is told as there already")
 
     def recorded(self, records: list[Record]) -> int:
         """How many of these records the file has, whatever was answered."""

@@ -3,7 +3,7 @@ from typing import Any
 
 from ...core import snapshot
 from ...core.context import Context
-from ...core.failure import Failure, tell_line
+from ...core.failure import Failure
 from ...core.table import counted
 from ...model.measures import value_of
 from ...model.rows import LotId
@@ -84,16 +84,17 @@ def beside_results(context: Context, sheet: Sheet) -> Beside:
             except Failure as failure:
                 sheet.refused.append(Finding(record.row, sheet.places["value"], failure.message, "value"))
         sheet.records = [record._replace(values={**record.values, "value": word}) for record, word, _ in read]
-        tell_new([(record, word) for record, word, _ in read if word != record.values["value"]])
+        sheet.remarks += remarks_on([(record, word) for record, word, _ in read if word != record.values["value"]])
         return {record.row: desk.members([facts]) for record, _, facts in read if facts}
 
 
-def tell_new(new: list[tuple[Record, str]]) -> None:
-    """Tells how many values aren't given to `toll` as they stand in the sheet."""
-    if new:
-        (first, word), count = new[0], counted(len(new), "values")
-        how = "is given to toll as a whole number" if len(new) == 1 else "are given to toll as whole numbers"
-        tell_line(f"{count} {how}, such as {first.values['value']} as {word} (row {first.row})")
+def remarks_on(new: list[tuple[Record, str]]) -> list[str]:
+    """How many values aren't given to `toll` as they stand in the sheet."""
+    if not new:
+        return []
+    (first, word), count = new[0], counted(len(new), "values")
+    how = "is given to toll as a whole number" if len(new) == 1 else "are given to toll as whole numbers"
+    return [f"{count} {how}, such as {first.values['value']} as {word} (row {first.row})"]
 
 
 def read_result(

@@ -107,7 +107,7 @@ def hidden_of(table: Table) -> Iterator[Finding]:
 
 class Sheet:
     """The records of a table's rows below its header; what is wrong with the sheet as a whole, what is refused of its
-    rows, and what was asked for."""
+    rows, what else there is to say of them, and what was asked for."""
 
     def __init__(self, table: Table, kind: Kind, asked: Asked) -> None:
         self.kind, self.asked = kind, asked
@@ -115,6 +115,7 @@ class Sheet:
         self.wrong: list[Finding] = []
         self.refused: list[Finding] = []
         self.let: list[Finding] = []
+        self.remarks: list[str] = []
         rows = [numbered for numbered in table.rows if numbered[0] >= asked.header_row]
         chosen = [*rows[:1], *(numbered for numbered in rows[1:] if asked.has_row(numbered[0]))]
         left_out = {row for row, _ in rows} - {row for row, _ in chosen}

@@ -6,11 +6,11 @@ from collections.abc import Iterable
 from dataclasses import dataclass, field
 
 from ... import HOUSE
-from ...core.failure import REFUSED, Failure, printable
+from ...core.failure import REFUSED, Failure
 from ...core.forms import BATCH
 from ...model.nearest import nearest
 from ...core.exports import with_texts
-from ...core.table import Row, Value, formatted, print_table
+from ...core.table import Row, Value, formatted
 from ...model.register import quality
 from ...model.notes.facts import LotFacts
 from ...model.notes.movements import COLUMNS, cells_of, with_columns, with_facts
@@ -68,20 +68,6 @@ class Overview:
     def add_links(self, links: Iterable[Link]) -> None:
         """Adds a table of links, if there are some."""
         self.add_filled(NOTED, LINK_COLUMNS, [link_row(link) for link in links])
-
-    def print(self) -> None:
-        """Prints it for people."""
-        print(printable(self.title))
-        for name, value in self.facts.items():
-            print(printable(f"  {name}: {self.words.get(name) or formatted(value, name)}"))
-        for name, (columns, rows) in self.tables.items():
-            print()
-            if rows:
-                print_table(columns, rows, name)
-            else:
-                print(f"{name}: none")
-        if self.remarks:
-            print("\n" + "\n".join(map(printable, self.remarks)))
 
     def as_json(self) -> str:
         """The same for a program."""

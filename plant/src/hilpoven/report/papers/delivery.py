@@ -1,8 +1,6 @@
 """Where papers go: a folder, complete or not at all, or a tar to standard output."""
-import contextlib
 import datetime
 import pathlib
-import sys
 import tarfile
 import tempfile
 from collections.abc import Callable, Sequence
@@ -10,28 +8,21 @@ from dataclasses import dataclass
 from typing import IO
 
 from ...core import paths, scratch
-from ...core.failure import WRONG_USE, Failure
+from ...core.failure import Failure
 from ...core.office import Office
 from ...core.settings import PlantFacts
 from ...core.journal import log
-from ...core.progress import say_done, steps
 from ...core.table import counted
 from . import copies, guard, printing
 from .copies import Source
 from .letterhead import Issue, letterhead_beside, letterhead_of
 from .printing import Document
 
+Tell = Callable[[str], None]
+Write = Callable[[pathlib.Path], None]  # writes papers into a folder
 Maker = Callable[[Source], list[Document]]
 PAPERS = (".html", ".pdf")
 MOST_NAMED = 12  # papers that are named when all are written
-
-
-def require_place(folder: str | None, tar: bool) -> None:
-    """Fails if it isn't said where papers go, or if they can't go there."""
-    if tar == bool(folder):
-        raise Failure("either FOLDER or --tar says where the papers go", WRONG_USE)
-    if tar and sys.stdout.isatty():
-        raise Failure("--tar is for a pipe or a file, and standard output is a terminal", WRONG_USE)
 
 
 def footer_of(source: Source, program: str, for_plant: bool) -> str:
@@ -47,60 +38,64 @@ def footer_of(source: Source, program: str, for_plant: bool) -> str:
 @dataclass(frozen=True)
 class Delivery:
     """Papers that are to be made and given: their name, what makes them, what they say of the plant, whether they are
-    printed, and where they go, a folder or, without one, standard output."""
+    printed, and where they go, a folder or, as a tar, a stream."""
 
     name: str
     make: Maker
     plant: PlantFacts
     day: datetime.date  # of their issue
     prints: bool
-    folder: str | None = None
+    target: str | IO[bytes]
 
-    def issue(self, documents: Sequence[Document]) -> Issue:
+    def issue(self, documents: Sequence[Document], tell: Tell) -> Issue:
         """What those say that leave the plant."""
         if all(document.for_plant for document in documents):
             return Issue(None, "")
         is_beside = any(document.for_plant for document in documents)
-        letterhead = letterhead_beside(self.plant) if is_beside else letterhead_of(self.plant)
+        letterhead = letterhead_beside(self.plant, tell) if is_beside else letterhead_of(self.plant)
         return Issue(letterhead, str(self.day))
 
 
-def deliver(office: Office, journal: log.Journal, delivery: Delivery) -> None:
-    """Makes papers and delivers them; if anything fails nothing is delivered."""
+def deliver(office: Office, journal: log.Journal, delivery: Delivery, begin: Tell, tell: Tell) -> str:
+    """Makes papers and delivers them, and says what was written; if anything fails nothing is delivered. `begin` is
+    told each step, and `tell` what the papers lack."""
     if delivery.prints:
         printing.require_printer()
-    with paths.target(delivery.folder) if delivery.folder else contextlib.nullcontext() as target, steps() as begin:
-        begin(f"copying {office.file}")
-        with copies.opened(office, journal) as source:
-            begin("reading it, and comparing with what toll says")
-            program, papers = copies.version(office), delivery.make(source)
-            documents = [
-                (document, document.footer or footer_of(source, program, document.for_plant)) for document in papers
-            ]
-            issue = delivery.issue(papers)
-        begin(f"writing {counted(len(papers), 'papers')}")
-
-        def write(room: pathlib.Path) -> None:
-            printing.write(documents, issue, room, delivery.prints)
-
-        if target:
-            with target.room() as (room, path), guard.over(path):
-                write(pathlib.Path(paths.open_path(room), "papers"))
-                written = files_below(pathlib.Path(paths.open_path(room), "papers"))
-                target.put(room, "papers")
-        else:
-            written = give_tar(write, delivery.name)
-    say_done(f"wrote {delivery.folder or delivery.name}: {written}")
+    if not isinstance(delivery.target, str):
+        written = give_tar(read(office, journal, delivery, begin, tell), delivery.name, delivery.target)
+        return f"wrote {delivery.name}: {written}"
+    with paths.target(delivery.target) as target:
+        write = read(office, journal, delivery, begin, tell)
+        with target.room() as (room, path), guard.over(path):
+            papers = pathlib.Path(paths.open_path(room), "papers")
+            write(papers)
+            written = files_below(papers)
+            target.put(room, "papers")
+    return f"wrote {delivery.target}: {written}"
 
 
-def give_tar(write: Callable[[pathlib.Path], None], name: str) -> str:
-    """Gives papers as a tar to standard output; the names of their files."""
+def read(office: Office, journal: log.Journal, delivery: Delivery, begin: Tell, tell: Tell) -> Write:
+    """Reads what papers say; what writes them into a folder."""
+    begin(f"copying {office.file}")
+    with copies.opened(office, journal) as source:
+        begin("reading it, and comparing with what toll says")
+        program, papers = copies.version(office), delivery.make(source)
+        documents = [
+            (document, document.footer or footer_of(source, program, document.for_plant)) for document in papers
+        ]
+        issue = delivery.issue(papers, tell)
+    begin(f"writing {counted(len(papers), 'papers')}")
+    return lambda folder: printing.write(documents, issue, folder, delivery.prints)
+
+
+def give_tar(write: Write, name: str, stream: IO[bytes]) -> str:
+    """Gives papers as a tar to a stream; the names of their files."""
     with scratch.folder(tempfile.gettempdir()) as path, guard.over(path):
         folder = pathlib.Path(path, "papers")
         try:
             write(folder)
-            write_tar(folder, name, sys.stdout.buffer)
-            sys.stdout.flush()
+            write_tar(folder, name, stream)
+            stream.flush()
             return files_below(folder)
         except BrokenPipeError:
             raise

@@ -4,9 +4,10 @@ import hashlib
 import json
 import os
 import stat
+from collections.abc import Callable
 from typing import Any, NamedTuple
 
-from ...core.failure import WRONG_USE, Failure, tell
+from ...core.failure import WRONG_USE, Failure
 from ...core.settings import PlantFacts
 
 MOST_BYTES = 1 << 20  # of a logo
@@ -37,9 +38,9 @@ def letterhead_of(plant: PlantFacts) -> Letterhead | None:
     return Letterhead(plant.name, plant.address, plant.contact, address_of(plant.logo) if plant.logo else "")
 
 
-def letterhead_beside(plant: PlantFacts) -> Letterhead | None:
+def letterhead_beside(plant: PlantFacts, tell: Callable[[str], None]) -> Letterhead | None:
     """The letterhead of papers that leave the plant beside one of its own, which no logo stops: without the logo if
-    that can't be used."""
+    that can't be used, which is told."""
     try:
         return letterhead_of(plant)
     except Failure as failure:

@@ -6,7 +6,7 @@ from collections.abc import Callable, Iterator
 from contextlib import contextmanager
 from types import FrameType
 
-from .failure import tell
+from .output import tell
 
 WIDEST = 40  # letters of a bar
 SOON = 1.0  # seconds, after which it is told what goes on
