@@ -22,8 +22,9 @@ seen, mine = 0, os.getpid()
 
 @functools.cache
 def is_own(name: str) -> bool:
-    """Whether the functions of a file are the command's, but for those of which there are as many as processes run."""
-    return name.startswith(f"{PACKAGE}/hilpoven") and not name.endswith("/server.py")
+    """Whether the functions of a file are the command's, but for those of which there are as many as processes run, and
+    those that sum a log, which are most steps of a follower and write nothing."""
+    return name.startswith(f"{PACKAGE}/hilpoven") and not name.endswith(("/server.py", "/wal.py"))
 
 
 def note(frame: FrameType, event: str, _: Any) -> None:

@@ -48,7 +48,7 @@ def last(at_work) -> pathlib.Path:
 
 def craft(path: pathlib.Path, fields: dict[str, object], content: bytes | None = None) -> None:
     """Puts a piece with these fields in a piece's place, with its own hashes."""
-    header = asdict(chain.opened(str(path)).header)
+    header = asdict(piece.opened(str(path)).header)
     content = path.read_bytes()[piece.HEAD :] if content is None else content
     fields = {**header, **({} if content is None else {"sha256": hashlib.sha256(content).hexdigest()}), **fields}
     text = json.dumps({"format": piece.FORMAT, **fields}).encode().ljust(piece.HEAD - piece.SUM)

@@ -92,7 +92,7 @@ def reordered(folder: pathlib.Path) -> None:
 
 def of_another_chain(folder: pathlib.Path) -> None:
     """Piece 5 of another chain of the same office, under this one's name."""
-    original = chain.opened(str(at(folder, 5))).header
+    original = piece.opened(str(at(folder, 5))).header
     header = original.__class__(**{**original.__dict__, "chain": "0" * 12})
     content = at(folder, 5).read_bytes()[piece.HEAD :]
     at(folder, 5).write_bytes(header.as_bytes() + content)
@@ -100,7 +100,7 @@ def of_another_chain(folder: pathlib.Path) -> None:
 
 def replaced(folder: pathlib.Path) -> None:
     """Piece 5 with another time, whole in itself."""
-    original = chain.opened(str(at(folder, 5))).header
+    original = piece.opened(str(at(folder, 5))).header
     header = original.__class__(**{**original.__dict__, "at": "2020-01-01T00:00:00.000Z"})
     content = at(folder, 5).read_bytes()[piece.HEAD :]
     at(folder, 5).write_bytes(header.as_bytes() + content)
@@ -209,7 +209,7 @@ def test_a_day_has_a_snapshot_and_old_ones_go(at_work, pieces, standby, monkeypa
         look(follower)
         look(follower)
     kept = chain.newest_in(str(pieces))
-    days = [chain.opened(path).header.at[:10] for path in kept.snapshots.values()]
+    days = [piece.opened(path).header.at[:10] for path in kept.snapshots.values()]
     assert days == ["2030-01-02", "2030-01-03", "2030-01-04"] and min(kept.pieces) == kept.first_snapshot + 1 and len(chain.chains_in(str(pieces))) == 1
     monkeypatch.undo()
     assert standby.run("promote", pieces).status == 0 and standby.content() == at_work.content()

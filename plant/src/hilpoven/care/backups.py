@@ -243,13 +243,18 @@ def replace(
             aside = move_aside(office.file)
             files.put_in_place(copy, office.file)
             note.members[IN_PLACE] = True
-        answer = office.ask_patiently(["stock", "HOUSE"])
-        if answer.status:
-            advice = f"what was there is in {aside}" if aside else ""
-            raise Failure(f"toll doesn't open what was put in place: {answer.error.strip()}", FAULT, advice)
+        require_opening(office, aside)
         moved = [f"what was there is in {aside}"] if aside else []
         note.answer = Answer(0, "; ".join(["restored", *moved, *kept.lines]) + "\n", "")
     return Replaced(aside, kept.lines)
+
+
+def require_opening(office: Office, aside: str) -> None:
+    """Fails if `toll` doesn't open what was put in place; `aside` is the folder of what was there, if anything was."""
+    answer = office.ask_patiently(["stock", "HOUSE"])
+    if answer.status:
+        advice = f"what was there is in {aside}" if aside else ""
+        raise Failure(f"toll doesn't open what was put in place: {answer.error.strip()}", FAULT, advice)
 
 
 def require_sums(copy: str) -> None:

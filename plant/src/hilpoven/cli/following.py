@@ -69,7 +69,7 @@ def follow_group(ctx: click.Context, to: str | None, is_check: bool) -> None:
 
 def check(context: Context) -> None:
     """Fails if the target was promoted; what can't be asked is told alone."""
-    from ..care.standby import chain, follower, remote, sender
+    from ..care.standby import chain, remote
     from ..core import timeline
 
     target, own = context.settings.follow.to, timeline.number_of(context.file)
@@ -81,10 +81,10 @@ def check(context: Context) -> None:
                 raise
             tell_line(f"hilpoven: {printable(failure.message)}")
             return
-        sender.require_latest(context.file, own, target, [file.name for file in files])
+        chain.require_own(context.file, own, target, [file.name for file in files])
     folder = folder_of(context)
     if os.path.isdir(folder):
-        follower.require_latest(context.file, own, folder, chain.chains_in(folder))
+        chain.require_own(context.file, own, folder, list(chain.names_in(folder)))
     click.echo(printable(f"{context.file} is of timeline {own}, the latest that {target} has"))
 
 

@@ -114,6 +114,16 @@ def copy_bytes(reader: IO[bytes], writer: IO[bytes]) -> None:
         shutil.copyfileobj(reader, writer, PART)
 
 
+def copy_in_place(source: str, target: str) -> None:
+    """Copies a file to a name that the copy has once all of its bytes are on the disk."""
+    made = os.path.join(os.path.dirname(target), hidden_name())
+    try:
+        copy(source, made)
+        rename(made, target)
+    finally:
+        remove(made)
+
+
 def hash_of(path: str) -> str:
     """The SHA-256 of a file."""
     import hashlib

@@ -4,14 +4,13 @@ FILE.timeline has the number, beside FILE; it is missing in the first timeline. 
 made of. Whoever follows an office of an earlier timeline into that folder, or into one that gets it, is refused, and
 FILE.superseded, beside FILE, keeps its server's unit and the plant's command from going on.
 """
-import contextlib
 import json
 import os
 import re
 from collections.abc import Iterable
 from typing import Any
 
-from . import files, scratch
+from . import files
 from .failure import REFUSED, Failure
 from .office import SUPERSEDED
 
@@ -24,8 +23,7 @@ def number_of(file: str) -> int:
     """The timeline of an office's file."""
     path = f"{file}{TIMELINE}"
     try:
-        with open(os.open(path, os.O_RDONLY | os.O_NOFOLLOW | os.O_CLOEXEC)) as lines:
-            number = json.load(lines)["timeline"]
+        number = read(path)["timeline"]
     except FileNotFoundError:
         return FIRST
     except (OSError, ValueError, KeyError, TypeError) as error:
@@ -35,29 +33,26 @@ def number_of(file: str) -> int:
     return number
 
 
-def write(path: str, content: dict[str, Any]) -> None:
-    """Writes a small file, whole or not at all, and has it on the disk."""
-    folder = os.path.dirname(path)
-    with scratch.folder(folder) as room:
-        temporary = os.path.join(room, "made")
-        with open(temporary, "x") as file:
-            json.dump(content, file)
-            file.write("\n")
-        files.sync(temporary)
-        os.rename(temporary, path)
-    files.sync(folder)
+def read(path: str) -> Any:
+    """What a small file says."""
+    with open(os.open(path, files.READ)) as lines:
+        return json.load(lines)
+
+
+def write(path: str, number: int, origin: dict[str, Any]) -> None:
+    """Writes a timeline with what it came from, whole or not at all, and has it on the disk."""
+    files.replace(path, f"{json.dumps({'timeline': number, **origin})}\n".encode(), 0o666)
 
 
 def begin(file: str, number: int, origin: dict[str, Any]) -> None:
     """Begins a timeline of an office's file, which came from a chain of pieces."""
-    write(f"{file}{TIMELINE}", {"timeline": number, **origin})
-    with contextlib.suppress(FileNotFoundError):
-        os.unlink(f"{file}{SUPERSEDED}")
+    write(f"{file}{TIMELINE}", number, origin)
+    files.remove(f"{file}{SUPERSEDED}")
 
 
 def mark(folder: str, number: int, origin: dict[str, Any]) -> None:
     """Marks a folder as that of which an office of a timeline was made."""
-    write(os.path.join(folder, mark_of(number)), {"timeline": number, **origin})
+    write(os.path.join(folder, mark_of(number)), number, origin)
 
 
 def mark_of(number: int) -> str:
@@ -67,18 +62,17 @@ def mark_of(number: int) -> str:
 
 def latest(names: Iterable[str]) -> int:
     """The latest timeline that marks of a folder name; 0 if there is none."""
-    marks = filter(None, map(MARK.fullmatch, names))
-    return max((int(mark[1]) for mark in marks), default=0)
+    return max((int(mark[1]) for mark in map(MARK.fullmatch, names) if mark), default=0)
 
 
 def supersede(file: str, number: int, where: str) -> Failure:
     """Keeps an office from being served, since another one was made of its pieces; why."""
     why = f"{where} was promoted: timeline {number} has begun, and {file} is of timeline {number_of(file)}"
-    write(f"{file}{SUPERSEDED}", {"timeline": number, "why": why})
-    return refused(file, why)
+    write(f"{file}{SUPERSEDED}", number, {"why": why})
+    return superseded(file, why)
 
 
-def refused(file: str, why: str) -> Failure:
+def superseded(file: str, why: str) -> Failure:
     """Why an office of an earlier timeline isn't worked on, and what to do."""
     return Failure(
         why,
@@ -91,10 +85,9 @@ def refused(file: str, why: str) -> Failure:
 def require_latest(file: str) -> None:
     """Fails for an office that another one has superseded."""
     try:
-        with open(os.open(f"{file}{SUPERSEDED}", os.O_RDONLY | os.O_NOFOLLOW | os.O_CLOEXEC)) as lines:
-            why = str(json.load(lines)["why"])
+        why = str(read(f"{file}{SUPERSEDED}")["why"])
     except FileNotFoundError:
         return
     except (OSError, ValueError, KeyError, TypeError):
         why = f"{file}{SUPERSEDED} is there"
-    raise refused(file, why)
+    raise superseded(file, why)

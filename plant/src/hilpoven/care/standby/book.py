@@ -5,7 +5,7 @@ from contextlib import AbstractContextManager
 from dataclasses import dataclass, field
 from datetime import datetime, timezone
 
-from ...core import files, names, scratch
+from ...core import files, names
 from ...core.failure import Failure
 from . import chain, lines, piece
 from .capture import Digests, Place
@@ -41,8 +41,8 @@ class Book:
 
     def go_on(self, of: Chain) -> None:
         """Goes on behind the last piece of a chain."""
-        self.chain, self.snapshot = of.name, chain.opened(of.snapshots[max(of.snapshots)]).header
-        last = chain.opened(of.newest).header
+        self.chain, self.snapshot = of.name, piece.opened(of.snapshots[max(of.snapshots)]).header
+        last = piece.opened(of.newest).header
         self.note(last, last.before if last.is_snapshot and last.number else last.hash)
         self.named = self.earlier = chain.last_earlier(of)
 
@@ -81,35 +81,29 @@ class Book:
 
     def finish(self, new_piece: Writer, place: Place, page_size: int, size: int) -> Header:
         """Adds the journal's new lines, all of them to a snapshot, and the header, and gives a piece its name."""
-        kind = new_piece.kind
-        new = lines.behind(self.journal, Taken() if kind == SNAPSHOT else self.taken)
+        is_snapshot = new_piece.kind == SNAPSHOT
+        new = lines.behind(self.journal, Taken() if is_snapshot else self.taken)
         new.copy(new_piece.lines)
-        if kind == SNAPSHOT or self.needs_earlier:
+        if is_snapshot or self.needs_earlier:
             new_piece.name_earlier(self.earlier)
-        header = Header(
-            kind=kind,
+        header = new_piece.finish(
             office=self.office,
             timeline=self.timeline,
             chain=self.chain,
-            number=self.number + (kind != SNAPSHOT),
+            number=self.number + (not is_snapshot),
             before=self.before,
             at=now(),
             page_size=page_size,
-            pages=new_piece.pages,
             size=size,
             journal_from=new.start,
-            journal=new_piece.journal,
             journal_hash=new.taken.hash,
-            earlier=new_piece.earlier,
-            sha256=new_piece.digest.hexdigest(),
-            log=piece.as_values(place.log),
-            file=list(place.file),
+            log=place.log,
+            file=place.file,
         )
-        new_piece.finish(header)
         self.named = dict(self.earlier)
-        if kind == SNAPSHOT:
+        if is_snapshot:
             self.snapshot = header
-        if kind != SNAPSHOT or self.last is None:
+        if not is_snapshot or self.last is None:
             self.note(header, header.hash)
         return header
 
@@ -122,15 +116,9 @@ class Book:
 
     def collect_earlier(self) -> None:
         """Copies the office's earlier files into the folder, each once, by its SHA-256."""
-        digests = dict[str, str]()
-        for path in names.earlier_files(self.file):
-            digest = files.hash_of(path)
+        digests = {path: files.hash_of(path) for path in names.earlier_files(self.file)}
+        for path, digest in digests.items():
             target = chain.earlier_path(self.folder, digest)
             if not os.path.exists(target):
-                with scratch.folder(self.folder) as room:
-                    copy = os.path.join(room, "copy")
-                    files.copy(path, copy)
-                    files.sync(copy)
-                    os.rename(copy, target)
-            digests[os.path.basename(path)] = digest
-        self.earlier = digests
+                files.copy_in_place(path, target)
+        self.earlier = {os.path.basename(path): digest for path, digest in digests.items()}

@@ -23,7 +23,6 @@ ENDS = 50  # looks at the log's end until two readers of it have read to the sam
 READ = 1 << 20  # bytes of FILE between two looks at its log
 DIGEST = 16  # bytes
 PAGE_SIZE_AT = 16  # in FILE
-LARGEST_PAGE = 65_536  # bytes, which FILE says as 1
 Emit = Callable[[int, bytes], None]
 
 
@@ -246,6 +245,6 @@ def page_size_of(head: bytes, later: Pages) -> int:
     size = int.from_bytes(head[PAGE_SIZE_AT:])
     if not head and later.end:
         return later.end.page_size
-    if (size := LARGEST_PAGE if size == 1 else size) not in (1 << n for n in range(9, 17)):
+    if (size := wal.LARGEST_PAGE if size == 1 else size) not in wal.PAGE_SIZES:
         raise Failure("it is no database: its pages have no size")
     return size

@@ -9,10 +9,11 @@ from dataclasses import dataclass, field
 from datetime import datetime
 from typing import IO
 
+from ...core import timeline
 from ...core.failure import REFUSED, WRONG_USE, Failure
 from . import piece
 from .capture import Digests, digest_of
-from .piece import HEAD, NAME, SNAPSHOT, Header, Piece
+from .piece import Header, Piece, opened
 
 OFTEN = 2_000  # names of a folder between two parts of a look
 EARLIER, EARLIER_END = "earlier-", ".db"  # of the name of an earlier file, which has its SHA-256 in between
@@ -32,31 +33,44 @@ class Chain:
         """The greatest number that there is."""
         return max([*self.snapshots, *self.pieces], default=0)
 
+    def path_of(self, number: int) -> str:
+        """The path of the piece with a number, or of the snapshot that has it alone."""
+        return self.pieces.get(number) or self.snapshots[number]
+
     @property
     def newest(self) -> str:
-        """The path of the piece with that number, or of the snapshot that has it alone."""
-        return self.pieces.get(self.last) or self.snapshots[self.last]
+        """The path of the last one."""
+        return self.path_of(self.last)
 
     @property
     def first_snapshot(self) -> int:
         """The number of the oldest snapshot."""
         return min(self.snapshots, default=0)
 
+    def is_needless(self, name: piece.Name) -> bool:
+        """Whether a file of the chain isn't needed by its name, as the oldest snapshot that stays is of a later state."""
+        return bool(self.snapshots) and name.number < self.first_snapshot + (not name.is_snapshot)
+
 
 def nothing() -> None:
     """What is done between two parts of a look, where nothing waits."""
 
 
+def grouped(names: Iterable[str], folder: str = "") -> list[Chain]:
+    """The chains of which files in a folder have these names."""
+    chains: dict[tuple[int, str], Chain] = {}
+    for text in sorted(names):
+        if name := piece.name_of(text):
+            of = chains.setdefault((name.timeline, name.chain), Chain(name.timeline, name.chain))
+            (of.snapshots if name.is_snapshot else of.pieces)[name.number] = os.path.join(folder, text)
+    return list(chains.values())
+
+
 def chains_in(folder: str, between: Callable[[], None] = nothing) -> list[Chain]:
     """The chains of a folder, the newest last: those of a later timeline come later, then those that were written to
     later. `between` is called often meanwhile."""
-    chains: dict[tuple[int, str], Chain] = {}
-    for name in sorted(names_in(folder, between)):
-        if match := NAME.fullmatch(name):
-            timeline, chain_name, number, kind = int(match[1]), match[2], int(match[3]), match[4]
-            of = chains.setdefault((timeline, chain_name), Chain(timeline, chain_name))
-            (of.snapshots if kind == SNAPSHOT else of.pieces)[number] = os.path.join(folder, name)
-    return sorted(chains.values(), key=lambda chain: (chain.timeline, began(chain), chain.name))
+    chains = grouped(names_in(folder, between), folder)
+    return sorted(chains, key=lambda chain: (chain.timeline, moment_of(chain.newest, is_by_file=True), chain.name))
 
 
 def names_in(folder: str, between: Callable[[], None] = nothing) -> Iterator[str]:
@@ -84,13 +98,12 @@ def require_no_link(entry: "os.DirEntry[str]", folder: str) -> None:
             raise Failure(f"{entry.name} in {folder} is no file", REFUSED, "nothing reads what it leads to: remove it")
 
 
-def began(chain: Chain) -> float:
-    """When the newest of a chain's pieces was made, or where it can't be read, when its file was."""
-    try:
-        return seconds_of(opened(chain.newest).header.at)
-    except (Failure, ValueError):
-        with contextlib.suppress(OSError):
-            return os.stat(chain.newest, follow_symlinks=False).st_mtime
+def moment_of(path: str, is_by_file: bool = False) -> float:
+    """When a piece was made, in seconds since 1970; if that can't be read, now, or when its file was written."""
+    with contextlib.suppress(Failure, ValueError):
+        return opened(path).header.moment
+    with contextlib.suppress(OSError):
+        return os.stat(path, follow_symlinks=False).st_mtime if is_by_file else time.time()
     return time.time()
 
 
@@ -101,19 +114,12 @@ def newest_in(folder: str) -> Chain:
     raise Failure(f"no snapshot and no piece is in {folder}", WRONG_USE)
 
 
-def opened(path: str) -> Piece:
-    """A piece by its path; fails where its header isn't one."""
-    name = os.path.basename(path)
-    try:
-        with open(os.open(path, piece.READ), "rb") as file:
-            head = file.read(HEAD)
-        if len(head) < HEAD:
-            raise Failure(f"{name} is cut")
-        return Piece(path, piece.header_of(head))
-    except OSError as error:
-        raise Failure(f"{name} can't be read: {error.strerror}") from error
-    except ValueError as error:
-        raise Failure(f"{name} was changed: {error}") from error
+def require_own(file: str, own: int, where: str, names: list[str]) -> None:
+    """Fails, and keeps an office from being served, if names in a folder are pieces or a mark of a later timeline than
+    the office's own."""
+    pieces = (name.timeline for name in map(piece.name_of, names) if name)
+    if (latest := max([timeline.latest(names), *pieces])) > own:
+        raise timeline.supersede(file, latest, where)
 
 
 @dataclass
@@ -129,7 +135,6 @@ class Report:
     hashes: dict[int, str] = field(default_factory=dict)
     snapshots: set[int] = field(default_factory=set)  # that are whole
     names: dict[str, str] = field(default_factory=dict)  # of files by the SHA-256 of their headers
-    note: Callable[[], None] = nothing  # is called behind each file
 
     def look(self) -> "Report":
         """Looks at each number: at the piece, then at the snapshot of its state."""
@@ -147,17 +152,18 @@ class Report:
             one = opened(path)
             if fault := self.fault(one, os.path.basename(path)):
                 raise Failure(f"{os.path.basename(path)} {fault}")
-            missing = self.missing_earlier(one)
+            needed = (one.earlier() or {}).items()
         except Failure as failure:
             self.wrong.append(failure.message)
-        else:
-            header = one.header
-            self.whole += 1
-            if header.is_snapshot:
-                self.snapshots.add(header.number)
-            self.hashes[header.number] = header.before if header.is_snapshot and header.number else header.hash
-            self.wrong += missing
-        self.note()
+            return
+        header = one.header
+        self.whole += 1
+        if header.is_snapshot:
+            self.snapshots.add(header.number)
+        self.hashes[header.number] = header.before if header.is_snapshot and header.number else header.hash
+        for name, digest in needed:
+            if not os.path.exists(path := earlier_path(self.folder, digest)):
+                self.wrong.append(f"the earlier file {name} is missing: {os.path.basename(path)}")
 
     def fault(self, one: Piece, name: str) -> str:
         """What is wrong with a piece, behind its name; empty if nothing is."""
@@ -173,15 +179,6 @@ class Report:
         if before != header.before and (header.number or not header.is_snapshot):
             return "doesn't follow the piece before it: one of the two was replaced"
         return ""
-
-    def missing_earlier(self, one: Piece) -> list[str]:
-        """The earlier files that a piece names and that aren't in the folder."""
-        needed = (one.earlier() or {}).items()
-        return [
-            f"the earlier file {name} is missing: {os.path.basename(earlier_path(self.folder, digest))}"
-            for name, digest in needed
-            if not os.path.exists(earlier_path(self.folder, digest))
-        ]
 
     @property
     def route(self) -> tuple[int, int]:
@@ -237,8 +234,8 @@ def pieces_of(chain: Chain, start: int, end: int) -> Iterator[Piece]:
 def digests(pieces: Iterable[Piece]) -> Digests:
     """The digests of the pages that pieces give."""
     collected = Digests()
-    for opened_piece in pieces:
-        collected.put({number: digest_of(page) for number, page in opened_piece.pages()}, opened_piece.header.size)
+    for one in pieces:
+        collected.put({number: digest_of(page) for number, page in one.pages()}, one.header.size)
     return collected
 
 
@@ -257,51 +254,48 @@ def build(pieces: Iterable[Piece], room: str) -> Built:
     file, journal, earlier = os.path.join(room, "copy.db"), os.path.join(room, "copy.journal"), dict[str, str]()
     last: Header | None = None
     with open(file, "xb", 0) as base, open(journal, "xb") as lines:
-        for opened_piece in pieces:
-            last = opened_piece.header
-            for number, page in opened_piece.pages():
-                if not number:
-                    raise Failure(f"{last.name} has a page of no number")
-                if number <= last.size:
-                    os.pwrite(base.fileno(), page, (number - 1) * len(page))
-            os.ftruncate(base.fileno(), last.size * last.page_size)
-            add_lines(lines, opened_piece)
-            named = opened_piece.earlier()
+        for one in pieces:
+            put_pages(base.fileno(), one)
+            put_lines(lines, one)
+            named, last = one.earlier(), one.header
             earlier = earlier if named is None else named
     if last is None:
         raise Failure("there are no pieces")
     return Built(file, journal, earlier, last)
 
 
-def build_journal(pieces: Iterable[Piece], path: str) -> None:
-    """Makes the journal alone, of pieces that were looked at."""
-    with open(path, "xb") as lines:
-        for opened_piece in pieces:
-            add_lines(lines, opened_piece)
+def put_pages(base: int, one: Piece) -> None:
+    """Puts the pages of a piece into an open file, which is of the pieces before it."""
+    header = one.header
+    for number, page in one.pages():
+        if not number:
+            raise Failure(f"{header.name} has a page of no number")
+        if number <= header.size:
+            os.pwrite(base, page, (number - 1) * len(page))
+    os.ftruncate(base, header.size * header.page_size)
 
 
-def add_lines(lines: IO[bytes], opened_piece: Piece) -> None:
+def put_lines(lines: IO[bytes], one: Piece) -> None:
     """Adds what a piece has of the journal to that of the pieces before it."""
-    header = opened_piece.header
+    header = one.header
     if header.journal and header.journal_from != lines.tell():
         if header.journal_from:
             raise Failure(f"{header.name} has lines of a journal that isn't that of the pieces before it")
         lines.seek(0)
         lines.truncate()
-    lines.writelines(opened_piece.lines())
+    lines.writelines(one.lines())
+
+
+def build_journal(pieces: Iterable[Piece], path: str) -> None:
+    """Makes the journal alone, of pieces that were looked at."""
+    with open(path, "xb") as lines:
+        for one in pieces:
+            put_lines(lines, one)
 
 
 def seconds_of(at: str) -> float:
     """A time of a header as seconds since 1970."""
     return datetime.fromisoformat(at).timestamp()
-
-
-def seconds_in(folder: str, name: str) -> float:
-    """When a piece was made; now if that can't be read."""
-    try:
-        return seconds_of(opened(os.path.join(folder, name)).header.at)
-    except (Failure, ValueError):
-        return time.time()
 
 
 def office_of(chain: Chain) -> str:
@@ -326,20 +320,19 @@ def old_names(folder: str, name: str, days: int, between: Callable[[], None] = n
     that stays, and other chains to which nothing came for so long; in the order in which they can go."""
     oldest, old = time.time() - days * 86_400, list[str]()
     for of in chains_in(folder, between):
-        stay = [number for number, path in of.snapshots.items() if seconds_in(folder, os.path.basename(path)) >= oldest]
+        stay = [number for number, path in of.snapshots.items() if moment_of(path) >= oldest]
         stay = stay or ([max(of.snapshots)] if of.snapshots and of.name == name else [])
-        is_old = of.name != name and seconds_in(folder, os.path.basename(of.newest)) < oldest
-        if not stay and not is_old:
-            continue
-        first = min(stay, default=of.last + 1)
-        old += [path for number, path in of.snapshots.items() if number < first]
-        old += [path for number, path in of.pieces.items() if number <= first]
+        is_old = of.name != name and moment_of(of.newest) < oldest
+        if stay or is_old:
+            first = min(stay, default=of.last + 1)
+            old += [path for number, path in of.snapshots.items() if number < first]
+            old += [path for number, path in of.pieces.items() if number <= first]
     return sorted(os.path.basename(path) for path in old)
 
 
 def at_of(chain: Chain, number: int) -> str:
     """When a piece of a chain was made, or its snapshot if that is all there is."""
-    return opened(chain.pieces.get(number) or chain.snapshots[number]).header.at
+    return opened(chain.path_of(number)).header.at
 
 
 def last_before(chain: Chain, moment: float) -> int:

@@ -6,6 +6,7 @@ from collections.abc import Callable
 from dataclasses import dataclass, field
 from functools import cached_property
 
+from ...core import files
 from ...core.failure import FAULT, REFUSED, Failure
 from . import capture, chain
 from ...core import timeline
@@ -62,10 +63,9 @@ class Follower:
             self.tell(f"the chain {own[-1].name} can't be continued: {failure.message}; a new one begins")
             old = self.book
             self.book = Book(old.folder, old.file, old.journal, old.office, old.timeline, old.reserve)
-        last = self.book.last
-        if last:
+        if last := self.book.last:
             self.watch = capture.continued(self.file, last.place)
-            self.state.has_written(last.number, chain.seconds_of(last.at))
+            self.state.has_written(last.number, last.moment)
         self.book.collect_earlier()
 
     def step(self) -> None:
@@ -117,16 +117,20 @@ class Follower:
         """Notes a piece that was written."""
         if last := self.book.last:
             self.written = time.monotonic()
-            self.state.has_written(last.number, chain.seconds_of(last.at))
+            self.state.has_written(last.number, last.moment)
             if self.sender:
-                self.sender.add(last.name, chain.seconds_of(last.at))
+                self.sender.add(last.name, last.moment)
+
+    def give_up(self, why: str) -> None:
+        """Has all of FILE looked at, and why."""
+        self.watch, self.why, self.pending = None, why, Pages()
 
     def compare(self, why: str) -> None:
         """Makes a piece of the pages of FILE that aren't as the chain has them."""
         self.digests = self.digests or self.book.digests()
         self.book.collect_earlier()
-        self.watch, self.why, self.pending = None, why, Pages()
-        with self.book.writer(FILE, size_of(self.file)) as new_piece:
+        self.give_up(why)
+        with self.book.writer(FILE, files.size_of(self.file)) as new_piece:
             scan = Scan(self.file, self.wait, new_piece.page, self.digests)
             looked = scan.look()
             is_same = self.book.last and self.book.last.size == looked.size and not scan.emitted
@@ -141,7 +145,7 @@ class Follower:
     def make_snapshot(self) -> None:
         """Makes a snapshot of the state behind the last piece. Pieces go on meanwhile."""
         self.book.collect_earlier()
-        size = size_of(self.file) + size_of(f"{self.file}-wal") + size_of(self.book.journal)
+        size = sum(map(files.size_of, (self.file, f"{self.file}-wal", self.book.journal)))
         with self.book.writer(SNAPSHOT, size) as new_piece:
             scan = Scan(self.file, self.wait, new_piece.page, Digests(), self.write_between)
             looked = scan.look(self.agrees)
@@ -152,7 +156,7 @@ class Follower:
             self.write_pending()
             header = self.book.finish(new_piece, self.watch.place, looked.page_size, looked.size)
         if self.sender:
-            self.sender.add(header.name, chain.seconds_of(header.at))
+            self.sender.add(header.name, header.moment)
         known, self.digests = self.digests, Digests()
         self.digests.put(scan.emitted, header.size)
         if header.number == 0:
@@ -183,7 +187,7 @@ class Follower:
             try:
                 self.note_new(self.watch)
             except Gap as gap:
-                self.watch, self.why, self.pending = None, str(gap), Pages()
+                self.give_up(str(gap))
 
     def prune(self) -> None:
         """Looks for snapshots of more than so many days, with the pieces before the oldest that stays, and has them
@@ -215,7 +219,7 @@ class Follower:
                 self.is_resumed = True
             self.step()
             if os.path.lexists(os.path.join(self.book.folder, timeline.mark_of(self.book.timeline + 1))):
-                require_latest(self.file, self.book.timeline, self.book.folder, [])
+                chain.require_own(self.file, self.book.timeline, self.book.folder, os.listdir(self.book.folder))
             self.note_fault("")
             self.pause = PAUSE
         except Failure as failure:
@@ -231,7 +235,7 @@ class Follower:
         self.note_fault(fault)
         self.pause = min(LONGEST_PAUSE, max(1.0, 2 * self.pause))
         if self.held > MOST_HELD:
-            self.watch, self.why, self.pending = None, "pieces couldn't be written", Pages()
+            self.give_up("pieces couldn't be written")
         with contextlib.suppress(Failure, OSError):
             self.prune()  # which may make room
 
@@ -255,24 +259,9 @@ def own_chains(book: Book) -> list[Chain]:
     """The chains of an office's timeline that have a snapshot; fails if the folder has pieces of another office of this
     timeline, or of a later timeline."""
     chains = chain.chains_in(book.folder)
-    require_latest(book.file, book.timeline, book.folder, chains)
+    chain.require_own(book.file, book.timeline, book.folder, os.listdir(book.folder))
     own = [candidate for candidate in chains if candidate.timeline == book.timeline]
     for own_chain in own:
         if (office := chain.office_of(own_chain)) not in ("", book.office):
             raise Failure(f"{book.folder} has pieces of {office}", REFUSED, "each office needs a folder of its own")
     return [candidate for candidate in own if candidate.snapshots]
-
-
-def require_latest(file: str, own: int, folder: str, chains: list[Chain]) -> None:
-    """Fails if a folder has pieces or a mark of a later timeline than an office's own."""
-    marked = timeline.latest(os.listdir(folder))
-    if (latest := max([marked, *(other.timeline for other in chains)], default=0)) > own:
-        raise timeline.supersede(file, latest, folder)
-
-
-def size_of(path: str) -> int:
-    """Bytes of a file; 0 if it isn't there."""
-    try:
-        return os.stat(path).st_size
-    except FileNotFoundError:
-        return 0

@@ -8,7 +8,6 @@ from ...core import files
 from ...core.failure import Failure
 from ...core.journal import query
 from ...core.journal.log import Journal
-from .lines import PART
 
 
 class Relation(Enum):
@@ -57,16 +56,17 @@ class Beside:
 
 def compared(path: str, pieces: str, of_office: str) -> Beside:
     """A journal that is in place, beside the lines of pieces and those of them that an office has."""
-    point, size, most = os.path.getsize(of_office), 0, os.path.getsize(pieces)
+    point, size, changed = os.path.getsize(of_office), files.size_of(path), frozenset[str]()
+    same = query.common(path, pieces)
     if not os.path.lexists(path):
-        return Beside(Relation.NONE, path, size, pieces, point)
-    size, same = os.path.getsize(path), query.common(path, pieces)
-    if same == most:
-        return Beside(Relation.NEWER, path, size, pieces, point)
-    if same == size or is_cut(path, pieces, same):
-        return Beside(Relation.OLDER, path, size, pieces, point)
-    changed = frozenset(keys.changed(path, same) - keys.changed(pieces, same))
-    return Beside(Relation.ANOTHER, path, size, pieces, point, changed)
+        relation = Relation.NONE
+    elif same == os.path.getsize(pieces):
+        relation = Relation.NEWER
+    elif same == size or is_cut(path, pieces, same):
+        relation = Relation.OLDER
+    else:
+        relation, changed = Relation.ANOTHER, frozenset(keys.changed(path, same) - keys.changed(pieces, same))
+    return Beside(relation, path, size, pieces, point, changed)
 
 
 def is_cut(path: str, longer: str, at: int) -> bool:
@@ -74,7 +74,7 @@ def is_cut(path: str, longer: str, at: int) -> bool:
     with open(path, "rb") as journal, open(longer, "rb") as lines:
         journal.seek(at)
         lines.seek(at)
-        rest = journal.read(PART)
+        rest = journal.read(files.PART)
         return lines.readline().startswith(rest)
 
 
@@ -96,6 +96,6 @@ def add_lines(journal: Journal, beside: Beside) -> None:
         if os.fstat(descriptor).st_size != beside.size:
             raise Failure(f"the journal {journal.path} was written meanwhile", advice="give the command again")
         lines.seek(beside.size)
-        while part := lines.read(PART):
+        while part := lines.read(files.PART):
             os.write(descriptor, part)
         os.fsync(descriptor)

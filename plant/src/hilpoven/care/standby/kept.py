@@ -36,39 +36,32 @@ class Kept:
         lost: dict[str, None] = {}
         if not os.path.isdir(self.folder):
             return []
-        for of in self.chains():
-            with scratch.folder(os.path.dirname(self.file)) as room:
-                for state in self.states(of, os.path.join(room, "state.db")):
-                    lost.update(dict.fromkeys(missing_rows(state, files)))
-        return list(lost)
-
-    def chains(self) -> list[Chain]:
-        """The chains of this office's timeline that have a snapshot."""
         number, office = timeline.number_of(self.file), f"{os.uname().nodename}:{self.file}"
-        own = [of for of in chain.chains_in(self.folder) if of.timeline == number and of.snapshots]
-        return [of for of in own if chain.office_of(of) == office]
+        for of in chain.chains_in(self.folder):
+            if of.timeline == number and of.snapshots and chain.office_of(of) == office:
+                with scratch.folder(os.path.dirname(self.file)) as room:
+                    for state in self.states(of, os.path.join(room, "state.db")):
+                        lost.update(dict.fromkeys(missing_rows(state, files)))
+        return list(lost)
 
     def states(self, of: Chain, path: str) -> Iterator[str]:
         """The file that pieces give, made at a path: the last one, and each before a piece for which all of the file
         was looked at, as the log alone didn't tell what had come. Between those rows come and none goes."""
-        start, end = Report(of, self.folder, is_deep=False).look().route
-        last = None
-        for one in chain.pieces_of(of, start, end):
-            if datetime.fromisoformat(one.header.at) > self.until:
-                break
-            if one.header.kind == piece.FILE and last and self.counts(last.at):
+        last = ""
+        with open(path, "xb", 0) as base:
+            for one in chain.pieces_of(of, *Report(of, self.folder, is_deep=False).look().route):
+                if datetime.fromisoformat(one.header.at) > self.until:
+                    break
+                if one.header.kind == piece.FILE and self.counts(last):
+                    yield path
+                chain.put_pages(base.fileno(), one)
+                last = one.header.at
+            if self.counts(last):
                 yield path
-            with open(path, "r+b" if last else "xb") as base:
-                for number, page in one.pages():
-                    os.pwrite(base.fileno(), page, (number - 1) * len(page))
-                os.ftruncate(base.fileno(), one.header.size * one.header.page_size)
-            last = one.header
-        if last and self.counts(last.at):
-            yield path
 
     def counts(self, at: str) -> bool:
-        """Whether a state is of the file that is in place now."""
-        return self.since is None or datetime.fromisoformat(at) > self.since
+        """Whether there is a state of this time, and it is of the file that is in place now."""
+        return bool(at) and (self.since is None or datetime.fromisoformat(at) > self.since)
 
 
 def missing_rows(state: str, files: Sequence[str]) -> Iterator[str]:

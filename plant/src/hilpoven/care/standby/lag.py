@@ -6,14 +6,11 @@ from dataclasses import dataclass
 from datetime import datetime, tzinfo
 
 from ...core.failure import Failure
-from . import capture, chain, remote, state
+from . import capture, chain, piece, remote, state
 from .capture import Gap
 from .state import State
 
-
-BESIDE = (
-    "follow"  # the folder of the pieces beside the office's file, where they go to another machine or come from one
-)
+BESIDE = "follow"  # the name of the folder of pieces beside FILE, if they go to another machine or come from one
 
 
 def folder_of(file: str, to: str) -> str:
@@ -53,23 +50,20 @@ class Lag:
 def lag_of(file: str, folder: str, zone: tzinfo | None = None) -> Lag | None:
     """How far the pieces in a folder are behind an office's file, which may be on another machine, told in a time zone;
     `None` if nobody follows into it."""
-    follower_state = state.load(folder)
-    if follower_state is None:
+    own = state.load(folder)
+    if own is None:
         return None
-    if not follower_state.is_silent:
-        return Lag(follower_state, False, follower_state.behind, follower_state.commits, zone)
-    if not os.path.exists(file):
-        return Lag(follower_state, True, follower_state.behind, follower_state.commits, zone)
+    if not own.is_silent or not os.path.exists(file):
+        return Lag(own, own.is_silent, own.behind, own.commits, zone)
     new = commits_since(file, folder)
-    since = [follower_state.unsent_since] if follower_state.unsent_since else []
-    since += [follower_state.waiting or follower_state.looked] if new != 0 else []
-    return Lag(follower_state, True, time.time() - min(since) if since else 0.0, new, zone)
+    since = [moment for moment in (own.unsent_since, (own.waiting or own.looked) if new != 0 else 0.0) if moment]
+    return Lag(own, True, time.time() - min(since) if since else 0.0, new, zone)
 
 
 def commits_since(file: str, folder: str) -> int | None:
     """How many commands and requests a log has behind the last piece; `None` if the log can't tell."""
     with contextlib.suppress(Failure, Gap, OSError):
-        watch = capture.continued(file, chain.opened(chain.newest_in(folder).newest).header.place)
+        watch = capture.continued(file, piece.opened(chain.newest_in(folder).newest).header.place)
         if watch:
             pages = watch.advance()
             return pages.commits if pages else 0

@@ -4,9 +4,9 @@ import os
 from collections.abc import Callable
 from dataclasses import dataclass
 
+from ...core.files import PART
 from .capture import opened
 
-PART = 1 << 20  # bytes
 KNOWN_BY = 4_096  # bytes, by whose SHA-256 a journal is known again
 EMPTY = hashlib.sha256().hexdigest()
 

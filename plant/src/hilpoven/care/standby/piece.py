@@ -14,27 +14,40 @@ import re
 from collections.abc import Iterator
 from dataclasses import asdict, dataclass
 from datetime import datetime
-from typing import IO, Any
+from typing import IO, Any, NamedTuple
 
 from ...core import files
 from ...core.failure import Failure
+from ...core.snapshot import Stamp
+from ...core.typed import typed
 from .capture import Place
-from .wal import Position
+from .wal import PAGE_SIZES, Position
 
 FORMAT = 1
 HEAD = 2_048  # bytes of a header
 SUM = 65  # bytes at the end of a header: the SHA-256 of what is before them, and the end of the line
 PAGE_HEAD = 4  # bytes of a page's number
-BUFFER = 1 << 20  # bytes
 SYNC = 1 << 20  # bytes after which a piece is synced while it is made, or the server's syncs would wait for all of it
-READ = os.O_RDONLY | os.O_NOFOLLOW | os.O_CLOEXEC | os.O_NONBLOCK  # no link is followed, and no pipe is waited for
-NEW = os.O_WRONLY | os.O_CREAT | os.O_EXCL | os.O_NOFOLLOW | os.O_CLOEXEC
 NOTHING = "0" * 64  # in place of the SHA-256 of a header before the first
 SNAPSHOT, LOG, FILE = "snapshot", "log", "file"  # what a piece was made of: all pages, the log, or changed ones of FILE
 ENDS = {SNAPSHOT: ".snapshot", LOG: ".piece", FILE: ".piece"}
-PAGE_SIZES = frozenset(1 << n for n in range(9, 17))
 SHA256 = re.compile(r"[0-9a-f]{64}")
 NAME = re.compile(r"([0-9]{4})-([0-9a-f]{12})-([0-9]{8})\.(piece|snapshot)")
+
+
+class Name(NamedTuple):
+    """What the name of a piece's file says."""
+
+    timeline: int
+    chain: str
+    number: int
+    is_snapshot: bool
+
+
+def name_of(text: str) -> Name | None:
+    """What a name says; `None` if it is none of a piece."""
+    match = NAME.fullmatch(text)
+    return Name(int(match[1]), match[2], int(match[3]), match[4] == SNAPSHOT) if match else None
 
 
 @dataclass(frozen=True)
@@ -56,8 +69,8 @@ class Header:
     journal_hash: str  # the SHA-256 of the last bytes of the journal behind them, by which it is known again
     earlier: int  # bytes of what it says of earlier files
     sha256: str  # of the content
-    log: dict[str, Any] | None  # how far the log was read
-    file: list[int]  # the state of FILE then
+    log: Position | None  # how far the log was read
+    file: Stamp  # the state of FILE then
 
     @property
     def is_snapshot(self) -> bool:
@@ -77,8 +90,12 @@ class Header:
     @property
     def place(self) -> Place:
         """How far the office was read."""
-        inode, size, changed = self.file
-        return Place(position_of(self.log), (inode, size, changed))
+        return Place(self.log, self.file)
+
+    @property
+    def moment(self) -> float:
+        """When it was made, in seconds since 1970."""
+        return datetime.fromisoformat(self.at).timestamp()
 
     def as_bytes(self) -> bytes:
         """The header as it is in the file."""
@@ -94,34 +111,17 @@ class Header:
         return hashlib.sha256(self.as_bytes()).hexdigest()
 
 
-def position_of(log: dict[str, Any] | None) -> Position | None:
-    """A place in a log, as a header has it."""
-    if log is None:
-        return None
-    (salt, other), (first, second) = log["salts"], log["sums"]
-    fields = {name: log[name] for name in ("checkpoint", "page_size", "is_big", "frames")}
-    return Position(salts=(salt, other), sums=(first, second), **fields)
-
-
-def as_values(place: Position | None) -> dict[str, Any] | None:
-    """The same place as a header has it."""
-    if place is None:
-        return None
-    values = asdict(place)
-    return {**values, "salts": list(place.salts), "sums": list(place.sums)}
-
-
 def header_of(head: bytes) -> Header:
     """The header in the first bytes of a piece; fails with ValueError if they are none."""
     try:
         values = json.loads(head[:-SUM])
         if not isinstance(values, dict) or values.pop("format", None) != FORMAT:
             raise ValueError("its format is unknown")
-        header = Header(**values)
+        header: Header = typed(Header, values)
         if not is_possible(header):
-            raise ValueError("its header is none of a piece")
+            raise TypeError("a field of it can't be so")
         is_same = header.as_bytes() == head
-    except (TypeError, KeyError, AttributeError, OverflowError, RecursionError, Failure) as error:
+    except (TypeError, KeyError, OverflowError, RecursionError, Failure) as error:
         raise ValueError("its header is none of a piece") from error
     if not is_same:
         raise ValueError("its header was changed")
@@ -130,28 +130,14 @@ def header_of(head: bytes) -> Header:
 
 def is_possible(header: Header) -> bool:
     """Whether each field of a header has a value that a follower could have written."""
-    texts = (header.kind, header.office, header.before, header.at, header.journal_hash, header.sha256)
-    numbers = (header.pages, header.size, header.journal_from, header.journal, header.earlier, *header.file)
-    log = header.place.log
-    of_log = (log.checkpoint, log.frames, *log.salts, *log.sums) if log else ()
-    return (
-        all(type(text) is str for text in texts)
-        and all(type(number) is int and 0 <= number < 2**63 for number in (*numbers, *of_log))
-        and all(type(size) is int and size in PAGE_SIZES for size in (header.page_size, log.page_size if log else 512))
-        and NAME.fullmatch(header.name) is not None
-        and datetime.fromisoformat(header.at).tzinfo is not None
-    )
-
-
-def earlier_of(text: bytes) -> dict[str, str]:
-    """What a piece says of earlier files; fails if it is nothing that a follower writes."""
-    try:
-        names = json.loads(text)
-    except (ValueError, RecursionError):
-        names = None
-    if not isinstance(names, dict) or not all(type(each) is str and SHA256.fullmatch(each) for each in names.values()):
-        raise Failure("what it says of earlier files is nothing that a piece says")
-    return names
+    numbers = [header.pages, header.size, header.journal_from, header.journal, header.earlier, *header.file]
+    sizes = [header.page_size]
+    if log := header.log:
+        numbers += [log.checkpoint, log.frames, *log.salts, *log.sums]
+        sizes += [log.page_size]
+    is_dated = datetime.fromisoformat(header.at).tzinfo is not None
+    is_named = NAME.fullmatch(header.name) is not None
+    return is_dated and is_named and PAGE_SIZES.issuperset(sizes) and all(0 <= number < 2**63 for number in numbers)
 
 
 @dataclass(frozen=True)
@@ -163,33 +149,37 @@ class Piece:
 
     def pages(self) -> Iterator[tuple[int, bytes]]:
         """Its pages with their numbers; the last content of a page is the right one."""
-        with self.opened() as file:
+        with self.content() as file:
             for _ in range(self.header.pages):
                 number = int.from_bytes(file.read(PAGE_HEAD))
                 yield number, file.read(self.header.page_size)
 
     def lines(self) -> Iterator[bytes]:
         """The lines of the journal, in parts."""
-        with self.opened() as file:
-            file.seek(self.header.length - self.header.journal - self.header.earlier)
-            left = self.header.journal
-            while left and (part := file.read(min(left, BUFFER))):
+        left = self.header.journal
+        with self.content(self.header.length - self.header.journal - self.header.earlier) as file:
+            while left and (part := file.read(min(left, files.PART))):
                 left -= len(part)
                 yield part
 
     def earlier(self) -> dict[str, str] | None:
-        """The SHA-256 of each earlier file of the office by its name; `None` if they are as before."""
+        """The SHA-256 of each earlier file of the office by its name; `None` if they are as before. Fails if that is
+        nothing that a follower writes."""
         if not self.header.earlier:
             return None
-        with self.opened() as file:
-            file.seek(self.header.length - self.header.earlier)
-            return earlier_of(file.read(self.header.earlier))
+        with self.content(self.header.length - self.header.earlier) as file:
+            text = file.read(self.header.earlier)
+        with contextlib.suppress(TypeError, ValueError, RecursionError):
+            names: dict[str, str] = typed(dict[str, str], json.loads(text))
+            if all(map(SHA256.fullmatch, names.values())):
+                return names
+        raise Failure("what it says of earlier files is nothing that a piece says")
 
     @contextlib.contextmanager
-    def opened(self) -> Iterator[IO[bytes]]:
-        """Its file behind the header."""
-        with open(os.open(self.path, READ), "rb", BUFFER) as file:
-            file.seek(HEAD)
+    def content(self, at: int = HEAD) -> Iterator[IO[bytes]]:
+        """Its file, from a place behind the header on."""
+        with open(os.open(self.path, files.READ), "rb", files.PART) as file:
+            file.seek(at)
             yield file
 
     def fault(self) -> str:
@@ -198,10 +188,25 @@ class Piece:
         if size != self.header.length:
             return "is cut" if size < self.header.length else "is longer than it was"
         digest = hashlib.sha256()
-        with self.opened() as file:
-            while part := file.read(BUFFER):
+        with self.content() as file:
+            while part := file.read(files.PART):
                 digest.update(part)
         return "" if digest.hexdigest() == self.header.sha256 else "was changed"
+
+
+def opened(path: str) -> Piece:
+    """A piece by its path; fails where its header isn't one."""
+    name = os.path.basename(path)
+    try:
+        with open(os.open(path, files.READ), "rb") as file:
+            head = file.read(HEAD)
+        if len(head) < HEAD:
+            raise Failure(f"{name} is cut")
+        return Piece(path, header_of(head))
+    except OSError as error:
+        raise Failure(f"{name} can't be read: {error.strerror}") from error
+    except ValueError as error:
+        raise Failure(f"{name} was changed: {error}") from error
 
 
 class Writer:
@@ -209,9 +214,8 @@ class Writer:
 
     def __init__(self, folder: str, kind: str) -> None:
         self.folder, self.kind, self.path = folder, kind, os.path.join(folder, f"{kind}.made")
-        with contextlib.suppress(FileNotFoundError):
-            os.unlink(self.path)  # which a kill left
-        self.file = open(os.open(self.path, NEW, 0o600), "wb", BUFFER)
+        files.remove(self.path)  # which a kill left
+        self.file = open(os.open(self.path, files.NEW, 0o600), "wb", files.PART)
         self.file.seek(HEAD)
         self.digest, self.page_size, self.pages, self.journal, self.earlier = hashlib.sha256(), 0, 0, 0, 0
         self.unsynced = 0
@@ -240,9 +244,18 @@ class Writer:
         """Adds what there is of earlier files, behind all lines."""
         self.earlier = self.write(json.dumps(names).encode())
 
-    def finish(self, header: Header) -> Header:
-        """Puts the header in front, and gives the piece its name once it is on the disk, as are the names before it.
-        Its own waits for the next piece: that is a wait for the disk less, and a power failure takes the last one."""
+    def finish(self, **fields: Any) -> Header:
+        """Puts a header of what is known here and of these fields in front, and gives the piece its name once it is on
+        the disk, as are the names before it. Its own waits for the next piece: that is a wait for the disk less, and a
+        power failure takes the last one."""
+        header = Header(
+            kind=self.kind,
+            pages=self.pages,
+            journal=self.journal,
+            earlier=self.earlier,
+            sha256=self.digest.hexdigest(),
+            **fields,
+        )
         self.file.seek(0)
         self.file.write(header.as_bytes())
         self.file.close()
@@ -261,5 +274,4 @@ def writer(folder: str, kind: str) -> Iterator[Writer]:
     finally:
         with contextlib.suppress(OSError):
             new_piece.file.close()
-        with contextlib.suppress(FileNotFoundError):
-            os.unlink(new_piece.path)
+        files.remove(new_piece.path)

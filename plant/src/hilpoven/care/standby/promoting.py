@@ -1,16 +1,17 @@
 """An office that is made of pieces: of the last ones on another machine, or of those up to a moment on its own."""
+import contextlib
 import os
 from dataclasses import dataclass, field
 
 from .. import backups, keys
 from ...core import files, lock, paths, scratch, snapshot, timeline
-from ...core.failure import FAULT, REFUSED, Failure
+from ...core.failure import REFUSED, Failure
 from ...core.names import number_of
 from ...core.office import Answer, Office
 from ...core.server import Place
 from ...core.journal import query
 from ...core.journal.log import MADE_AT, Journal
-from . import chain, journals
+from . import chain, journals, piece
 from .chain import Built, Chain, Report
 from .piece import Header
 
@@ -61,8 +62,8 @@ def at_moment(folder: str, moment: float, last_timeline: int) -> Choice:
         if candidate.timeline <= last_timeline and candidate.snapshots
     ]
     for of in reversed(chains):
-        first = chain.opened(of.snapshots[of.first_snapshot]).header
-        if chain.seconds_of(first.at) <= moment:
+        first = piece.opened(of.snapshots[of.first_snapshot]).header
+        if first.moment <= moment:
             end = chain.last_before(of, moment)
             report = Report(of, folder).look()
             start, end = report.route_to(end)
@@ -89,7 +90,7 @@ def promote(office: Office, folder: str, place: Place, journal: Journal, until: 
         with lock.held(office.file, office.wait):
             backups.stop_on_server(office.file, place)
             promoted = put(office, folder, journal, choice, built, lines, until)
-    require_opening(office, promoted.aside)
+    backups.require_opening(office, promoted.aside)
     return promoted, choice
 
 
@@ -141,8 +142,7 @@ def restore_at(office: Office, folder: str, place: Place, journal: Journal, mome
     with scratch.folder(os.path.dirname(office.file)) as room:
         built = made_of(choice, office, room)
         if not os.path.lexists(journal.path):
-            files.copy(newest_lines(choice, built, room), lines := os.path.join(room, "lines.journal"))
-            files.put_in_place(lines, journal.path)
+            files.copy_in_place(newest_lines(choice, built, room), journal.path)
         words, digest = ["restore", "--at", built.last.at, built.last.name], files.hash_of(built.file)
         replaced = backups.replace(office, built.file, place, journal, words, digest, built.journal)
     return Made(built.last, number, *replaced)
@@ -160,10 +160,10 @@ def made_of(choice: Choice, office: Office, room: str) -> Built:
 def bring_earlier(built: Built, folder: str, file: str) -> None:
     """Puts the earlier files that pieces name beside the office's file, where they aren't yet. What is looked at is a
     copy, which nobody changes meanwhile."""
+    copy = os.path.join(os.path.dirname(built.file), "earlier.db")
     for name, digest in built.earlier.items():
         source, target = chain.earlier_path(folder, digest), os.path.join(os.path.dirname(file), name)
-        copy = os.path.join(os.path.dirname(built.file), "earlier.db")
-        if not number_of(file, name) or not copied(source, copy) or files.hash_of(copy) != digest:
+        if not number_of(file, name) or not is_copied(source, copy, digest):
             raise Failure(f"{source} isn't the earlier file {name}", REFUSED)
         if not os.path.lexists(target):
             os.chmod(copy, 0o400)
@@ -172,20 +172,10 @@ def bring_earlier(built: Built, folder: str, file: str) -> None:
             raise Failure(f"{target} is another file than the pieces name", REFUSED, "move it elsewhere")
 
 
-def copied(source: str, target: str) -> bool:
-    """Whether a file that is no link could be copied."""
-    try:
+def is_copied(source: str, target: str, digest: str) -> bool:
+    """Whether a file that is no link could be copied, and has this SHA-256."""
+    with contextlib.suppress(OSError):
         if os.path.isfile(source):
             files.copy(source, target)
-            return True
-    except OSError:
-        pass
+            return files.hash_of(target) == digest
     return False
-
-
-def require_opening(office: Office, aside: str) -> None:
-    """Fails if `toll` doesn't open what was put in place."""
-    answer = office.ask_patiently(["stock", "HOUSE"])
-    if answer.status:
-        advice = f"what was there is in {aside}" if aside else ""
-        raise Failure(f"toll doesn't open what was put in place: {answer.error.strip()}", FAULT, advice)

@@ -1,14 +1,13 @@
 """Sends a follower's pieces to a folder on another machine, while the follower goes on."""
 import os
 import time
-from collections.abc import Callable, Iterable, Iterator
+from collections.abc import Callable, Iterator
 from dataclasses import dataclass, field
 from functools import cached_property
 from itertools import islice
 
 from ...core.failure import FAULT, REFUSED, Failure
 from . import chain, piece, state
-from ...core import timeline
 from .remote import Job, ListedFile, Purpose, Remote, files_in
 from .removal import Trouble
 from .state import State
@@ -52,7 +51,7 @@ class Sender:
         return Trouble(self.tell, f"old pieces of {self.remote.to} are removed again")
 
     def add(self, name: str, at: float) -> None:
-        """Has a piece or a snapshot sent."""
+        """Has a piece that was made at a time sent, or a snapshot, behind the earlier files that it names."""
         if name.endswith(piece.ENDS[piece.SNAPSHOT]):
             self.bulk += [earlier for earlier in os.listdir(self.folder) if earlier.startswith(chain.EARLIER)] + [name]
         else:
@@ -65,9 +64,13 @@ class Sender:
     def remove(self, names: list[str]) -> None:
         """Has files removed there; those that aren't there yet aren't sent."""
         self.gone.update(dict.fromkeys(names))
+        self.give_up(names)
+
+    def give_up(self, names: list[str]) -> None:
+        """Sends none of these files, or none again."""
         for name in names:
             self.unsent.pop(name, None)
-        self.bulk = [name for name in self.bulk if name not in self.gone]
+        self.bulk = [name for name in self.bulk if name not in names]
 
     def step(self, state: State) -> None:
         """Notes what has ended, and begins what is next."""
@@ -107,8 +110,12 @@ class Sender:
     def unsent_since(self) -> float:
         """When the first was made of what isn't there: of pieces, and of the snapshots of a chain that has none there,
         without which its pieces give nothing. It is 0 if all is there."""
-        needed = [name for name in self.bulk if chains_begun([name]) - self.begun]
-        return min([*self.unsent.values(), *(chain.seconds_in(self.folder, name) for name in needed)], default=0.0)
+        needed = [name for name in self.bulk if begun_by([name]) - self.begun]
+        return min([*self.unsent.values(), *map(self.moment_of, needed)], default=0.0)
+
+    def moment_of(self, name: str) -> float:
+        """When a piece of the folder was made, in seconds since 1970; now if that can't be read."""
+        return chain.moment_of(os.path.join(self.folder, name))
 
     def next_job(self) -> Job | None:
         """What is to be done next of looks and pieces; `None` if there is nothing."""
@@ -135,12 +142,11 @@ class Sender:
 
     def present(self, names: list[str]) -> list[str]:
         """Of names that are to be sent, those that are in the folder; others are told, and given up."""
-        present = [name for name in names if os.path.lexists(os.path.join(self.folder, name))]
-        for name in sorted(set(names).difference(present)):
+        missing = [name for name in names if not os.path.lexists(os.path.join(self.folder, name))]
+        for name in sorted(missing):
             self.tell(f"{name} is gone from {self.folder}, and isn't in {self.remote.to}")
-            self.unsent.pop(name, None)
-            self.bulk = [other for other in self.bulk if other != name]
-        return present
+        self.give_up(missing)
+        return [name for name in names if name not in missing]
 
     def note(self, job: Job, listed: str, fault: str) -> None:
         """Notes how a job ended. A fault is told when it begins and ends."""
@@ -154,83 +160,52 @@ class Sender:
             for name in job.names:
                 self.gone.pop(name, None)
         else:
-            for name in job.names:
-                self.unsent.pop(name, None)
-            self.bulk = [name for name in self.bulk if name not in job.names]
-            self.begun |= chains_begun(job.names)
+            self.give_up(job.names)
+            self.begun |= begun_by(job.names)
 
     def note_files(self, files: list[ListedFile]) -> None:
         """Notes what is there; fails if that is of a later timeline."""
         self.looked = time.monotonic()
-        require_latest(self.file, self.timeline, self.remote.to, [file.name for file in files])
+        chain.require_own(self.file, self.timeline, self.remote.to, [file.name for file in files])
         if not self.is_known:
             self.compare(files)
 
     def compare(self, files: list[ListedFile]) -> None:
         """Has all that isn't there sent, and what is old and isn't here any more removed, as a removal that failed left
         it; fails if there are pieces of another follower."""
-        here = {
-            name for name in os.listdir(self.folder) if piece.NAME.fullmatch(name) or name.startswith(chain.EARLIER)
-        }
-        remote_names, old = {file.name for file in files}, list(self.old_there(files, here))
-        require_own(self.timeline, self.remote.to, here, remote_names.difference(old))
-        missing = sorted(here - remote_names)
-        pieces = {name: chain.seconds_in(self.folder, name) for name in missing if name.endswith(".piece")}
-        self.unsent = pieces | self.unsent
+        here = {name for name in os.listdir(self.folder) if piece.name_of(name) or name.startswith(chain.EARLIER)}
+        there, old = {file.name for file in files}, list(self.old_there(files, here))
+        self.require_no_other(here, sorted(there.difference(old)))
+        missing = sorted(here - there)
+        self.unsent = {name: self.moment_of(name) for name in missing if name.endswith(".piece")} | self.unsent
         self.bulk = [name for name in missing if name not in self.unsent]
-        self.begun = chains_begun(remote_names)
+        self.begun = begun_by(there)
         self.is_known = True
         self.remove(old)
+
+    def require_no_other(self, here: set[str], there: list[str]) -> None:
+        """Fails if there are pieces of another follower of the same timeline."""
+        own = {of.name for of in chain.grouped(here)}
+        for name in there:
+            if (of := piece.name_of(name)) and of.timeline == self.timeline and of.chain not in own:
+                raise Failure(
+                    f"{self.remote.to} has pieces of another follower, such as {name}",
+                    REFUSED,
+                    "name a folder of its own for each follower, or move the pieces there elsewhere",
+                )
 
     def old_there(self, files: list[ListedFile], here: set[str]) -> Iterator[str]:
         """The names there that would have been removed here: those of a chain before its oldest snapshot, and chains to
         which nothing came, for more days than they stay."""
-        oldest, firsts, own = time.time() - self.days * 86_400, first_snapshots(here), chains_of(here)
-        others = [
-            (file, match) for file in files if file.name not in here and (match := piece.NAME.fullmatch(file.name))
-        ]
-        own |= {match[2] for file, match in others if file.at >= oldest}
-        for file, match in others:
-            first = firsts.get(match[2])
-            is_before = first is not None and int(match[3]) < first + (match[4] != piece.SNAPSHOT)
-            if file.at < oldest and (is_before or match[2] not in own):
+        oldest, own = time.time() - self.days * 86_400, {of.name: of for of in chain.grouped(here)}
+        others = [(file, name) for file in files if file.name not in here and (name := piece.name_of(file.name))]
+        young = {name.chain for file, name in others if file.at >= oldest}
+        for file, name in others:
+            of = own.get(name.chain)
+            if file.at < oldest and (of.is_needless(name) if of else name.chain not in young):
                 yield file.name
 
 
-def chains_of(names: Iterable[str], end: str = "") -> set[str]:
-    """The chains of which there are files among those of these names, or files whose names end so."""
-    matches = filter(None, map(piece.NAME.fullmatch, names))
-    return {match[2] for match in matches if match[0].endswith(end)}
-
-
-def chains_begun(names: Iterable[str]) -> set[str]:
+def begun_by(names: "list[str] | set[str]") -> set[str]:
     """The chains of which there are snapshots among files of these names."""
-    return chains_of(names, piece.ENDS[piece.SNAPSHOT])
-
-
-def first_snapshots(names: Iterable[str]) -> dict[str, int]:
-    """The number of the oldest snapshot of each chain that has one among files of these names."""
-    firsts: dict[str, int] = {}
-    for match in filter(None, map(piece.NAME.fullmatch, names)):
-        if match[4] == piece.SNAPSHOT:
-            firsts[match[2]] = min(int(match[3]), firsts.get(match[2], int(match[3])))
-    return firsts
-
-
-def require_own(own: int, to: str, here: set[str], remote_names: set[str]) -> None:
-    """Fails if there are pieces of another follower of the same timeline."""
-    chains = chains_of(here)
-    for match in filter(None, map(piece.NAME.fullmatch, sorted(remote_names))):
-        if int(match[1]) == own and match[2] not in chains:
-            raise Failure(
-                f"{to} has pieces of another follower, such as {match[0]}",
-                REFUSED,
-                "name a folder of its own for each follower, or move the pieces there elsewhere",
-            )
-
-
-def require_latest(file: str, own: int, to: str, names: list[str]) -> None:
-    """Fails if names in a folder are pieces or a mark of a later timeline than an office's own."""
-    pieces = filter(None, map(piece.NAME.fullmatch, names))
-    if (latest := max([timeline.latest(names), *(int(match[1]) for match in pieces)])) > own:
-        raise timeline.supersede(file, latest, to)
+    return {name.chain for name in map(piece.name_of, names) if name and name.is_snapshot}

@@ -3,10 +3,11 @@ import contextlib
 import json
 import os
 import time
-from dataclasses import asdict, dataclass
+from dataclasses import asdict, dataclass, replace
 
+from ...core import files
 from ...core.failure import Failure
-from .piece import READ
+from ...core.typed import typed
 
 NAME = "follower.json"
 SILENT = 15.0  # seconds after which a follower that wrote nothing doesn't look any more
@@ -57,37 +58,31 @@ class Saved:
     """The file of a follower's state."""
 
     def __init__(self, folder: str) -> None:
-        self.path, self.at, self.text = os.path.join(folder, NAME), 0.0, ""
+        self.path, self.at, self.last = os.path.join(folder, NAME), 0.0, State()
 
     def save(self, state: State) -> bool:
         """Writes the state, if it is another one or old; whether it did. On a full disk it takes the old one's room."""
-        content = asdict(state)
-        text = json.dumps({**content, "looked": 0})
-        if time.monotonic() - self.at < EVERY[text == self.text]:
+        new, content = replace(state, looked=0.0), json.dumps(asdict(state)).encode()
+        if time.monotonic() - self.at < EVERY[new == self.last]:
             return False
-        self.at, self.text, temporary = time.monotonic(), text, f"{self.path}.made"
+        self.at, self.last = time.monotonic(), new
         with contextlib.suppress(OSError):
-            write(temporary, json.dumps(content), os.O_CREAT | os.O_TRUNC)
-            os.rename(temporary, self.path)
+            files.replace(self.path, content, is_lasting=False, made=f"{NAME}.made")
             return True
         with contextlib.suppress(OSError):
-            write(self.path, json.dumps(content).ljust(os.path.getsize(self.path)), 0)
+            with open(os.open(self.path, os.O_WRONLY | files.SAFE), "wb") as file:
+                file.write(content.ljust(os.path.getsize(self.path)))
             return True
         return False
-
-
-def write(path: str, text: str, flags: int) -> None:
-    """Writes a small file."""
-    with open(os.open(path, os.O_WRONLY | os.O_NOFOLLOW | os.O_CLOEXEC | flags, 0o600), "w") as file:
-        file.write(text)
 
 
 def load(folder: str) -> State | None:
     """The state that a follower wrote into its folder; `None` if there is none."""
     path = os.path.join(folder, NAME)
     try:
-        with open(os.open(path, READ)) as file:
-            return State(**json.load(file))
+        with open(os.open(path, files.READ)) as file:
+            state: State = typed(State, json.load(file))
+            return state
     except FileNotFoundError:
         return None
     except (OSError, ValueError, TypeError) as error:
