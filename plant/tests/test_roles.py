@@ -1,4 +1,5 @@
 """Roles: under sudo the groups of the caller decide which commands it may give, and neither its environment nor other words do."""
+import dataclasses
 import json
 
 import click
@@ -57,7 +58,7 @@ def words_of(group, before=()):
 
 def test_each_subcommand_has_a_role_or_changes_nothing():
     names = set(words_of(hilpoven)) - {"demo", "setup"}  # which no member gives
-    assert set(roles.ROLES) <= names and set(roles.ROLES.values()) == set(site.Roles._fields)
+    assert set(roles.ROLES) <= names and set(roles.ROLES.values()) == {field.name for field in dataclasses.fields(site.Roles)}
     assert set(on_behalf.PATHS) <= set(roles.ROLES)  # whose roles `for` asks for
     assert {name for name in names - set(roles.ROLES) - {"for"} if name.split()[0] not in GROUPS_OF_QUESTIONS} == QUESTIONS
 

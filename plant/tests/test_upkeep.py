@@ -574,6 +574,6 @@ def test_settings_of_an_office_have_bounds(at_work, line, why):
 def test_the_settings_say_what_papers_say_of_the_plant(tmp_path):
     path = tmp_path / "hilpoven.toml"
     path.write_text('[plant]\nname = "Toll & Söhne"\naddress = "1 Kai"\ncontact = "qa@toll.example"\nlogo = "art/logo.png"\napprover = "Dr. Berg"\n')
-    assert site.load(str(path)).plant == ("Toll & Söhne", "1 Kai", "qa@toll.example", str(tmp_path / "art" / "logo.png"), "Dr. Berg")
+    assert site.load(str(path)).plant == site.PlantFacts("Toll & Söhne", "1 Kai", "qa@toll.example", str(tmp_path / "art" / "logo.png"), "Dr. Berg")
     path.write_text("")
-    assert site.load(str(path)).plant == ("", "", "", "", "")
+    assert site.load(str(path)).plant == site.PlantFacts()

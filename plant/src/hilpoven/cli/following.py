@@ -1,6 +1,7 @@
 """`hilpoven follow`, its subcommands and `promote`: a standby that is seconds behind."""
 import os
 import sys
+from dataclasses import replace
 from datetime import datetime
 from typing import TYPE_CHECKING
 
@@ -60,7 +61,7 @@ def follow_group(ctx: click.Context, to: str | None, is_check: bool) -> None:
     context: Context = ctx.obj
     if to:
         target = site.target_of(os.getcwd(), to)
-        context.settings = context.settings._replace(follow=context.settings.follow._replace(to=target))
+        context.settings = replace(context.settings, follow=replace(context.settings.follow, to=target))
     if not context.settings.follow.to:
         raise Failure("no target is named", WRONG_USE, f"give one by --to, or `to` below [follow] in {site.PATH}")
     context.office()

@@ -88,4 +88,4 @@ class Context:
 
     def waiting(self, seconds: float | None) -> "Context":
         """The same, with another patience for a lock."""
-        return self if seconds is None else replace(self, settings=self.settings._replace(wait=seconds))
+        return self if seconds is None else replace(self, settings=replace(self.settings, wait=seconds))

@@ -3,7 +3,8 @@
 import os
 import re
 from collections.abc import Callable
-from typing import Any, NamedTuple
+from dataclasses import Field, dataclass, field, fields, is_dataclass, replace
+from typing import Any, TypeVar
 
 from .days import zone_of
 from .failure import WRONG_USE, Failure
@@ -16,22 +17,32 @@ DATA = "/var/lib/toll"
 COMPANIONS = "/var/cache/toll-companion"
 CHECKOUT = os.path.abspath(f"{__file__}/../../../../..")
 
+Table = TypeVar("Table")
 WARN, REFUSE = "warn", "refuse"
-
-CALLED = {str: "a text", int: "a whole number", float: "a number", list: "a list of texts", bool: "true or false"}
 MUCH = 1_000_000
-# The least and the most of each number.
-BOUNDS = {
-    "persons": (1, 2),
-    "keep": (1, MUCH),
-    "days": (0, MUCH),
-    "backup_hours": (1, MUCH),
-    "port": (0, 65_535),
-    "wait": (0, MUCH),
-    "behind": (1, MUCH),
-    "reserve": (0, MUCH),
-}
 MOST_PREFIX = 8  # letters before the number of a key, which has 16 with it
+TEXTS = (list[str], list[str] | None)
+# What the values of a type are called.
+CALLED: dict[Any, str] = {
+    **{str: "a text", int: "a whole number", float: "a number", bool: "true or false"},
+    **dict.fromkeys(TEXTS, "a list of texts"),
+}
+
+
+def setting(
+    default: Any,
+    about: str,
+    least: float | None = None,
+    most: float = MUCH,
+    fault: Callable[[str], str] | None = None,
+    variable: str = "",
+) -> Any:
+    """A setting, as a field of a table: its default; what it is for, with its unit; the least and the most of a number;
+    what is wrong with a text; and its name in an office's /etc/toll/NAME.env, which goes before the settings."""
+    metadata = {"about": about, "least": least, "most": most, "fault": fault, "variable": variable}
+    if isinstance(default, list):
+        return field(default_factory=default.copy, metadata=metadata)
+    return field(default=default, metadata=metadata)
 
 
 def expiry_fault(word: str) -> str:
@@ -53,101 +64,99 @@ def zone_fault(name: str) -> str:
     return ""
 
 
-class Require(NamedTuple):
-    """What a site requires of commands besides what `toll` does. Each field is a line below [require]."""
+@dataclass(frozen=True)
+class Require:
+    """What a site requires of commands besides what `toll` does."""
 
-    recipient: bool = False  # whether each shipment names the party that gets it
-
-
-class Expiry(NamedTuple):
-    """What becomes of commands that take from a lot past its day. Each field is a line below [expiry]."""
-
-    ship: str = WARN
-    actual: str = WARN
+    recipient: bool = setting(False, "whether each shipment names the party that gets it")
 
 
-class PlantFacts(NamedTuple):
-    """What papers say of the plant. Each field is a line below [plant]."""
+@dataclass(frozen=True)
+class Expiry:
+    """What becomes of commands that take from a lot past its day."""
 
-    name: str = ""
-    address: str = ""  # in one line
-    contact: str = ""  # who answers questions about a paper, and how
-    logo: str = ""  # a file, PNG or JPEG
-    approver: str = ""  # who approves certificates
+    ship: str = setting(WARN, "of shipments", fault=expiry_fault)
+    actual: str = setting(WARN, "of actuals", fault=expiry_fault)
 
 
-class Quality(NamedTuple):
-    """How the plant signs and holds lots. Each field is a line below [quality]."""
+@dataclass(frozen=True)
+class PlantFacts:
+    """What papers say of the plant."""
 
-    test: str = ""  # the test of the plant's own, whose result 1 is a signature and 0 a hold; empty if it has none
-    persons: int = 2  # who are needed at least: 2 let nobody sign a lot of which it recorded something itself
-
-
-class Roles(NamedTuple):
-    """Which groups of the machine may give the commands of each role under sudo. Each field is a line below [roles];
-    `None` is a role that isn't told there, whose commands every member may give."""
-
-    record: list[str] | None = None  # what happens in the plant: movements, batches, results
-    quality: list[str] | None = None  # what is judged: releases, rejections, signatures, holds
-    master_data: list[str] | None = None  # units, materials, tests, recipes, parties
-    settlement: list[str] | None = None  # closed settlements of owners
-    keys: list[str] | None = None  # owners and their keys
-    restore: list[str] | None = None  # the office's files: new ones, backups, restores, later ones
+    name: str = setting("", "its name", fault=TEXT.fault)
+    address: str = setting("", "its address, in one line", fault=TEXT.fault)
+    contact: str = setting("", "who answers questions about a paper, and how", fault=TEXT.fault)
+    logo: str = setting("", "a file, PNG or JPEG", fault=TEXT.fault)
+    approver: str = setting("", "who approves certificates", fault=TEXT.fault)
 
 
-class Follow(NamedTuple):
-    """How a standby is kept. Each field is a line below [follow]."""
+@dataclass(frozen=True)
+class Quality:
+    """How the plant signs and holds lots."""
 
-    to: str = ""  # the folder of the pieces, or HOST:FOLDER on another machine; an office's FOLLOW goes before it
-    days: int = 7  # for which snapshots and pieces stay
-    behind: int = 60  # seconds; a standby that is behind by more is told by `status`
-    reserve: int = 500  # megabytes of the disk that pieces leave to the office
-    rsh: str = "ssh -o BatchMode=yes -o ConnectTimeout=5"  # by which rsync reaches HOST
-
-
-class Settings(NamedTuple):
-    """What a site says of its office. Each field is a line of /etc/hilpoven.toml, or a table of it."""
-
-    office: str = (
-        ""  # the name of the office, whose units take /etc/toll/NAME.env; its file, port and backups are those
+    test: str = setting(
+        "",
+        "the test of the plant's own, whose result 1 is a signature and 0 a hold; empty if it has none",
+        fault=name_fault,
     )
-    file: str = ""  # the office's file
-    toll: str = ""  # the proved program; what is installed where it isn't said
-    journal: str = ""  # who did what; beside the file where it isn't said
-    backups: str = ""  # the folder of the backups
-    keep: int = 30  # how many of the newest backups stay
-    days: int = 0  # of how many days the last one stays
-    backup_hours: int = 26  # an older newest backup is told by `status`
-    port: int = 0  # at which a server is expected to answer owners; 0 asks none
-    wait: float = 10.0  # seconds for a lock that somebody has
-    key_prefix: str = "K"  # what the keys of movements begin with that are made by themselves
-    time_zone: str = ""  # in which the plant's day begins; the machine's where it isn't said
-    site_logs: list[str] = []  # of the proxy, with the owners' requests; an office's SITE_LOGS goes before it
+    persons: int = setting(
+        2, "who are needed at least: 2 let nobody sign a lot of which it recorded something itself", least=1, most=2
+    )
+
+
+@dataclass(frozen=True)
+class Roles:
+    """Which groups of the machine may give the commands of each role under sudo. `None` is a role that isn't told, whose
+    commands every member may give."""
+
+    record: list[str] | None = setting(None, "what happens in the plant: movements, batches, results")
+    quality: list[str] | None = setting(None, "what is judged: releases, rejections, signatures, holds")
+    master_data: list[str] | None = setting(None, "units, materials, tests, recipes, parties")
+    settlement: list[str] | None = setting(None, "closed settlements of owners")
+    keys: list[str] | None = setting(None, "owners and their keys")
+    restore: list[str] | None = setting(None, "the office's files: new ones, backups, restores, later ones")
+
+
+@dataclass(frozen=True)
+class Follow:
+    """How a standby is kept."""
+
+    to: str = setting("", "the folder of the pieces, or HOST:FOLDER on another machine", variable="FOLLOW")
+    days: int = setting(7, "days for which snapshots and pieces stay", least=0)
+    behind: int = setting(60, "seconds; a standby that is behind by more is told by `status`", least=1)
+    reserve: int = setting(500, "megabytes of the disk that pieces leave to the office", least=0)
+    rsh: str = setting("ssh -o BatchMode=yes -o ConnectTimeout=5", "by which rsync reaches HOST")
+
+
+@dataclass(frozen=True)
+class Settings:
+    """What a site says of its office: each field is a line of /etc/hilpoven.toml, or a table of it such as [plant]."""
+
+    office: str = setting(
+        "", "the name of the office, whose units take /etc/toll/NAME.env; its file, port and backups are those"
+    )
+    file: str = setting("", "the office's file", variable="FILE")
+    toll: str = setting("", "the proved program; what is installed where it isn't said")
+    journal: str = setting("", "who did what; beside the file where it isn't said")
+    backups: str = setting("", "the folder of the backups", variable="BACKUPS")
+    keep: int = setting(30, "how many of the newest backups stay", least=1, variable="HOURS")
+    days: int = setting(0, "of how many days the last backup stays", least=0, variable="DAYS")
+    backup_hours: int = setting(26, "hours; an older newest backup is told by `status`", least=1)
+    port: int = setting(
+        0, "at which a server is expected to answer owners; 0 asks none", least=0, most=65_535, variable="PORT"
+    )
+    wait: float = setting(10.0, "seconds for a lock that somebody has", least=0)
+    key_prefix: str = setting(
+        "K", "what the keys of movements begin with that are made by themselves", fault=prefix_fault
+    )
+    time_zone: str = setting("", "in which the plant's day begins; the machine's where it isn't said", fault=zone_fault)
+    site_logs: list[str] = setting([], "of the proxy, with the owners' requests", variable="SITE_LOGS")
     require: Require = Require()
     plant: PlantFacts = PlantFacts()
     expiry: Expiry = Expiry()
     quality: Quality = Quality()
     roles: Roles = Roles()
     follow: Follow = Follow()
-
-
-TABLES: dict[str, Require | PlantFacts | Expiry | Quality | Roles | Follow] = {
-    "require": Require(),
-    "plant": PlantFacts(),
-    "expiry": Expiry(),
-    "quality": Quality(),
-    "roles": Roles(),
-    "follow": Follow(),
-}
-DEFAULTS = Settings()._asdict()
-# What is wrong with a text that isn't empty.
-TEXT_FAULTS: dict[str, Callable[[str], str]] = {
-    "test": name_fault,
-    "key_prefix": prefix_fault,
-    "time_zone": zone_fault,
-    **{name: TEXT.fault for name in PlantFacts._fields},
-    **{name: expiry_fault for name in Expiry._fields},
-}
 
 
 def of_environment(name: str) -> str:
@@ -161,18 +170,22 @@ def load(path: str = PATH, office: str = "", db: str = "") -> Settings:
     the only one.
     """
     path = of_environment("HILPOVEN_SETTINGS") or os.fspath(path)
-    settings = Settings(**{name: value_of(path, name, value) for name, value in lines_of(path).items()})
-    file, journal, backups, logo = (
-        setting and os.path.join(os.path.dirname(path), setting)
-        for setting in (settings.file, settings.journal, settings.backups, settings.plant.logo)
+    settings, folder = table_of(path, Settings, lines_of(path)), os.path.dirname(path)
+    settings = replace(
+        settings,
+        **{name: inside(folder, getattr(settings, name)) for name in ("file", "journal", "backups")},
+        plant=replace(settings.plant, logo=inside(folder, settings.plant.logo)),
+        follow=replace(settings.follow, to=target_of(folder, settings.follow.to)),
     )
-    plant = settings.plant._replace(logo=logo)
-    follow = settings.follow._replace(to=target_of(os.path.dirname(path), settings.follow.to))
-    settings = settings._replace(file=file, journal=journal, backups=backups, plant=plant, follow=follow)
     default = settings.office or ("" if db or settings.file else only_office())
     if not office or office == default:
         return of_office(settings, default) if default else settings
-    return of_office(settings._replace(journal="", site_logs=[]), office)
+    return of_office(replace(settings, journal="", site_logs=[]), office)
+
+
+def inside(folder: str, path: str) -> str:
+    """A path from where the settings are; empty if none is set."""
+    return path and os.path.join(folder, path)
 
 
 def target_of(folder: str, to: str) -> str:
@@ -195,40 +208,35 @@ def lines_of(path: str) -> dict[str, Any]:
         raise Failure(f"{path}: {error}", WRONG_USE) from error
 
 
-def value_of(path: str, name: str, value: Any, called: str = "") -> Any:
-    """The value of a setting, in its type and its bounds; `called` is its name in the file where that is another."""
-    if name not in DEFAULTS:
-        raise Failure(f"{path}: {name} is no setting", WRONG_USE, f"there are: {', '.join(DEFAULTS)}")
-    return table_of(path, name, value) if name in TABLES else checked(path, name, value, DEFAULTS[name], called)
+def table_of(path: str, kind: type[Table], lines: dict[str, Any], table: str = "") -> Table:
+    """The settings of a file, or of a table of it; fails where one is unknown or wrong."""
+    declared, values = {each.name: each for each in fields(kind)}, {}
+    for name, value in lines.items():
+        if name not in declared:
+            what = "nothing to require" if table == "require" else f"no line of [{table}]" if table else "no setting"
+            raise Failure(f"{path}: {name} is {what}", WRONG_USE, f"there are: {', '.join(declared)}")
+        values[name] = value_of(path, declared[name], value)
+    return kind(**values)
 
 
-def checked(path: str, name: str, value: Any, default: Any, called: str = "") -> Any:
-    """A value in the type of its default, and in its bounds. The default of a role is `None`, and it is a list."""
-    kind: Any = list if default is None else type(default)
-    if type(value) is int and kind is float:
+def value_of(path: str, declared: "Field[Any]", value: Any, called: str = "") -> Any:
+    """The value of a setting, of its type and in its bounds; `called` is its name in the file where that is another."""
+    kind, name, rules = declared.type, declared.name, declared.metadata
+    if is_dataclass(kind):
+        if type(value) is not dict:
+            raise Failure(f"{path}: {name} is to be a table: [{name}]", WRONG_USE)
+        return table_of(path, kind, value, name)
+    if kind is float and type(value) is int:
         value = float(value)
-    if type(value) is not kind or kind is list and not all(type(word) is str for word in value):
+    is_texts = type(value) is list and all(type(each) is str for each in value)
+    if not (is_texts if kind in TEXTS else type(value) is kind):
         raise Failure(f"{path}: {name} is to be {CALLED[kind]}", WRONG_USE)
-    least, most = BOUNDS.get(name, (value, value))
-    if not least <= value <= most:
-        raise Failure(f"{path}: {called or name} is to be from {least:,} to {most:,}", WRONG_USE)
-    if name in TEXT_FAULTS and (value or default) and (fault := TEXT_FAULTS[name](value)):
+    if rules["least"] is not None and not rules["least"] <= value <= rules["most"]:
+        bounds = f"from {rules['least']:,} to {rules['most']:,}"
+        raise Failure(f"{path}: {called or name} is to be {bounds}", WRONG_USE)
+    if rules["fault"] and (value or declared.default) and (fault := rules["fault"](value)):
         raise Failure(f"{path}: {name} {fault}", WRONG_USE)
     return value
-
-
-def table_of(path: str, name: str, table: Any) -> Any:
-    """What a table of the settings says, such as [require]."""
-    defaults = TABLES[name]
-    if type(table) is not dict:
-        raise Failure(f"{path}: {name} is to be a table: [{name}]", WRONG_USE)
-    for line in table:
-        if line not in defaults._fields:
-            advice = f"there are: {', '.join(defaults._fields)}"
-            fault = "nothing to require" if name == "require" else f"no line of [{name}]"
-            raise Failure(f"{path}: {line} is {fault}", WRONG_USE, advice)
-    of_table = defaults._asdict()
-    return defaults._replace(**{line: checked(path, line, value, of_table[line]) for line, value in table.items()})
 
 
 def unread(path: str, error: OSError) -> Failure:
@@ -278,21 +286,20 @@ def of_office(settings: Settings, name: str) -> Settings:
     except OSError as error:
         raise unread(path, error) from error
     units = {unit_name: value.strip().strip("\"'") for unit_name, value in rows}
-    called = {"port": "PORT", "keep": "HOURS", "days": "DAYS"}
-    numbers = {
-        setting: value_of(path, setting, number_of(path, of, units[of]), of)
-        for setting, of in called.items()
-        if units.get(of)
-    }
-    file = os.path.join(OFFICES, units.get("FILE", f"{DATA}/{name}/office.db"))
-    backups = os.path.join(OFFICES, units.get("BACKUPS", f"{DATA}/{name}/backup"))
-    port, keep, days = (
-        numbers.get(setting, default) for setting, default in (("port", settings.port), ("keep", 48), ("days", 30))
+    numbers = {"keep": 48, "days": 30}
+    for each in fields(Settings):
+        variable = each.metadata.get("variable", "")
+        if each.type is int and units.get(variable):
+            numbers[each.name] = value_of(path, each, number_of(path, variable, units[variable]), variable)
+    return replace(
+        settings,
+        office=name,
+        file=os.path.join(OFFICES, units.get("FILE", f"{DATA}/{name}/office.db")),
+        backups=os.path.join(OFFICES, units.get("BACKUPS", f"{DATA}/{name}/backup")),
+        site_logs=units["SITE_LOGS"].split() if "SITE_LOGS" in units else settings.site_logs,
+        follow=replace(settings.follow, to=target_of(OFFICES, units.get("FOLLOW", settings.follow.to))),
+        **numbers,
     )
-    follow = settings.follow._replace(to=target_of(OFFICES, units.get("FOLLOW", settings.follow.to)))
-    logs = units["SITE_LOGS"].split() if "SITE_LOGS" in units else settings.site_logs
-    settings = settings._replace(port=port, keep=keep, days=days, follow=follow, site_logs=logs)
-    return settings._replace(office=name, file=file, backups=backups)
 
 
 def number_of(path: str, name: str, value: str) -> int:

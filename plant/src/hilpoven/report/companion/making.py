@@ -38,7 +38,7 @@ def sources(context: Context) -> dict[str, Any]:
     and what the settings and this version of the command add."""
     file, settings = context.file, context.settings
     stamps = [snapshot.stamp_of(path) for path in (file, f"{file}-wal", context.journal().path)]
-    by = [VERSION, *settings.plant[:3], settings.quality.test]
+    by = [VERSION, settings.plant.name, settings.plant.address, settings.plant.contact, settings.quality.test]
     return {"stamps": [list(stamp if snapshot.is_settled(stamp) else UNSETTLED) for stamp in stamps], "by": by}
 
 

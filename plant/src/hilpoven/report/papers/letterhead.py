@@ -5,6 +5,7 @@ import json
 import os
 import stat
 from collections.abc import Callable
+from dataclasses import replace
 from typing import Any, NamedTuple
 
 from ...core.failure import WRONG_USE, Failure
@@ -33,7 +34,7 @@ class Issue(NamedTuple):
 
 def letterhead_of(plant: PlantFacts) -> Letterhead | None:
     """The letterhead of a plant; `None` if the settings say nothing of it."""
-    if not any(plant):
+    if plant == PlantFacts():
         return None
     return Letterhead(plant.name, plant.address, plant.contact, address_of(plant.logo) if plant.logo else "")
 
@@ -45,7 +46,7 @@ def letterhead_beside(plant: PlantFacts, tell: Callable[[str], None]) -> Letterh
         return letterhead_of(plant)
     except Failure as failure:
         tell(f"Without the logo: {failure.message}.")
-        return letterhead_of(plant._replace(logo=""))
+        return letterhead_of(replace(plant, logo=""))
 
 
 def address_of(logo: str) -> str:
