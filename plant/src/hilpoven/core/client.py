@@ -4,7 +4,7 @@ import contextlib
 import json
 import os
 import socket
-from collections.abc import Callable, Iterator
+from collections.abc import Callable, Iterator, Sequence
 from typing import TYPE_CHECKING, Any
 
 from .. import OFFICE_VERSION, VERSION
@@ -14,6 +14,7 @@ from .office import Answer, Office
 
 if TYPE_CHECKING:
     import subprocess
+    from ssl import SSLContext
 
 PATIENCE = 10  # seconds for a greeting, or for a reply to a request
 MOST_GREETING = 64  # bytes
@@ -86,7 +87,7 @@ class PlantSocket:
             if greeting != GREETING:
                 return None
             try:
-                peer.sendall(framed(framed(b"".join(os.fsencode(word) + b"\0" for word in words))))
+                peer.sendall(words_of(words))
             except OSError:
                 return None
             peer.settimeout(None)
@@ -98,6 +99,11 @@ class PlantSocket:
     def close(self) -> None:
         """Lets go of the file's folder."""
         os.close(self.folder)
+
+
+def words_of(words: Sequence[str]) -> bytes:
+    """The bytes in which the plant's words go to a server."""
+    return framed(framed(b"".join(os.fsencode(word) + b"\0" for word in words)))
 
 
 def answer_of(content: bytes) -> Answer:
@@ -130,11 +136,19 @@ def reply_at(peer: socket.socket) -> tuple[int, dict[str, Any]]:
         return int(front[9:12]), json.loads(rest)
 
 
-def status_at(port: int, path: str = "/orders") -> int:
-    """The status of a request without a key: 403 is well, 0 is no answer."""
+def requested(peer: socket.socket, owner: str, key: str, path: str, body: Any = None) -> tuple[int, dict[str, Any]]:
+    """The status and the body of the reply to an owner's request, which is sent over a connection."""
+    peer.sendall(request_of(owner, key, path, body))
+    return reply_at(peer)
+
+
+def status_at(port: int, path: str = "/orders", tls: "SSLContext | None" = None, host: str = "toll") -> int:
+    """The status of a request without a key at a port of this machine, in the clear or to a site of a host name: 403 is
+    well for an office, 0 is no answer."""
     try:
-        with socket.create_connection(("127.0.0.1", port), PATIENCE) as peer:
-            peer.sendall(f"GET {path} HTTP/1.1\r\nhost: toll\r\n\r\n".encode())
+        plain = socket.create_connection(("127.0.0.1", port), PATIENCE)
+        with tls.wrap_socket(plain, server_hostname=host) if tls else plain as peer:
+            peer.sendall(f"GET {path} HTTP/1.1\r\nhost: {host}\r\nconnection: close\r\n\r\n".encode())
             version, _, status = read(peer, len("HTTP/1.1 200")).decode(errors="replace").partition(" ")
             return int(status) if version.startswith("HTTP/1.") and status.isdecimal() else 0
     except OSError:

@@ -13,24 +13,29 @@ from .failure import Failure
 from .office import Answer
 
 SPARE = 10_000  # of the connections that one server answers to owners, which are left when a new one is begun
-MOST_ANSWER = 2**32 - 1  # bytes
 
 
 class PrivateServer:
     """A server of a file. An answer may be taken later: `say` and `send` give the socket for `answer` and `reply`."""
 
     def __init__(self, program: str, file: str) -> None:
-        self.program, self.file, self.requests = program, file, 0
-        self.plant = client.PlantSocket(file)
+        self.program, self.file, self.plant = program, file, client.PlantSocket(file)
         self.begin()
 
     def begin(self) -> None:
         """Begins the server, and waits until it listens: that of a full office reads for minutes."""
         self.server, self.port = client.begin_server(self.program, self.plant, keeps_errors=True)
+        self.requests = 0
 
     def end(self) -> None:
         """Ends the server."""
         client.end_server(self.server)
+
+    def renew(self) -> None:
+        """Begins a new server, if this one is near its last connection; nothing is under way."""
+        if self.requests > int(client.MOST_CONNECTIONS) - SPARE:
+            self.end()
+            self.begin()
 
     def ask(self, *words: str) -> Answer:
         """What is answered to the plant's words."""
@@ -42,17 +47,15 @@ class PrivateServer:
 
     def say(self, *words: str) -> socket.socket:
         """Says the plant's words."""
-        content = b"".join(word.encode() + b"\0" for word in words)
-        return self.connected(socket.socket(socket.AF_UNIX), self.plant.path, client.framed(client.framed(content)))
+        return self.sent(socket.socket(socket.AF_UNIX), self.plant.path, client.words_of(words))
 
     def send(self, owner: str, key: str, path: str, body: Any = None) -> socket.socket:
         """Sends an owner's request."""
-        content = client.request_of(owner, key, path, body)
-        peer = self.connected(socket.socket(), ("127.0.0.1", self.port), content)
         self.requests += 1
-        return peer
+        content = client.request_of(owner, key, path, body)
+        return self.sent(socket.socket(), ("127.0.0.1", self.port), content)
 
-    def connected(self, peer: socket.socket, address: Any, content: bytes) -> socket.socket:
+    def sent(self, peer: socket.socket, address: Any, content: bytes) -> socket.socket:
         """A socket that is connected, and to which a content was sent."""
         try:
             peer.connect(address)
@@ -64,29 +67,26 @@ class PrivateServer:
 
     def answer(self, peer: socket.socket) -> Answer:
         """The answer to words that were said: the status, what is printed, and what is told of a fault."""
-        with peer:
-            try:
-                frames = [client.read_frame(peer, MOST_ANSWER) for _ in ("greeting", "answer")]
-            except OSError as error:
-                raise self.failure(str(error)) from error
-        if not frames[1]:
+        with self.asked(peer):
+            client.read_frame(peer, client.MOST_GREETING)
+            content = client.read_frame(peer, client.MOST_ANSWER)
+        if not content:
             raise self.failure("it ended before it had answered")
-        return client.answer_of(frames[1])
+        return client.answer_of(content)
 
     def reply(self, peer: socket.socket) -> tuple[int, dict[str, Any]]:
         """The status and the body of the reply to a request that was sent."""
-        with peer:
-            try:
-                return client.reply_at(peer)
-            except (OSError, ValueError) as error:
-                raise self.failure(str(error)) from error
+        with self.asked(peer):
+            return client.reply_at(peer)
 
-    def renew(self) -> None:
-        """Begins a new server, if this one is near its last connection; nothing is under way."""
-        if self.requests > int(client.MOST_CONNECTIONS) - SPARE:
-            self.end()
-            self.requests = 0
-            self.begin()
+    @contextlib.contextmanager
+    def asked(self, peer: socket.socket) -> Iterator[None]:
+        """Takes an answer of a socket, which is closed behind it; fails where none comes whole."""
+        try:
+            with peer:
+                yield
+        except (OSError, ValueError) as error:
+            raise self.failure(str(error)) from error
 
     def failure(self, reason: str) -> Failure:
         """Why the server doesn't answer."""

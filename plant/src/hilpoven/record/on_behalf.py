@@ -115,8 +115,7 @@ def answer_to(peer: socket.socket, request: Request, key: Key) -> Done:
     """What came of a request."""
     try:
         peer.settimeout(SECONDS)
-        peer.sendall(client.request_of(request.owner, key.letters, request.path, request.body))
-        status, body = client.reply_at(peer)
+        status, body = client.requested(peer, request.owner, key.letters, request.path, request.body)
     except (OSError, ValueError):
         return Done(client.LOST)
     if status in TAKEN:

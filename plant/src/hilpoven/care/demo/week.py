@@ -79,5 +79,4 @@ class Week:
     def request(self, owner: str, path: str, content: object) -> tuple[int, dict[str, object]]:
         """The status and the body of the reply to an owner's request."""
         with socket.create_connection(("127.0.0.1", self.port), client.PATIENCE) as peer:
-            peer.sendall(client.request_of(owner, self.keys[owner], path, content))
-            return client.reply_at(peer)
+            return client.requested(peer, owner, self.keys[owner], path, content)

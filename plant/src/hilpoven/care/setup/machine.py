@@ -199,11 +199,4 @@ def status_by_tls(host: str, path: str) -> int:
     certificate is for browsers to judge."""
     context = ssl.create_default_context()
     context.check_hostname, context.verify_mode = False, ssl.CERT_NONE
-    try:
-        with socket.create_connection(("127.0.0.1", 443), client.PATIENCE) as plain:
-            with context.wrap_socket(plain, server_hostname=host) as peer:
-                peer.sendall(f"GET {path} HTTP/1.1\r\nhost: {host}\r\nconnection: close\r\n\r\n".encode())
-                front = peer.recv(64).decode(errors="replace").split()
-                return int(front[1]) if len(front) > 1 and front[1].isdecimal() else 0
-    except OSError:
-        return 0
+    return client.status_at(443, path, context, host)
