@@ -235,7 +235,8 @@ def require_own(file: str, backup: str, journal: Journal) -> None:
 def replace(
     office: Office, copy: str, place: Place, journal: Journal, words: list[str], digest: str, lines_then: str
 ) -> Replaced:
-    """Puts a copy that was looked at in the place of the file, which the journal notes. Keys that were changed since stay: those behind the lines that the journal had then, by a file of them."""
+    """Puts a copy that was looked at in the place of the file, which the journal notes. Keys that were changed since
+    stay: those behind the lines that the journal had then, by a file of them."""
     with journal.noted(office.file, words, sha256=digest) as note:
         with lock.held(office.file, office.wait):
             stop_on_server(office.file, place)

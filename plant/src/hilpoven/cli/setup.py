@@ -8,6 +8,7 @@ import click
 
 from .. import HOUSE
 from ..core import rights, settings as site
+from ..core.journal import log
 from ..core.failure import WRONG_USE, Failure, printable
 from .output import tell_line
 from ..care.setup.machine import Machine
@@ -41,7 +42,8 @@ def setup(name: str, host: str, cert: str, key: str, owner: str) -> None:
         raise Failure("HOUSE is the plant itself", WRONG_USE)
     plan = Plan(name, host.lower(), os.path.abspath(cert), os.path.abspath(key), owner)
     owner_key, changes = "", 0
-    for done in take(Setup(plan, Machine())):
+    machine = Machine(command=os.path.abspath(sys.argv[0]), login=log.login())
+    for done in take(Setup(plan, machine)):
         tell_line(printable(f"{'done ' if done.is_new else 'there'}  {done.text}"))
         changes, owner_key = changes + done.is_new, done.owner_key or owner_key
     if not changes:

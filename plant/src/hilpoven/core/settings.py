@@ -106,8 +106,8 @@ class Quality:
 
 @dataclass(frozen=True)
 class Roles:
-    """Which groups of the machine may give the commands of each role under sudo. `None` is a role that isn't told, whose
-    commands every member may give."""
+    """Which groups of the machine may give the commands of each role under sudo. `None` is a role that isn't told,
+    whose commands every member may give."""
 
     record: list[str] | None = setting(None, "what happens in the plant: movements, batches, results")
     quality: list[str] | None = setting(None, "what is judged: releases, rejections, signatures, holds")

@@ -6,7 +6,6 @@ import shutil
 import socket
 import ssl
 import subprocess
-import sys
 import time
 from collections.abc import Callable, Iterator
 from dataclasses import dataclass
@@ -14,7 +13,6 @@ from typing import NamedTuple
 
 from ...core import client, lock, settings as site
 from ...core.failure import WRONG_USE, Failure
-from ...core.journal import log
 
 PORTS = range(801, 1024)  # which no other account may take; nginx has 800 for wrong keys
 PORT = re.compile(r"^PORT=[\"']?([0-9]{1,5})\b", re.M)
@@ -46,6 +44,8 @@ class Machine:
     nginx: str = "/etc/nginx"
     user: str = "toll"
     lock: str = "/run/hilpoven-setup.lock"  # which no other account can hold
+    command: str = "hilpoven"  # this program, by which commands over the office are given
+    login: str = "root"  # who sets up, as the journal names it
 
     @contextlib.contextmanager
     def held(self) -> Iterator[None]:
@@ -68,7 +68,7 @@ class Machine:
                 group=user,
                 extra_groups=groups,
                 cwd="/",
-                env={**variables, "SUDO_USER": log.login()},
+                env={**variables, "SUDO_USER": self.login},
                 stdin=subprocess.DEVNULL,
                 stdout=subprocess.PIPE,
                 stderr=subprocess.STDOUT,
@@ -86,7 +86,7 @@ class Machine:
 
     def hilpoven(self, name: str, *words: str) -> str:
         """What a command over an office writes; fails where it does."""
-        return self.must([os.path.abspath(sys.argv[0]), "--office", name, *words], self.user)
+        return self.must([self.command, "--office", name, *words], self.user)
 
     def require_programs(self) -> None:
         """Fails where what the steps need isn't installed, or systemd doesn't run."""

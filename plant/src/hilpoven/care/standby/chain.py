@@ -48,7 +48,7 @@ class Chain:
         return min(self.snapshots, default=0)
 
     def is_needless(self, name: piece.Name) -> bool:
-        """Whether a file of the chain isn't needed by its name, as the oldest snapshot that stays is of a later state."""
+        """Whether a file of the chain isn't needed, by its name, as the oldest snapshot is of a later state."""
         return bool(self.snapshots) and name.number < self.first_snapshot + (not name.is_snapshot)
 
 
