@@ -7,7 +7,7 @@ import time
 
 import pytest
 from conftest import command, environment
-from hilpoven.core import files
+from hilpoven.core import files, lock
 
 
 @contextlib.contextmanager
@@ -87,3 +87,49 @@ def test_a_stranger_is_told_whose_it_is(reachable):
     done = command("--db", reachable.db, "stock", "ACME", env=environment(TOLL=reachable.program), user=65534, group=65534, extra_groups=[])
     assert done.returncode == 3 and "can't be opened: Permission denied" in done.stderr and "as nobody" in done.stderr and "sudo -u toll hilpoven --db" in done.stderr
     assert not os.path.exists(f"{reachable.db}.lock")
+
+
+# What the commands of the plant hold themselves
+
+def test_a_new_lock_is_for_its_user_alone(tmp_path):
+    before = os.umask(0)
+    try:
+        with lock.held(str(tmp_path / "office.db"), 0):
+            assert (tmp_path / "office.db.lock").stat().st_mode & 0o777 == 0o600
+    finally:
+        os.umask(before)
+
+
+def test_who_holds_a_file_holds_it_alone_or_beside_others(tmp_path):
+    path = tmp_path / "file"
+    path.touch()
+    with open(path) as one, open(path) as other:
+        assert lock.take(one.fileno(), kind=fcntl.LOCK_SH) and lock.take(other.fileno(), kind=fcntl.LOCK_SH)
+        assert not lock.take(one.fileno()) and lock.take(one.fileno(), kind=fcntl.LOCK_SH)
+        other.close()
+        assert lock.take(one.fileno())
+        with open(path) as third:
+            begun = time.monotonic()
+            assert not lock.take(third.fileno(), 0.2, fcntl.LOCK_SH) and time.monotonic() - begun >= 0.2
+
+
+def test_an_office_that_another_file_has_the_name_of_is_held_anew(tmp_path, monkeypatch):
+    """A restore puts another file in place while somebody waits for the one that was there."""
+    file, opened, real = tmp_path / "office.db", [], os.open
+    file.write_bytes(b"old")
+
+    def replaced(path: str, *arguments: int, **options: object) -> int:
+        descriptor = real(path, *arguments, **options)
+        if path == str(file):
+            opened.append(os.fstat(descriptor).st_ino)
+            if len(opened) == 1:
+                (tmp_path / "new").write_bytes(b"new")
+                os.rename(tmp_path / "new", file)
+        return descriptor
+
+    monkeypatch.setattr(os, "open", replaced)
+    with lock.alone(str(file), 5) as is_alone:
+        assert is_alone and len(opened) == 2 and opened[1] == file.stat().st_ino
+        descriptor = real(file, os.O_RDONLY)
+        assert not lock.take(descriptor, kind=fcntl.LOCK_SH), "the file that has the name isn't held"
+        os.close(descriptor)

@@ -1,14 +1,16 @@
 """Roles: under sudo the groups of the caller decide which commands it may give, and neither its environment nor other words do."""
+import contextlib
 import dataclasses
 import json
 
 import click
 import pytest
 from click.testing import CliRunner
-from conftest import Told
+from conftest import Told, script
 from hilpoven.cli import hilpoven, roles
 from hilpoven.record import on_behalf
 from hilpoven.core import rights, settings as site
+from hilpoven.core.failure import Failure
 from hilpoven.core.journal import log
 
 # Users and groups that each Debian has: daemon, 1, is in the group daemon, and man, 6, in the group man.
@@ -139,6 +141,21 @@ def test_the_environment_decides_nothing(at_work, environment):
     settle(at_work, quality=["man"])
     done = by(at_work, DAEMON, "reject", "W-101", **environment)
     assert done.out.strip() == "" and at_work.rows("SELECT disposition FROM lots WHERE lot = 'W-101'") == [(1,)]
+
+
+def test_no_settings_and_no_program_of_a_member_s_own_are_taken(at_work, tmp_path, monkeypatch):
+    """Settings without roles, which name the same office, and a program that would run with the office's rights."""
+    settle(at_work, quality=["man"])
+    own, ran = tmp_path / "own.toml", tmp_path / "ran"
+    own.write_text(f'file = "{at_work.db}"\ntoll = "{at_work.program}"\n')
+    program = script(tmp_path / "own-toll", f"touch {ran}")
+    done = by(at_work, DAEMON, "reject", "W-101", HILPOVEN_SETTINGS=str(own), TOLL=str(program))
+    assert done.status == 2 and at_work.rows("SELECT disposition FROM lots WHERE lot = 'W-101'") == [(1,)] and not ran.exists()
+    monkeypatch.setenv("TOLL", str(program))
+    assert site.program(site.Settings()) == str(program)
+    monkeypatch.setenv("SUDO_UID", str(DAEMON))
+    with contextlib.suppress(Failure):
+        assert site.program(site.Settings()) != str(program)
 
 
 def test_words_before_and_behind_the_subcommand_change_nothing(at_work):

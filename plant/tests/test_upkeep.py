@@ -1,8 +1,11 @@
 """New offices, backups, what is put in place, and what is looked at."""
 import contextlib
+import dataclasses
+import fcntl
 import hashlib
 import json
 import os
+import re
 import shutil
 import signal
 import socket
@@ -11,7 +14,7 @@ import subprocess
 import time
 
 import pytest
-from conftest import Plant, change_log_at_rest, command, copied, environment
+from conftest import ROOT, Plant, change_log_at_rest, command, copied, environment
 from hilpoven.care import backups
 from hilpoven.core import settings as site
 from hilpoven.core.grammar import LINES
@@ -443,6 +446,20 @@ def test_two_backups_of_one_second_are_two(at_work, monkeypatch):
     assert len({at_work.run("backup").out.splitlines()[0] for _ in range(3)}) == 3 and len(names_in(at_work.folder / "backups")) == 3
 
 
+def test_a_backup_waits_for_another_that_names_and_removes_in_its_folder(at_work):
+    folder = at_work.folder / "backups"
+    folder.mkdir(mode=0o700)
+    descriptor = os.open(folder, os.O_RDONLY)
+    fcntl.flock(descriptor, fcntl.LOCK_EX)
+    process = at_work.begun("backup", folder)
+    with pytest.raises(subprocess.TimeoutExpired):
+        process.wait(5)
+    assert names_in(folder) == []
+    os.close(descriptor)
+    out, err = process.communicate(timeout=60)
+    assert process.returncode == 0 and names_in(folder) == [os.path.basename(out.splitlines()[0])], err
+
+
 def test_the_journal_notes_each_backup_with_its_hash_and_lies_beside_it(at_work):
     at_work.settle()
     at_work.run("unit-add", "PRESS")
@@ -569,6 +586,17 @@ def test_settings_of_an_office_have_bounds(at_work, line, why):
     (at_work.folder / "acme.env").write_text(f"FILE={at_work.db}\n{line}\n")
     done = at_work.run("stock", "ACME", options=("--office", "acme"))
     assert done.status == 2 and why in done.err
+
+
+def test_each_setting_has_its_help_and_stands_on_the_page_of_settings():
+    page = (ROOT / "docs" / "hilpoven.md").read_text().partition("\n## Settings\n")[2].partition("\n## ")[0]
+    for table in (site.Settings, *(field.type for field in dataclasses.fields(site.Settings) if dataclasses.is_dataclass(field.type))):
+        for field in dataclasses.fields(table):
+            if dataclasses.is_dataclass(field.type):
+                assert f"`[{field.name}]`" in page or field.name == "require", field.name
+            else:
+                assert field.metadata["about"] and re.search(rf"`{field.name}(`| = )", page), field.name
+                assert field.type not in (int, float) or field.metadata["least"] is not None, f"{field.name} has no bounds"
 
 
 def test_the_settings_say_what_papers_say_of_the_plant(tmp_path):

@@ -6,6 +6,7 @@ import sqlite3
 
 import pytest
 from following import built, follower_of, look, rows_of
+from hilpoven.care.standby.state import Saved
 
 MOST = 64_000_000  # bytes of pages that docs/standby.md lets a follower hold
 NAMED = (".piece", ".snapshot")
@@ -53,6 +54,21 @@ def test_a_piece_has_its_name_when_its_bytes_and_the_name_before_it_are_on_the_d
         look(follower)
     follower.make_snapshot()
     assert len(named) == 5 and {os.path.splitext(name)[1] for name in named} == set(NAMED)
+
+
+def test_pieces_and_the_state_are_for_their_user_alone(tmp_path, written):
+    """Whatever the process's mask is: they hold all of an office, with its owners' keys."""
+    folder, before = tmp_path / "pieces", os.umask(0)
+    try:
+        follower = follower_of(tmp_path / "office.db", folder)
+        look(follower)
+        written.execute("INSERT INTO t VALUES (1, x'00')")
+        look(follower)
+        assert Saved(str(folder)).save(follower.state)
+    finally:
+        os.umask(before)
+    modes = {path.suffix: path.stat().st_mode & 0o777 for path in folder.iterdir()}
+    assert modes == {".snapshot": 0o600, ".piece": 0o600, ".json": 0o600}
 
 
 def test_pages_that_wait_for_the_disk_don_t_fill_the_memory(tmp_path, written):

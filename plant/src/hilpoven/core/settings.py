@@ -94,14 +94,8 @@ class PlantFacts:
 class Quality:
     """How the plant signs and holds lots."""
 
-    test: str = setting(
-        "",
-        "the test of the plant's own, whose result 1 is a signature and 0 a hold; empty if it has none",
-        fault=name_fault,
-    )
-    persons: int = setting(
-        2, "who are needed at least: 2 let nobody sign a lot of which it recorded something itself", least=1, most=2
-    )
+    test: str = setting("", "the plant's own test: its result 1 is a signature and 0 a hold", fault=name_fault)
+    persons: int = setting(2, "needed: 2 let nobody sign a lot of which it recorded something", least=1, most=2)
 
 
 @dataclass(frozen=True)
@@ -132,9 +126,7 @@ class Follow:
 class Settings:
     """What a site says of its office: each field is a line of /etc/hilpoven.toml, or a table of it such as [plant]."""
 
-    office: str = setting(
-        "", "the name of the office, whose units take /etc/toll/NAME.env; its file, port and backups are those"
-    )
+    office: str = setting("", "its name, by which /etc/toll/NAME.env has its file, its port and its backups")
     file: str = setting("", "the office's file", variable="FILE")
     toll: str = setting("", "the proved program; what is installed where it isn't said")
     journal: str = setting("", "who did what; beside the file where it isn't said")
@@ -142,14 +134,10 @@ class Settings:
     keep: int = setting(30, "how many of the newest backups stay", least=1, variable="HOURS")
     days: int = setting(0, "of how many days the last backup stays", least=0, variable="DAYS")
     backup_hours: int = setting(26, "hours; an older newest backup is told by `status`", least=1)
-    port: int = setting(
-        0, "at which a server is expected to answer owners; 0 asks none", least=0, most=65_535, variable="PORT"
-    )
+    port: int = setting(0, "of the server that answers owners; 0 asks none", least=0, most=65_535, variable="PORT")
     wait: float = setting(10.0, "seconds for a lock that somebody has", least=0)
-    key_prefix: str = setting(
-        "K", "what the keys of movements begin with that are made by themselves", fault=prefix_fault
-    )
-    time_zone: str = setting("", "in which the plant's day begins; the machine's where it isn't said", fault=zone_fault)
+    key_prefix: str = setting("K", "what the keys of movements that are made begin with", fault=prefix_fault)
+    time_zone: str = setting("", "in which the plant's day begins; the machine's by default", fault=zone_fault)
     site_logs: list[str] = setting([], "of the proxy, with the owners' requests", variable="SITE_LOGS")
     require: Require = Require()
     plant: PlantFacts = PlantFacts()
