@@ -2,23 +2,36 @@
 import ast
 import pathlib
 import sys
+from collections.abc import Iterable, Iterator
 
 EMPTY = {"it", "found", "told", "look_at", "thing", "made", "said", "there", "what", "whose", "more"}
 # Fields of JSON that the documents name, and the ends of the paths of the sources that have them.
-FIELDS = {"made": ("plant/src/hilpoven/model/notes/facts.py", "plant/src/hilpoven/report/companion/lots.py", "plant/tests/register/test_facts.py")}
+FIELDS = {
+    "made": (
+        "plant/src/hilpoven/model/notes/facts.py",
+        "plant/src/hilpoven/report/companion/lots.py",
+        "plant/tests/register/test_facts.py",
+    )
+}
 PARTS = ("id", "arg", "attr", "name", "asname", "rest")  # where a node of a source has a name
 
 
-def empty_names(source):
+def empty_names(source: str) -> Iterator[tuple[int, str]]:
     """The empty names of variables, parameters, attributes, functions and classes that a source gives, each with its line."""
     for node in ast.walk(ast.parse(source)):
         if not isinstance(getattr(node, "ctx", None), ast.Load):
-            yield from ((node.lineno, name) for name in EMPTY & {getattr(node, part, None) for part in PARTS})
+            yield from (
+                (getattr(node, "lineno"), name) for name in EMPTY & {getattr(node, part, None) for part in PARTS}
+            )
 
 
-def main(paths):
-    wrong = [f"{path}:{line}: `{name}` doesn't say what it names" for path in paths for line, name in empty_names(path.read_text())
-             if not str(path).endswith(FIELDS.get(name, ()))]
+def main(paths: Iterable[pathlib.Path]) -> bool:
+    wrong = [
+        f"{path}:{line}: `{name}` doesn't say what it names"
+        for path in paths
+        for line, name in empty_names(path.read_text())
+        if not str(path).endswith(FIELDS.get(name, ()))
+    ]
     print("".join(f"{line}\n" for line in wrong), end="")
     return bool(wrong)
 

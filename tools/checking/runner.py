@@ -1,79 +1,161 @@
-"""Runs the parts, and tells how each ended."""
+"""Runs the parts, and prints how each ended."""
 import argparse
+import asyncio
+import contextlib
+import dataclasses
 import os
 import pathlib
 import re
 import shutil
 import signal
-import subprocess
 import sys
 import tempfile
-import threading
 import time
-from typing import NamedTuple
+from collections.abc import AsyncIterator, Iterable
+from typing import IO, NamedTuple
 
 from . import debian
-from .parts import BESIDE, GB, PROGRAM, PROOFS, ROOT, SKIPPED, UNPROVED, parts
+from .parts import BESIDE, FOLDER, GB, PROGRAM, PROOFS, ROOT, SKIPPED, UNPROVED, Part, parts
 
 BUILT = ROOT / "crates" / "toll" / "out" / "toll"
 QUICK = ROOT / "out" / "quick" / "toll"  # of which nothing is proved
 PROVED = ("rt: toll proved", "rt: toll is kept:")  # how the line of `rt ci` begins behind which the program is built
 MEMORY_OF_CHECK = 5 * GB  # bytes that a check of rt takes at the most
-MEMORY_BESIDE = 2.5 * GB  # bytes that the proofs leave to a part, where there is so much
+MEMORY_BESIDE = 2.5 * GB  # bytes that the proofs leave to a part, if there is so much
 LOWERED = 5  # the niceness of what runs beside the proofs and needs no program
-MOST_LINES = 400  # that are printed of a part as soon as it failed
-LAST_LINES = 40  # that are printed of it once more at the end, since a log may be cut at its front
+MOST_LINES, LAST_LINES = 400, 40  # of a part that failed, and once more at the end, since a log may be cut at its front
 MAKERS = (PROOFS, UNPROVED)  # which are run once: what tried the program meanwhile tried an older one
-# How a fault's line begins: that of pytest, of what tries the page or the packages, and of node; else one that names a file's line.
+# How a fault's line begins: that of pytest, of what tries the page or the packages, and of node; else one of a file's line.
 FAULTS = [re.compile(r"(?:FAILED |ERROR |WRONG: |\s*(?=not ok ))(.*)"), re.compile(r"(?=[\w./-]+:\d+:)(.*)")]
 LONGEST_FAULT = 160  # letters
+SECONDS_TO_END, ROOM_IN_MEMORY = 10.0, 2 * GB
 
 
-def plain(line):
+def plain(line: str) -> str:
     """A line without what moves a terminal's cursor."""
     return "".join(letter if letter.isprintable() or letter == "\t" else "?" for letter in line)
 
 
-def indented(text):
+def indented(text: str) -> list[str]:
     """The lines of what a part printed. The lines that aren't indented are the gate's own."""
     return [f"    {plain(line)}" for line in text.splitlines()]
 
 
 class Ended(NamedTuple):
     """How a part ended."""
+
     name: str
     seconds: float
     is_ok: bool
     printed: str = ""
     is_second: bool = False  # whether it had failed before, and was run once more
 
-    def tell(self):
+    def report(self) -> None:
         outcome = f"{'ok' if self.is_ok else 'FAILED'}{', run once more, alone' if self.is_second else ''}"
         print(f"{self.name:20} {self.seconds:6.0f} s  {outcome}", flush=True)
         if not self.is_ok:
             self.print_output(MOST_LINES)
 
-    def print_output(self, most):
+    def print_output(self, most: int) -> None:
         """Prints the last lines of what the part printed."""
         lines = indented(self.printed.rstrip())
         left = [f"    .. {len(lines) - most} lines before these"] if len(lines) > most else []
         print(*left, *lines[-most:], sep="\n", flush=True)
 
-    def first_fault(self):
-        """The first line that tells a fault, or the last one."""
+    def first_fault(self) -> str:
+        """The first line that names a fault, or the last one."""
         lines = [line for line in map(plain, self.printed.splitlines()) if line.strip()]
         faults = [fault[1] for beginning in FAULTS for fault in map(beginning.match, lines) if fault]
         return (faults or lines[-1:] or ["no output"])[0].strip()[:LONGEST_FAULT]
 
 
+def signal_to(process: asyncio.subprocess.Process, number: int) -> bool:
+    """Sends a signal to a process and all that it started in its group; whether any of them is there."""
+    with contextlib.suppress(ProcessLookupError, PermissionError):
+        os.killpg(process.pid, number)
+        return True
+    return False
+
+
+async def end(process: asyncio.subprocess.Process) -> None:
+    """Ends a process and all of its session, which has ten seconds to clear away."""
+    latest = time.monotonic() + SECONDS_TO_END
+    signal_to(process, signal.SIGTERM)
+    while signal_to(process, 0):
+        if time.monotonic() > latest:
+            signal_to(process, signal.SIGKILL)
+            break
+        await asyncio.sleep(0.02)
+    await process.wait()
+
+
+def folder_for_tests() -> str | None:
+    """In memory, if that has the room: tests make thousands of small files, and wait for a disk at each."""
+    has_room = os.path.isdir("/dev/shm") and shutil.disk_usage("/dev/shm").free > ROOM_IN_MEMORY
+    return "/dev/shm" if has_room else None
+
+
+@dataclasses.dataclass
 class Runner:
-    """Runs parts, each with all that it starts in a session of its own, which ends with it."""
+    """Runs parts side by side, each with all that it starts in a session of its own, which ends with it; each as soon as
+    the processors and the memory that it takes are free and, if it needs the program, that is there. The part that makes
+    the program leaves one processor at least to the others, and all that it doesn't take."""
 
-    def __init__(self, program):
-        self.program, self.ended, self.running, self.is_over = program, [], set(), False
-        self.lock = threading.RLock()  # a signal may come while it is held
+    program: pathlib.Path
+    processors: int = 1
+    memory: float = GB
+    ended: list[Ended] = dataclasses.field(default_factory=list)
+    running: list[Part] = dataclasses.field(default_factory=list)
+    maker: Part | None = None
+    is_program_there: bool = True
 
-    def has_program(self):
+    def __post_init__(self) -> None:
+        self.changed = asyncio.Event()
+
+    async def run_all(self, wanted: Iterable[Part], maker: Part | None = None, is_program_there: bool = True) -> None:
+        """Runs these parts, in this order if several may begin, and comes back when all have ended."""
+        self.maker, self.is_program_there = maker, is_program_there
+        waiting = list(wanted)
+        async with asyncio.TaskGroup() as group:
+            if maker:
+                self.begin(maker, group)
+            while waiting:
+                part = next((candidate for candidate in waiting if self.may_begin(candidate)), None)
+                if part:
+                    waiting.remove(part)
+                    self.begin(part, group)
+                else:
+                    self.changed.clear()
+                    await self.changed.wait()
+
+    def may_begin(self, part: Part) -> bool:
+        if part.needs_program() and not self.is_program_there:
+            return False
+        if not self.running or part.is_alone or any(other.is_alone for other in self.running):
+            return not self.running
+        processors = sum(other.processors for other in self.running if other != self.maker)
+        most = self.processors
+        if self.maker and self.maker in self.running:
+            most = max(1, self.processors - self.maker.processors)
+        memory = sum(other.memory for other in self.running)
+        return processors + min(part.processors, most) <= most and memory + part.memory <= self.memory
+
+    def begin(self, part: Part, group: asyncio.TaskGroup) -> None:
+        self.running.append(part)
+        group.create_task(self.run_one(part))
+
+    async def run_one(self, part: Part) -> None:
+        try:
+            if part.needs_program() and not self.has_program():
+                self.note(Ended(part.name, 0, False, f"there is no program {self.program}"))
+            else:
+                await self.run(part, LOWERED if part in BESIDE and self.maker in self.running else 0)
+        finally:
+            self.running.remove(part)
+            self.is_program_there |= part == self.maker
+            self.changed.set()
+
+    def has_program(self) -> bool:
         """Whether the program is there. It is newer than its sources then, whichever came first."""
         if not os.access(self.program, os.X_OK):
             return False
@@ -81,204 +163,123 @@ class Runner:
             self.program.touch()
         return True
 
-    def words_of(self, part):
-        words = part.words() if callable(part.words) else part.words
-        return [str(word).replace(PROGRAM, str(self.program)) for word in words]
+    async def run(self, part: Part, lowered: int = 0) -> None:
+        """Runs a part, and notes and prints how it ended."""
+        began, status, why = time.monotonic(), 1, ""
+        with tempfile.NamedTemporaryFile("wb") as output:
+            try:
+                async with self.started(part, lowered, output) as process:
+                    status = await asyncio.wait_for(process.wait(), 60 * part.minutes)
+            except TimeoutError:
+                why = f"it had not ended after {part.minutes} minutes\n"
+            except OSError as fault:
+                why = f"{fault}\n"
+            printed = pathlib.Path(output.name).read_text(errors="replace") + why
+        is_ok = status == 0 and not (part.fault and re.search(part.fault, printed))
+        self.note(Ended(part.name, time.monotonic() - began, is_ok, printed))
 
-    def run(self, part, lowered=0, on_line=None):
-        """Runs a part, and notes and tells how it ended. One whose lines are asked for prints them as it goes."""
-        began, faults = time.monotonic(), []
+    @contextlib.asynccontextmanager
+    async def started(self, part: Part, lowered: int, output: IO[bytes]) -> AsyncIterator[asyncio.subprocess.Process]:
+        """A part's process. Of what makes the program, the lines are passed on as they come."""
+        with tempfile.TemporaryDirectory(prefix="check.", dir=folder_for_tests(), ignore_cleanup_errors=True) as folder:
+            words = [word.replace(PROGRAM, str(self.program)).replace(FOLDER, folder) for word in part.words]
+            process = await asyncio.create_subprocess_exec(
+                *("nice", "-n", str(lowered), *words),
+                cwd=ROOT,
+                env={**os.environ, "PYTHONDONTWRITEBYTECODE": "1"},
+                stdin=asyncio.subprocess.DEVNULL,
+                stdout=output,
+                stderr=asyncio.subprocess.STDOUT,
+                start_new_session=True,
+            )
+            passing = [self.pass_on(process, output.name)] if part == self.maker else []
+            tasks = [asyncio.create_task(task) for task in passing]
+            try:
+                yield process
+            finally:
+                await end(process)
+                await asyncio.gather(*tasks)
 
-        def watch(line):
-            on_line(line)
-            faults.extend(re.findall(part.fault or "(?!)", line))
+    async def pass_on(self, process: asyncio.subprocess.Process, name: str) -> None:
+        """Prints lines as they come, and notes that the program is there as soon as one says so."""
+        rest, is_over = "", False
+        with open(name, errors="replace") as output:
+            while not is_over:
+                is_over = process.returncode is not None
+                *whole, rest = (rest + output.read()).split("\n")
+                for line in [*whole, *filter(None, [rest] if is_over else [])]:
+                    print(*indented(line), sep="\n", flush=True)
+                    if line.startswith(PROVED):
+                        self.is_program_there = True
+                        self.changed.set()
+                await asyncio.sleep(0.05)
 
-        with tempfile.TemporaryFile("w+", errors="replace") as printed:
-            status, why = self.status_of(part, printed, lowered, on_line and watch)
-            printed.seek(0)
-            self.note(Ended(part.name, time.monotonic() - began, status == 0 and not faults, printed.read() + why + "\n".join(faults)))
+    def note(self, ended: Ended) -> None:
+        self.ended.append(ended._replace(is_second=any(earlier.name == ended.name for earlier in self.ended)))
+        self.ended[-1].report()
 
-    def status_of(self, part, printed, lowered, on_line):
-        """The exit status of a part, and a word where it has none of its own."""
-        out = {"stdout": subprocess.PIPE, "text": True, "errors": "replace"} if on_line else {"stdout": printed, "stderr": subprocess.STDOUT}
-        try:
-            words = ["nice", "-n", str(lowered), *self.words_of(part)]
-            process = self.start(words, out)
-        except (OSError, subprocess.SubprocessError) as fault:
-            return 1, f"{fault}\n"
-        reading = threading.Thread(target=self.pass_on, args=(process.stdout, on_line), daemon=True)
-        if on_line:
-            reading.start()
-        try:
-            return process.wait(60 * part.minutes), ""
-        except subprocess.TimeoutExpired:
-            return 1, f"it had not ended after {part.minutes} minutes\n"
-        finally:
-            end([process])
-            if on_line:
-                reading.join(10)
-            with self.lock:
-                self.running.discard(process)
+    def passed(self) -> set[str]:
+        return {ended.name for ended in self.ended if ended.is_ok}
 
-    def start(self, words, out):
-        with self.lock:
-            if self.is_over:
-                raise OSError("a signal ended the check")
-            environment = {**os.environ, "PYTHONDONTWRITEBYTECODE": "1"}
-            process = subprocess.Popen(words, cwd=ROOT, env=environment, stdin=subprocess.DEVNULL, start_new_session=True, **out)
-            self.running.add(process)
-        return process
-
-    def pass_on(self, stream, on_line):
-        for line in stream:
-            with self.lock:
-                print(*indented(line), sep="\n", flush=True)
-            on_line(line)
-
-    def note(self, ended):
-        with self.lock:
-            if self.is_over:
-                return
-            self.ended.append(ended._replace(is_second=any(earlier.name == ended.name for earlier in self.ended)))
-            self.ended[-1].tell()
-
-    def failures(self):
+    def failures(self) -> list[Ended]:
         """How the parts ended that haven't passed, each time."""
-        passed = {ended.name for ended in self.ended if ended.is_ok}
-        return [ended for ended in self.ended if ended.name not in passed]
+        return [ended for ended in self.ended if ended.name not in self.passed()]
 
-    def flaky(self):
+    def flaky(self) -> list[str]:
         """The parts that failed and then passed, each with its first fault."""
-        passed = {ended.name for ended in self.ended if ended.is_ok}
-        return [(ended.name, ended.first_fault()) for ended in self.ended if not ended.is_ok and ended.name in passed]
-
-    def stop(self):
-        """Ends all that runs, and lets nothing more begin."""
-        with self.lock:
-            self.is_over = True
-            running = list(self.running)
-        end(running)
+        flaky = (ended for ended in self.ended if not ended.is_ok and ended.name in self.passed())
+        return [f"flaky: {ended.name}, {ended.first_fault()}" for ended in flaky]
 
 
-def end(processes):
-    """Ends processes and all of their sessions, which have ten seconds to clear away."""
-    for process in processes:
-        signal_to(process, signal.SIGTERM)
-    latest = time.monotonic() + 10
-    for process in processes:
-        while process.poll() is None or signal_to(process, 0):
-            if time.monotonic() > latest:
-                signal_to(process, signal.SIGKILL)
-                break
-            time.sleep(0.02)
-        process.wait()
-
-
-def signal_to(process, number):
-    """Sends a signal to a process and all that it started in its group, and gives whether any of them is there."""
-    try:
-        os.killpg(process.pid, number)
-    except (ProcessLookupError, PermissionError):
-        return False
-    return True
-
-
-class Schedule:
-    """Runs parts side by side, each as soon as the processors and the memory that it takes are free and, where it needs the
-    program, that is there. The part that makes the program leaves one processor at least to the others, and all that it
-    doesn't take."""
-
-    def __init__(self, runner, processors, memory):
-        self.runner, self.processors, self.memory = runner, processors, memory
-        self.changed, self.running, self.maker = threading.Condition(), [], None
-        self.is_program_there = True
-
-    def run(self, wanted, maker=None, is_program_there=True):
-        """Runs these parts, in this order where several may begin, and comes back when all have ended."""
-        self.maker, self.is_program_there = maker, is_program_there
-        waiting, threads = list(wanted), [self.begin(maker)] if maker else []
-        with self.changed:
-            while waiting:
-                part = next((candidate for candidate in waiting if self.may_begin(candidate)), None)
-                if part:
-                    waiting.remove(part)
-                    threads.append(self.begin(part))
-                else:
-                    self.changed.wait()
-        for thread in threads:
-            thread.join()
-
-    def may_begin(self, part):
-        if part.needs_program() and not self.is_program_there:
-            return False
-        is_making = self.maker in self.running
-        others = sum(other.processors for other in self.running if other != self.maker)
-        most = max(1, self.processors - self.maker.processors) if is_making else self.processors
-        memory = sum(other.memory for other in self.running)
-        if part.is_alone or any(other.is_alone for other in self.running):
-            return not self.running
-        return not self.running or others + min(part.processors, most) <= most and memory + part.memory <= self.memory
-
-    def begin(self, part):
-        self.running.append(part)
-        thread = threading.Thread(target=self.run_one, args=[part])
-        thread.start()
-        return thread
-
-    def run_one(self, part):
-        try:
-            if part == self.maker:
-                self.runner.run(part, on_line=self.look_for_program)
-            elif part.needs_program() and not self.runner.has_program():
-                self.runner.note(Ended(part.name, 0, False, f"there is no program {self.runner.program}"))
-            else:
-                self.runner.run(part, lowered=LOWERED if part in BESIDE and self.maker in self.running else 0)
-        finally:
-            with self.changed:
-                self.running.remove(part)
-                self.is_program_there |= part == self.maker
-                self.changed.notify()
-
-    def look_for_program(self, line):
-        """Notes that the program is there as soon as the part that makes it says so."""
-        if line.startswith(PROVED):
-            with self.changed:
-                self.is_program_there = True
-                self.changed.notify()
-
-
-def free_memory():
+def free_memory() -> int:
     """Bytes that are free."""
-    with open("/proc/meminfo") as file:
-        amounts = dict(line.split(":", 1) for line in file)
-    return int(amounts["MemAvailable"].split()[0]) * 1024
+    (kilobytes,) = re.findall(r"MemAvailable: *(\d+)", pathlib.Path("/proc/meminfo").read_text())
+    return int(kilobytes) * 1024
 
 
-def maker_of(wanted, processors, memory):
+def maker_of(wanted: list[Part], processors: int, memory: float) -> Part | None:
     """The part that makes the program, if there is one, with what it takes of the machine."""
     if PROOFS not in wanted:
         return UNPROVED if UNPROVED in wanted else None
     # one job for each check, since a second one loads the check's libraries once more
-    jobs = max(1, min(processors, memory // MEMORY_OF_CHECK))
+    jobs = int(max(1, min(processors, memory // MEMORY_OF_CHECK)))
     os.environ.setdefault("RT_JOBS", str(jobs))
     left = max(MEMORY_OF_CHECK, memory - MEMORY_BESIDE)
-    return PROOFS._replace(processors=processors, memory=min(jobs * MEMORY_OF_CHECK, left))
+    return dataclasses.replace(PROOFS, processors=processors, memory=min(jobs * MEMORY_OF_CHECK, left))
 
 
-def run_all(runner, wanted):
-    """Runs the parts: the one that makes the program, beside it those that need none, and those that try the program once it is
-    there. Behind all others, those that failed are run once more, each alone, since a failure may be bad luck."""
-    processors, memory = len(os.sched_getaffinity(0)), free_memory()
-    maker = maker_of(wanted, processors, memory)
-    is_program_there = maker is None or runner.program not in (BUILT, QUICK)
-    schedule, others = Schedule(runner, processors, memory), [part for part in wanted if part not in MAKERS]
-    schedule.run(others, maker, is_program_there)
+async def gate(program: pathlib.Path, wanted: list[Part]) -> Runner:
+    """Runs the parts: the one that makes the program, beside it those that need none, and those that try the program once
+    it is there. Behind all others, those that failed are run once more, each alone, since a failure may be bad luck."""
+    runner = Runner(program, len(os.sched_getaffinity(0)), free_memory())
+    maker = maker_of(wanted, runner.processors, runner.memory)
+    others = [part for part in wanted if part not in MAKERS]
+    await runner.run_all(others, maker, maker is None or program not in (BUILT, QUICK))
     failed = {ended.name for ended in runner.failures()}
-    schedule.run([part._replace(is_alone=True) for part in others if part.name in failed])
+    await runner.run_all(dataclasses.replace(part, is_alone=True) for part in others if part.name in failed)
+    return runner
 
 
-def words_of(usage):
-    words = argparse.ArgumentParser(prog="check", description=usage, formatter_class=argparse.RawDescriptionHelpFormatter, allow_abbrev=False)
+async def heeding_signals(program: pathlib.Path, wanted: list[Part]) -> Runner:
+    """The same; a signal that isn't ignored, as under nohup, ends all that runs, and is the status."""
+    running, ended_by = asyncio.create_task(gate(program, wanted)), list[int]()
+
+    def stop(number: int) -> None:
+        ended_by.append(number)
+        running.cancel()
+
+    for number in (signal.SIGINT, signal.SIGTERM, signal.SIGHUP):
+        if signal.getsignal(number) != signal.SIG_IGN:
+            asyncio.get_running_loop().add_signal_handler(number, stop, number)
+    try:
+        return await running
+    except asyncio.CancelledError:
+        sys.exit(128 + ended_by[0])
+
+
+def words_of(usage: str) -> argparse.Namespace:
+    formatter = argparse.RawDescriptionHelpFormatter
+    words = argparse.ArgumentParser(prog="check", description=usage, formatter_class=formatter, allow_abbrev=False)
     words.add_argument("--quick", action="store_true")
     words.add_argument("--only", action="append", metavar="PART")
     words.add_argument("--program", type=pathlib.Path, metavar="FILE")
@@ -291,56 +292,47 @@ def words_of(usage):
     return given
 
 
-def wanted_by(words):
+def wanted_by(words: argparse.Namespace) -> list[Part]:
     """The parts that the words ask for. Over another program nothing has to be compiled."""
     wanted = [part for part in parts(words.quick) if words.only is None or part.name in words.only]
     return [part for part in wanted if part != UNPROVED or not words.program]
 
 
-def told_of(part):
-    where = "makes the program" if part in MAKERS else "needs the program" if part.needs_program() else "needs no program"
-    return f"{part.name:20} {where:18} {' '.join(part.packages)}".rstrip()
+def described(part: Part) -> str:
+    need = (
+        "makes the program" if part in MAKERS else "needs the program" if part.needs_program() else "needs no program"
+    )
+    return f"{part.name:20} {need:18} {' '.join(part.packages)}".rstrip()
 
 
-def tell_left_out(is_quick):
-    """Tells what wasn't run, with the commands that run it."""
-    print("skipped for time:", *(f"    {skipped.command:30} {skipped.subject}" for skipped in SKIPPED), sep="\n")
-    if is_quick:
-        print("NOTHING WAS PROVED, and no wrong body was tried: ./check does both")
+def report(runner: Runner, wanted: list[Part], words: argparse.Namespace, minutes: float) -> bool:
+    """Prints how all ended; whether a part failed. One that never ended is none that passed."""
+    failed = [part.name for part in wanted if part.name not in runner.passed()]
+    print(f"parts: {len(wanted) - len(failed)} passed, {len(failed)} failed")
+    if words.only is None:
+        print("skipped for time:", *(f"    {command:30} {subject}" for command, subject in SKIPPED.items()), sep="\n")
+        if words.quick:
+            print("NOTHING WAS PROVED, and no wrong body was tried: ./check does both")
+        for ended in runner.failures():
+            print(f"{ended.name} FAILED:")
+            ended.print_output(LAST_LINES)
+    outcome = f"{len(failed)} FAILED: {', '.join(failed)}" if failed else "all ok"
+    print(*runner.flaky(), f"{len(wanted)} parts in {minutes:.0f} minutes: {outcome}", sep="\n")
+    return bool(failed)
 
 
-def repeat_failures(failures):
-    """Prints once more how the parts that failed ended."""
-    for part in failures:
-        print(f"{part.name} FAILED:")
-        part.print_output(LAST_LINES)
-
-
-def main(usage):
+def main(usage: str) -> int:
     words = words_of(usage)
     wanted = wanted_by(words)
     if words.list:
-        print(*map(told_of, wanted), sep="\n")
+        print(*map(described, wanted), sep="\n")
         return 0
     missing = debian.install(package for part in wanted for package in part.packages)
     missing += ["rt, the toolchain"] if any(part in MAKERS for part in wanted) and not shutil.which("rt") else []
     if missing:
         print(f"check: these are missing: {', '.join(missing)}", file=sys.stderr)
         return 2
-    runner = Runner((words.program or (QUICK if words.quick else BUILT)).resolve())
-    for number in (signal.SIGINT, signal.SIGTERM, signal.SIGHUP):
-        if signal.getsignal(number) != signal.SIG_IGN:  # as under nohup
-            signal.signal(number, lambda number, _: (runner.stop(), os._exit(128 + number)))
     began = time.monotonic()
-    run_all(runner, wanted)
-    passed = {part.name for part in runner.ended if part.is_ok}
-    failed = [part.name for part in wanted if part.name not in passed]  # one that never ended is none that passed
-    print(f"parts: {len(wanted) - len(failed)} passed, {len(failed)} failed")
-    if words.only is None:
-        tell_left_out(words.quick)
-        repeat_failures(runner.failures())
-    for name, fault in runner.flaky():
-        print(f"flaky: {name}, {fault}")
-    minutes = (time.monotonic() - began) / 60
-    print(f"{len(wanted)} parts in {minutes:.0f} minutes: " + (f"{len(failed)} FAILED: {', '.join(failed)}" if failed else "all ok"))
-    return bool(failed)
+    program = (words.program or (QUICK if words.quick else BUILT)).resolve()
+    runner = asyncio.run(heeding_signals(program, wanted))
+    return report(runner, wanted, words, (time.monotonic() - began) / 60)
