@@ -14,6 +14,7 @@ import struct
 import subprocess
 import tempfile
 import threading
+import time
 from collections.abc import Callable, Iterable, Iterator
 from typing import IO, Any, NamedTuple, Protocol, TypeVar
 
@@ -22,6 +23,9 @@ PATIENCE = 60  # seconds
 JOBS = int(os.environ.get("JOBS", 2))  # attempts at a time
 KEEPERS = collections.deque[socket.socket](maxlen=200)  # of the ports that were taken last
 REPLY = re.compile(r"HTTP/1\.1 (\d{3}) [^\r\n]+\r\n((?:[a-z-]+: [^\r\n]*\r\n)*)\r\n(.*)", re.S)
+
+
+Holding = TypeVar("Holding")
 
 
 class Result(NamedTuple):
@@ -33,6 +37,14 @@ class Result(NamedTuple):
 
 ACCEPTED, REPEATED = Result(0, "accepted\n"), Result(0, "repeated\n")
 UNAVAILABLE = '503 {"error":"Unavailable"}'
+
+
+def eventually(holds: Callable[[], Holding], seconds: float = PATIENCE) -> Holding:
+    """What it gives as soon as that is something, or what it gives after so many seconds."""
+    end = time.monotonic() + seconds
+    while not (value := holds()) and time.monotonic() < end:
+        time.sleep(0.02)
+    return value
 
 
 def fault(name: str) -> Result:
@@ -131,12 +143,12 @@ class HasFile(Protocol):
 
 
 class Server:
-    """A server of an office, at a port that it takes itself."""
+    """A server of an office, at a port that it takes itself if none is given."""
 
     def __init__(self, office: HasFile, env: dict[str, str] | None = None, count: int = 1_000_000,
-                 errors: IO[bytes] | int | None = None) -> None:
+                 errors: IO[bytes] | int | None = None, port: int = 0) -> None:
         self.errors = errors or tempfile.TemporaryFile()
-        self.process = subprocess.Popen([office.program, "--db", office.db, "serve", "0", str(count)], text=True,
+        self.process = subprocess.Popen([office.program, "--db", office.db, "serve", str(port), str(count)], text=True,
                                         stdout=subprocess.PIPE, stderr=self.errors, cwd=office.folder,
                                         env={**os.environ, **(env or {})})
         assert self.process.stdout

@@ -35,26 +35,11 @@ class Window:
         self.commands[command] = words
 
 
-@pytest.mark.parametrize(
-    "words",
-    [
-        ["--slow"],
-        ["--slow", "folder"],
-        ["--slow", "-1", "folder"],
-        ["--slow", "1"],
-        ["--fast", "folder"],
-        ["folder", "nowhere"],
-        [],
-    ],
-)
-def test_wrong_words_are_told_and_nothing_is_made(words: list[str], tmp_path: pathlib.Path) -> None:
-    done = tool("try-page", *words, cwd=tmp_path)
-    assert (done.returncode, done.stdout) == (2, "")
-    assert (
-        done.stderr.startswith("usage: tools/try-page [--slow SEED] FOLDER [entering | ")
-        and done.stderr.count("\n") == 1
-    )
-    assert list(tmp_path.iterdir()) == []
+@pytest.mark.parametrize("words", ["--slow", "--slow entering", "--slow -1.5", "--fast", "--pictures", "nowhere"])
+def test_wrong_words_are_refused_and_nothing_is_made(words: str, tmp_path: pathlib.Path) -> None:
+    done = tool("try-page", *words.split(), cwd=tmp_path)
+    assert (done.returncode, done.stdout, list(tmp_path.iterdir())) == (2, "", [])
+    assert done.stderr.startswith("try-page: ") and done.stderr.count("\n") == 1
 
 
 def test_replies_are_late_or_the_processor_is_slow_or_both_or_the_trial() -> None:

@@ -1,163 +1,167 @@
 """The owners' lines of docs/day.toll, by clicks: they leave the same rows as over HTTP."""
 import json
 import re
+from collections.abc import Callable, Iterator
+from typing import Any
 
-from trial import content
+from trial import ROOT, content
 
-from .browser import until
-from .site import ROOT, Office
-from .trial import TOLL
+from .site import Office
+from .trial import Trial
+
+Answer = dict[str, Any]
 
 
-def day(t):
-    small = t.office
-    replies = [(int(line[:3]), line[4:]) for line in (ROOT / "docs" / "day.out").read_text().splitlines() if re.match(r"\d{3}( \{|$)", line)]
-    lines = [line for line in (ROOT / "docs" / "day.toll").read_text().splitlines() if line and not line.startswith("#")]
+def day(t: Trial) -> None:
+    replies = [line for line in (ROOT / "docs/day.out").read_text().splitlines() if re.match(r"\d{3}( \{|$)", line)]
+    lines = [line for line in (ROOT / "docs/day.toll").read_text().splitlines() if line and line[0] != "#"]
     asked = [line for line in lines if line.startswith("> ")]
-    t.expect(len(asked) == len(replies), f"{len(asked)} lines of owners have {len(replies)} replies")
-    straight, clicked = (Office(TOLL, t.folder / f"{name}.db", t.office_port) for name in ("straight", "clicked"))
+    t.same(len(asked), len(replies), "the replies to the lines of owners")
+    small, straight, clicked = t.office, t.new_office(), t.new_office()
     by_http = iter(replies)
-    run_day(t, straight, lines, lambda *line: t.expect(straight.ask(*line) == next(by_http), f"{line} is told otherwise than in docs/day.out"))
+    run_day(t, straight, lines, lambda line: t.same(straight.ask(line).rstrip(), next(by_http).rstrip(), line))
     clicks, by_page = Clicks(t), iter(replies)
-    run_day(t, clicked, lines, lambda *line: clicks.do(*line, *next(by_page)))
-    print(f"a day by clicks: {clicks.done} of {len(asked)} lines done and seen, {clicks.none} that no click asks for", flush=True)
+    run_day(t, clicked, lines, lambda line: clicks.do(line, next(by_page)))
     clicks.close()
-    left, wanted = content(str(clicked.file)), content(str(straight.file))
-    t.expect(left == wanted, "the day by clicks leaves other rows than over HTTP")
-    t.expect({"orders", "lots", "moves"} <= {name for name, (_, rows) in left.items() if rows}, "the day leaves no rows")
+    counts = f"{clicks.done} of {len(asked)} lines done and seen, {clicks.none} that no click asks for"
+    print(f"a day by clicks: {counts}", flush=True)
+    rows = content(straight.db)
+    t.expect(content(clicked.db) == rows, "the day by clicks leaves other rows than over HTTP")
+    filled = {name for name, (_, of_table) in rows.items() if of_table}
+    t.expect({"orders", "lots", "moves"} <= filled, f"the day leaves rows in {filled} alone")
     t.serve(small)
 
 
-def run_day(t, office, lines, owner_asks):
+def run_day(t: Trial, office: Office, lines: list[str], ask: Callable[[str], None]) -> None:
     """The plant's lines as commands, an owner's by what is given."""
     t.office.end()
-    office.plant(lines[0])
+    office.reply(lines[0])
     t.serve(office)
     for line in lines[1:]:
-        if line.startswith("> "):
-            owner, key, method, target, *body = line[2:].split(" ", 4)
-            owner_asks(owner, key, method, target, body[0] if body else None)
-        else:
-            office.plant(line)
+        ask(line) if line.startswith("> ") else office.reply(line)
 
 
 class Clicks:
     """What owners ask, done by clicks: a window for each owner."""
 
-    def __init__(self, t):
-        self.t, self.b, self.home, self.windows, self.done, self.none = t, t.browser, t.browser.window(), {}, 0, 0
-        self.placed = set()
+    def __init__(self, t: Trial) -> None:
+        self.t, self.b, self.home = t, t.browser, t.browser.current_window_handle
+        self.windows, self.placed = dict[str, str](), set[tuple[str, str]]()
+        self.done = self.none = 0
 
-    def close(self):
+    def close(self) -> None:
         for handle in self.windows.values():
-            self.b.turn(handle)
+            self.b.switch_to.window(handle)
             self.b.close_window(self.home)
 
-    def window_of(self, owner):
+    def window_of(self, owner: str) -> None:
         if owner in self.windows:
-            self.b.turn(self.windows[owner])
-            self.b.click("#nav a", "Orders")
+            self.b.switch_to.window(self.windows[owner])
         else:
             self.windows[owner] = self.b.new_window()
             self.t.enter(owner)
             self.b.heading("Home")
-            self.b.click("#nav a", "Orders")
-        self.b.heading("Orders")
+        self.t.to("Orders")
 
-    def do(self, owner, key, method, target, body, status, reply):
-        answered = json.loads(reply) if reply else {}
+    def do(self, line: str, reply: str) -> None:
+        _, owner, key, method, target, *body = line.split(" ", 5)
+        status, text = int(reply[:3]), reply[4:]
         if key != f"{owner}KEY1":
-            return self.knock(owner, key)
+            self.knock(owner, key)
+            return
         self.window_of(owner)
-        # so that what is told is told of this request
-        self.b.js("document.querySelectorAll('.notice .close').forEach(button => button.click())")
-        request = " ".join(filter(None, [owner, method, target, body]))
+        # so that what is said then is said of this request
+        self.b.js("all('.notice .close').forEach(button => button.click())")
+        answer = json.loads(text) if text else {}
         if method == "POST":
-            doing = self.post(owner, target, body and json.loads(body), status, answered)
+            is_done = self.post(owner, target, json.loads(body[0]) if body else {}, status, answer)
         else:
-            doing = self.look(method, target, status, answered)
-        self.t.expect(doing is not False, f"the day by clicks: {request}")
-        self.done, self.none = self.done + (doing is not None), self.none + (doing is None)
+            is_done = self.look(target, status, answer) if method == "GET" else None
+        self.t.expect(is_done is not False, f"the day by clicks: {line}")
+        self.done, self.none = self.done + (is_done is not None), self.none + (is_done is None)
 
-    def knock(self, owner, key):
+    def knock(self, owner: str, key: str) -> None:
         """Another window, a wrong key."""
-        before = self.b.window()
+        before = self.b.current_window_handle
         self.b.new_window()
         if owner == "-":
-            self.b.go(self.t.proxy.address)
-            self.b.heading("Log in")
+            self.t.show("", "Log in")
             self.b.click("button", "Log in")
-            self.t.expect(self.b.js("return document.querySelector('input:invalid').name") == "owner", "who gives no name enters")
+            self.t.now("wrongField()", "owner")
         else:
             self.t.enter(owner, key)
             self.b.wait("The name or the key is wrong.")
         self.b.close_window(before)
         self.done += 1
 
-    def post(self, owner, target, body, status, answered):
-        """Whether the page says what was told; None where no click asks for it."""
-        _, first, *rest = target.split("/")
+    def post(self, owner: str, target: str, body: Answer, status: int, answer: Answer) -> bool | None:
+        """Whether the page says what was answered; None if no click asks for it."""
+        _, kind, *names = target.split("/")
+        if target == "/orders" and "recipe" not in body:
+            self.b.type("input[name=order]", body["order"])
+            self.b.click("button", "Place the order")
+            return bool(self.b.value("wrongField()") == "recipe")
         if target == "/orders":
-            if "recipe" not in body:
-                self.b.type("input[name=order]", body["order"])
-                self.b.click("button", "Place the order")
-                return self.b.js("return document.querySelector('input:invalid').name") == "recipe"
             self.t.place(body["order"], body["recipe"], body["batches"])
-            return self.says(self.told_of_order(owner, answered) if status == 200 else str(answered["code"]))
-        if first == "orders":
-            self.b.click("tbody a", rest[0])
+            return self.says(self.said_of_order(owner, answer) if status == 200 else str(answer["code"]))
+        if kind == "orders":
             # the list has such buttons too, and stands until the order is read
-            self.b.heading(f"Order {rest[0]}")
-            return self.press("Cancel", "Cancel the order", f"Order {rest[0]} is cancelled.", status, answered)
-        if first == "lots":
-            self.t.to_lot(rest[0])
-            if rest[1] == "release":
-                return self.press("Release", None, f"Lot {rest[0]} is released.", status, answered)
-            return self.press("Reject…", "Reject the lot", f"Lot {rest[0]} is rejected.", status, answered)
-        return None
+            self.t.follow("tbody a", names[0], f"Order {names[0]}")
+            return self.press("Cancel", "Cancel the order", f"Order {names[0]} is cancelled.", status, answer)
+        if kind != "lots":
+            return None
+        self.t.to_lot(names[0], is_pictured=False)
+        if names[1] == "release":
+            return self.press("Release", None, f"Lot {names[0]} is released.", status, answer)
+        return self.press("Reject…", "Reject the lot", f"Lot {names[0]} is rejected.", status, answer)
 
-    def told_of_order(self, owner, answered):
-        """What the page says of an order that is told as it stands."""
-        name = answered["order"]
+    def said_of_order(self, owner: str, answer: Answer) -> str:
+        """What the page says of an order that is answered as it stands."""
+        name = answer["order"]
         was_there = (owner, name) in self.placed
         self.placed.add((owner, name))
-        if answered["status"] == "cancelled":
+        if answer["status"] == "cancelled":
             return f"{name} was cancelled; choose another name."
         return f"Order {name} was placed before" if was_there else f"Order {name} is placed"
 
-    def press(self, button, answer, confirmation, status, answered):
-        if status == 409 and answered["error"] == "NotQuarantined":
+    def press(self, button: str, question: str | None, confirmation: str, status: int, answer: Answer) -> bool:
+        if status == 409 and answer["error"] == "NotQuarantined":
             # a page that shows the lot as it is doesn't offer this
             return not self.b.seen("button", button)
         self.b.click("button", button)
-        if answer:
-            self.b.click("dialog button", answer)
-        return self.says(confirmation if status == 200 else str(answered["code"]))
+        if question:
+            self.b.click("dialog button", question)
+        return self.says(confirmation if status == 200 else str(answer["code"]))
 
-    def says(self, words):
-        return words in until(lambda: self.b.text("#told") + self.b.text("#wrong"), f"something is told: {words}")
+    def says(self, words: str) -> bool:
+        return words in self.b.until(lambda: self.b.text("#told") + self.b.text("#wrong"), f"the page says {words}")
 
-    def look(self, method, target, status, answered):
+    def look(self, target: str, status: int, answer: Answer) -> bool:
         """Whether all names and amounts of a reply are seen."""
-        if method != "GET":
-            return None
-        _, first, *rest = target.split("/")
-        address = {"orders": "#/orders", "stock": "#/stock?show=all", "batches": "#/orders", "lots": "#/lots", "trace": "#/lots", "nowhere": "#/nowhere"}[first]
-        if first == "trace":
-            address, rest = ("#/plant" if rest[0] == "house" else "#/lots"), rest[1:]
-        self.b.go(self.t.proxy.address + "/".join([address, *rest[:1]]))
-        wanted = [f"{leaf:,}" if isinstance(leaf, int) and leaf > 99 else str(leaf) for leaf in leaves(answered)]
+        _, kind, *names = target.split("/")
+        if kind == "trace":
+            kind = "plant" if names.pop(0) == "house" else "trace"
+        view = {"stock": "stock?show=all", "batches": "orders", "trace": "lots"}.get(kind, kind)
+        self.b.get(self.t.proxy.address + "/".join([f"#/{view}", *names[:1]]))
+        wanted = [f"{leaf:,}" if isinstance(leaf, int) and leaf > 99 else str(leaf) for leaf in leaves(answer)]
         if status == 404:
-            wanted = ["There is no such page" if first == "nowhere" else "You have no lot"]
-        if first == "trace":
+            wanted = ["There is no such page" if kind == "nowhere" else "You have no lot"]
+        if kind in ("trace", "plant"):
             self.t.pictured()
-            until(lambda: self.b.js("const table = document.querySelector('details'); if (table) table.open = true; return table !== null"), "the table is there")
-        until(lambda: all(word in self.b.text() for word in wanted), lambda: f"{target} shows {wanted}: {self.b.text()[:500]!r}")
+            self.b.becomes("one('details') && (one('details').open = true)")
+        self.b.becomes("arguments[0].filter(word => !text('main').includes(word))", [], wanted)
         return True
 
 
-def leaves(value):
+NOT_SHOWN = ("closed", "origin", "owner", "batch", "day")
+
+
+def leaves(value: Any) -> Iterator[Any]:
     """The names and amounts of a reply."""
-    if isinstance(value, dict):
-        return [leaf for name, member in value.items() if name not in ("closed", "origin", "owner", "batch", "day") for leaf in leaves(member)]
-    return [leaf for member in value for leaf in leaves(member)] if isinstance(value, list) else [value]
+    if isinstance(value, (dict, list)):
+        members = value.items() if isinstance(value, dict) else enumerate(value)
+        for name, member in members:
+            if name not in NOT_SHOWN:
+                yield from leaves(member)
+    else:
+        yield value

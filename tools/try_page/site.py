@@ -1,20 +1,21 @@
 """A site to look at: an office in a file, its server, and the proxy of docs/operations.md with TLS in front."""
 import contextlib
 import fcntl
-import http.client
-import json
 import os
 import pathlib
 import re
 import signal
 import socket
 import subprocess
+from collections.abc import Iterable, Iterator
+from typing import Self
 
-from trial import free_port
+from trial import ROOT, Result, Server, eventually, free_port
+from trial import Office as TriedOffice
 
-from .browser import PATIENCE, until
+__all__ = ["Office", "Proxy", "ROOT", "eventually", "free_port", "has_ipv6"]
 
-ROOT = pathlib.Path(__file__).resolve().parent.parent.parent
+PATIENCE = 90  # seconds
 WRAPPER = """
 {user}
 daemon off;
@@ -35,122 +36,94 @@ http {{
 }}
 """
 
-def has_ipv6():
-    try:
-        with socket.socket(socket.AF_INET6) as probe:
-            probe.bind(("::1", 0))
-            return True
-    except OSError:
-        return False
+
+def has_ipv6() -> bool:
+    with socket.socket(socket.AF_INET6) as probe, contextlib.suppress(OSError):
+        probe.bind(("::1", 0))
+        return True
+    return False
 
 
-def listens(port):
+def listens(port: int) -> bool:
     with socket.socket() as probe:
         return probe.connect_ex(("127.0.0.1", port)) == 0
 
 
-class Process:
-    """A program in the background, which says nothing, and is ended by its number."""
+def end(process: "subprocess.Popen[str]") -> None:
+    """Ends a process; one that doesn't end, with what it started: a worker that is left keeps the port."""
+    process.terminate()
+    try:
+        process.wait(PATIENCE)
+    except subprocess.TimeoutExpired:
+        os.killpg(process.pid, signal.SIGKILL)
+    process.wait()
 
-    def __init__(self, *words):
-        self.process = subprocess.Popen([str(word) for word in words], start_new_session=True, stdout=subprocess.DEVNULL, stderr=subprocess.DEVNULL)
 
-    def end(self):
-        if self.process.poll() is None:
-            self.process.terminate()
-            try:
-                self.process.wait(PATIENCE)
-            except subprocess.TimeoutExpired:
-                # with what it started: a worker that is left would keep the port
-                os.killpg(self.process.pid, signal.SIGKILL)
-        self.process.wait()
+class Office(TriedOffice):
+    """An office with the lines that it accepted, and a server at a port of its own."""
+
+    def __init__(self, program: str, folder: pathlib.Path, port: int) -> None:
+        super().__init__(program, str(folder))
+        self.port, self.lines = port, list[str]()
+        self.server: Server | None = None
+
+    def do(self, lines: str) -> None:
+        """Does lines of the plant, each accepted, and requests of owners to the server, each answered 200."""
+        for line in filter(None, map(str.strip, lines.splitlines())):
+            is_well = self.ask(line).startswith("200 ") if line[0] == ">" else self.reply(line).out == "accepted\n"
+            if not is_well:
+                raise SystemExit(f"the office refused {line!r}")
+            self.lines.append(line)
+
+    def reply(self, line: str) -> Result:
+        """The answer to a line of the plant, given again while another has the lock."""
+
+        def answered() -> Result | None:
+            result = self.plant(*line.split())
+            return None if "fault Locked" in result.err else result
+
+        result = eventually(answered, PATIENCE)
+        assert result, f"{line} doesn't get the lock"
+        return result
+
+    def import_actuals(self, records: list[str]) -> None:
+        """Imports actuals: key, owner, order, batch, segment, use, material, lot's owner, lot, sublot, amount, day."""
+        head = "key,owner,order,batch,segment,use,material,lot_owner,lot,sublot,amount,day"
+        sheet = self.write("actuals.csv", "\n".join([head, *records, ""]))
+        report = self.reply(f"import {sheet}").out.splitlines()[-1]
+        assert report == f"accepted {len(records)} repeated 0 refused 0 bad 0 fault 0", report
+        self.lines += [f"actual {record.replace(',', ' ')}" for record in records]
+
+    def start(self) -> None:
+        self.server = Server(self, port=self.port)
+
+    def end(self) -> None:
+        if self.server:
+            end(self.server.process)
+            self.server.kill()
+            self.server = None
+
+    def ask(self, line: str) -> str:
+        """The reply to a script's line, as a script prints it."""
+        assert self.server
+        return self.server.ask(line)
 
     @contextlib.contextmanager
-    def stopped(self):
-        """Meanwhile it does nothing, and takes nothing that is sent."""
-        self.process.send_signal(signal.SIGSTOP)
+    def stopped(self) -> Iterator[None]:
+        """The server doesn't answer meanwhile."""
+        assert self.server
+        self.server.process.send_signal(signal.SIGSTOP)
         try:
             yield
         finally:
-            self.process.send_signal(signal.SIGCONT)
+            self.server.process.send_signal(signal.SIGCONT)
 
-
-class Office:
-    """An office in a file, with the plant's commands, its server, and owners that ask it straight."""
-
-    def __init__(self, toll, file, port):
-        self.toll, self.file, self.port = toll, pathlib.Path(file), port
-        self.server, self.lines = None, []
-
-    def plant(self, line):
-        """The answer to a command or question of the plant, asked again while another has the lock."""
-        def asked():
-            done = subprocess.run([self.toll, "--db", self.file, *line.split()], capture_output=True, text=True)
-            return None if "fault Locked" in done.stderr else (done.stdout + done.stderr).strip() or "(nothing)"
-        reply = until(asked, f"{line} gets the lock")
-        if reply == "accepted":
-            self.lines.append(line)
-        return reply
-
-    def plants(self, lines):
-        for line in filter(None, (line.strip() for line in lines.splitlines())):
-            reply = self.plant(line)
-            if reply != "accepted":
-                raise SystemExit(f"try-page: the office told {reply!r} to {line!r}")
-
-    def actuals(self, records):
-        """Imports actuals: key, owner, order, batch, segment, use, material, lot's owner, lot, sublot, amount, day."""
-        sheet = self.file.with_suffix(".csv")
-        sheet.write_text("key,owner,order,batch,segment,use,material,lot_owner,lot,sublot,amount,day\n" + "\n".join(records) + "\n")
-        reply = self.plant(f"import {sheet}").splitlines()[-1]
-        if reply != f"accepted {len(records)} repeated 0 refused 0 bad 0 fault 0":
-            raise SystemExit(f"try-page: the import said {reply!r}")
-        self.lines += [f"actual {record.replace(',', ' ')}" for record in records]
-
-    def serve(self):
-        # the port of a server that was ended may be kept for a moment
-        self.server = Process(self.toll, "--db", self.file, "serve", self.port, 1000000)
-        until(lambda: listens(self.port), "the server listens")
-
-    def end(self):
-        if self.server:
-            self.server.end()
-            self.server = None
-
-    def ask(self, owner, key, method, path, body=None):
-        """The status and the text of a reply, asked straight of the server."""
-        line = http.client.HTTPConnection("127.0.0.1", self.port, timeout=60)
-        try:
-            line.request(method, path, body, {} if owner == "-" else {"toll-owner": owner, "toll-key": key})
-            reply = line.getresponse()
-            return reply.status, reply.read().decode()
-        finally:
-            line.close()
-
-    def asks(self, owner, *requests):
-        """Requests that are to be answered 200, of an owner whose key is its name and KEY1."""
-        for method, path, *body in requests:
-            reply = self.ask(owner, f"{owner}KEY1", method, path, json.dumps(body[0]) if body else None)
-            if reply[0] != 200:
-                raise SystemExit(f"try-page: the office told {reply} to {method} {path}")
-
-    def stopped(self):
-        """The server doesn't answer meanwhile, and does when this is over: to be used by `with`."""
-        return self.server.stopped()
-
-    def locked(self):
-        """The lock, as another program would have it: to be used by `with`."""
-        lock = open(f"{self.file}.lock", "a")
-        until(lambda: taken(lock), "the lock is free")
-        return lock
-
-
-def taken(lock):
-    try:
-        fcntl.flock(lock, fcntl.LOCK_EX | fcntl.LOCK_NB)
-        return True
-    except BlockingIOError:
-        return False
+    @contextlib.contextmanager
+    def locked(self) -> Iterator[None]:
+        """Another program has the lock meanwhile."""
+        with open(f"{self.db}.lock", "a") as lock:
+            fcntl.flock(lock, fcntl.LOCK_EX)
+            yield
 
 
 class Proxy:
@@ -160,48 +133,79 @@ class Proxy:
     and what stands in its place.
     """
 
-    def __init__(self, folder, office_port, around="", changes=(), port=None, workers=1, connections=256):
-        self.folder, self.port, self.nginx = pathlib.Path(folder), port or free_port(), None
-        self._certify()
-        self._lay_out_page()
-        user = "user root;" if os.geteuid() == 0 else ""
-        (self.folder / "nginx.conf").write_text(
-            WRAPPER.format(folder=self.folder, user=user, workers=workers, connections=connections, around=around, site=self._site(office_port, changes)))
+    nginx: "subprocess.Popen[str] | None" = None
 
-    @property
-    def address(self):
-        return f"https://localhost:{self.port}/owner/"
+    def __init__(
+        self,
+        folder: pathlib.Path,
+        office_port: int,
+        around: str = "",
+        changes: Iterable[tuple[str, str]] = (),
+        port: int | None = None,
+        workers: int = 1,
+        connections: int = 256,
+        user: str = "root",
+    ) -> None:
+        self.folder, self.port = folder, port or free_port()
+        self.address = f"https://localhost:{self.port}/owner/"
+        certify = (
+            "openssl req -x509 -newkey rsa:2048 -nodes -days 2 -subj /CN=localhost -keyout key.pem -out certificate.pem"
+        )
+        subprocess.run(certify.split(), check=True, capture_output=True, cwd=folder)
+        # the page's files and the contract, as packages have them
+        subprocess.run([ROOT / "packaging" / "documents.py", folder], check=True)
+        settings = WRAPPER.format(
+            folder=folder,
+            user="" if os.geteuid() else f"user {user};",
+            workers=workers,
+            connections=connections,
+            around=around,
+            site=self._site(office_port, changes),
+        )
+        (folder / "nginx.conf").write_text(settings)
 
-    def _certify(self):
-        subprocess.run(["openssl", "req", "-x509", "-newkey", "rsa:2048", "-nodes", "-days", "2", "-subj", "/CN=localhost",
-                        "-keyout", self.folder / "key.pem", "-out", self.folder / "certificate.pem"], check=True, capture_output=True)
-
-    def _lay_out_page(self):
-        """The page's files and the contract, as packages have them."""
-        subprocess.run([ROOT / "packaging" / "documents.py", self.folder], check=True)
-
-    def _site(self, office_port, changes):
-        """The site as packages have it; host, ports, the certificate, the page's folder and the logs are those of the trial."""
+    def _site(self, office_port: int, changes: Iterable[tuple[str, str]]) -> str:
+        """The site as packages have it; host, ports, certificate, page and logs are those of the trial."""
         site = (ROOT / "packaging" / "nginx.conf").read_text()
-        also = rf"listen [::1]:{self.port}\1;" if has_ipv6() else ""
-        for pattern, ours in (*changes, (r"listen \[::\]:443([^;]*);", also), (r"listen 443", f"listen 127.0.0.1:{self.port}"),
-                              (r"server_name [^;]*;", "server_name localhost;"),
-                              (r"ssl_certificate [^;]*;", f"ssl_certificate {self.folder}/certificate.pem;"),
-                              (r"ssl_certificate_key [^;]*;", f"ssl_certificate_key {self.folder}/key.pem;"),
-                              (r"127\.0\.0\.1:800\b", f"127.0.0.1:{free_port()}"),
-                              (r"proxy_pass http://127\.0\.0\.1:\d+", f"proxy_pass http://127.0.0.1:{office_port}"),
-                              (r"alias [^;]*/page/;", f"alias {self.folder}/toll/page/;"), (r"/var/log/nginx/", f"{self.folder}/"),
-                              (r"/var/cache/toll-companion/NAME/", f"{self.folder}/companion/")):
+        for pattern, ours in (
+            *changes,
+            (r"listen \[::\]:443([^;]*);", rf"listen [::1]:{self.port}\1;" if has_ipv6() else ""),
+            (r"listen 443", f"listen 127.0.0.1:{self.port}"),
+            (r"server_name [^;]*;", "server_name localhost;"),
+            (r"ssl_certificate [^;]*;", f"ssl_certificate {self.folder}/certificate.pem;"),
+            (r"ssl_certificate_key [^;]*;", f"ssl_certificate_key {self.folder}/key.pem;"),
+            (r"127\.0\.0\.1:800\b", f"127.0.0.1:{free_port()}"),
+            (r"proxy_pass http://127\.0\.0\.1:\d+", f"proxy_pass http://127.0.0.1:{office_port}"),
+            (r"alias [^;]*/page/;", f"alias {self.folder}/toll/page/;"),
+            (r"/var/log/nginx/", f"{self.folder}/"),
+            (r"/var/cache/toll-companion/NAME/", f"{self.folder}/companion/"),
+        ):
             site = re.sub(pattern, ours, site)
         return site
 
-    def start(self):
-        self.nginx = Process("nginx", "-e", self.folder / "error.log", "-p", self.folder, "-c", self.folder / "nginx.conf")
-        until(lambda: self.nginx.process.poll() is not None or listens(self.port), "nginx listens")
-        if self.nginx.process.poll() is not None:
-            raise SystemExit(f"nginx ended: {(self.folder / 'error.log').read_text()[-600:]}")
+    def start(self) -> None:
+        words: list[str | pathlib.Path] = [
+            "nginx",
+            "-e",
+            self.folder / "error.log",
+            "-p",
+            self.folder,
+            "-c",
+            self.folder / "nginx.conf",
+        ]
+        nothing = subprocess.DEVNULL
+        self.nginx = nginx = subprocess.Popen(words, start_new_session=True, stdout=nothing, stderr=nothing, text=True)
+        eventually(lambda: nginx.poll() is not None or listens(self.port), PATIENCE)
+        assert nginx.poll() is None, f"nginx ended: {(self.folder / 'error.log').read_text()[-600:]}"
 
-    def end(self):
+    def end(self) -> None:
         if self.nginx:
-            self.nginx.end()
+            end(self.nginx)
             self.nginx = None
+
+    def __enter__(self) -> Self:
+        self.start()
+        return self
+
+    def __exit__(self, *_: object) -> None:
+        self.end()

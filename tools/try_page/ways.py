@@ -3,84 +3,76 @@ import re
 import shutil
 import subprocess
 
-from .browser import Failed, until
+from selenium.common.exceptions import NoSuchElementException
+
+from .trial import Trial
+
+FOLDED = 640  # px up to which forms are folded, as in style.css: 40rem
 
 
-def history(t):
-    b = t.browser
-    t.entered()
-    b.click("#nav a", "Stock")
-    b.heading("Stock")
+def history(t: Trial) -> None:
+    b = t.entered()
+    t.to("Stock")
     b.type("input[type=search]", "S-")
     b.click("button.sort", "On hand")
-    names = lambda: b.js("return [...document.querySelectorAll('tbody th')].map(head => head.textContent)")
-    until(lambda: all(name.startswith("S-") for name in names()), "the search")
-    listed = names()
-    b.reload()
+    b.becomes("cells(0).length > 0 && cells(0).every(name => name.startsWith('S-'))")
+    listed = b.value("cells(0)")
+    b.refresh()
     b.heading("Stock")
-    t.expect(listed and names() == listed, "a reload forgets the search")
-    t.expect(b.js("return document.querySelector('input[type=search]').value") == "S-", "a reload empties the field")
-    b.click("tbody a", "S-1")
-    b.heading("Lot S-1")
-    t.expect(b.js("return document.activeElement.tagName") == "H1", "the focus isn't on the heading")
+    t.now("cells(0)", listed)
+    t.now("one('input[type=search]').value", "S-")
+    t.follow("tbody a", "S-1", "Lot S-1")
+    t.now("focused().tagName", "H1")
     t.pictured()
-    b.click(".genealogy a[data-id='ACME/B-1']")
-    b.heading("Lot B-1")
-    b.back()
-    b.heading("Lot S-1")
-    b.back()
-    b.heading("Stock")
-    t.expect(b.js("return document.querySelector('input[type=search]').value") == "S-", "going back forgets the search")
-    b.reload()
+    t.follow(".genealogy a[data-id='ACME/B-1']", None, "Lot B-1")
+    for heading in ("Lot S-1", "Stock"):
+        b.back()
+        b.heading(heading)
+    t.now("one('input[type=search]').value", "S-")
+    b.refresh()
     b.heading("Stock")
 
 
-def keyboard(t):
+def keyboard(t: Trial) -> None:
     """Work by keys alone: entering, placing an order, deciding on a lot, going along the picture."""
     b = t.browser
-    b.go(t.proxy.address)
-    if b.js("return sessionStorage.length") > 0:
-        b.click("#who button")
+    b.get(t.proxy.address)
+    if b.value("keys()"):
+        t.log_off()
     b.heading("Log in")
     b.focus("input[name=owner]")
-    b.write("ACME")
-    b.press("tab")
-    b.write("ACMEKEY1")
-    b.press("enter")
+    b.press(*"ACME", "tab", *"ACMEKEY1", "enter")
     b.heading("Home")
-    tab_to(t, "#nav a[href='#/orders']", back=True)
+    tab_to(t, "#nav a[href='#/orders']", "shift+tab")
     b.press("enter")
     b.heading("Orders")
     tab_to(t, "input[name=order]")
-    b.write("O-KEYS")
-    b.press("tab")
-    b.write("FILL")
-    b.press("tab", "tab", "enter")
+    b.press(*"O-KEYS", "tab", *"FILL", "tab", "tab", "enter")
     b.wait("Order O-KEYS is placed")
-    tab_to(t, "#nav a[href='#/stock']", back=True)
-    t.shot("25-focus", "what has the focus is marked, also in the bar", whole=False)
+    tab_to(t, "#nav a[href='#/stock']", "shift+tab")
+    t.shot("25-focus")
     b.press("enter")
     b.heading("Stock")
     tab_to(t, "tbody a[href='#/lots/S-5']")
-    with t.slow_traces():
+    # meanwhile the picture is drawn after the rest of its view
+    with t.slow("/trace/", 1500):
         b.press("enter")
         b.heading("Lot S-5")
         tab_to(t, "[data-key=release]")
         t.pictured()
-        t.expect(b.js("return document.activeElement.dataset.key") == "release", "the picture takes the focus from a button outside")
+        t.now("focused().dataset.key", "release")
     decide_by_keys(t)
-    b.go(f"{t.proxy.address}#/lots/BL-1")
-    b.heading("Lot BL-1")
+    t.show("#/lots/BL-1", "Lot BL-1")
     t.pictured()
     tab_to(t, ".genealogy a[data-id='ACME/B-2']")
-    t.shot("26-focus-in-the-picture", "a box of the picture has the focus, and is followed by Enter")
+    t.shot("26-focus-in-the-picture")
     b.press("enter")
     b.heading("Lot B-2")
     b.press("shift+tab")
-    t.expect(b.js("return document.activeElement !== document.body"), "there is no way back by keys")
+    t.now("focused() !== document.body")
 
 
-def decide_by_keys(t):
+def decide_by_keys(t: Trial) -> None:
     """Releases a lot; then begins to reject it, and thinks better of it."""
     b = t.browser
     tab_to(t, "[data-key=release]")
@@ -89,108 +81,98 @@ def decide_by_keys(t):
     tab_to(t, "[data-key=reject]")
     b.press("enter")
     b.find("dialog")
-    t.expect(b.js("return document.activeElement.textContent") == "No, keep it", "the question's first answer isn't the harmless one")
+    t.now("focused().textContent", "No, keep it")
     b.press("tab", "tab", "tab")
-    within = b.js("const focused = document.activeElement; return focused === document.body || document.querySelector('dialog').contains(focused)")
-    t.expect(within, "the focus leaves the question")
+    t.now("focused() === document.body || one('dialog').contains(focused())")
     b.press("escape")
     b.gone("dialog")
-    t.expect(b.js("return document.activeElement.dataset.key") == "reject", "the focus doesn't come back from the question")
+    t.now("focused().dataset.key", "reject")
 
 
-def tab_to(t, css, back=False):
+def tab_to(t: Trial, css: str, key: str = "tab") -> None:
     """Presses tab until this has the focus."""
     for _ in range(120):
-        if t.browser.js("return document.activeElement.matches(arguments[0])", css):
+        if t.browser.value("focused().matches(arguments[0])", css):
             return
-        t.browser.press("shift+tab" if back else "tab")
-    raise Failed(f"tab doesn't lead to {css}")
+        t.browser.press(key)
+    raise NoSuchElementException(f"{key} doesn't lead to {css}")
 
 
-def phone(t):
-    """A phone's width, and a small window's, where nothing may be cut either."""
-    b = t.browser
-    t.entered()
+def phone(t: Trial) -> None:
+    """A phone's width, and a small window's, at which nothing may be cut either."""
+    b = t.entered()
     try:
         for width, name in ((390, "phone"), (660, "small-window")):
             b.phone(width)
-            b.reload()
+            b.refresh()
             b.heading("Orders")
-            folded(t, name) if width <= FOLDED else t.expect(b.seen("input[name=order]"), f"the form is folded at {width} px")
-            narrow(t, name, f"{width} px wide")
+            folded(t, name) if width <= FOLDED else t.offers("input[name=order]")
+            narrow(t, name)
     finally:
-        b.no_phone()
-        b.reload()
+        b.devtools("Emulation.clearDeviceMetricsOverride")
+        b.refresh()
 
 
-# The width up to which forms are folded, as in style.css: 40rem.
-FOLDED = 640
-
-
-def folded(t, name):
+def folded(t: Trial, name: str) -> None:
     """On a phone the form and the choices are folded, and one field sorts."""
     b = t.browser
-    t.expect(not b.seen("input[name=order]"), "the form for a new order isn't folded")
+    t.withholds("input[name=order]")
     b.click("summary", "New order")
     b.find("input[name=order]")
-    t.shot(f"27-{name}-new-order", "a phone: the form for a new order, unfolded", whole=False)
+    t.shot(f"27-{name}-new-order")
     b.click("summary", "New order")
-    b.click("#nav a", "Stock")
-    b.heading("Stock")
-    t.expect(not b.seen("select") and not b.seen("button.sort"), "the choices aren't folded")
+    t.to("Stock")
+    t.withholds("select")
+    t.withholds("button.sort")
     b.click("button", "Filter and sort")
     b.choose("select[name=sort]", "amount yes")
-    amounts = lambda: b.js("return [...document.querySelectorAll('tbody tr')].map(row => parseInt(row.cells[2].textContent.replaceAll(',', '')))")
-    until(lambda: amounts() == sorted(amounts(), reverse=True), "the lots are sorted by amount, the largest first")
-    t.shot(f"28-{name}-sorted", "a phone: what is shown and how it is sorted, unfolded", whole=False)
-    b.click("#nav a", "Home")
-    b.heading("Home")
-    t.shot(f"27-{name}-home", "a phone: home")
-    t.to_orders()
+    b.becomes("isSorted(amounts().reverse())")
+    t.shot(f"28-{name}-sorted")
+    t.to("Home")
+    t.shot(f"27-{name}-home")
+    t.to("Orders")
 
 
-def narrow(t, name, caption):
+def narrow(t: Trial, name: str) -> None:
     b = t.browser
     b.into_sight("tbody tr:last-child")
     b.find("button[data-key^=cancel]")
-    t.shot(f"27-{name}-orders", f"{caption}: the orders")
-    b.click("#nav a", "Stock")
-    b.heading("Stock")
-    t.shot(f"28-{name}-stock", f"{caption}: the stock")
-    b.click("tbody a", "BL-1")
-    b.heading("Lot BL-1")
+    t.shot(f"27-{name}-orders")
+    t.to("Stock")
+    t.shot(f"28-{name}-stock")
+    t.follow("tbody a", "BL-1", "Lot BL-1")
     t.pictured()
     t.check_sight("BL-1", "ACME/BL-1")
-    t.shot(f"29-{name}-lot", f"{caption}: a lot; the picture begins at the asked lot")
-    if t.looks("rest()") > 0:
-        t.expect("scroll it to see the rest" in b.text(".tools"), f"{caption}: nothing says that the picture is scrolled")
-        begins, ends = t.looks("begins('ACME/BL-1')"), t.looks("scrolled()")
-        t.expect(0 <= begins < 24 or ends, f"{caption}: before the asked lot {begins} px of the picture are in sight")
-    b.click("#nav a", "Orders")
-    b.heading("Orders")
-    b.click("tbody a", "O-1")
+    t.shot(f"29-{name}-lot")
+    if b.looks("rest()") > 0:
+        t.has("scroll it to see the rest", css=".tools")
+        begins, is_at_end = b.looks("[begins('ACME/BL-1'), scrolled()]")
+        t.expect(0 <= begins < 24 or is_at_end, f"{name}: {begins} px of the picture stand before the asked lot")
+    t.to_order("O-1")
     b.wait("Batch 5")
-    t.shot(f"30-{name}-order", f"{caption}: an order with its batches")
-    b.click("#nav a", "Orders")
-    b.heading("Orders")
+    t.shot(f"30-{name}-order")
+    t.to("Orders")
 
 
-def sheets(file):
-    """How many sheets a printed view has."""
-    return len(re.findall(rb"/Type /Page\b", file.read_bytes()))
+def print_sheets(t: Trial, name: str, fewest: int, most: int) -> None:
+    """Prints the view, which takes so many sheets; with pdftoppm (poppler-utils) the first one is kept as a picture."""
+    file = (t.pictures or t.folder) / f"{name}.pdf"
+    printed = t.browser.printed(file)
+    sheets = len(re.findall(rb"/Type /Page\b", printed))
+    t.expect(printed.startswith(b"%PDF") and fewest <= sheets <= most, f"{name} has {sheets} sheets")
+    is_drawn = shutil.which("pdftoppm")
+    if t.pictures and is_drawn:
+        t.keep(name)
+        words = "pdftoppm -png -r 80 -f 1 -l 1 -singlefile".split()
+        subprocess.run([*words, file, file.with_suffix("")], check=True)
 
 
-def paper(t):
-    """Prints three views; with pdftoppm (Debian's poppler-utils) their first sheets are kept as pictures too."""
-    b = t.browser
-    t.entered()
-    for name, caption, lead in (("31-paper-order", "an order on paper", lambda: (t.to_order("O-1"), b.wait("Batch 5"))),
-                                ("32-paper-lot", "a lot on paper, its genealogy as a picture and as a table", lambda: (t.to_lot("BL-1"), t.pictured())),
-                                ("33-paper-stock", "the stock on paper", lambda: (b.click("#nav a", "Stock"), b.heading("Stock")))):
-        lead()
-        b.printed(t.pictures / f"{name}.pdf")
-        t.expect((t.pictures / f"{name}.pdf").read_bytes().startswith(b"%PDF"), f"{name} is no PDF")
-        t.expect(sheets(t.pictures / f"{name}.pdf") <= 2, f"{name} has {sheets(t.pictures / f'{name}.pdf')} sheets")
-        if shutil.which("pdftoppm"):
-            subprocess.run(["pdftoppm", "-png", "-r", "80", "-f", "1", "-l", "1", "-singlefile", t.pictures / f"{name}.pdf", t.pictures / name], check=True)
-            t.shots.append((name, caption))
+def paper(t: Trial) -> None:
+    b = t.entered()
+    t.to_order("O-1")
+    b.wait("Batch 5")
+    print_sheets(t, "31-paper-order", 0, 2)
+    t.to_lot("BL-1")
+    print_sheets(t, "32-paper-lot", 0, 2)
+    t.to("Stock")
+    print_sheets(t, "33-paper-stock", 0, 2)
