@@ -26,11 +26,14 @@ WITH RECURSIVE standing AS (
 ), reached AS (SELECT min(steps) AS steps, owner, lot FROM chain GROUP BY owner, lot)
 """
 TRACE = EDGES + "SELECT steps, owner, lot FROM reached ORDER BY 1, 2, 3"
-RECALL = EDGES + """, shipped AS (SELECT owner, lot, sum(amount) AS amount FROM moves WHERE kind = 2 GROUP BY 1, 2)
+RECALL = (
+    EDGES
+    + """, shipped AS (SELECT owner, lot, sum(amount) AS amount FROM moves WHERE kind = 2 GROUP BY 1, 2)
 SELECT steps, owner, lot, disposition, (SELECT sum(amount) FROM sublots AS s WHERE s.owner = r.owner AND s.lot = r.lot),
   coalesce(shipped.amount, 0)
 FROM reached AS r JOIN lots USING (owner, lot) LEFT JOIN shipped USING (owner, lot) ORDER BY 1, 2, 3
 """
+)
 STOCK = """
 SELECT lot, sublot, material, disposition, amount, measure
 FROM sublots JOIN lots USING (owner, lot) JOIN materials USING (owner, material) WHERE owner = ? ORDER BY lot, sublot

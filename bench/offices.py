@@ -88,6 +88,7 @@ class Genealogy:
     """Receipts of raw lots, and batches of so many actuals. A batch consumes, in the first half of its actuals, of raw
     lots and of one that the batch of half its number made; the first of all consumes HOUSE's water. It produces lots of
     its own in the other half."""
+
     movements: int
     actuals: int = 160
     raw: int = 100
@@ -117,6 +118,7 @@ class Dense:
     """As many edges as movements can have: a chain of batches, each of which consumes all lots that the one before
     made, and produces as many; the first one consumes HOUSE's water so often. It has one of so many parts of the most
     batches."""
+
     across: int
     parts: int = 1
 

@@ -90,9 +90,12 @@ class Server:
         if self.program:
             words = ["prlimit", f"--nofile={descriptors}"] if descriptors else []
             words += [str(self.program), "--db", office.db, "serve", "0", "1000000"]
-            self.process = subprocess.Popen(self.counter.words(words) if self.counter else words,
-                                            stdout=subprocess.PIPE, stderr=subprocess.DEVNULL,
-                                            env={**os.environ, **tunables()})
+            self.process = subprocess.Popen(
+                self.counter.words(words) if self.counter else words,
+                stdout=subprocess.PIPE,
+                stderr=subprocess.DEVNULL,
+                env={**os.environ, **tunables()},
+            )
             assert self.process.stdout
             self.port = int(self.process.stdout.readline().split()[1])
             self.address = ("127.0.0.1", self.port)
@@ -168,8 +171,9 @@ class Server:
 class Office:
     """A file in memory, with the program over it, or Python."""
 
-    def __init__(self, program: Path | None, maker: Path | None, folder: str, is_counted: bool = False,
-                 name: str = "office") -> None:
+    def __init__(
+        self, program: Path | None, maker: Path | None, folder: str, is_counted: bool = False, name: str = "office"
+    ) -> None:
         self.program, self.maker, self.folder, self.is_counted = program, maker, folder, is_counted
         self.base, self.db, self.printed = f"{folder}/base", f"{folder}/{name}.db", dict[str, str]()
 
@@ -180,6 +184,7 @@ class Office:
 
     def fill(self, fill: Callable[..., None], *sizes: Any, **options: Any) -> None:
         """Makes the file of which each command and each server gets a copy."""
+
         def plant(*words: str) -> SimpleNamespace:
             return SimpleNamespace(out=shell(shlex.join([str(self.maker), "--db", self.base, *words])))
 

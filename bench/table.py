@@ -21,6 +21,7 @@ class Number(float):
 class Column:
     """The figures of a program, or of Python if there is none, over one of so many parts of the size. Whole numbers are
     counts. The others are seconds, or millions of instructions if those are counted."""
+
     name: str
     program: Path | None
     parts: int = 1

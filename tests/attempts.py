@@ -42,6 +42,7 @@ class Command:
 
 class Import(Command):
     """An import of ACTUALS, with the content after each number of its records."""
+
     OUTCOMES = ["accepted", "accepted", "repeated"]
 
     def __init__(self, new: New, base: str) -> None:
@@ -50,13 +51,15 @@ class Import(Command):
 
         def rows_after(count: int) -> Any:
             with open(path, "w") as file:
-                file.writelines(ACTUALS.splitlines(keepends=True)[:count + 1])
+                file.writelines(ACTUALS.splitlines(keepends=True)[: count + 1])
             put(base, office.db)
             office.plant("import", path)
             return content(office.db)
 
-        self.lefts: Left = [(rows_after(count), Result(0, import_report(["repeated"] * count + self.OUTCOMES[count:])))
-                            for count in range(len(self.OUTCOMES) + 1)]
+        self.lefts: Left = [
+            (rows_after(count), Result(0, import_report(["repeated"] * count + self.OUTCOMES[count:])))
+            for count in range(len(self.OUTCOMES) + 1)
+        ]
         super().__init__(office, base, f"import {path}", import_report(self.OUTCOMES))
 
     def ending_with(self, name: str, count: int) -> Result:

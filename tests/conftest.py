@@ -49,11 +49,13 @@ def folder(parent: str | None) -> Iterator[str]:
 @pytest.fixture(scope="module")
 def build(folder: str) -> Callable[[str], str]:
     """Compiles a library of this folder, which the program is to preload."""
+
     def built(source: str) -> str:
         path = os.path.join(folder, source + ".so")
         compiler = shutil.which("cc") or shutil.which("gcc") or "gcc"
         subprocess.run([compiler, "-O1", "-shared", "-fPIC", "-o", path, ROOT / "tests" / source], check=True)
         return path
+
     return built
 
 

@@ -30,6 +30,7 @@ Holding = TypeVar("Holding")
 
 class Result(NamedTuple):
     """How a program ended, and what it wrote."""
+
     status: int
     out: str
     err: str = ""
@@ -54,8 +55,10 @@ def fault(name: str) -> Result:
 def import_report(outcomes: list[str]) -> str:
     """What an import with these outcomes prints."""
     lines = "".join(f"{number:6} {outcome}\n" for number, outcome in enumerate(outcomes, 1))
-    counts = [sum(outcome.startswith(word) for outcome in outcomes)
-              for word in ("accepted", "repeated", "refused", "bad", "fault")]
+    counts = [
+        sum(outcome.startswith(word) for outcome in outcomes)
+        for word in ("accepted", "repeated", "refused", "bad", "fault")
+    ]
     return lines + "accepted %d repeated %d refused %d bad %d fault %d\n" % tuple(counts)
 
 
@@ -78,6 +81,7 @@ def free_port() -> int:
 
 # Files
 
+
 def put(base: str | None, db: str) -> None:
     """Puts a copy of the file base, or no file where there is none, in the place of db and all that belongs to it."""
     for end in ("", "-wal", "-shm", ".lock"):
@@ -97,8 +101,10 @@ def content(db: str) -> Any:
             if base.execute("PRAGMA integrity_check").fetchall() != [("ok",)]:
                 return "no sound database"
             schema = base.execute("SELECT type, name, sql FROM sqlite_master ORDER BY name").fetchall()
-            return {name: (sql, kind == "table" and sorted(base.execute(f"SELECT * FROM {name}")))
-                    for kind, name, sql in schema}
+            return {
+                name: (sql, kind == "table" and sorted(base.execute(f"SELECT * FROM {name}")))
+                for kind, name, sql in schema
+            }
     except sqlite3.Error as error:
         return f"no database: {error}"
     finally:
@@ -106,6 +112,7 @@ def content(db: str) -> Any:
 
 
 # Requests: a line `> OWNER KEY METHOD TARGET BODY` is one, and its reply is printed as `STATUS BODY`, as in a script.
+
 
 def http_request(method: str, target: str, body: str, fields: Iterable[tuple[str, str]]) -> bytes:
     head = "".join(f"{name}: {value}\r\n" for name, value in fields)
@@ -116,8 +123,12 @@ def request(line: str) -> bytes:
     """The bytes of a script's line."""
     _, owner, key, method, target, *rest = line.split(" ", 5)
     body = "".join(rest)
-    return http_request(method, target, body, [("host", "127.0.0.1"), ("toll-owner", owner), ("toll-key", key),
-                                               ("content-length", str(len(body)))])
+    return http_request(
+        method,
+        target,
+        body,
+        [("host", "127.0.0.1"), ("toll-owner", owner), ("toll-key", key), ("content-length", str(len(body)))],
+    )
 
 
 def read_all(peer: socket.socket) -> str:
@@ -135,8 +146,10 @@ def printed(reply: str) -> str:
 
 # Running
 
+
 class HasFile(Protocol):
     """What a server serves."""
+
     program: str
     db: str
     folder: str
@@ -145,12 +158,23 @@ class HasFile(Protocol):
 class Server:
     """A server of an office, at a port that it takes itself if none is given."""
 
-    def __init__(self, office: HasFile, env: dict[str, str] | None = None, count: int = 1_000_000,
-                 errors: IO[bytes] | int | None = None, port: int = 0) -> None:
+    def __init__(
+        self,
+        office: HasFile,
+        env: dict[str, str] | None = None,
+        count: int = 1_000_000,
+        errors: IO[bytes] | int | None = None,
+        port: int = 0,
+    ) -> None:
         self.errors = errors or tempfile.TemporaryFile()
-        self.process = subprocess.Popen([office.program, "--db", office.db, "serve", str(port), str(count)], text=True,
-                                        stdout=subprocess.PIPE, stderr=self.errors, cwd=office.folder,
-                                        env={**os.environ, **(env or {})})
+        self.process = subprocess.Popen(
+            [office.program, "--db", office.db, "serve", str(port), str(count)],
+            text=True,
+            stdout=subprocess.PIPE,
+            stderr=self.errors,
+            cwd=office.folder,
+            env={**os.environ, **(env or {})},
+        )
         assert self.process.stdout
         first_line = self.process.stdout.readline()
         self.port = int(first_line.split()[1]) if first_line.startswith("listening ") else None
@@ -198,8 +222,9 @@ class Office:
         self.folder = os.path.realpath(tempfile.mkdtemp(dir=folder))
         self.db = os.path.join(self.folder, "office.db")
 
-    def run(self, words: Iterable[str | bytes], env: dict[str, str] | None = None, stdin: bytes = b"",
-            closed: str = "") -> Result:
+    def run(
+        self, words: Iterable[str | bytes], env: dict[str, str] | None = None, stdin: bytes = b"", closed: str = ""
+    ) -> Result:
         """What the program answers to these words, with the streams closed that a shell is asked to close."""
         command: list[str | bytes] = [self.program, *words]
         if closed:
@@ -207,8 +232,14 @@ class Office:
             command = ["sh", "-c", f'export LD_PRELOAD="$TRY_LIBRARY"; exec "$0" "$@" {closed}', *command]
             env = {**(env or {}), "TRY_LIBRARY": (env or {}).get("LD_PRELOAD", ""), "LD_PRELOAD": ""}
         try:
-            done = subprocess.run(command, input=stdin, capture_output=True, timeout=PATIENCE, cwd=self.folder,
-                                  env={**os.environ, **(env or {})})
+            done = subprocess.run(
+                command,
+                input=stdin,
+                capture_output=True,
+                timeout=PATIENCE,
+                cwd=self.folder,
+                env={**os.environ, **(env or {})},
+            )
         except subprocess.TimeoutExpired:
             return Result(0, "", f"no end within {PATIENCE} s")
         return Result(done.returncode, done.stdout.decode(errors="replace"), done.stderr.decode(errors="replace"))
@@ -262,6 +293,7 @@ FAIL, SHORT, TORN, KILLED_BEFORE, KILLED_AFTER, STOPPED_AT_MODE, NO_NETWORK = ra
 
 class Disk(Preloaded):
     """An office with a call over its files that is disturbed."""
+
     PLAN = struct.Struct("4q8192s")
 
     def disturb(self, at: int, way: int = 0, error: int = 0) -> None:
@@ -303,8 +335,12 @@ SomeOffice = TypeVar("SomeOffice", bound=Office)
 Point = TypeVar("Point")
 
 
-def wrong_outcomes(offices: list[SomeOffice], attempt: Callable[[SomeOffice, Point], str], points: Iterable[Point],
-                   right: Iterable[str]) -> dict[str, list[Point]]:
+def wrong_outcomes(
+    offices: list[SomeOffice],
+    attempt: Callable[[SomeOffice, Point], str],
+    points: Iterable[Point],
+    right: Iterable[str],
+) -> dict[str, list[Point]]:
     """What the attempt gives that isn't right, with the points at which it does. As many attempts run at a time as
     there are offices, and each has one to itself."""
     free: queue.SimpleQueue[SomeOffice] = queue.SimpleQueue()

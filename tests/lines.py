@@ -80,11 +80,14 @@ actual K1 ACME O 1 1 consumed X HOUSE H-2 S 4 3
 actual K2 ACME O 1 1 produced P ACME P1 S 5 3
 """
 
-SERVED = WITH_WATER + """
+SERVED = (
+    WITH_WATER
+    + """
 receive ACME K7 M C S 5 4
 receive ACME K8 M D S 5 4
 > ACME ACMEKEY1 POST /orders {"order":"O-2","recipe":"R","batches":1}
 """
+)
 
 ACTUALS = """\
 key,owner,order,batch,segment,use,material,lot_owner,lot,sublot,amount,day
@@ -106,6 +109,7 @@ def many_actuals(count: int) -> str:
 
 # Bodies of replies
 
+
 def body(**fields: Any) -> str:
     return json.dumps(fields, separators=(",", ":"), sort_keys=True)
 
@@ -114,12 +118,25 @@ def order_body(name: str, status: str = "open", batches: int = 1, recipe: str = 
     return body(order=name, recipe=recipe, batches=batches, status=status)
 
 
-def lot_body(name: str, disposition: str, amount: int, material: str = "M", origin: str = "receipts", sublot: str = "S",
-             results: Sequence[int] = ()) -> str:
+def lot_body(
+    name: str,
+    disposition: str,
+    amount: int,
+    material: str = "M",
+    origin: str = "receipts",
+    sublot: str = "S",
+    results: Sequence[int] = (),
+) -> str:
     """Of a lot of one sublot; the results are of PH, on day 1 and those behind it."""
-    return body(lot=name, disposition=disposition, material=material, measure="kg", origin=origin,
-                results=[{"day": day, "test": "PH", "value": value} for day, value in enumerate(results, 1)],
-                sublots=[{"amount": amount, "sublot": sublot}])
+    return body(
+        lot=name,
+        disposition=disposition,
+        material=material,
+        measure="kg",
+        origin=origin,
+        results=[{"day": day, "test": "PH", "value": value} for day, value in enumerate(results, 1)],
+        sublots=[{"amount": amount, "sublot": sublot}],
+    )
 
 
 def trace_body(*lots: str) -> str:
@@ -130,16 +147,28 @@ def trace_body(*lots: str) -> str:
 
 def stock_body(*lots: str) -> str:
     rows = [lot.split() for lot in lots]
-    return body(lots=[{"amount": int(amount), "disposition": disposition, "lot": lot, "material": material,
-                       "measure": "kg"} for lot, amount, disposition, material in rows])
+    return body(
+        lots=[
+            {"amount": int(amount), "disposition": disposition, "lot": lot, "material": material, "measure": "kg"}
+            for lot, amount, disposition, material in rows
+        ]
+    )
 
 
 def batch_body(*requirements: str) -> str:
     """Each requirement is given by its actual, material, owner, required amount, segment and use."""
     names = ("actual", "material", "owner", "required", "segment", "use")
-    rows = [[int(field) if field.isdecimal() else field for field in requirement.split()] for requirement in requirements]
-    return body(batch=1, closed=False, order="O", state="running", unit="U1",
-                requirements=[dict(zip(names, row)) for row in rows])
+    rows = [
+        [int(field) if field.isdecimal() else field for field in requirement.split()] for requirement in requirements
+    ]
+    return body(
+        batch=1,
+        closed=False,
+        order="O",
+        state="running",
+        unit="U1",
+        requirements=[dict(zip(names, row)) for row in rows],
+    )
 
 
 BACK_FROM_P1 = """\
@@ -165,15 +194,20 @@ def as_answer(text: str) -> str:
 # Scripts behind an office. What stands behind "= " is the answer of the line above it, or a further line of that
 # answer; each other answer is `accepted`.
 SCRIPTS = {
-    "an order": ("", f"""\
+    "an order": (
+        "",
+        f"""\
 owner-add ACME ACMEKEY1
 recipe-add ACME R-1 2
 > ACME ACMEKEY1 POST /orders {{"order":"O-1","recipe":"R-1","batches":2}}
 = 200 {order_body("O-1", "open", 2, "R-1")}
 > ACME ACMEKEY1 GET /orders
 = 200 {{"orders":[{order_body("O-1", "open", 2, "R-1")}]}}
-"""),
-    "a consumption and its repetition": (AT_WORK, f"""\
+""",
+    ),
+    "a consumption and its repetition": (
+        AT_WORK,
+        f"""\
 actual K2 ACME O 1 1 consumed M ACME A S1 100 11
 actual K2 ACME O 1 1 consumed M ACME A S1 100 11
 = repeated
@@ -185,8 +219,11 @@ actual K3 ACME O 1 1 consumed M ACME A S1 1 11
 = 200 {lot_body("A", "released", 0, sublot="S1")}
 > ACME ACMEKEY1 GET /batches/O/1
 = 200 {batch_body("100 M ACME 100 1 consumed", "0 P ACME 90 1 produced")}
-"""),
-    "a lot that is tested, released and quarantined again": (TESTED, f"""\
+""",
+    ),
+    "a lot that is tested, released and quarantined again": (
+        TESTED,
+        f"""\
 > ACME ACMEKEY1 POST /lots/A/release
 = 409 {{"code":36,"error":"TestsOpen"}}
 result ACME A PH 8 1
@@ -203,8 +240,11 @@ test-add ACME M PH2 0 1
 = 200 {lot_body("A", "rejected", 10, results=[8, 9])}
 > ACME ACMEKEY1 POST /lots/A/reject
 = 409 {{"code":42,"error":"Rejected"}}
-"""),
-    "a split, a scrap and a shipment": (AT_WORK, """\
+""",
+    ),
+    "a split, a scrap and a shipment": (
+        AT_WORK,
+        """\
 split ACME K4 A S1 S2 30 12
 split ACME K5 A S1 S1 1 12
 = refused 34 SameSublot
@@ -217,8 +257,11 @@ batch ACME O 1
 = O/1 running U1 open
 =  1 consumed ACME             M                       100              0
 =  1 produced ACME             P                        90              0
-"""),
-    "an owner's traces": (WITH_WATER, f"""\
+""",
+    ),
+    "an owner's traces": (
+        WITH_WATER,
+        f"""\
 > ACME ACMEKEY1 GET /trace/back/P1
 = 200 {TRACED_BACK}
 > ACME ACMEKEY1 GET /trace/house/H-1
@@ -228,15 +271,21 @@ batch ACME O 1
 > ACME ACMEKEY1 GET /trace/forward/B
 = 200 {trace_body("ACME B 0")}
 trace ACME P1 back
-{as_answer(BACK_FROM_P1)}"""),
-    "a recall of HOUSE's lot": (HOUSE_MAKES, f"""\
+{as_answer(BACK_FROM_P1)}""",
+    ),
+    "a recall of HOUSE's lot": (
+        HOUSE_MAKES,
+        f"""\
 > ACME ACMEKEY1 GET /trace/house/H-1
 = 404 {{"code":27,"error":"UnknownLot"}}
 > ACME ACMEKEY1 GET /trace/back/P1
 = 200 {trace_body("ACME P1 0", "HOUSE H-2 1")}
 recall HOUSE H-1
-{as_answer(RECALLED)}"""),
-    "an actual that is voided": (AT_WORK, f"""\
+{as_answer(RECALLED)}""",
+    ),
+    "an actual that is voided": (
+        AT_WORK,
+        f"""\
 actual K2 ACME O 1 1 consumed M ACME A S1 40 11
 actual K3 ACME O 1 1 produced P ACME P1 S1 50 11
 scrap ACME K4 P1 S1 20 12
@@ -254,7 +303,8 @@ actual K2 ACME O 1 1 consumed M ACME A S1 40 11
 = refused 41 Voided
 void ACME K1
 = refused 40 UnknownKey
-"""),
+""",
+    ),
 }
 
 # What is asked of a server of SERVED, and the body of its reply.
@@ -263,10 +313,12 @@ REQUESTS = {
     "GET /orders/O": order_body("O"),
     'POST /orders {"order":"O-3","recipe":"R","batches":1}': order_body("O-3"),
     "POST /orders/O-2/cancel": order_body("O-2", "cancelled"),
-    "GET /batches/O/1": batch_body("10 M ACME 10 1 consumed", "10 W HOUSE 10 1 consumed", "10 P ACME 10 1 produced",
-                                   "10 M ACME 10 2 consumed"),
-    "GET /stock": stock_body("A 0 released M", "B 0 released M", "C 5 quarantined M", "D 5 quarantined M",
-                             "P1 10 quarantined P"),
+    "GET /batches/O/1": batch_body(
+        "10 M ACME 10 1 consumed", "10 W HOUSE 10 1 consumed", "10 P ACME 10 1 produced", "10 M ACME 10 2 consumed"
+    ),
+    "GET /stock": stock_body(
+        "A 0 released M", "B 0 released M", "C 5 quarantined M", "D 5 quarantined M", "P1 10 quarantined P"
+    ),
     "GET /lots/P1": lot_body("P1", "quarantined", 10, "P", "O/1"),
     "POST /lots/C/release": lot_body("C", "released", 5),
     "POST /lots/D/reject": lot_body("D", "rejected", 5),

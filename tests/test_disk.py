@@ -21,9 +21,28 @@ from typing import NamedTuple
 import pytest
 
 from tests.attempts import FAULTED, UNHARMED, Command, Import, Left, New, Request, make_version_1
-from tests.harness import (ACCEPTED, FAIL, KILLED_AFTER, KILLED_BEFORE, PATIENCE, REPEATED, SHORT, TORN, UNAVAILABLE,
-                           Disk, Office, Result, Server, content, fault, printed, put, read_all, request,
-                           wrong_outcomes)
+from tests.harness import (
+    ACCEPTED,
+    FAIL,
+    KILLED_AFTER,
+    KILLED_BEFORE,
+    PATIENCE,
+    REPEATED,
+    SHORT,
+    TORN,
+    UNAVAILABLE,
+    Disk,
+    Office,
+    Result,
+    Server,
+    content,
+    fault,
+    printed,
+    put,
+    read_all,
+    request,
+    wrong_outcomes,
+)
 from tests.lines import ACTUALS, STOCK, order_body
 
 # The letters that disk.c has for the kinds of calls: open, read, write, sync, cut, lock, close, look.
@@ -36,23 +55,36 @@ NEW_ORDER = 'POST /orders {"order":"O-2","recipe":"R","batches":2}'
 
 class Way(NamedTuple):
     """How a call is disturbed, the error where it fails, and the kinds of calls."""
+
     name: str
     number: int
     error: int
     kinds: str
 
 
-WAYS = [Way("EIO", FAIL, errno.EIO, EVERY), Way("ENOSPC", FAIL, errno.ENOSPC, "owst"),
-        Way("EAGAIN", FAIL, errno.EAGAIN, "l"), Way("short", SHORT, 0, "rw"), Way("torn", TORN, 0, "w"),
-        Way("killed before", KILLED_BEFORE, 0, EVERY), Way("killed after", KILLED_AFTER, 0, EVERY)]
+WAYS = [
+    Way("EIO", FAIL, errno.EIO, EVERY),
+    Way("ENOSPC", FAIL, errno.ENOSPC, "owst"),
+    Way("EAGAIN", FAIL, errno.EAGAIN, "l"),
+    Way("short", SHORT, 0, "rw"),
+    Way("torn", TORN, 0, "w"),
+    Way("killed before", KILLED_BEFORE, 0, EVERY),
+    Way("killed after", KILLED_AFTER, 0, EVERY),
+]
 
 
 # What is disturbed
 
+
 def over_file(command: Command, left: Left) -> Command:
     """The command with all that a fault of the disk may make of it; `left` are the contents that a fault may leave."""
-    command.allowed |= {command.answer: left[-1:], DISK: left, LOCKED: left[:1], Result(KILLED, ""): left,
-                        Result(KILLED, command.answer.out): left[-1:]}
+    command.allowed |= {
+        command.answer: left[-1:],
+        DISK: left,
+        LOCKED: left[:1],
+        Result(KILLED, ""): left,
+        Result(KILLED, command.answer.out): left[-1:],
+    }
     return command
 
 
@@ -83,7 +115,11 @@ def order(new: New, base: str) -> Request:
 
 Disturbed = tuple[Command | Request, str]
 RUNS: dict[str, Callable[[New, str], Command | Request]] = {
-    "an actual": actual, "an import": records, "a question to version 1": adoption, "an order over HTTP": order}
+    "an actual": actual,
+    "an import": records,
+    "a question to version 1": adoption,
+    "an order over HTTP": order,
+}
 
 
 @pytest.fixture(scope="module", params=RUNS)
@@ -107,20 +143,26 @@ def test_a_fault_at_any_call_leaves_the_rows_from_before_or_after(run: Disturbed
 
 # Streams, words and files
 
+
 def test_a_word_that_is_no_text_is_a_wrong_use(new: New) -> None:
     office = new()
     usage = office.run([])
     assert usage.status == 2 and not usage.out and "usage:" in usage.err
-    for words in ([b"\xff"], [b"--db", b"x\xff.db", b"unit-add", b"U1"], [b"--db", b"x.db", b"unit-add", b"U\xff"],
-                  [b"--db", b"x.db", b"import", b"\xff"]):
+    for words in (
+        [b"\xff"],
+        [b"--db", b"x\xff.db", b"unit-add", b"U1"],
+        [b"--db", b"x.db", b"unit-add", b"U\xff"],
+        [b"--db", b"x.db", b"import", b"\xff"],
+    ):
         assert office.run(words) == usage, words
     assert os.listdir(office.folder) == []
 
 
 @pytest.mark.parametrize("words", ["stock ACME", "ship ACME K9 A S1 1 12", "import actuals.csv"])
 @pytest.mark.parametrize("closed", [">&-", "<&- >&-", ">&- 2>&-", "<&- >&- 2>&-"])
-def test_an_answer_to_a_closed_stream_goes_into_no_file_and_ends_with_3(at_work: Office, words: str, closed: str
-                                                                        ) -> None:
+def test_an_answer_to_a_closed_stream_goes_into_no_file_and_ends_with_3(
+    at_work: Office, words: str, closed: str
+) -> None:
     before = content(at_work.db)
     at_work.write("actuals.csv", ACTUALS)
     answer = at_work.plant(*words.split(), closed=closed)
@@ -164,6 +206,7 @@ def test_two_names_a_link_to_nowhere_and_a_long_name_are_a_fault(at_work: Office
 
 
 # Servers that are stopped and go on, and peers without memory
+
 
 def interrupt(server: Server) -> None:
     """Stops the server where it waits, and has it go on."""

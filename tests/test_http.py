@@ -33,6 +33,7 @@ OFFICE = SERVED.replace("recipe-add", "test-add ACME P PH 1 2\nrecipe-add", 1)
 
 class Ask(NamedTuple):
     """A request; `fields` has the values of each field that isn't as usual."""
+
     method: str
     path: str
     body: str = ""
@@ -47,8 +48,12 @@ class Reply(NamedTuple):
 
 def ask(server: Server, asked: Ask) -> Reply | None:
     """The reply, which is well formed and as long as it says; none where there is none."""
-    usual = {"host": ["127.0.0.1"], "toll-owner": ["ACME"], "toll-key": ["ACMEKEY1"],
-             "content-length": [str(len(asked.body))]}
+    usual = {
+        "host": ["127.0.0.1"],
+        "toll-owner": ["ACME"],
+        "toll-key": ["ACMEKEY1"],
+        "content-length": [str(len(asked.body))],
+    }
     usual.update(asked.fields)
     lines = [(name, value) for name, values in usual.items() for value in values]
     text = server.send(http_request(asked.method.upper(), asked.path, asked.body, lines))
@@ -69,22 +74,37 @@ def new_order(name: str, recipe: str = "R", batches: int = 1) -> str:
 # statuses are asked for on each route in the same way.
 ASKED = {
     "get /orders": {200: ["/orders"]},
-    "post /orders": {200: [new_order("O-3"), new_order("O-3")],
-                     400: ['{"order":"O-4"}', new_order("o"), new_order("O-4", "R", 100)],
-                     409: [new_order("O", batches=3), new_order("O-4", "NONE")]},
+    "post /orders": {
+        200: [new_order("O-3"), new_order("O-3")],
+        400: ['{"order":"O-4"}', new_order("o"), new_order("O-4", "R", 100)],
+        409: [new_order("O", batches=3), new_order("O-4", "NONE")],
+    },
     "get /orders/{order}": {200: ["/orders/O"], 404: ["/orders/O-9", "/orders/o"]},
-    "post /orders/{order}/cancel": {200: ["/orders/O-2/cancel"], 404: ["/orders/O-9/cancel", "/orders/-/cancel"],
-                                    409: ["/orders/O-2/cancel", "/orders/O/cancel"]},
-    "get /batches/{order}/{n}": {200: ["/batches/O/1"],
-                                 404: [f"/batches/{batch}" for batch in ("O-9/1", "O/2", "O/0", "O/100", "O/01")]},
+    "post /orders/{order}/cancel": {
+        200: ["/orders/O-2/cancel"],
+        404: ["/orders/O-9/cancel", "/orders/-/cancel"],
+        409: ["/orders/O-2/cancel", "/orders/O/cancel"],
+    },
+    "get /batches/{order}/{n}": {
+        200: ["/batches/O/1"],
+        404: [f"/batches/{batch}" for batch in ("O-9/1", "O/2", "O/0", "O/100", "O/01")],
+    },
     "get /stock": {200: ["/stock", "/stock?all"]},
     "get /lots/{lot}": {200: ["/lots/A", "/lots/P1"], 404: ["/lots/A-9", "/lots/H-1", "/lots/a"]},
-    "post /lots/{lot}/release": {200: ["/lots/C/release"], 404: ["/lots/H-1/release", "/lots/a/release"],
-                                 409: ["/lots/C/release", "/lots/P1/release"]},
-    "post /lots/{lot}/reject": {200: ["/lots/A/reject", "/lots/D/reject"], 404: ["/lots/H-1/reject", "/lots/a/reject"],
-                                409: ["/lots/D/reject"]},
-    **{f"get /trace/{way}/{{lot}}": {200: [f"/trace/{way}/{lot}"], 404: [f"/trace/{way}/{other}", f"/trace/{way}/a"]}
-       for way, lot, other in (("back", "P1", "H-1"), ("forward", "A", "H-1"), ("house", "H-1", "P1"))},
+    "post /lots/{lot}/release": {
+        200: ["/lots/C/release"],
+        404: ["/lots/H-1/release", "/lots/a/release"],
+        409: ["/lots/C/release", "/lots/P1/release"],
+    },
+    "post /lots/{lot}/reject": {
+        200: ["/lots/A/reject", "/lots/D/reject"],
+        404: ["/lots/H-1/reject", "/lots/a/reject"],
+        409: ["/lots/D/reject"],
+    },
+    **{
+        f"get /trace/{way}/{{lot}}": {200: [f"/trace/{way}/{lot}"], 404: [f"/trace/{way}/{other}", f"/trace/{way}/a"]}
+        for way, lot, other in (("back", "P1", "H-1"), ("forward", "A", "H-1"), ("house", "H-1", "P1"))
+    },
 }
 
 
@@ -100,10 +120,14 @@ def asks_of(method: str, path: str, status: int) -> list[Ask]:
         503: [Ask(method, sample)],
     }
     own = ASKED[f"{method} {path}"].get(status, [])
-    return anywhere.get(status, []) + [Ask(method, path, body_or_target) if body_or_target.startswith("{") else Ask(method, body_or_target) for body_or_target in own]
+    return anywhere.get(status, []) + [
+        Ask(method, path, body_or_target) if body_or_target.startswith("{") else Ask(method, body_or_target)
+        for body_or_target in own
+    ]
 
 
 # What the page says
+
 
 def resolved(node: dict[str, Any]) -> Any:
     """A node of the page, or what its reference leads to."""
@@ -117,7 +141,9 @@ def resolved(node: dict[str, Any]) -> Any:
 
 def examples_of(response: dict[str, Any]) -> list[Any]:
     content = response["content"]["application/json"]
-    return [content["example"]] if "example" in content else [example["value"] for example in content["examples"].values()]
+    return (
+        [content["example"]] if "example" in content else [example["value"] for example in content["examples"].values()]
+    )
 
 
 def check(reply: Reply | None, asked: Ask, status: int, response: dict[str, Any]) -> Any:
@@ -140,8 +166,12 @@ def check(reply: Reply | None, asked: Ask, status: int, response: dict[str, Any]
 
 METHODS = ("get", "post")
 # The office's own, without those that the site answers by itself.
-OPERATIONS = [f"{method} {path}" for path, ways in PAGE["paths"].items() for method in METHODS
-              if method in ways and ways[method].get("x-told-by") != "site"]
+OPERATIONS = [
+    f"{method} {path}"
+    for path, ways in PAGE["paths"].items()
+    for method in METHODS
+    if method in ways and ways[method].get("x-told-by") != "site"
+]
 
 
 @pytest.fixture(scope="module")
@@ -169,12 +199,14 @@ def test_a_route_answers_each_status_and_each_refusal_of_the_page(office: Office
                     fcntl.flock(lock, fcntl.LOCK_EX)
                 values = [check(ask(server, ask_of_status), ask_of_status, status, response) for ask_of_status in asks]
             if status in (404, 409):
-                assert [example for example in examples_of(response) if example not in values and example != LIMIT_REACHED] == []
+                assert [
+                    example for example in examples_of(response) if example not in values and example != LIMIT_REACHED
+                ] == []
 
 
 def test_a_full_office_refuses_an_order(office: Office) -> None:
     with contextlib.closing(sqlite3.connect(office.db)) as base, base:
-        (count,), = base.execute("SELECT count(*) FROM orders WHERE owner = 'ACME'")
+        ((count,),) = base.execute("SELECT count(*) FROM orders WHERE owner = 'ACME'")
         names = [(f"N-{at}",) for at in range(2000 - count)]
         base.executemany("INSERT INTO orders VALUES ('ACME', ?, 'R', 1, 0)", names)
     asked, response = Ask("post", "/orders", new_order("O-4")), PAGE["paths"]["/orders"]["post"]["responses"]["409"]
@@ -184,6 +216,7 @@ def test_a_full_office_refuses_an_order(office: Office) -> None:
 
 # Kills
 
+
 class Day:
     """An owner that orders and a plant that receives until the server is killed, and what was answered so far."""
 
@@ -192,7 +225,7 @@ class Day:
         self.orders, self.receipts = {"O", "O-2"}, dict[str, str]()
 
     def order(self, server: Server, turn: int, over: threading.Event) -> None:
-        for name in (f"T-{turn}-{number}" for number in range(10 ** 9)):
+        for name in (f"T-{turn}-{number}" for number in range(10**9)):
             if over.is_set():
                 return
             reply = ask(server, Ask("post", "/orders", new_order(name)))
@@ -200,7 +233,7 @@ class Day:
                 self.orders.add(name)
 
     def receive(self, turn: int, over: threading.Event) -> None:
-        for key in (f"R-{turn}-{number}" for number in range(10 ** 9)):
+        for key in (f"R-{turn}-{number}" for number in range(10**9)):
             if over.is_set():
                 return
             if self.office.plant("receive", "ACME", key, "M", f"L-{turn}", "S", "1", "103") == ACCEPTED:
@@ -208,8 +241,9 @@ class Day:
             time.sleep(0.02)
 
     def work_until_killed(self, turn: int, seconds: float) -> None:
-        with self.office.serve() as server, meanwhile(lambda over: self.order(server, turn, over),
-                                                      lambda over: self.receive(turn, over)):
+        with self.office.serve() as server, meanwhile(
+            lambda over: self.order(server, turn, over), lambda over: self.receive(turn, over)
+        ):
             time.sleep(seconds)
             server.kill()
 
@@ -244,8 +278,12 @@ def lines_of_day(end: str) -> list[str]:
 
 def test_the_day_of_the_docs_is_printed(new: Callable[[], Office]) -> None:
     office = new()
-    assert office.run(["script"], stdin=(ROOT / "docs" / "day.toll").read_bytes()).out.splitlines() == lines_of_day("out")
+    assert office.run(["script"], stdin=(ROOT / "docs" / "day.toll").read_bytes()).out.splitlines() == lines_of_day(
+        "out"
+    )
     with office.serve() as server:
-        printed = [server.ask(line).rstrip() if line.startswith("> ") else office.plant(*line.split()).out.removesuffix("\n")
-                   for line in lines_of_day("toll")]
+        printed = [
+            server.ask(line).rstrip() if line.startswith("> ") else office.plant(*line.split()).out.removesuffix("\n")
+            for line in lines_of_day("toll")
+        ]
     assert "\n".join(printed).splitlines() == lines_of_day("out")

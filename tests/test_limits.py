@@ -174,8 +174,11 @@ def test_who_reads_or_sends_slowly_is_dropped_after_ten_seconds(serve: Callable[
         assert len(read(reader)) < len(whole)
 
 
-@pytest.mark.parametrize("fields, status", [("x: " + "y" * 8_192 + "\r\n", 400), ("x: y\r\n" * 32, 400),
-                                            ("content-length: 4097\r\n", 413)], ids=["bytes", "fields", "body"])
+@pytest.mark.parametrize(
+    "fields, status",
+    [("x: " + "y" * 8_192 + "\r\n", 400), ("x: y\r\n" * 32, 400), ("content-length: 4097\r\n", 413)],
+    ids=["bytes", "fields", "body"],
+)
 def test_a_head_that_is_too_long_is_refused(serve: Callable[..., Server], fields: str, status: int) -> None:
     server = serve()
     for _ in range(3):

@@ -22,8 +22,20 @@ import pytest
 
 from tests.attempts import FAULTED, UNHARMED, Command, Import, New, Request, make_version_1
 from tests.harness import JOBS, UNAVAILABLE, Office, Preloaded, Result, content, fault, put, wrong_outcomes
-from tests.lines import (AT_WORK, BACK_FROM_P1, HOUSE_MAKES, RECALLED, REQUESTS, SCRIPTS, SERVED, STOCK, TESTED,
-                         WITH_WATER, lot_body, stock_body)
+from tests.lines import (
+    AT_WORK,
+    BACK_FROM_P1,
+    HOUSE_MAKES,
+    RECALLED,
+    REQUESTS,
+    SCRIPTS,
+    SERVED,
+    STOCK,
+    TESTED,
+    WITH_WATER,
+    lot_body,
+    stock_body,
+)
 
 MEMORY = fault("Memory")
 MOST, MOST_WITH_LATER, EVERY = int(os.environ.get("MOST", 60)), 40, sys.maxsize  # refusals of a run
@@ -32,6 +44,7 @@ NONE_REFUSED = "no refusal"
 
 class Refusing(Preloaded):
     """An office whose program is refused memory."""
+
     PLAN = struct.Struct("5q")
 
     def refuse(self, first: int, last: int, accepts: int = 0) -> None:
@@ -47,7 +60,9 @@ class Refusing(Preloaded):
 
 class Run(Protocol):
     """What is tried: an attempt tells how it ended where the requests from first to last are refused."""
-    def attempt(self, office: Refusing, first: int, last: int) -> str: ...
+
+    def attempt(self, office: Refusing, first: int, last: int) -> str:
+        ...
 
 
 Make = Callable[[New, str], Run]
@@ -70,7 +85,7 @@ class Script:
     def answer_without(self, office: Office, at: int) -> Result:
         """The answer where that of this line is want of memory."""
         front = self.answer(office, self.lines[:at]).out
-        rest = self.answer(office, self.lines[:at] + self.lines[at + 1:]).out.removeprefix(front)
+        rest = self.answer(office, self.lines[:at] + self.lines[at + 1 :]).out.removeprefix(front)
         word = UNAVAILABLE if self.lines[at].startswith("> ") else "fault Memory"
         return Result(0, f"{front}{word}\n{rest}")
 
@@ -119,8 +134,10 @@ LOTS = range(1000)
 
 def make_ring(new: New) -> str:
     """A file in which each of 1,000 lots went into the next one, and the last one into the first."""
-    db = new().lay("owner-add ACME ACMEKEY1\nunit-add U1\nmaterial-add ACME M kg\nrecipe-add ACME R 1\n"
-                   "require ACME R 1 consumed ACME M 1\nrequire ACME R 1 produced ACME M 1")
+    db = new().lay(
+        "owner-add ACME ACMEKEY1\nunit-add U1\nmaterial-add ACME M kg\nrecipe-add ACME R 1\n"
+        "require ACME R 1 consumed ACME M 1\nrequire ACME R 1 produced ACME M 1"
+    )
     batch = [(f"O-{at // 99 + 1}", at % 99 + 1) for at in LOTS]
     rows: dict[str, list[tuple[Any, ...]]] = {
         "orders": [("ACME", order, "R", 99, 0) for order in {order for order, _ in batch}],
@@ -128,8 +145,25 @@ def make_ring(new: New) -> str:
         "lots": [("ACME", f"L-{at + 1}", "M", *batch[at], 1) for at in LOTS],
         "sublots": [("ACME", f"L-{at + 1}", "S", 0) for at in LOTS],
         # the batch of a lot consumes the lot before it
-        "moves": [("ACME", f"{word}-{at + 1}", kind, "ACME", f"L-{(at + shift) % 1000 + 1}", "S", "", "M", *batch[at],
-                   1, 1, 1) for at in LOTS for word, kind, shift in (("C", 4, -1), ("P", 5, 0))]}
+        "moves": [
+            (
+                "ACME",
+                f"{word}-{at + 1}",
+                kind,
+                "ACME",
+                f"L-{(at + shift) % 1000 + 1}",
+                "S",
+                "",
+                "M",
+                *batch[at],
+                1,
+                1,
+                1,
+            )
+            for at in LOTS
+            for word, kind, shift in (("C", 4, -1), ("P", 5, 0))
+        ],
+    }
     with contextlib.closing(sqlite3.connect(db)) as base, base:
         for table, lines in rows.items():
             base.executemany(f"INSERT INTO {table} VALUES ({','.join('?' * len(lines[0]))})", lines)
@@ -202,8 +236,9 @@ BY_PLANT: dict[str, Make] = {
     "a question to a file of version 1": adoption,
 }
 RUNS = BY_PLANT | {
-    "a release that opens the file": request("POST /lots/A/release", lot_body("A", "released", 10, results=[8]),
-                                             TESTED + "result ACME A PH 8 1", ""),
+    "a release that opens the file": request(
+        "POST /lots/A/release", lot_body("A", "released", 10, results=[8]), TESTED + "result ACME A PH 8 1", ""
+    ),
     **{" ".join(asked.split(" ")[:2]): request(asked, body) for asked, body in REQUESTS.items()},
 }
 
@@ -244,8 +279,9 @@ def test_a_refused_request_for_memory_changes_nothing(run: tuple[str, Run], offi
     assert points and wrong == {}
 
 
-def test_a_turn_that_lacks_memory_is_a_fault_for_the_operator_also_without_a_reply(offices: list[Refusing], work: str
-                                                                                    ) -> None:
+def test_a_turn_that_lacks_memory_is_a_fault_for_the_operator_also_without_a_reply(
+    offices: list[Refusing], work: str
+) -> None:
     outcomes = []
     for at in range(1, 16):
         put(work, offices[0].db)

@@ -50,14 +50,19 @@ def check_arrows(plant: Any, page: str, lots: Lots) -> None:
     """The arrows of a picture in which each lot is a box; one that would be too large isn't drawn."""
     arrows = {tuple(html.unescape(title).split("->")) for title in ARROW.findall(page)}
     if "<svg" in page and not any(end.startswith("batch ") for ends in arrows for end in ends):
-        assert arrows == {(" ".join(lot), " ".join(next_lot)) for lot in lots
-                          for next_lot, steps in lots_of_recall(plant, *lot).items() if steps == 1}
+        assert arrows == {
+            (" ".join(lot), " ".join(next_lot))
+            for lot in lots
+            for next_lot, steps in lots_of_recall(plant, *lot).items()
+            if steps == 1
+        }
 
 
 def check_lies(plant: Any, asked: tuple[str, str], last: str) -> None:
     """No lie of a program about the last lot is believed."""
     import conftest  # type: ignore[import]  # of plant/tests
     import lying  # type: ignore[import]
+
     folder = plant.folder / "believed"
     for lie in LIES:
         liar = lying.liar(plant.folder / "liar", plant.program, lie)
@@ -76,6 +81,7 @@ def check_office(program: str, seed: int, folder: str) -> int:
     """Checks the papers over an office, and tells of how many lots the largest recall was."""
     import looks  # type: ignore[import]  # of plant/tests/papers
     import offices  # type: ignore[import]
+
     office = offices.Filled(program, pathlib.Path(folder) / "office", seed)
     owner, papers, sizes = office.chance.choice(office.owners), looks.Papers(office, prints=seed % 4 == 0), []
     for asked in [*largest(office, "HOUSE", 2), *largest(office, owner, 1)]:

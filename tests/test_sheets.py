@@ -39,6 +39,7 @@ SHOWN, HELD = as_text(SEMICOLONS), as_text(SEMICOLONS, as_shown="false")
 
 # Sheets that LibreOffice opens: rows of texts, of numbers, and of numbers shown with two decimals.
 
+
 class Decimals(int):
     """A number that the sheet shows with two decimals."""
 
@@ -48,7 +49,7 @@ CELLS = {
     str: '<table:table-cell office:value-type="string"><text:p>{}</text:p></table:table-cell>',
     int: '<table:table-cell office:value-type="float" office:value="{0}"><text:p>{0}</text:p></table:table-cell>',
     Decimals: '<table:table-cell table:style-name="two" office:value-type="float" office:value="{0}">'
-              '<text:p>{0}.00</text:p></table:table-cell>',
+    "<text:p>{0}.00</text:p></table:table-cell>",
 }
 NAMESPACE = "urn:oasis:names:tc:opendocument:xmlns:"
 SHEET = f"""<?xml version="1.0" encoding="UTF-8"?>
@@ -73,8 +74,10 @@ def flat_sheet(rows: Rows) -> bytes:
 
 
 # The actuals with their numbers as numbers and all else as text.
-WELL_TYPED: Rows = [COLUMNS, *([int(cell) if column in NUMBERS else cell for column, cell in zip(COLUMNS, record)]
-                               for record in RECORDS[1:])]
+WELL_TYPED: Rows = [
+    COLUMNS,
+    *([int(cell) if column in NUMBERS else cell for column, cell in zip(COLUMNS, record)] for record in RECORDS[1:]),
+]
 
 
 def with_capitals(rows: Rows) -> Rows:
@@ -90,16 +93,23 @@ def with_gaps(rows: Rows) -> Rows:
 
 def to_csv(*words: object, **options: Any) -> Result:
     """What to-csv answers to these words."""
-    done = subprocess.run(["/usr/bin/python3", "-B", ROOT / "plant" / "bin" / "hilpoven", "to-csv", *map(str, words)],
-                          capture_output=True, text=True, timeout=PATIENCE, **options)
+    done = subprocess.run(
+        ["/usr/bin/python3", "-B", ROOT / "plant" / "bin" / "hilpoven", "to-csv", *map(str, words)],
+        capture_output=True,
+        text=True,
+        timeout=PATIENCE,
+        **options,
+    )
     return Result(done.returncode, done.stdout, done.stderr)
 
 
 # The dialects
 
+
 class Dialect(NamedTuple):
     """A way in which the sheet is saved: its name, LibreOffice's words, and what is done to the rows before and the
     bytes after."""
+
     name: str
     words: str
     before: Callable[[Rows], Rows] = list
@@ -116,10 +126,14 @@ DIALECTS = [
     Dialect("a line sep=;", SHOWN, after=b"sep=;\r\n".__add__),
     Dialect("a cell sep=;", SHOWN, lambda rows: [["sep=;"], *rows]),
     Dialect("UTF-16, little end first", as_text(TABS, UTF_16)),
-    Dialect("UTF-16, big end first", as_text(TABS, UTF_16),
-            after=lambda raw: b"\xfe\xff" + raw.decode("utf-16").encode("utf-16-be")),
-    Dialect("UTF-16 without a mark", as_text(SEMICOLONS, UTF_16),
-            after=lambda raw: raw.decode("utf-16").encode("utf-16-le")),
+    Dialect(
+        "UTF-16, big end first",
+        as_text(TABS, UTF_16),
+        after=lambda raw: b"\xfe\xff" + raw.decode("utf-16").encode("utf-16-be"),
+    ),
+    Dialect(
+        "UTF-16 without a mark", as_text(SEMICOLONS, UTF_16), after=lambda raw: raw.decode("utf-16").encode("utf-16-le")
+    ),
     Dialect("a byte order mark", SHOWN, after=b"\xef\xbb\xbf".__add__),
     Dialect("Windows-1252", as_text(SEMICOLONS, WINDOWS)),
     Dialect("capitals and blanks in the header", SHOWN, with_capitals),
@@ -141,11 +155,13 @@ def room(folder: str) -> pathlib.Path:
 @pytest.fixture(scope="module")
 def rows_after(new: Callable[[], Office], work: str) -> Callable[[pathlib.Path], Any]:
     """Gives the rows of an office at work after an import of a file."""
+
     def imported(actuals: pathlib.Path) -> Any:
         office = new()
         put(work, office.db)
         assert office.plant("import", str(actuals)) == Result(0, import_report(["accepted", "accepted", "repeated"]))
         return content(office.db)
+
     return imported
 
 
@@ -176,6 +192,7 @@ FORMS = {"a text file": as_text(COMMAS), "an .xlsx": "xlsx", "an .ods": "ods"}
 
 class Source(NamedTuple):
     """A sheet, LibreOffice's words for how it is saved, and its word for what the columns of a text file hold."""
+
     content: bytes
     words: str
     columns: str = ""
@@ -202,6 +219,7 @@ def saved(folder: str) -> dict[Source, pathlib.Path]:
 def save(folder: str, room: pathlib.Path, saved: dict[Source, pathlib.Path]) -> Save:
     """Gives a file of what LibreOffice saves of a sheet. It saves all sheets of a form at a time, when the first is
     needed."""
+
     def save_all(form: tuple[bool, str, str]) -> None:
         sources = [source for source in SOURCES if source.form() == form]
         files = pathlib.Path(tempfile.mkdtemp(dir=folder))
@@ -210,9 +228,21 @@ def save(folder: str, room: pathlib.Path, saved: dict[Source, pathlib.Path]) -> 
         for sheet, source in zip(sheets, sources):
             sheet.write_bytes(source.content)
         reading = [] if is_flat else [f"--infilter=CSV:44,34,76,1,{columns},1033,false,true"]
-        done = subprocess.run(["soffice", f"-env:UserInstallation=file://{folder}/profile", "--headless", *reading,
-                               "--convert-to", words, "--outdir", files / "saved", *sheets], capture_output=True,
-                              timeout=5 * PATIENCE)
+        done = subprocess.run(
+            [
+                "soffice",
+                f"-env:UserInstallation=file://{folder}/profile",
+                "--headless",
+                *reading,
+                "--convert-to",
+                words,
+                "--outdir",
+                files / "saved",
+                *sheets,
+            ],
+            capture_output=True,
+            timeout=5 * PATIENCE,
+        )
         saved.update(zip(sources, [path for sheet in sheets for path in files.glob(f"saved/{sheet.stem}.*")]))
         assert set(sources) <= set(saved), done.stderr
 
@@ -220,12 +250,14 @@ def save(folder: str, room: pathlib.Path, saved: dict[Source, pathlib.Path]) -> 
         if source not in saved:
             save_all(source.form())
         return pathlib.Path(shutil.copy(saved[source], room))
+
     return copy
 
 
 @pytest.mark.parametrize("dialect", DIALECTS, ids=[dialect.name for dialect in DIALECTS])
-def test_a_dialect_becomes_the_same_file_and_the_same_rows(save: Save, dialect: Dialect,
-                                                           rows_after: Callable[[pathlib.Path], Any]) -> None:
+def test_a_dialect_becomes_the_same_file_and_the_same_rows(
+    save: Save, dialect: Dialect, rows_after: Callable[[pathlib.Path], Any]
+) -> None:
     sheet = save(dialect.source())
     sheet.write_bytes(dialect.after(sheet.read_bytes()))
     actuals, wanted = sheet.with_name("actuals.csv"), sheet.with_name("wanted.csv")
@@ -249,8 +281,10 @@ def check_refused(sheet: pathlib.Path, wanted: list[str]) -> None:
 @in_each_form
 def test_numbers_and_dates_that_were_typed_into_columns_of_names_are_refused(save: Save, words: str) -> None:
     amount = ["row 3, column K (amount)"] if words != HELD else []  # which is 100000 as it is held
-    check_refused(save(Source(TYPED.encode(), words)),
-                  ["row 2, column I (lot)", "row 2, column J (sublot)", "row 3, column C (order)", *amount])
+    check_refused(
+        save(Source(TYPED.encode(), words)),
+        ["row 2, column I (lot)", "row 2, column J (sublot)", "row 3, column C (order)", *amount],
+    )
 
 
 @in_each_form
@@ -283,10 +317,14 @@ def test_a_hidden_row_or_column_is_refused_where_the_form_tells_of_it(save: Save
 
 # Wrong uses, and what is missing
 
+
 def is_explained(answer: Result, status: int) -> bool:
     """Whether it ended with this status and said why, in the words of the command or of its usage."""
-    return (answer.status, answer.out) == (status, "") and answer.err.startswith(("hilpoven: ", "Usage: ")) \
+    return (
+        (answer.status, answer.out) == (status, "")
+        and answer.err.startswith(("hilpoven: ", "Usage: "))
         and "Traceback" not in answer.err
+    )
 
 
 def test_a_wrong_use_or_a_file_that_cannot_be_read_or_made_is_explained_and_leaves_no_file(room: pathlib.Path) -> None:
@@ -295,8 +333,18 @@ def test_a_wrong_use_or_a_file_that_cannot_be_read_or_made_is_explained_and_leav
     broken.write_bytes(b"PK\x03\x04 and no more")
     before = sorted(room.iterdir())
     uses: list[list[object]] = [
-        [], ["--all", sheet], ["--digits", "amount", sheet], ["--sheet", "A", sheet], [sheet, room / "a", "b"],
-        [room / "absent"], [room], [sheet, sheet], [sheet, room], [sheet, room / "absent" / "a"], [sheet, "/dev/null"]]
+        [],
+        ["--all", sheet],
+        ["--digits", "amount", sheet],
+        ["--sheet", "A", sheet],
+        [sheet, room / "a", "b"],
+        [room / "absent"],
+        [room],
+        [sheet, sheet],
+        [sheet, room],
+        [sheet, room / "absent" / "a"],
+        [sheet, "/dev/null"],
+    ]
     assert [answer for use in uses if not is_explained(answer := to_csv(*use), 2)] == []
     assert is_explained(to_csv(broken, room / "a"), 3)
     full = to_csv(sheet, room / "a", preexec_fn=lambda: resource.setrlimit(resource.RLIMIT_FSIZE, (0, 0)))

@@ -24,8 +24,26 @@ import pytest
 
 from tests import socket_client as client
 from tests.attempts import Import, New
-from tests.harness import (ACCEPTED, FAIL, KILLED_AFTER, KILLED_BEFORE, NO_NETWORK, PATIENCE, REPEATED, STOPPED_AT_MODE,
-                           UNAVAILABLE, Disk, Office, Result, Server, content, fault, meanwhile, put, wrong_outcomes)
+from tests.harness import (
+    ACCEPTED,
+    FAIL,
+    KILLED_AFTER,
+    KILLED_BEFORE,
+    NO_NETWORK,
+    PATIENCE,
+    REPEATED,
+    STOPPED_AT_MODE,
+    UNAVAILABLE,
+    Disk,
+    Office,
+    Result,
+    Server,
+    content,
+    fault,
+    meanwhile,
+    put,
+    wrong_outcomes,
+)
 from tests.lines import ACTUALS, many_actuals
 
 LOCKED, LOST, NOT_OURS, DAMAGED = (fault(name) for name in ("Locked", "Lost", "NotOurs", "Damaged"))
@@ -44,11 +62,19 @@ actual K7 ACME O 1 1 consumed M ACME A S1 40 11; void ACME K7; actual K8 ACME O 
 actual K9 ACME O 1 1 produced P ACME P1 S1 30 11; actual K9 ACME O 1 1 produced P ACME P1 S1 31 11;
 do ACME O 1 stop; do ACME O 1 done; close ACME O 1; open ACME O U1; orders ACME; orders NONE; stock ACME;
 stock HOUSE; batch ACME O 1; batch ACME O 2; trace ACME P1 back; trace ACME A forward; recall ACME A;
-recall ACME NONE; no such words; stock; stock ACME --all""".split(";")
+recall ACME NONE; no such words; stock; stock ACME --all""".split(
+    ";"
+)
 
 # Files of actuals that are imported, each twice.
-IMPORTS = {"whole": ACTUALS, "empty": "", "no header": "a,b\n1,2\n", "bad records": ACTUALS + "1,2,3\n\n",
-           "too long": "x" * 1_100_000, "many": many_actuals(1200)}
+IMPORTS = {
+    "whole": ACTUALS,
+    "empty": "",
+    "no header": "a,b\n1,2\n",
+    "bad records": ACTUALS + "1,2,3\n\n",
+    "too long": "x" * 1_100_000,
+    "many": many_actuals(1200),
+}
 
 
 def owner_statuses(server: Server) -> list[str]:
@@ -91,6 +117,7 @@ def at_work(at_work: Office) -> Office:
 
 # With a server and without
 
+
 def test_each_command_and_import_answers_and_leaves_the_same_with_a_server_and_without(new: New, work: str) -> None:
     alone, served = new(), new()
     for office in (alone, served):
@@ -112,13 +139,18 @@ def test_each_command_and_import_answers_and_leaves_the_same_with_a_server_and_w
 
 def test_an_answer_that_cannot_be_written_ends_with_3_and_what_was_done_stands(at_work: Office) -> None:
     with at_work.serve():
-        for closed, words in ((">/dev/full", "stock ACME"), (">&-", "unit-add U5"), ("2>&-", "stock"),
-                              (">&- 2>&-", "unit-add U6")):
+        for closed, words in (
+            (">/dev/full", "stock ACME"),
+            (">&-", "unit-add U5"),
+            ("2>&-", "stock"),
+            (">&- 2>&-", "unit-add U6"),
+        ):
             assert at_work.plant(*words.split(), closed=closed) == Result(3, ""), words
         assert [at_work.plant("unit-add", unit).status for unit in ("U5", "U6")] == [1, 1]
 
 
 # Where the socket comes from, and what may be in its place
+
 
 def test_the_socket_is_removed_when_serving_ends_and_only_owners_count(at_work: Office) -> None:
     with at_work.serve(count=2) as server:
@@ -134,8 +166,11 @@ def test_a_socket_that_a_killed_server_left_is_in_nobodys_way_and_the_next_serve
         assert at_work.plant("unit-add", "U3") == ACCEPTED and has_socket(at_work) and server.lines() == []
 
 
-@pytest.mark.parametrize("make", [os.mkdir, lambda path: pathlib.Path(path).write_text("mine"),
-                                  lambda path: os.symlink("nowhere", path)], ids=["a folder", "a file", "a link"])
+@pytest.mark.parametrize(
+    "make",
+    [os.mkdir, lambda path: pathlib.Path(path).write_text("mine"), lambda path: os.symlink("nowhere", path)],
+    ids=["a folder", "a file", "a link"],
+)
 def test_what_is_in_the_sockets_place_stays_and_the_server_serves_without(at_work: Office, make: Change) -> None:
     os.unlink(client.path_of(at_work))
     make(client.path_of(at_work))
@@ -248,6 +283,7 @@ def test_a_client_that_comes_before_the_socket_has_its_mode_is_turned_away(disks
 
 # Locks, damage, and what others do to the files
 
+
 def test_faults_are_said_when_they_begin_and_end_and_a_changed_file_when_it_is_opened_anew(at_work: Office) -> None:
     with at_work.serve() as server:
         assert is_answered(server)
@@ -319,7 +355,10 @@ def test_damage_of_one_owner_costs_the_others_no_opening_and_is_known_until_the_
         by_others(at_work, "UPDATE lots SET disposition = 9 WHERE owner = 'ACME'")
         assert [owner_statuses(server) for _ in range(20)] == [["503", "200"]] * 20
         assert [line for line in server.lines() if not line.startswith("opened")] == [
-            "damaged rows of ACME", "fault Unavailable began", "fault Unavailable ended"]
+            "damaged rows of ACME",
+            "fault Unavailable began",
+            "fault Unavailable ended",
+        ]
         for_owners = openings(server)
         answers = [(at_work.plant("stock", "ACME"), owner_statuses(server)[1]) for _ in range(10)]
         assert answers == [(DAMAGED, "200")] * 10
@@ -433,7 +472,7 @@ def restore(db: str) -> None:
 def frames_of(log: bytes) -> list[int]:
     """Where the frames of a log begin: those before the first with other salts than its header's."""
     size = 24 + int.from_bytes(log[8:12], "big")
-    return list(itertools.takewhile(lambda at: log[at + 8:at + 16] == log[16:24], range(32, len(log), size)))
+    return list(itertools.takewhile(lambda at: log[at + 8 : at + 16] == log[16:24], range(32, len(log), size)))
 
 
 def change_log(db: str, change: Callable[[bytearray, list[int]], Any]) -> None:
@@ -461,6 +500,7 @@ def begin_anew(db: str) -> None:
 def answers_around(office: Office, change: Change) -> tuple[list[str], Result, list[str], bool]:
     """What owners and the plant are answered after a change of the files of a server that knows them, what the server
     writes, and whether the files stay as they were changed."""
+
     def files() -> list[bytes | None]:
         paths = [pathlib.Path(office.db + end) for end in ("", "-wal")]
         return [path.read_bytes() if path.exists() else None for path in paths]
@@ -473,34 +513,47 @@ def answers_around(office: Office, change: Change) -> tuple[list[str], Result, l
         return owner_statuses(server), office.plant("stock", "ACME"), server.lines(), files() == before
 
 
-@pytest.mark.parametrize("change", [
-    pytest.param(lambda db: os.truncate(f"{db}-wal", 0), id="a log that was emptied"),
-    pytest.param(lambda db: os.unlink(f"{db}-wal"), id="a log that was removed"),
-    pytest.param(lambda db: os.truncate(f"{db}-wal", 100), id="a log that was cut"),
-    pytest.param(lambda db: os.truncate(db, 0), id="an empty FILE"),
-    pytest.param(os.unlink, id="a FILE that was removed"),
-    pytest.param(remove_with_log, id="a FILE that was removed with its log"),
-    pytest.param(lambda db: move_over(db + ".old", db), id="a copy that was moved over FILE"),
-    pytest.param(lambda db: shutil.copyfile(db + ".old", db), id="a copy that was written over FILE"),
-])
+@pytest.mark.parametrize(
+    "change",
+    [
+        pytest.param(lambda db: os.truncate(f"{db}-wal", 0), id="a log that was emptied"),
+        pytest.param(lambda db: os.unlink(f"{db}-wal"), id="a log that was removed"),
+        pytest.param(lambda db: os.truncate(f"{db}-wal", 100), id="a log that was cut"),
+        pytest.param(lambda db: os.truncate(db, 0), id="an empty FILE"),
+        pytest.param(os.unlink, id="a FILE that was removed"),
+        pytest.param(remove_with_log, id="a FILE that was removed with its log"),
+        pytest.param(lambda db: move_over(db + ".old", db), id="a copy that was moved over FILE"),
+        pytest.param(lambda db: shutil.copyfile(db + ".old", db), id="a copy that was written over FILE"),
+    ],
+)
 def test_a_server_refuses_files_that_lost_rows_and_writes_nothing(at_work: Office, change: Change) -> None:
     assert answers_around(at_work, change) == (["503", "503"], NOT_OURS, ["fault NotOurs began"], True)
 
 
-@pytest.mark.parametrize("change", [
-    pytest.param(lambda log, frames: flip(log, frames[0] + 24 + 100), id="a byte of the first page"),
-    pytest.param(lambda log, frames: flip(log, frames[-1] + 24 + 4095), id="a byte of the last page"),
-    *[pytest.param(lambda log, frames, at=at: flip(log, frames[1] + at), id=f"byte {at} of a frame's header")
-      for at in (3, 7, 8, 15, 16, 23)],
-    *[pytest.param(lambda log, frames, at=at: flip(log, at), id=f"byte {at} of the log's header")
-      for at in (0, 3, 7, 10, 15, 16, 23, 24, 31)],
-    pytest.param(lambda log, frames: zero(log, frames[-1], frames[-1] + 24), id="zeros for the last frame's header"),
-    pytest.param(lambda log, frames: zero(log, frames[0], frames[1]), id="zeros for a frame in the middle"),
-    pytest.param(lambda log, frames: zero(log, 0, len(log)), id="zeros for all of the log"),
-    pytest.param(lambda log, frames: log.__delitem__(slice(frames[-1], None)), id="a log cut by its last frame"),
-])
+@pytest.mark.parametrize(
+    "change",
+    [
+        pytest.param(lambda log, frames: flip(log, frames[0] + 24 + 100), id="a byte of the first page"),
+        pytest.param(lambda log, frames: flip(log, frames[-1] + 24 + 4095), id="a byte of the last page"),
+        *[
+            pytest.param(lambda log, frames, at=at: flip(log, frames[1] + at), id=f"byte {at} of a frame's header")
+            for at in (3, 7, 8, 15, 16, 23)
+        ],
+        *[
+            pytest.param(lambda log, frames, at=at: flip(log, at), id=f"byte {at} of the log's header")
+            for at in (0, 3, 7, 10, 15, 16, 23, 24, 31)
+        ],
+        pytest.param(
+            lambda log, frames: zero(log, frames[-1], frames[-1] + 24), id="zeros for the last frame's header"
+        ),
+        pytest.param(lambda log, frames: zero(log, frames[0], frames[1]), id="zeros for a frame in the middle"),
+        pytest.param(lambda log, frames: zero(log, 0, len(log)), id="zeros for all of the log"),
+        pytest.param(lambda log, frames: log.__delitem__(slice(frames[-1], None)), id="a log cut by its last frame"),
+    ],
+)
 def test_a_server_refuses_a_log_that_sqlite_would_read_to_an_earlier_end(
-        at_work: Office, change: Callable[[bytearray, list[int]], Any]) -> None:
+    at_work: Office, change: Callable[[bytearray, list[int]], Any]
+) -> None:
     answers = answers_around(at_work, functools.partial(change_log, change=change))
     assert answers == (["503", "503"], NOT_OURS, ["fault NotOurs began"], True)
 
@@ -526,21 +579,28 @@ def test_a_log_is_served_again_once_its_byte_is_put_back(at_work: Office) -> Non
             change_log(at_work.db, lambda log, frames: flip(log, frames[0] + 24))
             assert server.ask(ORDERS) == wanted
         assert server.ask('> ACME ACMEKEY1 POST /orders {"order":"O-3","recipe":"R","batches":1}').startswith("200 ")
-        assert [line for line in server.lines() if line.startswith("fault")] == ["fault NotOurs began",
-                                                                                 "fault NotOurs ended"]
+        assert [line for line in server.lines() if line.startswith("fault")] == [
+            "fault NotOurs began",
+            "fault NotOurs ended",
+        ]
 
 
-@pytest.mark.parametrize("change", [
-    pytest.param(lambda db: sqlite(db, "PRAGMA wal_checkpoint(TRUNCATE)"), id="a checkpoint"),
-    pytest.param(lambda db: sqlite(db, ".dbconfig no_ckpt_on_close on", "INSERT INTO units VALUES ('U-8')"),
-                 id="a commit behind the others in the log"),
-    pytest.param(lambda db: os.utime(f"{db}-wal"), id="a new time of the log"),
-    pytest.param(begin_anew, id="a checkpoint that was stopped behind the copying"),
-    pytest.param(lambda db: sqlite(db, f".backup {db}.saved"), id="a copy by sqlite3"),
-    pytest.param(lambda db: os.chmod(db, 0o640), id="a new mode"),
-    pytest.param(move_away_and_back, id="a FILE that was moved away and back"),
-    pytest.param(restore, id="a copy in the place of both"),
-])
+@pytest.mark.parametrize(
+    "change",
+    [
+        pytest.param(lambda db: sqlite(db, "PRAGMA wal_checkpoint(TRUNCATE)"), id="a checkpoint"),
+        pytest.param(
+            lambda db: sqlite(db, ".dbconfig no_ckpt_on_close on", "INSERT INTO units VALUES ('U-8')"),
+            id="a commit behind the others in the log",
+        ),
+        pytest.param(lambda db: os.utime(f"{db}-wal"), id="a new time of the log"),
+        pytest.param(begin_anew, id="a checkpoint that was stopped behind the copying"),
+        pytest.param(lambda db: sqlite(db, f".backup {db}.saved"), id="a copy by sqlite3"),
+        pytest.param(lambda db: os.chmod(db, 0o640), id="a new mode"),
+        pytest.param(move_away_and_back, id="a FILE that was moved away and back"),
+        pytest.param(restore, id="a copy in the place of both"),
+    ],
+)
 def test_what_others_did_by_sqlite_or_put_back_is_taken(at_work: Office, change: Change) -> None:
     statuses, answer, lines, _ = answers_around(at_work, change)
     assert statuses == ["200", "200"] and answer.status == 0 and not any(line.startswith("fault") for line in lines)
@@ -558,6 +618,7 @@ def test_a_log_that_a_command_wrote_and_closed_is_taken(at_work: Office) -> None
 
 # Servers that stop or take long
 
+
 def test_a_server_whose_network_fails_ends_with_3(disks: list[Disk], work: str) -> None:
     office = disks[0]
     put(work, office.db)
@@ -567,7 +628,6 @@ def test_a_server_whose_network_fails_ends_with_3(disks: list[Disk], work: str) 
         office.disturb(0, NO_NETWORK, errno.EBADF)
         server.connect().close()
         assert server.has_ended(PATIENCE) and server.process.returncode == 3 and server.lines() == ["fault Net"]
-
 
 
 def test_a_command_waits_five_seconds_for_a_server_that_is_stopped(at_work: Office) -> None:
@@ -602,9 +662,11 @@ def test_behind_the_handshake_a_command_waits_for_its_answer_as_long_as_it_takes
 
 # Servers of another build, or that end or answer nothing, half or too much
 
+
 @contextlib.contextmanager
-def false_server(office: Office, greeting: bytes, reply: bytes | None = None, ends: bool = False
-                 ) -> Iterator[list[bytes]]:
+def false_server(
+    office: Office, greeting: bytes, reply: bytes | None = None, ends: bool = False
+) -> Iterator[list[bytes]]:
     """A socket of ours, which greets who comes, and ends or takes a byte, or replies where it has a reply; with what
     it took."""
     path, received = client.path_of(office), list[bytes]()
@@ -641,22 +703,36 @@ def greeting(at_work: Office) -> bytes:
         return client.take_parcel(peer)
 
 
-@pytest.mark.parametrize("other, ends", [
-    pytest.param(lambda ours: b"", True, id="nothing"), pytest.param(lambda ours: ours[:-1], True, id="half"),
-    pytest.param(lambda ours: client.parcel(b"toll 0.9"), False, id="another build"),
-    pytest.param(lambda ours: ours + b"x", False, id="a longer one"),
-    pytest.param(lambda ours: b"\xff\xff\xff\xff", False, id="a long parcel")])
-def test_another_greeting_is_asked_nothing(at_work: Office, greeting: bytes, other: Callable[[bytes], bytes], ends: bool
-                                           ) -> None:
+@pytest.mark.parametrize(
+    "other, ends",
+    [
+        pytest.param(lambda ours: b"", True, id="nothing"),
+        pytest.param(lambda ours: ours[:-1], True, id="half"),
+        pytest.param(lambda ours: client.parcel(b"toll 0.9"), False, id="another build"),
+        pytest.param(lambda ours: ours + b"x", False, id="a longer one"),
+        pytest.param(lambda ours: b"\xff\xff\xff\xff", False, id="a long parcel"),
+    ],
+)
+def test_another_greeting_is_asked_nothing(
+    at_work: Office, greeting: bytes, other: Callable[[bytes], bytes], ends: bool
+) -> None:
     assert greeting[4:].decode() == at_work.run([]).err.splitlines()[0]
     with false_server(at_work, other(greeting), ends=ends) as received:
         assert at_work.plant("unit-add", "U2") == ACCEPTED
     assert not any(received)
 
 
-@pytest.mark.parametrize("reply", [
-    b"", b"\0", client.answer(0, b"accepted\n")[:-1], client.answer(0, b"accepted\n") + b"x", client.parcel(b""),
-    client.parcel(b"\0\0\0\0\xff")])
+@pytest.mark.parametrize(
+    "reply",
+    [
+        b"",
+        b"\0",
+        client.answer(0, b"accepted\n")[:-1],
+        client.answer(0, b"accepted\n") + b"x",
+        client.parcel(b""),
+        client.parcel(b"\0\0\0\0\xff"),
+    ],
+)
 def test_a_command_that_is_taken_and_not_answered_is_lost(at_work: Office, greeting: bytes, reply: bytes) -> None:
     with false_server(at_work, greeting, reply):
         assert at_work.plant("unit-add", "U2") == LOST
@@ -672,8 +748,13 @@ def test_an_answer_is_passed_on_as_it_is(at_work: Office, greeting: bytes) -> No
 
 # Clients that end or are killed
 
-CUT = [b"\xff\xff\xff\xff", client.parcel(b"x"), client.parcel(client.parcel(b"unit-add\0U2\0") + b"\2"),
-       client.parcel(client.parcel(b"unit-add\0U2")), b"GET / HTTP/1.1\r\n\r\n"]
+CUT = [
+    b"\xff\xff\xff\xff",
+    client.parcel(b"x"),
+    client.parcel(client.parcel(b"unit-add\0U2\0") + b"\2"),
+    client.parcel(client.parcel(b"unit-add\0U2")),
+    b"GET / HTTP/1.1\r\n\r\n",
+]
 
 
 def test_of_a_client_that_ends_before_all_was_sent_nothing_is_done_and_of_one_behind_it_all(at_work: Office) -> None:
@@ -707,8 +788,12 @@ def test_a_command_that_is_killed_is_done_whole_or_not_at_all_and_the_server_goe
     with at_work.serve() as server:
         for turn in range(40):
             words = ["import", actuals] if turn % 4 == 0 else f"receive ACME X{turn} M L{turn} S 1 10".split()
-            process = subprocess.Popen([at_work.program, "--db", at_work.db, *words], stdout=subprocess.DEVNULL,
-                                       stderr=subprocess.DEVNULL, cwd=at_work.folder)
+            process = subprocess.Popen(
+                [at_work.program, "--db", at_work.db, *words],
+                stdout=subprocess.DEVNULL,
+                stderr=subprocess.DEVNULL,
+                cwd=at_work.folder,
+            )
             time.sleep(chance.uniform(0, 0.03))
             process.kill()
             process.wait()
@@ -720,8 +805,10 @@ def test_a_command_that_is_killed_is_done_whole_or_not_at_all_and_the_server_goe
 
 # A server that is killed at each of its calls over the file
 
+
 def wrong_kills(disks: list[Disk], base: str, words: list[str], done: list[Result], left: list[Any]) -> dict[str, Any]:
     """What is wrong where the server is killed before or after a call that the words have it make."""
+
     def attempt(office: Disk, point: tuple[int, int]) -> str:
         (answer, _), rows = answer_and_calls(office, *point), content(office.db)
         if rows not in left or answer not in (LOST, *done):
@@ -770,7 +857,7 @@ def test_what_is_accepted_while_servers_come_and_go_is_there_once(at_work: Offic
         return at_work.plant(*f"receive ACME {key} M {key} S 1 10".split())
 
     def receive(name: str, over: threading.Event) -> None:
-        for key in (f"{name}{number}" for number in range(10 ** 9)):
+        for key in (f"{name}{number}" for number in range(10**9)):
             if over.is_set():
                 return
             answers[key] = receipt(key)

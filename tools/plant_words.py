@@ -24,7 +24,9 @@ def lines_of_page():
 def choices_of_code():
     """The words of each value that is one of a list."""
     argument = (CRATES / "toll_plant" / "src" / "argument.rt").read_text()
-    functions = {name: re.search(rf"^fn {name}\(.*?^}}", argument, re.M | re.S).group() for name in ("role_of", "way_of")}
+    functions = {
+        name: re.search(rf"^fn {name}\(.*?^}}", argument, re.M | re.S).group() for name in ("role_of", "way_of")
+    }
     commands = (CRATES / "toll_base" / "src" / "state_command.rt").read_text()
     return {
         "USE": re.findall(r'is_word\(word, "(\w+)"\)', functions["role_of"]),
@@ -41,8 +43,11 @@ def choices_of_page():
 
 def differences():
     """What docs/commands.md and the code don't have in common, a line each."""
+
     def texts(lines, choices):
-        return {" ".join([name, *values]) for name, values in lines.items()} | {f"{name}: {', '.join(words)}" for name, words in choices.items()}
+        return {" ".join([name, *values]) for name, values in lines.items()} | {
+            f"{name}: {', '.join(words)}" for name, words in choices.items()
+        }
 
     code, page = texts(lines_of_code(), choices_of_code()), texts(lines_of_page(), choices_of_page())
     return [f"docs/commands.md and the code don't both have: {difference}" for difference in sorted(code ^ page)]

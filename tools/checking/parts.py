@@ -7,7 +7,7 @@ from typing import Any, Self
 ROOT = pathlib.Path(__file__).resolve().parent.parent.parent
 PYTHON = "/usr/bin/python3"  # Debian's, which has Debian's packages
 PROGRAM, FOLDER = "PROGRAM", "FOLDER"
-COMMANDS = {"python": [PYTHON], "pytest": [PYTHON, "-m", "pytest", "-q", "-p", "no:cacheprovider", "--tb=short"]}
+COMMANDS = {"python3": [PYTHON], "pytest-3": [PYTHON, "-m", "pytest", "-q", "-p", "no:cacheprovider", "--tb=short"]}
 GB = 1_000_000_000
 TABLES = tomllib.loads(pathlib.Path(__file__).with_name("parts.toml").read_text())
 SKIPPED: dict[str, str] = TABLES["skipped"]
@@ -50,5 +50,5 @@ BESIDE, (PROOFS, UNPROVED), BEHIND = (
 
 
 def parts(is_quick: bool = False) -> list[Part]:
-    """All parts in the order in which they begin; with an unproved build in place of the proofs if it is to be quick."""
+    """All parts in the order in which they begin; with an unproved build in place of the proofs if it is quick."""
     return [*BESIDE, UNPROVED if is_quick else PROOFS, *BEHIND]

@@ -25,7 +25,7 @@ MEMORY_BESIDE = 2.5 * GB  # bytes that the proofs leave to a part, if there is s
 LOWERED = 5  # the niceness of what runs beside the proofs and needs no program
 MOST_LINES, LAST_LINES = 400, 40  # of a part that failed, and once more at the end, since a log may be cut at its front
 MAKERS = (PROOFS, UNPROVED)  # which are run once: what tried the program meanwhile tried an older one
-# How a fault's line begins: that of pytest, of what tries the page or the packages, and of node; else one of a file's line.
+# How a fault's line begins: that of pytest, of what tries the page or packages, and of node; else one of a file's line.
 FAULTS = [re.compile(r"(?:FAILED |ERROR |WRONG: |\s*(?=not ok ))(.*)"), re.compile(r"(?=[\w./-]+:\d+:)(.*)")]
 LONGEST_FAULT = 160  # letters
 SECONDS_TO_END, ROOM_IN_MEMORY = 10.0, 2 * GB
@@ -97,9 +97,9 @@ def folder_for_tests() -> str | None:
 
 @dataclasses.dataclass
 class Runner:
-    """Runs parts side by side, each with all that it starts in a session of its own, which ends with it; each as soon as
-    the processors and the memory that it takes are free and, if it needs the program, that is there. The part that makes
-    the program leaves one processor at least to the others, and all that it doesn't take."""
+    """Runs parts side by side, each with all that it starts in a session of its own, which ends with it; each as soon
+    as the processors and the memory that it takes are free and, if it needs the program, that is there. The part that
+    makes the program leaves one processor at least to the others, and all that it doesn't take."""
 
     program: pathlib.Path
     processors: int = 1
@@ -249,8 +249,9 @@ def maker_of(wanted: list[Part], processors: int, memory: float) -> Part | None:
 
 
 async def gate(program: pathlib.Path, wanted: list[Part]) -> Runner:
-    """Runs the parts: the one that makes the program, beside it those that need none, and those that try the program once
-    it is there. Behind all others, those that failed are run once more, each alone, since a failure may be bad luck."""
+    """Runs the parts: the one that makes the program, beside it those that need none, and those that try the program
+    once it is there. Behind all others, those that failed are run once more, each alone, since a failure may be bad luck.
+    """
     runner = Runner(program, len(os.sched_getaffinity(0)), free_memory())
     maker = maker_of(wanted, runner.processors, runner.memory)
     others = [part for part in wanted if part not in MAKERS]

@@ -19,6 +19,7 @@ PATIENCE = 60  # seconds without more output
 @dataclass
 class Example:
     """A command of a page: the number of its line, and the lines that it prints."""
+
     line: int
     command: str
     printed: list[str]
@@ -47,8 +48,16 @@ class Shell:
     """A shell in the folder of a page. It ends with all that the page left running."""
 
     def __init__(self, folder: Path, environment: dict[str, str]) -> None:
-        self.process = subprocess.Popen(["bash", "--norc"], stdin=subprocess.PIPE, stdout=subprocess.PIPE, bufsize=0,
-                                        stderr=subprocess.STDOUT, cwd=folder, env=environment, start_new_session=True)
+        self.process = subprocess.Popen(
+            ["bash", "--norc"],
+            stdin=subprocess.PIPE,
+            stdout=subprocess.PIPE,
+            bufsize=0,
+            stderr=subprocess.STDOUT,
+            cwd=folder,
+            env=environment,
+            start_new_session=True,
+        )
         assert self.process.stdin and self.process.stdout
         self.stdin, self.stdout = self.process.stdin, self.process.stdout
 
@@ -81,9 +90,14 @@ def shell_of_page(root: Path, toll: Path, hilpoven: Path) -> Iterator[Shell]:
         (folder / "plant" / "bin").mkdir(parents=True)
         (folder / "toll").write_text(f'#!/bin/sh\nexec "{toll}" "$@"\n')
         (folder / "toll").chmod(0o755)
-        for link, target in {programs / "toll": folder / "toll", programs / "hilpoven": hilpoven,
-                             folder / "plant" / "bin" / "hilpoven": hilpoven, folder / "docs": root / "docs",
-                             folder / "demo": root / "demo", folder / "tools": root / "tools"}.items():
+        for link, target in {
+            programs / "toll": folder / "toll",
+            programs / "hilpoven": hilpoven,
+            folder / "plant" / "bin" / "hilpoven": hilpoven,
+            folder / "docs": root / "docs",
+            folder / "demo": root / "demo",
+            folder / "tools": root / "tools",
+        }.items():
             link.symlink_to(target)
         environment = {**os.environ, "LC_ALL": "C.UTF-8", "TOLL": str(toll), "PATH": f"{programs}:{os.environ['PATH']}"}
         shell = Shell(folder, environment)
@@ -104,9 +118,14 @@ def check(page: Path, examples: list[Example], shell: Shell) -> int:
             printed, is_over = str(why).split("\n"), True
         passed += printed == expected
         if printed != expected:
-            print(f"{page}:{example.line}: {example.command}",
-                  "  the page says:", *(f"    {line}" for line in expected),
-                  "  it prints:", *(f"    {line}" for line in printed), sep="\n")
+            print(
+                f"{page}:{example.line}: {example.command}",
+                "  the page says:",
+                *(f"    {line}" for line in expected),
+                "  it prints:",
+                *(f"    {line}" for line in printed),
+                sep="\n",
+            )
         if is_over:
             break
     return passed

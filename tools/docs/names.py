@@ -6,14 +6,24 @@ from pathlib import Path
 from .sources import DEFINED, Sources
 
 # The pages that describe the code: each of their names is one of the repository's.
-PAGES = ("README.md", "CONTRIBUTING.md", "CHANGELOG.md",
-         *(f"docs/{name}.md" for name in "PROVED PROMISES DEFINITIONS ARCHITECTURE DECISIONS GLOSSARY".split()))
+PAGES = (
+    "README.md",
+    "CONTRIBUTING.md",
+    "CHANGELOG.md",
+    *(f"docs/{name}.md" for name in "PROVED PROMISES DEFINITIONS ARCHITECTURE DECISIONS GLOSSARY".split()),
+)
 OTHERS = set("hilpoven bash curl sh flock python3 sqlite3 rt help import use stdout server Clone Display Net".split())
 QUOTED = re.compile(r"`([^`]+)`")
 LINKED = re.compile(r"\]\(([^):#]+)\)")
-DECLARED = [re.compile(form, re.M) for form in (
-    r"\bfn (\w+)", r"\b(?:struct|enum|trait|type|const|static|mod|macro_rules!) (\w+)", r"^\s+(?:pub )?(\w+)\s*[:,({=]",
-    r"\b(?:ensures|ghost) (\w+) ")]
+DECLARED = [
+    re.compile(form, re.M)
+    for form in (
+        r"\bfn (\w+)",
+        r"\b(?:struct|enum|trait|type|const|static|mod|macro_rules!) (\w+)",
+        r"^\s+(?:pub )?(\w+)\s*[:,({=]",
+        r"\b(?:ensures|ghost) (\w+) ",
+    )
+]
 FOLDERS = "tools|demo|docs|page|packaging|crates|plant|bench|tests"
 FILE = re.compile(rf"[\w./-]+\.(?:rt|antt|py|md|txt|toll|out|yaml|csv|sql|png|svg|1)|(?:{FOLDERS})/[\w./-]*")
 PATH = re.compile(rf"(?:{FOLDERS})/[\w@./-]*\w")
@@ -40,12 +50,24 @@ class Pages:
         self.rows = dict(re.findall(r"^(\w+):(.*)", re.sub(r"#.*", "", (root / "crates.txt").read_text()), re.M))
         crates = [path for path in sources.crates.iterdir() if path.is_dir()]
         files = [*crates, *sources.specs, *sources.proofs, *sources.crates.glob("*/must-fail/*.edit")]
-        self.names = OTHERS.union((path.stem for path in files), self.rows, " ".join(self.rows.values()).split(),
-                                  declared(sources.code, *DECLARED), declared(sources.specs | sources.proofs, DEFINED))
+        self.names = OTHERS.union(
+            (path.stem for path in files),
+            self.rows,
+            " ".join(self.rows.values()).split(),
+            declared(sources.code, *DECLARED),
+            declared(sources.specs | sources.proofs, DEFINED),
+        )
         self.code_files = {name for path in sources.code for name in (path.name, f"{path.parent.name}/{path.name}")}
         plant = root / "plant" / "src" / "hilpoven"
-        self.folders = [root, root / "docs", plant, *plant.glob("**/"), sources.crates, *crates,
-                        *(crate / "specs" for crate in crates)]
+        self.folders = [
+            root,
+            root / "docs",
+            plant,
+            *plant.glob("**/"),
+            sources.crates,
+            *crates,
+            *(crate / "specs" for crate in crates),
+        ]
 
     def mistakes(self) -> Iterator[str]:
         """What is wrong on the pages, a line each."""
@@ -93,9 +115,13 @@ class Pages:
             if len(cells) != 3 or not re.fullmatch(r"[\d,]+", cells[2]):
                 continue
             wanted = {crate: names for crate, names in re.findall(r"`(\w+)/specs`(?:: ([\w, ]+))?", cells[1])}
-            lines = sum(text.count("\n") for path, text in self.sources.specs.items() if path.stem != "Lib"
-                        and (names := wanted.get(path.parent.parent.name)) is not None
-                        and (not names or path.stem in names.split(", ")))
+            lines = sum(
+                text.count("\n")
+                for path, text in self.sources.specs.items()
+                if path.stem != "Lib"
+                and (names := wanted.get(path.parent.parent.name)) is not None
+                and (not names or path.stem in names.split(", "))
+            )
             if lines != int(cells[2].replace(",", "")):
                 yield f"docs/{page.name}:{number}: {lines} lines, not {cells[2]}"
 

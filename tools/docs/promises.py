@@ -30,6 +30,7 @@ that there is none: the clauses carry the promise alone.
 @dataclass(frozen=True)
 class Promise:
     """A sentence of docs/PROVED.md, the laws that it names with their clauses, and the functions behind these names."""
+
     number: str
     words: str
     laws: list[tuple[str, list[str]]]
@@ -39,6 +40,7 @@ class Promise:
 @dataclass(frozen=True)
 class WrongBody:
     """A file of must-fail/: the promise that it guards, with those of its words that say so, and its replacements."""
+
     path: Path
     promise: str
     words: str
@@ -71,8 +73,12 @@ def quoted(names: Iterable[str]) -> str:
 
 def definitions_of(promise: Promise, sources: Sources) -> str:
     """The definitions in its clauses: the checks of a decision, and those that the fewest functions cite."""
-    cited = [(item, name) for item, clauses in promise.items for text in item.clause_texts(clauses)
-             for name in sources.cited(item, text)]
+    cited = [
+        (item, name)
+        for item, clauses in promise.items
+        for text in item.clause_texts(clauses)
+        for name in sources.cited(item, text)
+    ]
     decisions = dict.fromkeys(item.name for item, name in cited if name.startswith("Decides"))
     checks = [f"{word}_checks" for name in decisions for word in name.split("_")]
     of_file = collections.defaultdict[Place | None, list[str]](list)

@@ -21,6 +21,7 @@ Place = tuple[str, str]  # a crate, and a file of it
 @dataclass(frozen=True)
 class Item:
     """A function or a constant, with its type if it is a method."""
+
     crate: str
     file: str
     owner: str
@@ -97,8 +98,11 @@ class Sources:
     def cited(self, item: Item, clause: str) -> list[str]:
         """The definitions that a clause cites as statements: no types of what it speaks of, actions or examples."""
         names = re.findall(r"[A-Za-z_]\w*", re.sub(r"\(([^()]*) : [^()]*(?:\([^()]*\))*[^()]*\)", "", clause))
-        return [name for name in names if name in self.imports(item.crate, item.file)
-                and (self.file_of(item, name) or UNSTATED)[1] not in UNSTATED]
+        return [
+            name
+            for name in names
+            if name in self.imports(item.crate, item.file) and (self.file_of(item, name) or UNSTATED)[1] not in UNSTATED
+        ]
 
     @functools.cache
     def imports(self, crate: str, file: str) -> dict[str, Place]:
@@ -114,11 +118,18 @@ class Sources:
         """The file of the definition that a clause of this item cites by this name."""
         places = self.definitions.get(name, [])
         place = self.imports(item.crate, item.file).get(name, (item.crate, ""))
-        exact = [candidate for candidate in places if candidate == place] or [candidate for candidate in places if candidate[0] == place[0]] or places
+        exact = (
+            [candidate for candidate in places if candidate == place]
+            or [candidate for candidate in places if candidate[0] == place[0]]
+            or places
+        )
         return exact[0] if exact else None
 
     @functools.cached_property
     def citations(self) -> collections.Counter[str]:
         """How many functions cite each definition."""
-        return collections.Counter(name for item in self.items
-                                   for name in {name for _, text in item.clauses() for name in self.cited(item, text)})
+        return collections.Counter(
+            name
+            for item in self.items
+            for name in {name for _, text in item.clauses() for name in self.cited(item, text)}
+        )

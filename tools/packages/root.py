@@ -10,12 +10,19 @@ from . import ROOT, Failed, output
 
 SUITE = "bookworm"
 SESSIONS = ROOT / "tools/packages/sessions"
-ENVIRONMENT = {"PATH": "/usr/local/sbin:/usr/local/bin:/usr/sbin:/usr/bin:/sbin:/bin", "HOME": "/root",
-               "LC_ALL": "C.UTF-8", "DEBIAN_FRONTEND": "noninteractive"}
+ENVIRONMENT = {
+    "PATH": "/usr/local/sbin:/usr/local/bin:/usr/sbin:/usr/bin:/sbin:/bin",
+    "HOME": "/root",
+    "LC_ALL": "C.UTF-8",
+    "DEBIAN_FRONTEND": "noninteractive",
+}
 AS_TOLL = "setpriv --reuid toll --regid toll --clear-groups"
 # What sessions know. A unit may listen at a port below 1024, which its user may not.
-VARIABLES = {"OFFICE": "/var/lib/toll/acme/office.db", "AS_TOLL": AS_TOLL,
-             "AS_UNIT": f"{AS_TOLL} --inh-caps +net_bind_service --ambient-caps +net_bind_service"}
+VARIABLES = {
+    "OFFICE": "/var/lib/toll/acme/office.db",
+    "AS_TOLL": AS_TOLL,
+    "AS_UNIT": f"{AS_TOLL} --inh-caps +net_bind_service --ambient-caps +net_bind_service",
+}
 # Mounts last as long as the processes that see them, and those end with the first of them.
 WITHIN = """
 set -e
@@ -28,8 +35,18 @@ mount --bind "$archives" "$root/var/cache/apt/archives"
 exec chroot "$root" sh -c "$script" < /dev/null
 """
 UNSHARE = ["unshare", "--mount", "--pid", "--fork", "--kill-child"]
-BOOT = [*UNSHARE, "--mount-proc", "systemd-nspawn", "--boot", "--register=no", "--keep-unit", "--private-network",
-        "--console=pipe", "--capability=all", "--system-call-filter=bpf"]
+BOOT = [
+    *UNSHARE,
+    "--mount-proc",
+    "systemd-nspawn",
+    "--boot",
+    "--register=no",
+    "--keep-unit",
+    "--private-network",
+    "--console=pipe",
+    "--capability=all",
+    "--system-call-filter=bpf",
+]
 
 
 def make_base(folder: pathlib.Path, mirror: str) -> pathlib.Path:
@@ -71,8 +88,13 @@ class Root:
         unit.write_text("[Service]\nType=oneshot\nExecStart=sh /root/script\n")
         wanted = unit.parent / "multi-user.target.wants" / unit.name
         wanted.symlink_to(f"../{unit.name}")
-        console = output(*BOOT, "-D", self.folder, stdin=subprocess.DEVNULL,
-                         env={**os.environ, "SYSTEMD_NSPAWN_UNIFIED_HIERARCHY": "1"})
+        console = output(
+            *BOOT,
+            "-D",
+            self.folder,
+            stdin=subprocess.DEVNULL,
+            env={**os.environ, "SYSTEMD_NSPAWN_UNIFIED_HIERARCHY": "1"},
+        )
         wanted.unlink()
         unit.unlink()
         if not printed.exists():

@@ -29,6 +29,7 @@ TABLES = re.findall(r'"(CREATE TABLE .*?)"', KINDS)
 
 # Offices
 
+
 @pytest.mark.parametrize("genealogy", [*map(Dense, (1, 10, 20, 50, 100)), Genealogy(19_900), offices.AT_THE_LIMITS])
 def test_a_genealogy_keeps_the_limits_of_an_owner(genealogy: Dense | Genealogy) -> None:
     rows = list(genealogy.moves("OWNER-01"))
@@ -55,7 +56,7 @@ def test_a_dense_genealogy_has_all_edges_between_neighbours(across: int, batches
 
 def test_half_of_a_dense_genealogy_is_the_front_of_all() -> None:
     half = list(Dense(20, 2).moves("O"))
-    assert Dense(20, 2).batches == 125 and list(Dense(20).moves("O"))[:len(half)] == half
+    assert Dense(20, 2).batches == 125 and list(Dense(20).moves("O"))[: len(half)] == half
 
 
 def test_a_second_file_of_actuals_goes_on_behind_the_first() -> None:
@@ -76,11 +77,14 @@ def test_later_names_sort_behind_earlier_ones() -> None:
 
 # What stands beside
 
+
 @pytest.fixture
 def base(tmp_path: Path) -> Iterator[beside.Base]:
     """The office's tables with an owner's lot of 1,000, of which a batch consumes."""
     base = beside.Base(":memory:")
-    base.base.executescript(";".join(TABLES) + """;
+    base.base.executescript(
+        ";".join(TABLES)
+        + """;
         INSERT INTO owners VALUES ('ACME', 'KEY');
         INSERT INTO recipes VALUES ('ACME', 'R', 1);
         INSERT INTO orders VALUES ('ACME', 'O-1', 'R', 1, 0);
@@ -89,7 +93,8 @@ def base(tmp_path: Path) -> Iterator[beside.Base]:
         INSERT INTO lots VALUES ('ACME', 'S-1', 'SALT', '', 0, 1);
         INSERT INTO sublots VALUES ('ACME', 'S-1', 'BAY1', 1000);
         INSERT INTO requirements VALUES ('ACME', 'R', 1, 0, 'ACME', 'SALT', 1), ('ACME', 'R', 1, 1, 'ACME', 'SALT', 1);
-    """)
+    """
+    )
     base.base.execute(offices.MOVE, offices.receipt("ACME", "K1", "S-1", "SALT"))
     yield base
     base.base.close()
@@ -111,8 +116,9 @@ USED = "C1,ACME,O-1,1,1,consumed,SALT,ACME,S-1,BAY1,10,101\n"
 MADE = "C3,ACME,O-1,1,1,produced,SALT,ACME,P-1,BAY1,7,101\n"
 
 
-def test_an_import_beside_writes_by_an_index_what_recalls_and_stock_print(base: beside.Base, tmp_path: Path,
-                                                                          capsys: Output) -> None:
+def test_an_import_beside_writes_by_an_index_what_recalls_and_stock_print(
+    base: beside.Base, tmp_path: Path, capsys: Output
+) -> None:
     (tmp_path / "lines").write_text(HEAD + USED + USED.replace("C1", "C2") + MADE)
     base.import_(str(tmp_path / "lines"))
     assert capsys.readouterr().out.splitlines()[-1] == "accepted 3 repeated 0 refused 0 bad 0 fault 0"
@@ -121,13 +127,29 @@ def test_an_import_beside_writes_by_an_index_what_recalls_and_stock_print(base: 
     base.recall("ACME", "S-1")
     base.stock("ACME")
     assert [" ".join(line.split()) for line in capsys.readouterr().out.splitlines()] == [
-        "0 ACME S-1", "1 ACME P-1", "steps owner lot disposition on-hand shipped", "0 ACME S-1 released 980 0",
-        "1 ACME P-1 quarantined 7 0", "P-1 BAY1 SALT quarantined 7 kg", "S-1 BAY1 SALT released 980 kg"]
+        "0 ACME S-1",
+        "1 ACME P-1",
+        "steps owner lot disposition on-hand shipped",
+        "0 ACME S-1 released 980 0",
+        "1 ACME P-1 quarantined 7 0",
+        "P-1 BAY1 SALT quarantined 7 kg",
+        "S-1 BAY1 SALT released 980 kg",
+    ]
 
 
-@pytest.mark.parametrize("old, new", [
-    ("C1", "K1"), ("O-1,1", "O-1,2"), ("consumed", "produced"), ("S-1", "S-2"), ("BAY1", "BAY2"), (",10,", ",1001,"),
-    ("SALT", "SUGAR"), ("1,1,consumed", "1,2,consumed")])
+@pytest.mark.parametrize(
+    "old, new",
+    [
+        ("C1", "K1"),
+        ("O-1,1", "O-1,2"),
+        ("consumed", "produced"),
+        ("S-1", "S-2"),
+        ("BAY1", "BAY2"),
+        (",10,", ",1001,"),
+        ("SALT", "SUGAR"),
+        ("1,1,consumed", "1,2,consumed"),
+    ],
+)
 def test_an_import_beside_looks_before_it_writes(base: beside.Base, tmp_path: Path, old: str, new: str) -> None:
     (tmp_path / "lines").write_text(HEAD + USED.replace(old, new))
     with pytest.raises(beside.Refused):
@@ -147,6 +169,7 @@ def test_columns_are_those_of_the_office() -> None:
 
 # Clients that connect and send nothing
 
+
 @pytest.mark.parametrize("family", [socket.AF_INET, socket.AF_UNIX])
 def test_so_many_connections_come_in_a_second_until_the_end(tmp_path: Path, family: socket.AddressFamily) -> None:
     with socket.socket(family) as door:
@@ -164,6 +187,7 @@ def test_so_many_connections_come_in_a_second_until_the_end(tmp_path: Path, fami
 
 
 # What is counted
+
 
 def test_instructions_are_those_of_the_program(tmp_path: Path) -> None:
     def of(count: int) -> float:
@@ -202,6 +226,7 @@ def test_calls_of_the_system_are_those_of_a_process_meanwhile() -> None:
 
 # Tables
 
+
 def test_a_table_has_ratios_and_growths_of_what_the_first_program_takes() -> None:
     figures = {"work": 0.2, "small": 0.0012, "count": 1_800, "ratio": Number(1.366)}
     first, other = Column("A", Path("a"), figures=figures), Column("B", Path("b"), figures={"work": 0.4, "other": 1.0})
@@ -209,10 +234,14 @@ def test_a_table_has_ratios_and_growths_of_what_the_first_program_takes() -> Non
     half = Column("half", Path("a"), 2, True, {"work": 946.0, "ratio": Number(1)})
     python = Column("Python", None, figures={"work": math.nan})
     assert [*lines("works", [first, other, python, counted], half)] == [
-        "| works | A | B | A / B | Python | A: M | growth |", "|---" * 7 + "|",
-        "| work | 200 ms | 400 ms | 0.50 |  | 1,892.00 | 1.00 |", "| small | 1.20 ms |  |  |  |  |  |",
-        "| count | 1,800 |  |  |  |  |  |", "| ratio | 1.37 |  |  |  | 2.00 |  |",
-        "| other |  | 1,000 ms |  |  |  |  |"]
+        "| works | A | B | A / B | Python | A: M | growth |",
+        "|---" * 7 + "|",
+        "| work | 200 ms | 400 ms | 0.50 |  | 1,892.00 | 1.00 |",
+        "| small | 1.20 ms |  |  |  |  |  |",
+        "| count | 1,800 |  |  |  |  |  |",
+        "| ratio | 1.37 |  |  |  | 2.00 |  |",
+        "| other |  | 1,000 ms |  |  |  |  |",
+    ]
 
 
 def test_rows_that_grow_faster_than_the_size_may_are_named() -> None:
@@ -247,8 +276,9 @@ def test_programs_take_turns_and_what_they_print_is_compared(tmp_path: Path) -> 
     assert measure(work, [columns[0], columns[3]], 1, str(tmp_path)) == []
 
 
-@pytest.mark.parametrize("words", [["--no-such"], ["nothing"], ["--runs", "x"], ["--program", "/etc/passwd"],
-                                   ["--instructions", "attacks"]])
+@pytest.mark.parametrize(
+    "words", [["--no-such"], ["nothing"], ["--runs", "x"], ["--program", "/etc/passwd"], ["--instructions", "attacks"]]
+)
 def test_a_wrong_use_has_status_2(words: list[str]) -> None:
     done = subprocess.run(["/usr/bin/python3", ROOT / "bench" / "run", *words], capture_output=True, text=True)
     assert done.returncode == 2 and done.stdout == ""
@@ -258,6 +288,7 @@ def test_a_wrong_use_has_status_2(words: list[str]) -> None:
 def test_a_package_that_is_missing_is_named(tmp_path: Path, word: str, package: str) -> None:
     for name in {"hyperfine", "wrk", "curl", "valgrind", "strace"} - {package}:
         script(tmp_path / name, "")
-    done = subprocess.run(["/usr/bin/python3", ROOT / "bench" / "run", word], capture_output=True, text=True,
-                          env={"PATH": str(tmp_path)})
+    done = subprocess.run(
+        ["/usr/bin/python3", ROOT / "bench" / "run", word], capture_output=True, text=True, env={"PATH": str(tmp_path)}
+    )
     assert done.returncode == 2 and done.stderr.splitlines()[-1].endswith(f"error: Debian's {package} is missing")

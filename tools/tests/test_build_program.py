@@ -11,7 +11,7 @@ import pytest
 from conftest import ROOT, eventually
 
 # As `rt`, it builds what isn't built of the same text, in out/rlib, with a stamp behind all else. It notes what it does.
-RT = r'''#!/usr/bin/python3
+RT = r"""#!/usr/bin/python3
 import hashlib, os, pathlib, shutil, subprocess, sys, time
 told = pathlib.Path(os.environ["TOLD"])
 verb, words = sys.argv[1], sys.argv[2:]
@@ -70,7 +70,7 @@ else:
 note(f"end {name}")
 if verb == "run":
     sys.exit(subprocess.run([out / name, "script"]).returncode)
-'''
+"""
 
 # `long` is the longest chain. What the program doesn't stand on is never built.
 CRATES = """# The crates, lowest first.
@@ -263,7 +263,14 @@ def test_what_rt_built_by_itself_stays(built):
     assert sorted(built.noted("same")) == sorted(LIBRARIES) and built.noted() == []
 
 
-@pytest.mark.parametrize("change", [lambda out: shutil.rmtree(out / "rlib"), lambda out: (out / "rlib" / "stamp").unlink(), lambda out: (out / "rlib" / "stamp").write_text("other")])
+@pytest.mark.parametrize(
+    "change",
+    [
+        lambda out: shutil.rmtree(out / "rlib"),
+        lambda out: (out / "rlib" / "stamp").unlink(),
+        lambda out: (out / "rlib" / "stamp").write_text("other"),
+    ],
+)
 def test_a_library_that_something_else_took_or_made_is_not_taken_for_built(built, change):
     change(built.out("mid_b"))
     assert built.build().returncode == 0
@@ -291,8 +298,13 @@ def test_a_crate_that_fails_stops_what_stands_on_it_and_is_told(repository):
     assert (done.returncode, done.out) == (3, "")
     assert sorted(repository.noted()) == ["low", "mid_a", "mid_b", "short", "wide"]
     log = repository.out("mid_b") / "build.log"
-    lines = ["mid_b failed:", "    src/lib.rt:3:1: error[unknown-name]: there is no mid_b", "    note: src/lib.rt:4:1: it is not proved that it returns",
-            "    fn it::ill: no proof: write it", f"    all that was said: {log}"]
+    lines = [
+        "mid_b failed:",
+        "    src/lib.rt:3:1: error[unknown-name]: there is no mid_b",
+        "    note: src/lib.rt:4:1: it is not proved that it returns",
+        "    fn it::ill: no proof: write it",
+        f"    all that was said: {log}",
+    ]
     assert "".join(f"toll: {line}\n" for line in lines) in done.err
     assert done.err.endswith("toll: mid_b failed; above it were left: 2\ntoll: the program couldn't be built\n")
     assert "nothing was built" in log.read_text() and repository.is_clean()
@@ -309,14 +321,23 @@ def test_a_program_stays_where_the_next_cannot_be_built(built):
 
 
 def test_a_library_that_rt_leaves_without_a_stamp_has_failed(repository):
-    repository.rt.write_text(RT.replace('(out / "rlib" / "stamp").write_text(stamp(name))', 'print("the text changed")'))
+    repository.rt.write_text(
+        RT.replace('(out / "rlib" / "stamp").write_text(stamp(name))', 'print("the text changed")')
+    )
     done = repository.toll("script")
     assert done.returncode == 3 and "toll: low failed:\ntoll:     the text changed\n" in done.err
 
 
-@pytest.mark.parametrize("number, program, status", [
-    (signal.SIGINT, "toll", 130), (signal.SIGTERM, "toll", 143), (signal.SIGHUP, "toll", 129),
-    (signal.SIGINT, "tools/build-program", 130), (signal.SIGTERM, "tools/build-program", 143)])
+@pytest.mark.parametrize(
+    "number, program, status",
+    [
+        (signal.SIGINT, "toll", 130),
+        (signal.SIGTERM, "toll", 143),
+        (signal.SIGHUP, "toll", 129),
+        (signal.SIGINT, "tools/build-program", 130),
+        (signal.SIGTERM, "tools/build-program", 143),
+    ],
+)
 def test_ended_by_a_signal_it_leaves_nothing_but_what_was_finished(repository, number, program, status):
     repository.write("mid_a", "seconds 300\n")
     process = repository.start(program=program)
@@ -325,7 +346,9 @@ def test_ended_by_a_signal_it_leaves_nothing_but_what_was_finished(repository, n
     assert process.wait(20) == status
     child = int((repository.notes / "pid-mid_a").read_text())
     assert eventually(lambda: not os.path.exists(f"/proc/{child}")) and repository.is_clean()
-    assert (repository.out("mid_a") / "incremental" / "kept.oantt").exists() and not (repository.out("mid_a") / "rlib").exists()
+    assert (repository.out("mid_a") / "incremental" / "kept.oantt").exists() and not (
+        repository.out("mid_a") / "rlib"
+    ).exists()
     repository.forget()
     repository.write("mid_a", "seconds 0.1\n")
     assert repository.toll("script").returncode == 0
@@ -352,18 +375,35 @@ os._exit(0)
 
 
 def test_a_signal_at_any_moment_ends_the_build(tmp_path):
-    (tmp_path / "program.py").write_text((ROOT / "tools/build-program").read_text().replace("sys.exit(main())\n", MANY_SIGNALS))
-    done = subprocess.run(["/usr/bin/python3", tmp_path / "program.py"], capture_output=True, text=True, timeout=PATIENCE, preexec_fn=heed_signals)
+    (tmp_path / "program.py").write_text(
+        (ROOT / "tools/build-program").read_text().replace("sys.exit(main())\n", MANY_SIGNALS)
+    )
+    done = subprocess.run(
+        ["/usr/bin/python3", tmp_path / "program.py"],
+        capture_output=True,
+        text=True,
+        timeout=PATIENCE,
+        preexec_fn=heed_signals,
+    )
     assert done.returncode == 0 and "on it goes" in done.stderr, done.stderr
 
 
 def test_ctrl_c_ends_all_at_once(repository):
     repository.write("low", "seconds 300\n")
-    how = {"stdin": subprocess.DEVNULL, "stderr": subprocess.PIPE, "text": True, "start_new_session": True, "preexec_fn": heed_signals}
+    how = {
+        "stdin": subprocess.DEVNULL,
+        "stderr": subprocess.PIPE,
+        "text": True,
+        "start_new_session": True,
+        "preexec_fn": heed_signals,
+    }
     process = subprocess.Popen([repository.folder / "toll", "script"], env=repository.environment, **how)
     assert eventually(lambda: (repository.notes / "pid-low").exists())
     os.killpg(process.pid, signal.SIGINT)
-    assert "the building was ended; what is proved stays" in process.communicate(timeout=20)[1] and process.returncode == 130
+    assert (
+        "the building was ended; what is proved stays" in process.communicate(timeout=20)[1]
+        and process.returncode == 130
+    )
     assert repository.is_clean()
 
 
@@ -372,7 +412,10 @@ def test_of_two_at_once_the_second_waits(repository):
     first = repository.start("first")
     assert eventually(lambda: repository.has_begun("low"))
     second = repository.toll("second")
-    assert second.out == "ran second\n" and "toll: another build of the program is under way here, and this one waits for it\n" in second.err
+    assert (
+        second.out == "ran second\n"
+        and "toll: another build of the program is under way here, and this one waits for it\n" in second.err
+    )
     assert first.communicate(timeout=PATIENCE)[0] == "ran first\n" and sorted(repository.noted()) == sorted(ALL)
 
 
@@ -397,7 +440,10 @@ def test_it_waits_for_another_rt_in_a_crate(repository):
     assert not repository.has_begun("mid_a")
     os.close(lock)
     out, err = process.communicate(timeout=PATIENCE)
-    assert out == "ran script\n" and err.count("toll: another rt works in crates/mid_a, and what needs that waits for it\n") == 1
+    assert (
+        out == "ran script\n"
+        and err.count("toll: another rt works in crates/mid_a, and what needs that waits for it\n") == 1
+    )
 
 
 # A crate is given back while a process of this build's has just begun, and doesn't run its own program yet.
@@ -415,8 +461,12 @@ os._exit(0)
 
 
 def test_a_process_that_has_just_begun_keeps_no_crate(tmp_path):
-    (tmp_path / "program.py").write_text((ROOT / "tools/build-program").read_text().replace("sys.exit(main())\n", FORKING))
-    done = subprocess.run(["/usr/bin/python3", "-u", tmp_path / "program.py", tmp_path], capture_output=True, text=True, timeout=PATIENCE)
+    (tmp_path / "program.py").write_text(
+        (ROOT / "tools/build-program").read_text().replace("sys.exit(main())\n", FORKING)
+    )
+    done = subprocess.run(
+        ["/usr/bin/python3", "-u", tmp_path / "program.py", tmp_path], capture_output=True, text=True, timeout=PATIENCE
+    )
     assert (done.stdout, done.stderr) == ("free\n", "")
 
 
@@ -425,13 +475,22 @@ def test_it_tells_how_far_it_is_and_how_long_it_may_take(repository):
     repository.write("mid_a", "fn it\n" * 3000)
     lines = repository.build("--jobs", "1", "--every", "0.3").err.splitlines()
     form = r"toll: \d of 7 crates are proved(, (some \d+ minutes|about a minute) to go)?( \([\w, ]+\))?"
-    assert lines[0].startswith("toll: building the program: ") and all(re.fullmatch(form, line) for line in lines[1:]), lines
-    assert lines[1] == "toll: 0 of 7 crates are proved, some 7 minutes to go (low)" and lines[-1] == "toll: 7 of 7 crates are proved"
+    assert lines[0].startswith("toll: building the program: ") and all(
+        re.fullmatch(form, line) for line in lines[1:]
+    ), lines
+    assert (
+        lines[1] == "toll: 0 of 7 crates are proved, some 7 minutes to go (low)"
+        and lines[-1] == "toll: 7 of 7 crates are proved"
+    )
     assert sum("(wide)" in line for line in lines) >= 3
 
 
 def test_it_tells_within_thirty_seconds_by_itself():
-    assert 10 <= float(re.search(r'"--every", type=float, default=(\d+)', (ROOT / "tools/build-program").read_text())[1]) <= 30
+    assert (
+        10
+        <= float(re.search(r'"--every", type=float, default=(\d+)', (ROOT / "tools/build-program").read_text())[1])
+        <= 30
+    )
 
 
 def test_a_wrong_use_has_status_2(repository):
@@ -440,14 +499,22 @@ def test_a_wrong_use_has_status_2(repository):
 
 def test_with_no_toolchain_it_says_so(repository):
     repository.rt.unlink()
-    repository.environment["PATH"] = ":".join(folder for folder in repository.environment["PATH"].split(":") if not os.path.exists(f"{folder}/rt"))
+    repository.environment["PATH"] = ":".join(
+        folder for folder in repository.environment["PATH"].split(":") if not os.path.exists(f"{folder}/rt")
+    )
     done = repository.toll("script")
-    assert (done.returncode, done.out, done.err) == (3, "", "toll: the toolchain's command rt isn't here, and the program isn't built\n")
+    assert (done.returncode, done.out, done.err) == (
+        3,
+        "",
+        "toll: the toolchain's command rt isn't here, and the program isn't built\n",
+    )
 
 
 def test_it_copies_where_there_are_no_hard_links(repository, tmp_path):
     (tmp_path / "no-links").mkdir()
-    (tmp_path / "no-links" / "sitecustomize.py").write_text("import errno, os\n\ndef link(*_, **__):\n    raise OSError(errno.EXDEV, 'no links here')\n\nos.link = link\n")
+    (tmp_path / "no-links" / "sitecustomize.py").write_text(
+        "import errno, os\n\ndef link(*_, **__):\n    raise OSError(errno.EXDEV, 'no links here')\n\nos.link = link\n"
+    )
     repository.environment["PYTHONPATH"] = str(tmp_path / "no-links")
     assert repository.toll("script").out == "ran script\n"
     assert sorted(repository.noted()) == sorted(ALL) and "ANEW" not in repository.log()
@@ -461,18 +528,29 @@ def test_what_stands_in_the_tree_is_never_written_into(built):
     assert held.read() == "fn it\n" and kept.read_text() == "fn other\n"
 
 
-@pytest.mark.parametrize("text, why", [
-    ("low:\n", "crates.txt has no crate toll"), ("low: mid\nmid: low\ntoll: low\n", "crates that stand on one another"), (CRATES + "toll: absent\nabsent:\n", "there is no folder crates/absent")])
+@pytest.mark.parametrize(
+    "text, why",
+    [
+        ("low:\n", "crates.txt has no crate toll"),
+        ("low: mid\nmid: low\ntoll: low\n", "crates that stand on one another"),
+        (CRATES + "toll: absent\nabsent:\n", "there is no folder crates/absent"),
+    ],
+)
 def test_a_list_that_is_wrong_is_told(repository, text, why):
     repository.list(text)
     if "absent" in text:
         shutil.rmtree(repository.folder / "crates" / "absent")
     done = repository.toll("script")
-    assert done.returncode == 3 and why in done.err and done.err.endswith("toll: the program couldn't be built\n") and repository.log() == ""
+    assert (
+        done.returncode == 3
+        and why in done.err
+        and done.err.endswith("toll: the program couldn't be built\n")
+        and repository.log() == ""
+    )
 
 
 # As `rt try`, it has the clang of its own kit compile a stub, then the program's module unoptimized and with a sanitizer.
-TRYING = r'''#!/usr/bin/python3
+TRYING = r"""#!/usr/bin/python3
 import os, pathlib, subprocess, sys, tempfile, time
 kit, told = pathlib.Path(__file__).resolve().parent.parent, pathlib.Path(os.environ["TOLD"])
 if sys.argv[1] == "version":
@@ -493,24 +571,31 @@ with tempfile.TemporaryDirectory() as folder:
         if subprocess.run([kit / "toolchain/bin/clang", *words], cwd=folder, env={}).returncode:
             sys.exit("the tool clang failed")
     print("it was run, and nothing is left")
-'''
-CLANG = r'''#!/usr/bin/python3
+"""
+CLANG = r"""#!/usr/bin/python3
 import pathlib, sys
 words = sys.argv[1:]
 pathlib.Path(words[words.index("-o") + 1]).write_text(" ".join(it for it in words if it.startswith(("-O", "-f"))) + "\n" + pathlib.Path("module.bc").read_text())
-'''
-LINK = r'''#!/usr/bin/python3
+"""
+LINK = r"""#!/usr/bin/python3
 import pathlib, sys
 to = pathlib.Path(sys.argv[sys.argv.index("-o") + 1])
 to.write_text("linked " + pathlib.Path(sys.argv[sys.argv.index("-o") + 2]).read_text())
-'''
+"""
 
 
 @pytest.fixture
 def unproved(repository, tmp_path):
     """A repository with a kit that tries."""
     kit = tmp_path / "kit"
-    for name, text in (("bin/rt", TRYING), ("bin/rtlib.py", "library"), ("bin/rattle-link", LINK), ("toolchain/bin/clang", CLANG), ("rlibs/one", ""), ("c/libos_c.a", "")):
+    for name, text in (
+        ("bin/rt", TRYING),
+        ("bin/rtlib.py", "library"),
+        ("bin/rattle-link", LINK),
+        ("toolchain/bin/clang", CLANG),
+        ("rlibs/one", ""),
+        ("c/libos_c.a", ""),
+    ):
         (kit / name).parent.mkdir(parents=True, exist_ok=True)
         (kit / name).write_text(text)
         (kit / name).chmod(0o755)
@@ -522,7 +607,9 @@ def unproved(repository, tmp_path):
 
 def test_an_unproved_build_is_the_tried_module_optimized_and_says_what_it_is(unproved):
     done = unproved.build("--unproved")
-    assert done.returncode == 0 and "toll: out/quick/toll is compiled, and NOTHING OF IT IS PROVED" in done.err, done.err
+    assert (
+        done.returncode == 0 and "toll: out/quick/toll is compiled, and NOTHING OF IT IS PROVED" in done.err
+    ), done.err
     assert (unproved.quick / "toll").read_text() == "linked -fPIE -O3\nfn it\n"
     assert not (unproved.quick / "building").exists() and not (unproved.out("toll") / "toll").exists()
 
@@ -540,7 +627,9 @@ def test_what_cannot_be_compiled_is_told_and_the_last_build_stays(unproved):
     assert unproved.build("--unproved").returncode == 0
     unproved.write("toll", "wrong\n")
     done = unproved.build("--unproved")
-    assert done.returncode == 3 and "toll:     src/main.rt:3:1: error[unknown-name]: there is no such thing\n" in done.err
+    assert (
+        done.returncode == 3 and "toll:     src/main.rt:3:1: error[unknown-name]: there is no such thing\n" in done.err
+    )
     assert (unproved.quick / "toll").read_text().endswith("fn it\n") and not (unproved.quick / "building").exists()
 
 
@@ -549,8 +638,14 @@ def test_an_unproved_build_that_a_signal_ends_leaves_nothing(unproved):
     process = unproved.start("--unproved", program="tools/build-program")
     assert eventually(lambda: (unproved.notes / "pid-try").exists())
     process.send_signal(signal.SIGTERM)
-    assert process.wait(20) == 143 and not (unproved.quick / "building").exists() and not (unproved.quick / "toll").exists()
-    assert process.communicate()[1].endswith("toll: the compiling was ended, and nothing of it is left: there is no out/quick/toll, and the next one begins anew\n")
+    assert (
+        process.wait(20) == 143
+        and not (unproved.quick / "building").exists()
+        and not (unproved.quick / "toll").exists()
+    )
+    assert process.communicate()[1].endswith(
+        "toll: the compiling was ended, and nothing of it is left: there is no out/quick/toll, and the next one begins anew\n"
+    )
     child = int((unproved.notes / "pid-try").read_text())
     assert eventually(lambda: not os.path.exists(f"/proc/{child}"))
 
@@ -569,9 +664,21 @@ def test_an_unproved_build_that_is_ended_leaves_the_one_from_before(unproved):
 def test_an_unproved_build_tells_what_it_compiles_and_how_far_it_is(unproved):
     unproved.write("toll", "seconds 1\n" + "fn it\n" * 30000)
     clang = unproved.rt.resolve().parent.parent / "toolchain" / "bin" / "clang"
-    clang.write_text(clang.read_text().replace("words = sys.argv[1:]", "import time\nwords = sys.argv[1:]\ntime.sleep(1)"))
+    clang.write_text(
+        clang.read_text().replace("words = sys.argv[1:]", "import time\nwords = sys.argv[1:]\ntime.sleep(1)")
+    )
     lines = unproved.build("--unproved", "--every", "0.2").err.splitlines()[:-1]
     steps = [r"step 1 of 2, 7 crates of 30,0\d\d lines become one module", "step 2 of 2, the module is optimized"]
-    beginning, end = "toll: compiling out/quick/toll, of which nothing is proved: ", r": \d+ seconds so far, (some \d+ minutes|about a minute) to go"
-    steps_named = [next((at for at, step in enumerate(steps, 1) if re.fullmatch(beginning + step + end, line)), line) for line in lines]
-    assert set(steps_named) == {1, 2} and steps_named == sorted(steps_named) and lines[0].endswith("0 seconds so far, some 7 minutes to go"), lines
+    beginning, end = (
+        "toll: compiling out/quick/toll, of which nothing is proved: ",
+        r": \d+ seconds so far, (some \d+ minutes|about a minute) to go",
+    )
+    steps_named = [
+        next((at for at, step in enumerate(steps, 1) if re.fullmatch(beginning + step + end, line)), line)
+        for line in lines
+    ]
+    assert (
+        set(steps_named) == {1, 2}
+        and steps_named == sorted(steps_named)
+        and lines[0].endswith("0 seconds so far, some 7 minutes to go")
+    ), lines

@@ -54,18 +54,18 @@ FILES = {
     "CONTRIBUTING.md": "`crates/FOLDER`, `Lots::total`, `shipping.rt`, `cargo build`, `ship_checks`\n",
     "CHANGELOG.md": "",
     **{f"docs/{name}.md": "" for name in ("PROMISES", "ARCHITECTURE", "DECISIONS", "GLOSSARY")},
-    "docs/DEFINITIONS.md":
-        "|what|read|lines|\n|---|---|---|\n|a verdict|`toll_history/specs`: Verdict; `toll_stock/specs`|4|\n",
-    "docs/operations.md": "```nginx\nlisten 80;\n```\nSee `packaging/site.conf`.\n", "docs/PROVED.md": PROVED,
+    "docs/DEFINITIONS.md": "|what|read|lines|\n|---|---|---|\n|a verdict|`toll_history/specs`: Verdict; `toll_stock/specs`|4|\n",
+    "docs/operations.md": "```nginx\nlisten 80;\n```\nSee `packaging/site.conf`.\n",
+    "docs/PROVED.md": PROVED,
     "packaging/site.conf": "server {\nlisten 80;\n}\n",
     "crates.txt": "# All.\ntoll_stock:\ntoll_history:\ntoll: toll_stock\n",
     "crates/toll_stock/src/shipping.rt": STOCK,
     "crates/toll_history/specs/Verdict.antt": VERDICT,
     "crates/toll_stock/specs/Enough.antt": "IsEnough : Row → Amount → Type\n",
-    "crates/toll_stock/must-fail/more_shipped_than_there_is.edit":
-        "# promise 1.1\nfile: src/shipping.rt\nold: amount > ON_HAND\nnew: false\n",
+    "crates/toll_stock/must-fail/more_shipped_than_there_is.edit": "# promise 1.1\nfile: src/shipping.rt\nold: amount > ON_HAND\nnew: false\n",
     "crates/toll_tests/src/stock.rt": "#[test]\nfn what_is_there_is_shipped(rt: HostRuntime) {}\n",
-    "tools/check-docs": "", "tools/docs/tests.txt": "# The tests.\n1.1 what_is_there_is_shipped\n",
+    "tools/check-docs": "",
+    "tools/docs/tests.txt": "# The tests.\n1.1 what_is_there_is_shipped\n",
 }
 
 
@@ -93,6 +93,7 @@ def change(root: Path, name: str, old: str, new: str) -> None:
 
 # Promises
 
+
 def rows(root: Path) -> dict[str, list[str]]:
     lines = (line.split("|") for line in Promises(root, Sources(root)).page().split("\n"))
     return {cells[1]: cells[2:-1] for cells in lines if len(cells) == 8 and cells[1][0].isdigit()}
@@ -101,8 +102,13 @@ def rows(root: Path) -> dict[str, list[str]]:
 def test_a_promise_leads_to_all_that_belongs_to_it(repository: Path) -> None:
     by_number = rows(repository)
     enough = "`toll_stock/specs/Enough.antt`: `IsEnough`"
-    assert by_number["1.1"] == ["`ship` (`enough`)", enough, "`toll_stock/src/shipping.rt`",
-                            "`more_shipped_than_there_is`", "`what_is_there_is_shipped`"]
+    assert by_number["1.1"] == [
+        "`ship` (`enough`)",
+        enough,
+        "`toll_stock/src/shipping.rt`",
+        "`more_shipped_than_there_is`",
+        "`what_is_there_is_shipped`",
+    ]
     assert by_number["1.2"][1] == f"`toll_history/specs/Verdict.antt`: `ship_checks`, `Decides`; {enough}"
     assert by_number["1.3"] == ["`Lots::total`", "-", "`toll_stock/src/shipping.rt`", "-", "-"]
 
@@ -119,16 +125,20 @@ def test_a_wrong_body_names_its_promise(repository: Path) -> None:
     assert mistakes(repository) == []
 
 
-@pytest.mark.parametrize("promise, old, mistake", [
-    ("# A total", "    { 0 }", "its first line names no promise"),
-    ("# promise 1.4", "    { 0 }", "1.4 is no promise"),
-    ("# promise 1.3: A lot has two totals", "    { 0 }", "1.3 doesn't say: A lot has two totals"),
-    ("# promise 1.1", "    { 0 }", f"{OTHER_BODY} guards 1.1 too"),
-    ("# promise 1.1: is there", "    { 0 }", f"{OTHER_BODY} guards 1.1 too"),
-    ("# promise 1.3", "total += 1", "not once in its file: total += 1"),
-])
-def test_a_wrong_body_without_a_promise_of_its_own_is_a_mistake(repository: Path, promise: str, old: str,
-                                                                mistake: str) -> None:
+@pytest.mark.parametrize(
+    "promise, old, mistake",
+    [
+        ("# A total", "    { 0 }", "its first line names no promise"),
+        ("# promise 1.4", "    { 0 }", "1.4 is no promise"),
+        ("# promise 1.3: A lot has two totals", "    { 0 }", "1.3 doesn't say: A lot has two totals"),
+        ("# promise 1.1", "    { 0 }", f"{OTHER_BODY} guards 1.1 too"),
+        ("# promise 1.1: is there", "    { 0 }", f"{OTHER_BODY} guards 1.1 too"),
+        ("# promise 1.3", "total += 1", "not once in its file: total += 1"),
+    ],
+)
+def test_a_wrong_body_without_a_promise_of_its_own_is_a_mistake(
+    repository: Path, promise: str, old: str, mistake: str
+) -> None:
     add_wrong_body(repository, "a_total_is_one_more", promise=promise, old=old)
     assert [text.split(": ", 1)[1] for text in mistakes(repository)] == [mistake]
 
@@ -151,7 +161,8 @@ def test_an_old_page_is_a_mistake(repository: Path) -> None:
     assert list(Promises(repository, Sources(repository)).mistakes()) == []
     change(repository, "docs/PROMISES.md", "1.3", "1.4")
     assert list(Promises(repository, Sources(repository)).mistakes()) == [
-        "docs/PROMISES.md: it is not what `tools/check-docs promises` makes"]
+        "docs/PROMISES.md: it is not what `tools/check-docs promises` makes"
+    ]
 
 
 def test_the_page_of_the_repository_has_each_wrong_body_once() -> None:
@@ -162,25 +173,34 @@ def test_the_page_of_the_repository_has_each_wrong_body_once() -> None:
 
 # Each fault on the pages
 
-@pytest.mark.parametrize("name, old, new, mistake", [
-    ("docs/PROVED.md", "`ship` (`enough`)", "`check_amount`", "docs/PROVED.md: 1.1: check_amount is not public"),
-    ("docs/PROVED.md", "(`enough`)", "(`decides`, `total`)", "docs/PROVED.md: 1.1: ship has no clause total"),
-    ("docs/PROVED.md", " (`Lots::total`)", "", "docs/PROVED.md: 1.3: it names nothing that carries it"),
-    ("docs/PROVED.md", "**1.3**", "**1.4**", "docs/PROVED.md: 1.4 doesn't follow 1.2"),
-    ("tools/docs/tests.txt", "1.1", "2.1", "tools/docs/tests.txt: 2.1 is no promise"),
-    ("tools/docs/tests.txt", "is_there", "is_gone", "tools/docs/tests.txt: there is no test what_is_gone_is_shipped"),
-    ("README.md", "`ship`", "`sink`", "README.md:1: there is no sink"),
-    ("README.md", "docs/PROVED.md", "docs/LOST.md", "README.md:1: the link docs/LOST.md leads to nothing"),
-    ("README.md", "2 crates", "3 crates", "README.md: the program has 2 crates"),
-    ("README.md", "Of ", "Of " * 700, "README.md: 707 words, not at most 700"),
-    ("CONTRIBUTING.md", "Lots::total", "Lots::sum", "CONTRIBUTING.md:1: there is no sum"),
-    ("CONTRIBUTING.md", "`shipping.rt`", "`sinking.rt`", "CONTRIBUTING.md:1: there is no sinking.rt"),
-    ("CONTRIBUTING.md", "`ship_checks`", "`sink_checks`", "CONTRIBUTING.md:1: there is no sink_checks"),
-    ("docs/DEFINITIONS.md", "|4|", "|5|", "docs/DEFINITIONS.md:3: 4 lines, not 5"),
-    ("docs/operations.md", "80", "81", "docs/operations.md:1: the block is no lines of a file of packaging/"),
-    ("docs/operations.md", "site.conf", "sites.conf", "docs/operations.md:4: there is no packaging/sites.conf"),
-    ("docs/operations.md", "See ", "See [more](more.md) in ", "docs/operations.md:4: there is no more.md"),
-])
+
+@pytest.mark.parametrize(
+    "name, old, new, mistake",
+    [
+        ("docs/PROVED.md", "`ship` (`enough`)", "`check_amount`", "docs/PROVED.md: 1.1: check_amount is not public"),
+        ("docs/PROVED.md", "(`enough`)", "(`decides`, `total`)", "docs/PROVED.md: 1.1: ship has no clause total"),
+        ("docs/PROVED.md", " (`Lots::total`)", "", "docs/PROVED.md: 1.3: it names nothing that carries it"),
+        ("docs/PROVED.md", "**1.3**", "**1.4**", "docs/PROVED.md: 1.4 doesn't follow 1.2"),
+        ("tools/docs/tests.txt", "1.1", "2.1", "tools/docs/tests.txt: 2.1 is no promise"),
+        (
+            "tools/docs/tests.txt",
+            "is_there",
+            "is_gone",
+            "tools/docs/tests.txt: there is no test what_is_gone_is_shipped",
+        ),
+        ("README.md", "`ship`", "`sink`", "README.md:1: there is no sink"),
+        ("README.md", "docs/PROVED.md", "docs/LOST.md", "README.md:1: the link docs/LOST.md leads to nothing"),
+        ("README.md", "2 crates", "3 crates", "README.md: the program has 2 crates"),
+        ("README.md", "Of ", "Of " * 700, "README.md: 707 words, not at most 700"),
+        ("CONTRIBUTING.md", "Lots::total", "Lots::sum", "CONTRIBUTING.md:1: there is no sum"),
+        ("CONTRIBUTING.md", "`shipping.rt`", "`sinking.rt`", "CONTRIBUTING.md:1: there is no sinking.rt"),
+        ("CONTRIBUTING.md", "`ship_checks`", "`sink_checks`", "CONTRIBUTING.md:1: there is no sink_checks"),
+        ("docs/DEFINITIONS.md", "|4|", "|5|", "docs/DEFINITIONS.md:3: 4 lines, not 5"),
+        ("docs/operations.md", "80", "81", "docs/operations.md:1: the block is no lines of a file of packaging/"),
+        ("docs/operations.md", "site.conf", "sites.conf", "docs/operations.md:4: there is no packaging/sites.conf"),
+        ("docs/operations.md", "See ", "See [more](more.md) in ", "docs/operations.md:4: there is no more.md"),
+    ],
+)
 def test_a_fault_on_a_page_is_a_mistake(repository: Path, name: str, old: str, new: str, mistake: str) -> None:
     assert mistakes(repository) == []
     change(repository, name, old, new)
@@ -231,34 +251,45 @@ def page(tmp_path: Path) -> Path:
 
 def test_the_commands_of_a_page_are_read_with_what_they_print(page: Path) -> None:
     assert [(example.line, example.command, example.printed) for example in examples.examples_of(page)] == [
-        (2, "toll one", ["ran one"]), (4, "echo two \\\nthree", ["two three"]), (12, "toll four", ["ran four"]),
-        (13, "printf 'a\\nb'", ["a", "b"]), (17, "(sleep 0.5; echo late 8080) &", ["late 8080"])]
+        (2, "toll one", ["ran one"]),
+        (4, "echo two \\\nthree", ["two three"]),
+        (12, "toll four", ["ran four"]),
+        (13, "printf 'a\\nb'", ["a", "b"]),
+        (17, "(sleep 0.5; echo late 8080) &", ["late 8080"]),
+    ]
 
 
 def test_examples_that_print_what_the_page_says_pass(page: Path, shell: examples.Shell, capsys: Output) -> None:
     assert examples.check(page, list(examples.examples_of(page)), shell) == 5 and capsys.readouterr().out == ""
 
 
-def test_an_example_that_prints_something_else_is_told_and_the_next_runs(page: Path, shell: examples.Shell,
-                                                                         capsys: Output) -> None:
+def test_an_example_that_prints_something_else_is_told_and_the_next_runs(
+    page: Path, shell: examples.Shell, capsys: Output
+) -> None:
     change(page.parent, "page.md", "ran one", "ran none")
     assert examples.check(page, list(examples.examples_of(page)), shell) == 4
     assert capsys.readouterr().out == f"{page}:2: toll one\n  the page says:\n    ran none\n  it prints:\n    ran one\n"
 
 
-def test_an_example_that_hangs_ends_its_page(page: Path, shell: examples.Shell, capsys: Output,
-                                             monkeypatch: pytest.MonkeyPatch) -> None:
+def test_an_example_that_hangs_ends_its_page(
+    page: Path, shell: examples.Shell, capsys: Output, monkeypatch: pytest.MonkeyPatch
+) -> None:
     monkeypatch.setattr(examples, "PATIENCE", 1)
     change(page.parent, "page.md", "toll one", "echo so; sleep 300")
     assert examples.check(page, list(examples.examples_of(page)), shell) == 0
     assert "    so\n" in (output := capsys.readouterr().out) and "nothing more within 1 s" in output
 
 
-@pytest.mark.parametrize("page, status, output", [
-    ("$ toll x\nran x\n```\n| 33 | NotEnough |\n", 0, "1 of 1 examples"),
-    ("$ toll x\nran y\n```\n", 1, "0 of 1 examples"), ("$ toll x\n```\n", 1, "0 of 1 examples"),
-    ("$ toll x\nran x\nand more\n```\n", 1, "0 of 1 examples"),
-    ("$ toll x\nran x\n```\n| 32 | NotEnough |\n", 1, "NotEnough is 33, not 32")])
+@pytest.mark.parametrize(
+    "page, status, output",
+    [
+        ("$ toll x\nran x\n```\n| 33 | NotEnough |\n", 0, "1 of 1 examples"),
+        ("$ toll x\nran y\n```\n", 1, "0 of 1 examples"),
+        ("$ toll x\n```\n", 1, "0 of 1 examples"),
+        ("$ toll x\nran x\nand more\n```\n", 1, "0 of 1 examples"),
+        ("$ toll x\nran x\n```\n| 32 | NotEnough |\n", 1, "NotEnough is 33, not 32"),
+    ],
+)
 def test_the_tool_runs_a_page_and_compares_its_numbers(tmp_path: Path, page: str, status: int, output: str) -> None:
     (tmp_path / "page.md").write_text(f"```console\n{page}")
     program = script(tmp_path / "program", 'echo "ran $*"')
@@ -271,8 +302,13 @@ def test_a_line_of_commands_that_the_code_has_not_is_a_mistake(tmp_path: Path) -
         shutil.copytree(ROOT / name, tmp_path / name, ignore=shutil.ignore_patterns("__pycache__", "papers", "tests"))
     (tmp_path / "page.md").write_text("")
     change(tmp_path, "docs/commands.md", "    scrap OWNER", "    scrub OWNER")
-    done = subprocess.run([tmp_path / "tools" / "check-docs", "page.md"], capture_output=True, text=True, cwd=tmp_path,
-                          env={**os.environ, "TOLL": "/bin/true"})
+    done = subprocess.run(
+        [tmp_path / "tools" / "check-docs", "page.md"],
+        capture_output=True,
+        text=True,
+        cwd=tmp_path,
+        env={**os.environ, "TOLL": "/bin/true"},
+    )
     assert done.returncode == 1 and "docs/commands.md and the code don't both have: scrub OWNER" in done.stdout
 
 

@@ -74,7 +74,10 @@ def clone(tmp_path: pathlib.Path) -> Clone:
 def test_it_compiles_and_then_runs_the_demo(clone: Clone) -> None:
     status, out, err = clone.run("--port", "8080")
     assert (status, out) == (0, f"{clone.folder}/clone/out/quick/toll demo --port 8080\n")
-    assert err == "demo/page: first the program is compiled, then a sample week is made and its page served\ntoll: step 1 of 2\n"
+    assert (
+        err
+        == "demo/page: first the program is compiled, then a sample week is made and its page served\ntoll: step 1 of 2\n"
+    )
 
 
 def test_of_another_program_nothing_is_compiled(clone: Clone) -> None:
@@ -96,7 +99,10 @@ def test_where_apt_get_installs_nothing_what_is_missing_is_told_and_nothing_comp
     clone.apt("exit 100")
     status, out, err = clone.run()
     assert (status, out) == (2, "") and not (clone.folder / "began").exists()
-    assert err.splitlines()[-1] == "demo/page: these are missing, and nothing is served: python3-odf. As root: apt-get install python3-odf"
+    assert (
+        err.splitlines()[-1]
+        == "demo/page: these are missing, and nothing is served: python3-odf. As root: apt-get install python3-odf"
+    )
 
 
 @pytest.mark.parametrize("status", [3, 130])
@@ -106,14 +112,29 @@ def test_a_compiling_that_fails_is_told_and_nothing_is_served(clone: Clone, stat
     assert done[:2] == (status, "") and done[2].endswith("toll: step 1 of 2\ndemo/page: nothing is served\n")
 
 
-@pytest.mark.parametrize("send", [lambda process: os.killpg(process.pid, signal.SIGINT), lambda process: process.terminate(),
-                                  lambda process: process.send_signal(signal.SIGHUP)], ids=["ctrl-c", "TERM", "HUP"])
-def test_a_signal_ends_the_compiling_and_the_end_is_told(clone: Clone, send: Callable[["subprocess.Popen[str]"], None]) -> None:
+@pytest.mark.parametrize(
+    "send",
+    [
+        lambda process: os.killpg(process.pid, signal.SIGINT),
+        lambda process: process.terminate(),
+        lambda process: process.send_signal(signal.SIGHUP),
+    ],
+    ids=["ctrl-c", "TERM", "HUP"],
+)
+def test_a_signal_ends_the_compiling_and_the_end_is_told(
+    clone: Clone, send: Callable[["subprocess.Popen[str]"], None]
+) -> None:
     ending = 'trap "echo toll: nothing of it is left >&2; kill \\$!; exit 143" TERM INT'
-    clone.builds(f"sleep 300 > /dev/null 2>&1 & {ending}; echo $$ > {clone.folder}/pid; touch {clone.folder}/waits; wait")
+    clone.builds(
+        f"sleep 300 > /dev/null 2>&1 & {ending}; echo $$ > {clone.folder}/pid; touch {clone.folder}/waits; wait"
+    )
     process = clone.start(start_new_session=True)
     assert eventually(lambda: (clone.folder / "waits").exists())
     send(process)
     out, err = process.communicate(timeout=PATIENCE)
-    assert process.returncode in (129, 130, 143) and out == "" and err.endswith("toll: nothing of it is left\ndemo/page: nothing is served\n")
+    assert (
+        process.returncode in (129, 130, 143)
+        and out == ""
+        and err.endswith("toll: nothing of it is left\ndemo/page: nothing is served\n")
+    )
     assert not os.path.exists(f"/proc/{(clone.folder / 'pid').read_text().strip()}")

@@ -10,8 +10,14 @@ TEXT = MANUAL.read_text()
 
 
 def test_it_has_each_command_with_its_values():
-    values_of = {name: values.upper().replace("-", "_").split() for name, values in re.findall(r"^\.It Cm ([a-z-]+) Ar (.*)$", TEXT, re.M)}
-    assert values_of == {name: [word.upper().replace("-", "_") for word in values] for name, values in plant_words.lines_of_code().items()}
+    values_of = {
+        name: values.upper().replace("-", "_").split()
+        for name, values in re.findall(r"^\.It Cm ([a-z-]+) Ar (.*)$", TEXT, re.M)
+    }
+    assert values_of == {
+        name: [word.upper().replace("-", "_") for word in values]
+        for name, values in plant_words.lines_of_code().items()
+    }
 
 
 def test_it_has_the_words_of_each_value():
@@ -21,7 +27,11 @@ def test_it_has_the_words_of_each_value():
 
 
 def test_it_has_the_faults_that_a_command_may_be_told():
-    rows = re.findall(r"^\| `(\w+)` \| (.*?) \|", (ROOT / "docs" / "operations.md").read_text().split("## Faults, and what to do")[1], re.M)
+    rows = re.findall(
+        r"^\| `(\w+)` \| (.*?) \|",
+        (ROOT / "docs" / "operations.md").read_text().split("## Faults, and what to do")[1],
+        re.M,
+    )
     faults = {name for name, meaning in rows if not meaning.startswith(("server only", "an earlier fault"))}
     assert len(rows) == 13 and set(re.findall(r"^\.It fault (\w+)$", TEXT, re.M)) == faults
 

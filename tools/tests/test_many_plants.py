@@ -37,18 +37,45 @@ def test_each_plant_has_its_own_name_and_port_and_the_rest_stands_once(sites):
         assert re.findall(r"server_name (.*);", text) == [host]
         assert set(re.findall(r"proxy_pass http://127\.0\.0\.1:(\d+)", text)) == {str(port)}
         assert "toll.example.com" not in text and "limit_req_zone" not in text
-        assert {re.sub(r".*/", "", log) for log in re.findall(r"access_log (\S+) toll", text)} == {LOGS[name], f"unauthenticated-{LOGS[name]}"}
+        assert {re.sub(r".*/", "", log) for log in re.findall(r"access_log (\S+) toll", text)} == {
+            LOGS[name],
+            f"unauthenticated-{LOGS[name]}",
+        }
 
 
 def test_nginx_takes_the_sites_of_two_plants(sites):
     key, certificate = sites / "ssl" / "key.pem", sites / "ssl" / "certificate.pem"
-    subprocess.run(["openssl", "req", "-x509", "-newkey", "ec", "-pkeyopt", "ec_paramgen_curve:prime256v1", "-nodes", "-days", "2", "-subj", "/CN=x",
-                    "-keyout", key, "-out", certificate], check=True, capture_output=True)
+    subprocess.run(
+        [
+            "openssl",
+            "req",
+            "-x509",
+            "-newkey",
+            "ec",
+            "-pkeyopt",
+            "ec_paramgen_curve:prime256v1",
+            "-nodes",
+            "-days",
+            "2",
+            "-subj",
+            "/CN=x",
+            "-keyout",
+            key,
+            "-out",
+            certificate,
+        ],
+        check=True,
+        capture_output=True,
+    )
     for file in [*sites.glob("conf.d/*.conf"), *sites.glob("sites-enabled/*.conf")]:
         text = re.sub(r"(ssl_certificate_key) .*?;", rf"\1 {key};", file.read_text())
         text = re.sub(r"(ssl_certificate) .*?;", rf"\1 {certificate};", text)
         file.write_text(re.sub(r"(access_log|error_log) /\S+", rf"\1 {sites}/logs/log", text))
-    (sites / "nginx.conf").write_text(f"error_log {sites}/logs/errors; pid {sites}/pid; events {{}} http {{ client_body_temp_path {sites}/temporary; "
-                                      f"include {sites}/conf.d/*.conf; include {sites}/sites-enabled/*.conf; }}\n")
-    done = subprocess.run(["nginx", "-t", "-c", sites / "nginx.conf", "-e", sites / "logs" / "errors"], capture_output=True, text=True)
+    (sites / "nginx.conf").write_text(
+        f"error_log {sites}/logs/errors; pid {sites}/pid; events {{}} http {{ client_body_temp_path {sites}/temporary; "
+        f"include {sites}/conf.d/*.conf; include {sites}/sites-enabled/*.conf; }}\n"
+    )
+    done = subprocess.run(
+        ["nginx", "-t", "-c", sites / "nginx.conf", "-e", sites / "logs" / "errors"], capture_output=True, text=True
+    )
     assert done.returncode == 0 and "successful" in done.stderr and "warn" not in done.stderr, done.stderr

@@ -15,7 +15,12 @@ PAGE = yaml.safe_load(FILE.read_text())
 SCHEMAS = PAGE["components"]["schemas"]
 METHODS = ("get", "post")
 # Debian's libjson-validator-perl has the schema of OpenAPI 3.0 with it.
-VALIDATOR = ["perl", "-MJSON::Validator", "-e", 'print "$_\\n" for @{JSON::Validator->new->schema(shift)->schema->errors}']
+VALIDATOR = [
+    "perl",
+    "-MJSON::Validator",
+    "-e",
+    'print "$_\\n" for @{JSON::Validator->new->schema(shift)->schema->errors}',
+]
 
 
 def resolved(node):
@@ -30,7 +35,12 @@ def resolved(node):
 
 def operations():
     """Each operation: its path, its method, and what is said of it."""
-    return [(path, method, operation) for path, ways in PAGE["paths"].items() for method, operation in ways.items() if method in METHODS]
+    return [
+        (path, method, operation)
+        for path, ways in PAGE["paths"].items()
+        for method, operation in ways.items()
+        if method in METHODS
+    ]
 
 
 def bodies():
@@ -61,12 +71,15 @@ def test_the_validator_finds_nothing():
     assert told_of(FILE) == []
 
 
-@pytest.mark.parametrize("path, broken", [
-    (("paths", "/orders", "get", "responses"), {}),
-    (("components", "parameters", "order", "in"), "body"),
-    (("components", "responses", "Away", "description"), None),
-    (("info", "title"), None),
-])
+@pytest.mark.parametrize(
+    "path, broken",
+    [
+        (("paths", "/orders", "get", "responses"), {}),
+        (("components", "parameters", "order", "in"), "body"),
+        (("components", "responses", "Away", "description"), None),
+        (("info", "title"), None),
+    ],
+)
 def test_the_validator_finds_what_is_wrong(tmp_path, path, broken):
     page = copy.deepcopy(PAGE)
     place = page
@@ -79,26 +92,44 @@ def test_the_validator_finds_what_is_wrong(tmp_path, path, broken):
 
 def test_the_routes_are_those_of_the_code():
     office = [(path, method) for path, method, operation in operations() if operation.get("x-told-by") != "site"]
-    assert [(path, method) for path, method, _ in operations() if (path, method) not in office] == [("/companion", "get")]
+    assert [(path, method) for path, method, _ in operations() if (path, method) not in office] == [
+        ("/companion", "get")
+    ]
     row = r'pattern: "(.*?)",\s+endpoint: Endpoint {\s+parts: Parts::\w+,\s+get: (\w+).*?,\s+post: (\w+)'
     routes = [route for text in sources() for route in re.findall(row, text)]
-    code = {(method, re.sub(r"{\w+}", "{}", pattern)) for pattern, *asks in routes for method, ask in zip(METHODS, asks) if ask == "Some"}
+    code = {
+        (method, re.sub(r"{\w+}", "{}", pattern))
+        for pattern, *asks in routes
+        for method, ask in zip(METHODS, asks)
+        if ask == "Some"
+    }
     assert code and code == {(method, re.sub(r"{\w+}", "{}", path)) for path, method in office}
 
 
 def test_what_the_site_sends_alone_is_in_its_settings():
     settings = (ROOT / "packaging" / "nginx.conf").read_text()
-    assert [path for path, _, operation in operations() if operation.get("x-told-by") == "site" and f"location = {path} {{" not in settings] == []
+    assert [
+        path
+        for path, _, operation in operations()
+        if operation.get("x-told-by") == "site" and f"location = {path} {{" not in settings
+    ] == []
 
 
 def test_an_operation_is_named_by_what_it_does():
     names = [operation["operationId"] for _, _, operation in operations()]
-    assert all(re.fullmatch("(get|list|place|cancel|release|reject|trace)[A-Z][a-z]+", name) for name in names) and len(set(names)) == len(names)
+    assert all(re.fullmatch("(get|list|place|cancel|release|reject|trace)[A-Z][a-z]+", name) for name in names) and len(
+        set(names)
+    ) == len(names)
 
 
 def test_the_routes_are_those_of_the_page_beside_it():
     rows = re.findall(r"^\| `(/[\w/]+)` \|(.*?)\|(.*?)\|$", (ROOT / "docs" / "http.md").read_text(), re.M)
-    page = {(method, re.sub(r"\b(ORDER|LOT|N)\b", "{}", path)) for path, *marks in rows for method, mark in zip(METHODS, marks) if mark.strip()}
+    page = {
+        (method, re.sub(r"\b(ORDER|LOT|N)\b", "{}", path))
+        for path, *marks in rows
+        for method, mark in zip(METHODS, marks)
+        if mark.strip()
+    }
     assert page == {(method, re.sub(r"{\w+}", "{}", path)) for path, method, _ in operations()}
 
 
@@ -107,13 +138,21 @@ def test_the_refusals_are_those_of_the_code():
     words = SCHEMAS["Refusal"]["properties"]["error"]["enum"]
     assert code == {word: number for number, word in enumerate(words, 1)}
     for word in set(code) & set(SCHEMAS):
-        fits = [(other, number) for other, number in code.items() if not faults_of(SCHEMAS[word], {"code": number, "error": other})]
+        fits = [
+            (other, number)
+            for other, number in code.items()
+            if not faults_of(SCHEMAS[word], {"code": number, "error": other})
+        ]
         assert fits == [(word, code[word])]
 
 
 @pytest.mark.parametrize("where, content", bodies())
 def test_each_body_has_examples_that_fit(where, content):
-    examples = [content["example"]] if "example" in content else [example["value"] for example in content.get("examples", {}).values()]
+    examples = (
+        [content["example"]]
+        if "example" in content
+        else [example["value"] for example in content.get("examples", {}).values()]
+    )
     assert examples
     for example in examples:
         assert faults_of(content["schema"], example) == []
@@ -138,5 +177,7 @@ def test_a_new_word_of_an_error_is_one():
 
 @pytest.mark.parametrize("path, method, operation", operations())
 def test_each_request_may_be_told_what_the_site_tells_by_itself(path, method, operation):
-    site = {status for status, response in operation["responses"].items() if resolved(response).get("x-told-by") == "site"}
+    site = {
+        status for status, response in operation["responses"].items() if resolved(response).get("x-told-by") == "site"
+    }
     assert site == {"429", "502", "504", "default"}

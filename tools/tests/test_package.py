@@ -52,9 +52,19 @@ def fields(package):
 
 
 def test_the_folder_gets_the_packages_and_nothing_else(packages):
-    files = {re.sub(r"[\d.]+(-\d+)?(?=[._-])", "V", file.name, count=1) for file in packages.iterdir() if file.is_file()}
-    assert files == {"program", "toll_V_amd64.deb", "hilpoven_V_all.deb", "hilpoven-papers_V_all.deb",
-                     "toll-V-x86_64.tar.gz", "hilpoven_V.dsc", "hilpoven_V.orig.tar.gz", "hilpoven_V.debian.tar.xz"}
+    files = {
+        re.sub(r"[\d.]+(-\d+)?(?=[._-])", "V", file.name, count=1) for file in packages.iterdir() if file.is_file()
+    }
+    assert files == {
+        "program",
+        "toll_V_amd64.deb",
+        "hilpoven_V_all.deb",
+        "hilpoven-papers_V_all.deb",
+        "toll-V-x86_64.tar.gz",
+        "hilpoven_V.dsc",
+        "hilpoven_V.orig.tar.gz",
+        "hilpoven_V.debian.tar.xz",
+    }
     assert not [file for file in packages.iterdir() if file.name.startswith((".", "package"))]
 
 
@@ -64,11 +74,14 @@ def test_the_source_package_has_the_tracked_files(packages):
     git = ["git", "-c", f"safe.directory={ROOT}", "-C", ROOT, "ls-files"]
     listed = subprocess.run(git, capture_output=True, text=True, check=True).stdout.splitlines()
     tracked = {path for path in listed if (ROOT / path).exists()}
-    packed = {str(path.relative_to(packages / "source")) for path in (packages / "source").rglob("*") if not path.is_dir()}
+    packed = {
+        str(path.relative_to(packages / "source")) for path in (packages / "source").rglob("*") if not path.is_dir()
+    }
     assert packed == tracked and "debian/README.source" in tracked
 
 
 # Documents
+
 
 def test_pages_have_the_names_that_are_installed(unpacked):
     pages = {page: page.read_text() for page in (unpacked / "usr/share").rglob("*.md")}
@@ -88,27 +101,38 @@ def test_what_a_page_links_to_is_packaged(unpacked):
     links = [(page, "".join(target)) for page in pages for target in re.findall(form, page.read_text())]
     inner = [(page, target) for page, target in links if "://" not in target]
     assert len(inner) > 30
-    assert [(page, target) for page, target in inner if not os.path.exists(os.path.normpath(page.parent / target))] == []
+    assert [
+        (page, target) for page, target in inner if not os.path.exists(os.path.normpath(page.parent / target))
+    ] == []
     cited = set(re.findall(r"`docs/([\w-]+\.md)`", (share / "toll/page/http.md").read_text()))
     assert {"commands.md", "refusals.md"} <= cited <= set(os.listdir(share / "toll/page"))
 
 
-@pytest.mark.parametrize("source, installed", [
-    ("`plant/bin/hilpoven status`", "`hilpoven status`"), ("`plant/tests`", "`SOURCES/plant/tests`"),
-    ("$ ./toll --db", "$ toll --db"), ("toll() { ./toll --db", "toll() { command toll --db"),
-    ("apt-get install ./toll_*.deb", "apt-get install ./toll_*.deb"),
-    ("`demo/run day`", "`/usr/share/doc/toll/examples/demo day`"), ("`tools/check-docs`", "`SOURCES/tools/check-docs`"),
-    ("`packaging/toll@.service`", "`/usr/lib/systemd/system/toll@.service`")])
+@pytest.mark.parametrize(
+    "source, installed",
+    [
+        ("`plant/bin/hilpoven status`", "`hilpoven status`"),
+        ("`plant/tests`", "`SOURCES/plant/tests`"),
+        ("$ ./toll --db", "$ toll --db"),
+        ("toll() { ./toll --db", "toll() { command toll --db"),
+        ("apt-get install ./toll_*.deb", "apt-get install ./toll_*.deb"),
+        ("`demo/run day`", "`/usr/share/doc/toll/examples/demo day`"),
+        ("`tools/check-docs`", "`SOURCES/tools/check-docs`"),
+        ("`packaging/toll@.service`", "`/usr/lib/systemd/system/toll@.service`"),
+    ],
+)
 def test_a_name_becomes_that_which_is_installed(source, installed):
     assert documents.installed(source) == installed
 
 
 # One version
 
-USED = {"crates/toll_programs/src/task.rt": r'USAGE: &str = "toll (\S+), office format (\d+)\n',
-        "crates/toll_programs/src/laws.rt": r'codes "toll (\S+), office format (\d+)\\n',
-        "crates/toll_programs/src/version.rt": r'VERSION: &str = "(\S+), office format (\d+)"',
-        "docs/commands.md": r"(?m)^toll (\S+), office format (\d+)$"}
+USED = {
+    "crates/toll_programs/src/task.rt": r'USAGE: &str = "toll (\S+), office format (\d+)\n',
+    "crates/toll_programs/src/laws.rt": r'codes "toll (\S+), office format (\d+)\\n',
+    "crates/toll_programs/src/version.rt": r'VERSION: &str = "(\S+), office format (\d+)"',
+    "docs/commands.md": r"(?m)^toll (\S+), office format (\d+)$",
+}
 
 
 @pytest.mark.parametrize("file", USED)
@@ -150,9 +174,13 @@ def test_a_program_of_another_version_is_not_packaged(tmp_path):
 
 # Of each package
 
+
 def test_the_gate_installs_what_a_build_needs():
-    provided = {"debhelper-compat": "debhelper", "dh-sequence-installsysusers": "debhelper",
-                "dh-sequence-python3": "dh-python"}
+    provided = {
+        "debhelper-compat": "debhelper",
+        "dh-sequence-installsysusers": "debhelper",
+        "dh-sequence-python3": "dh-python",
+    }
     listed = re.search(r"(?m)^Build-Depends: ((?:.*,\n)*.*)$", (ROOT / "debian/control").read_text())[1]
     names = [package.split()[0] for package in listed.split(",")]
     assert {provided.get(package, package) for package in names} <= set(BUILD_NEEDS)
@@ -162,7 +190,9 @@ def test_a_server_and_its_command_need_no_compiler(packages):
     """WeasyPrint brings one. If it is there, apt keeps it, because an installed package suggests it."""
     command, papers = (fields(*packages.glob(f"{name}_*.deb")) for name in ("hilpoven", "hilpoven-papers"))
     heavy = {"weasyprint", "graphviz"}
-    assert not heavy & {package.split()[0] for package in (command["Depends"] + ", " + command["Recommends"]).split(", ")}
+    assert not heavy & {
+        package.split()[0] for package in (command["Depends"] + ", " + command["Recommends"]).split(", ")
+    }
     assert heavy | {"hilpoven-papers"} <= set(command["Suggests"].split(", "))
     assert heavy | {"hilpoven"} <= {package.split()[0] for package in papers["Depends"].split(", ")}
 
@@ -176,7 +206,11 @@ def test_debians_command_is_isolated(unpacked):
 @pytest.mark.parametrize("folder", ["usr/lib/python3/dist-packages", "usr/local/share/hilpoven/src"])
 def test_each_file_of_the_command_is_packaged(unpacked, folder):
     source, installed = ROOT / "plant/src", unpacked / folder
-    files = {file.relative_to(source) for file in (source / "hilpoven").rglob("*") if file.is_file() and file.suffix != ".pyc"}
+    files = {
+        file.relative_to(source)
+        for file in (source / "hilpoven").rglob("*")
+        if file.is_file() and file.suffix != ".pyc"
+    }
     packaged = {file.relative_to(installed) for file in (installed / "hilpoven").rglob("*") if file.is_file()}
     assert packaged == files and len(files) > 50
 
@@ -190,9 +224,11 @@ def test_the_command_runs_from_the_tarball(unpacked):
 
 def test_the_tarball_has_what_the_packages_have(unpacked):
     """Except what is Debian's alone. The settings of /etc are examples there."""
+
     def files(top, *left_out):
         paths = {str(file.relative_to(top)) for file in top.rglob("*") if not file.is_dir()}
         return {path for path in paths if not path.startswith(left_out)}
+
     debians = ("local/", "lib/python3/", "share/lintian/", "share/doc/hilpoven-papers/")
     packaged = {path for path in files(unpacked / "usr", *debians) if not path.endswith("changelog.Debian.gz")}
     examples = {f"share/doc/hilpoven/examples/{path}" for path in files(unpacked / "etc")}
@@ -208,6 +244,7 @@ def test_the_rule_of_sudo_is_one_that_sudo_reads(unpacked, tmp_path):
 
 # Licences
 
+
 def linked_libraries():
     """The toolchain's libraries that crates.txt names, and those that they use."""
     names = set(re.findall(r"\w+", re.sub(r"(?m)^#.*", "", (ROOT / "crates.txt").read_text())))
@@ -215,14 +252,18 @@ def linked_libraries():
     while reached := {name for name in names - linked if (LIBRARIES / name / "src").is_dir()}:
         linked |= reached
         sources = [source for library in reached for source in (LIBRARIES / library / "src").rglob("*.rt")]
-        names = {name for source in sources for name in re.findall(r"\b([a-z_]\w*)::", source.read_text(errors="replace"))}
+        names = {
+            name for source in sources for name in re.findall(r"\b([a-z_]\w*)::", source.read_text(errors="replace"))
+        }
     return linked
 
 
 def test_the_licences_of_all_linked_libraries_are_in_the_copyright():
     """By the library's name, each holder, and the licence's last sentence; of Apache-2.0 Debian has the text."""
+
     def plain(text):
         return " ".join(re.sub(r"(?m)^ \.$", "", text).split())
+
     copyright_text, wrong = plain((ROOT / "debian/copyright").read_text()), []
     for library in sorted(linked_libraries()):
         for file in sorted((LIBRARIES / library).glob("LICENSE*")):

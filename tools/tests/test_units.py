@@ -12,8 +12,15 @@ from conftest import ROOT
 sys.path.insert(0, str(ROOT / "plant" / "src"))
 from hilpoven.core import settings  # noqa: E402
 
-OFFICE = ["toll@acme.service", "toll-backup@acme.service", "toll-companion@acme.service", "toll-follow@acme.service", "toll-backup@acme.timer",
-          "toll-companion@acme.timer", "toll-failed@toll@acme.service.service"]
+OFFICE = [
+    "toll@acme.service",
+    "toll-backup@acme.service",
+    "toll-companion@acme.service",
+    "toll-follow@acme.service",
+    "toll-backup@acme.timer",
+    "toll-companion@acme.timer",
+    "toll-failed@toll@acme.service.service",
+]
 SINGLE = ["toll.service", "toll-backup.service", "toll-backup.timer"]
 PROGRAMS = r"(?m)^(Exec\w+=)(toll|hilpoven)\b"
 
@@ -33,7 +40,12 @@ def installed(tmp_path_factory):
 
 
 def analyzed(installed, *words):
-    done = subprocess.run(["systemd-analyze", "--man=no", *words], capture_output=True, text=True, env={"PATH": "/usr/bin:/bin", "SYSTEMD_UNIT_PATH": f"{installed}:/lib/systemd/system"})
+    done = subprocess.run(
+        ["systemd-analyze", "--man=no", *words],
+        capture_output=True,
+        text=True,
+        env={"PATH": "/usr/bin:/bin", "SYSTEMD_UNIT_PATH": f"{installed}:/lib/systemd/system"},
+    )
     return done.returncode, done.stdout + done.stderr
 
 
@@ -47,7 +59,9 @@ def test_a_unit_that_is_broken_is_found(installed, unit, tmp_path):
     """That the look above sees something."""
     broken = shutil.copytree(installed, tmp_path / "system")
     source = broken / re.sub(r"@.*(\.\w+)$", r"@\1", unit)
-    source.write_text(source.read_text().replace("OnCalendar=", "OnCalendar=never ").replace("ExecStart=", "ExecStart=/nowhere/"))
+    source.write_text(
+        source.read_text().replace("OnCalendar=", "OnCalendar=never ").replace("ExecStart=", "ExecStart=/nowhere/")
+    )
     assert analyzed(broken, "verify", unit) != (0, "")
 
 
@@ -77,30 +91,51 @@ def test_the_server_has_the_one_capability_that_a_low_port_needs():
 
 def test_the_c_library_has_what_the_server_sets_of_it():
     """It passes over a name that it doesn't know."""
-    (words,) = [line.partition("=")[2] for line in setting(text_of("toll@.service"), "Environment") if line.startswith("GLIBC_TUNABLES=")]
-    listed = subprocess.run(["/lib64/ld-linux-x86-64.so.2", "--list-tunables"], capture_output=True, text=True, env={"GLIBC_TUNABLES": words}).stdout
+    (words,) = [
+        line.partition("=")[2]
+        for line in setting(text_of("toll@.service"), "Environment")
+        if line.startswith("GLIBC_TUNABLES=")
+    ]
+    listed = subprocess.run(
+        ["/lib64/ld-linux-x86-64.so.2", "--list-tunables"],
+        capture_output=True,
+        text=True,
+        env={"GLIBC_TUNABLES": words},
+    ).stdout
     tunables = {name: int(value, 16) for name, value in re.findall(r"(?m)^(\S+): (0x[0-9a-f]+) ", listed)}
     for name, _, value in (word.partition("=") for word in words.split(":")):
         assert tunables[name] == int(value)
 
 
 def test_the_site_looks_for_companions_where_the_unit_puts_them_for_its_group():
-    unit, (folder,) = text_of("toll-companion@.service"), re.findall(r"alias (/var/cache/\S+)/\$toll_companion\.json;", text_of("nginx.conf"))
+    unit, (folder,) = text_of("toll-companion@.service"), re.findall(
+        r"alias (/var/cache/\S+)/\$toll_companion\.json;", text_of("nginx.conf")
+    )
     assert folder == f"{settings.COMPANIONS}/NAME" == settings.companions_of(settings.Settings(office="NAME"))
     assert [f"/var/cache/{name}" for name in setting(unit, "CacheDirectory")] == [folder.replace("NAME", "%i")]
     assert setting(unit, "ExecStart")[0].endswith(f" companion --out {folder.replace('NAME', '%i')}")
     # the group's alone, whose new files are the group's too
-    assert (setting(unit, "Group"), setting(unit, "CacheDirectoryMode"), setting(unit, "UMask")) == (["www-data"], ["2710"], ["0077"])
+    assert (setting(unit, "Group"), setting(unit, "CacheDirectoryMode"), setting(unit, "UMask")) == (
+        ["www-data"],
+        ["2710"],
+        ["0077"],
+    )
     # a state folder would be given to that group
     assert not setting(unit, "StateDirectory") and setting(text_of("office.conf"), "BindPaths") == ["/var/lib/toll/%i"]
-    assert setting(unit, "EnvironmentFile") == ["/etc/toll/%i.env"] and setting(unit, "Environment") == ["FILE=/var/lib/toll/%i/office.db"]
+    assert setting(unit, "EnvironmentFile") == ["/etc/toll/%i.env"] and setting(unit, "Environment") == [
+        "FILE=/var/lib/toll/%i/office.db"
+    ]
 
 
 def test_server_and_backup_have_one_file_of_settings():
     units = [text_of(name) for name in ("toll@.service", "toll-backup@.service", "toll-follow@.service")]
     for unit in units:
         assert setting(unit, "EnvironmentFile") == ["/etc/toll/%i.env"]
-        assert "${FILE}" in unit and setting(unit, "UMask") == ["0077"] and setting(unit, "OnFailure") == ["toll-failed@%n.service"]
+        assert (
+            "${FILE}" in unit
+            and setting(unit, "UMask") == ["0077"]
+            and setting(unit, "OnFailure") == ["toll-failed@%n.service"]
+        )
         assert setting(unit, "Environment")[0].split()[0] == "FILE=/var/lib/toll/%i/office.db"
     used = set(re.findall(r"\$\{(\w+)\}", "".join(units)))
     assert used == set(re.findall(r"(?m)^#?([A-Z]+)=", text_of("office.env")))
@@ -108,8 +143,12 @@ def test_server_and_backup_have_one_file_of_settings():
 
 def test_a_server_waits_for_its_follower_s_look_and_ends_when_another_has_the_office():
     follower, server = text_of("toll-follow@.service"), text_of("toll@.service")
-    assert setting(follower, "Before") == ["toll@%i.service"] and setting(follower, "ExecStartPre")[0].endswith("--check")
-    assert setting(follower, "ExecStopPost") == ["+sh -c 'test ! -e ${FILE}.superseded || systemctl --no-block stop toll@%i.service'"]
+    assert setting(follower, "Before") == ["toll@%i.service"] and setting(follower, "ExecStartPre")[0].endswith(
+        "--check"
+    )
+    assert setting(follower, "ExecStopPost") == [
+        "+sh -c 'test ! -e ${FILE}.superseded || systemctl --no-block stop toll@%i.service'"
+    ]
     assert "test ! -e ${FILE}.superseded" in setting(server, "ExecStartPre")
 
 
@@ -126,17 +165,23 @@ def test_a_backup_that_was_due_while_the_machine_was_off_is_made_when_it_is_on(n
 
 def test_what_owners_did_is_kept_for_ten_years_and_by_its_age_alone():
     """The other log has what anybody may send: it is kept for days, and by number and size."""
-    rules = {path: {words[0]: words[1:] for words in map(str.split, filter(None, lines.splitlines()))}
-             for path, lines in re.findall(r"(?m)^(\S+) \{\n(.*?)^\}", text_of("etc/logrotate.d/hilpoven"), re.S)}
+    rules = {
+        path: {words[0]: words[1:] for words in map(str.split, filter(None, lines.splitlines()))}
+        for path, lines in re.findall(r"(?m)^(\S+) \{\n(.*?)^\}", text_of("etc/logrotate.d/hilpoven"), re.S)
+    }
     owners, anybody = rules["/var/log/nginx/toll*.log"], rules["/var/log/nginx/unauthenticated-toll*.log"]
-    assert int(owners["maxage"][0]) >= 3653 and owners["rotate"] == ["-1"] and "monthly" in owners  # ten years have up to three leap days
+    assert (
+        int(owners["maxage"][0]) >= 3653 and owners["rotate"] == ["-1"] and "monthly" in owners
+    )  # ten years have up to three leap days
     assert (anybody["maxage"], anybody["rotate"]) == (["14"], ["14"])
     (log,) = re.findall(r"access_log (\S+) toll if=\$toll_authenticated;", text_of("nginx.conf"))
     assert fnmatch.fnmatch(log, "/var/log/nginx/toll*.log")
 
 
 def test_page_example_unit_and_command_have_the_same_defaults(tmp_path, monkeypatch):
-    backup = dict(setting_line.split("=") for setting_line in setting(text_of("toll-backup@.service"), "Environment")[0].split())
+    backup = dict(
+        setting_line.split("=") for setting_line in setting(text_of("toll-backup@.service"), "Environment")[0].split()
+    )
     defaults = {name: value.replace("%i", "NAME") for name, value in backup.items()}
     rows = re.findall(r"(?m)^\| `([A-Z]+)` \| .* \| `?(\S+?)`? \|$", (ROOT / "docs" / "operations.md").read_text())
     lines = dict(re.findall(r"(?m)^#([A-Z]+)=(.*)$", text_of("office.env")))
@@ -179,7 +224,17 @@ def test_a_package_that_is_removed_stops_and_disables_what_its_operator_enabled(
         (tmp_path / name).write_text(f'#!/bin/sh\nfor word; do echo "{name} $1 $word" >> {tmp_path}/log; done\n')
         (tmp_path / name).chmod(0o755)
     text = script.read_text().replace("/run/systemd/system", str(tmp_path))
-    for words, log in ((["upgrade", "99"], set()), (["remove"], {line for name, pattern in units.items() for line in (f"systemctl disable {name}", f"deb-systemd-invoke stop {pattern}")})):
+    for words, log in (
+        (["upgrade", "99"], set()),
+        (
+            ["remove"],
+            {
+                line
+                for name, pattern in units.items()
+                for line in (f"systemctl disable {name}", f"deb-systemd-invoke stop {pattern}")
+            },
+        ),
+    ):
         (tmp_path / "log").write_text("")
         subprocess.run(["sh", "-c", text, "prerm", *words], check=True, env={"PATH": f"{tmp_path}:/usr/bin:/bin"})
         noted = set((tmp_path / "log").read_text().splitlines())

@@ -47,8 +47,15 @@ esac"""
 def worked(tmp_path):
     """Runs the tool over a repository with one change, after its files were edited."""
     top, kit = tmp_path / "repository", tmp_path / "kit"
-    files = {"crates.txt": "low: serde\ntop: low\n", "crates/low/src/lib.rt": "fn one()\n", "crates/low/src/other.rt": "\n", "crates/top/src/main.rt": "fn main()\n",
-             "README.md": "It is one thing.\n", "CONTRIBUTING.md": PAGE, "tools/worked/thing.edit": EDIT}
+    files = {
+        "crates.txt": "low: serde\ntop: low\n",
+        "crates/low/src/lib.rt": "fn one()\n",
+        "crates/low/src/other.rt": "\n",
+        "crates/top/src/main.rt": "fn main()\n",
+        "README.md": "It is one thing.\n",
+        "CONTRIBUTING.md": PAGE,
+        "tools/worked/thing.edit": EDIT,
+    }
     for name, text in files.items():
         (top / name).parent.mkdir(parents=True, exist_ok=True)
         (top / name).write_text(text)
@@ -59,11 +66,19 @@ def worked(tmp_path):
 
     def run(**edits):
         for name, (old, new) in edits.items():
-            path = top / {"page": "CONTRIBUTING.md", "change": "tools/worked/thing.edit", "code": "crates/low/src/lib.rt"}[name]
+            path = (
+                top
+                / {"page": "CONTRIBUTING.md", "change": "tools/worked/thing.edit", "code": "crates/low/src/lib.rt"}[
+                    name
+                ]
+            )
             path.write_text(path.read_text().replace(old, new))
         environment = {**os.environ, "PATH": f"{kit}/bin:{os.environ['PATH']}", "TOLD": str(tmp_path / "told")}
-        done = subprocess.run([top / "tools" / "check-worked"], capture_output=True, text=True, timeout=60, env=environment)
+        done = subprocess.run(
+            [top / "tools" / "check-worked"], capture_output=True, text=True, timeout=60, env=environment
+        )
         return done.returncode, done.stdout + done.stderr
+
     run.notes = tmp_path / "told"
     run.top = top
     return run
@@ -72,7 +87,11 @@ def worked(tmp_path):
 def test_a_change_that_applies_is_read_by_the_front_end_in_a_copy(worked):
     assert worked() == (0, "check-worked: 1 changes apply, and their code is typed\n")
     words = worked.notes.read_text().split()
-    assert words[words.index("--crate-name") + 1] == "low" and "src/lib.rt" in words and any(word.endswith("rlibs/serde.rlib") for word in words)
+    assert (
+        words[words.index("--crate-name") + 1] == "low"
+        and "src/lib.rt" in words
+        and any(word.endswith("rlibs/serde.rlib") for word in words)
+    )
     assert (worked.top / "crates/low/src/lib.rt").read_text() == "fn one()\n"
 
 

@@ -318,7 +318,7 @@ def reachable(t: Trial) -> None:
 def drafts(t: Trial) -> None:
     """A new order that is half typed stays, and an old notice goes when the next entry is checked."""
     b = t.entered()
-    t.place("O-DRAFT", batches=2, told="Order O-DRAFT is placed")
+    t.place("O-DRAFT", batches=2, says="Order O-DRAFT is placed")
     b.type("input[name=order]", "HALF")
     b.type("input[name=recipe]", "BRI")
     half = "one('h1') && fields('order', 'recipe')", ["HALF", "BRI"]

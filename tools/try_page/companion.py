@@ -77,9 +77,14 @@ def companion(office: Office, owner: str) -> Row:
         "made": datetime.datetime.now(datetime.timezone.utc).strftime("%Y-%m-%dT%H:%M:%SZ"),
         "plant": {"name": "Hilltop Blending", "address": "4 Mill Lane, Anytown", "contact": "+00 555 0100"},
         "materials": [
-            {"owner": whose, "material": name, "measure": measure, **({"tests": tests[name]} if whose == owner else {})}
-            for whose, name, measure in of("material-add")
-            if whose in (owner, "HOUSE")
+            {
+                "owner": of_owner,
+                "material": name,
+                "measure": measure,
+                **({"tests": tests[name]} if of_owner == owner else {}),
+            }
+            for of_owner, name, measure in of("material-add")
+            if of_owner in (owner, "HOUSE")
         ],
         "batches": batches_of(office, owner, of("open"), makers),
         "lots": lots_of(office, owner, of("result"), tests, makers),
@@ -91,7 +96,7 @@ def companion(office: Office, owner: str) -> Row:
 
 
 def movement(word: str, *values: str) -> Row:
-    """A movement of the plant's line, with the owner whose row it is."""
+    """A movement of the plant's line, with the owner of_owner row it is."""
     kind, names = MOVEMENTS[word]
     row: Row = {"kind": kind}
     row |= {name: int(value) if name in NUMBERS else value for name, value in zip(names.split(), values)}
@@ -120,7 +125,9 @@ def lots_of(
     office: Office, owner: str, results: list[list[str]], tests: dict[str, list[Row]], makers: dict[str, Row]
 ) -> list[Row]:
     """The lots in stock, with why each can't be released."""
-    latest = {(lot, test): int(value.replace("M", "-")) for whose, lot, test, value, _ in results if whose == owner}
+    latest = {
+        (lot, test): int(value.replace("M", "-")) for of_owner, lot, test, value, _ in results if of_owner == owner
+    }
     rows = []
     for row in asked(office, owner, "/stock")["lots"]:
         reasons = (reason_of(test, latest.get((row["lot"], test["test"]))) for test in tests[row["material"]])

@@ -14,7 +14,7 @@ PLANT = '{"name":"Hilltop Blending","contact":"+00 555 0100"}'
 
 def windows(t: Trial) -> None:
     b = t.entered()
-    t.place("O-TWO", told="Order O-TWO is placed")
+    t.place("O-TWO", says="Order O-TWO is placed")
     first = b.current_window_handle
     b.new_window()
     t.enter("ACME")

@@ -200,13 +200,13 @@ class Trial:
     def read_again(self) -> None:
         self.browser.click("button", "Read again")
 
-    def place(self, order: str, recipe: str = "FILL", batches: int = 1, told: str = "") -> None:
+    def place(self, order: str, recipe: str = "FILL", batches: int = 1, says: str = "") -> None:
         """Fills in the form for a new order, sends it, and waits for what is said of it."""
         for name, value in (("order", order), ("recipe", recipe), ("batches", str(batches))):
             self.browser.type(f"input[name={name}]", value)
         self.browser.click("button", "Place the order")
-        if told:
-            self.browser.wait(told)
+        if says:
+            self.browser.wait(says)
 
     def cancel(self, order: str, answer: str | None = "Cancel the order") -> None:
         """Clicks an order's Cancel, which comes when its row is in sight, and gives the answer."""
