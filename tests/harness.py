@@ -297,8 +297,8 @@ class Disk(Preloaded):
     PLAN = struct.Struct("4q8192s")
 
     def disturb(self, at: int, way: int = 0, error: int = 0) -> None:
-        """The call of this number is to be disturbed, counted from now on; none with 0. The file is written in place: the
-        program has it mapped, and would be killed at a look into a file without content."""
+        """The call of this number is to be disturbed, counted from now on; none with 0. The file is written in place:
+        the program has it mapped, and would be killed at a look into a file without content."""
         with open(self.plan, "r+b" if self.plan.exists() else "wb") as plan:
             plan.write(self.PLAN.pack(at, way, error, 0, b""))
 

@@ -15,9 +15,9 @@ import time
 from collections.abc import Callable
 from typing import Any, NamedTuple
 
-import jsonschema  # type: ignore[import]
+import jsonschema
 import pytest
-import yaml  # type: ignore[import]
+import yaml
 
 from tests.harness import ACCEPTED, REPLY, ROOT, Office, Server, content, http_request, meanwhile, put
 from tests.lines import SERVED

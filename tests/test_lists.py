@@ -10,7 +10,8 @@ import pytest
 from tests.harness import ROOT
 
 TEST, REFUSED = "each_of_300_receipts_is_in_stock_over_lists", 20_000
-REPLY = r'(?:\d+: fault Memory, 200 .*|.*(?:fault Memory|503 {\\"error\\":\\"Unavailable\\"}))'  # to the receipt, or to the look at the stock
+# to the receipt, or to the look at the stock
+REPLY = r'(?:\d+: fault Memory, 200 .*|.*(?:fault Memory|503 {\\"error\\":\\"Unavailable\\"}))'
 WANT_OF_MEMORY = re.compile(f'^    error: (?:Memory|"{REPLY}")$', re.M)
 
 

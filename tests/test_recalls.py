@@ -16,6 +16,7 @@ Offices, queries and what is checked of papers are those of plant/tests/papers.
 """
 import concurrent.futures
 import html
+import importlib
 import os
 import pathlib
 import re
@@ -60,8 +61,7 @@ def check_arrows(plant: Any, page: str, lots: Lots) -> None:
 
 def check_lies(plant: Any, asked: tuple[str, str], last: str) -> None:
     """No lie of a program about the last lot is believed."""
-    import conftest  # type: ignore[import]  # of plant/tests
-    import lying  # type: ignore[import]
+    conftest, lying = map(importlib.import_module, ("conftest", "lying"))  # of plant/tests
 
     folder = plant.folder / "believed"
     for lie in LIES:
@@ -79,8 +79,7 @@ def check_unknown_lot(plant: Any) -> None:
 
 def check_office(program: str, seed: int, folder: str) -> int:
     """Checks the papers over an office, and tells of how many lots the largest recall was."""
-    import looks  # type: ignore[import]  # of plant/tests/papers
-    import offices  # type: ignore[import]
+    looks, offices = map(importlib.import_module, ("looks", "offices"))  # of plant/tests/papers
 
     office = offices.Filled(program, pathlib.Path(folder) / "office", seed)
     owner, papers, sizes = office.chance.choice(office.owners), looks.Papers(office, prints=seed % 4 == 0), []

@@ -24,7 +24,8 @@ def missing_of(packages: Iterable[str]) -> list[str]:
 
 
 def install(packages: Iterable[str], name: str = "check", to: TextIO = sys.stdout) -> list[str]:
-    """Installs what is missing, if this is root, and says so in the name of what needs it; gives what is missing still."""
+    """Installs what is missing, if this is root, and says so in the name of what needs it; gives what is missing
+    still."""
     missing = missing_of(packages)
     if not missing or os.geteuid() or not shutil.which("apt-get"):
         return missing

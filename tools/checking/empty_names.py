@@ -17,7 +17,8 @@ PARTS = ("id", "arg", "attr", "name", "asname", "rest")  # where a node of a sou
 
 
 def empty_names(source: str) -> Iterator[tuple[int, str]]:
-    """The empty names of variables, parameters, attributes, functions and classes that a source gives, each with its line."""
+    """The empty names of variables, parameters, attributes, functions and classes that a source gives, each with its
+    line."""
     for node in ast.walk(ast.parse(source)):
         if not isinstance(getattr(node, "ctx", None), ast.Load):
             yield from (

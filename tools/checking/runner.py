@@ -250,8 +250,8 @@ def maker_of(wanted: list[Part], processors: int, memory: float) -> Part | None:
 
 async def gate(program: pathlib.Path, wanted: list[Part]) -> Runner:
     """Runs the parts: the one that makes the program, beside it those that need none, and those that try the program
-    once it is there. Behind all others, those that failed are run once more, each alone, since a failure may be bad luck.
-    """
+    once it is there. Behind all others, those that failed are run once more, each alone, since a failure may be bad
+    luck."""
     runner = Runner(program, len(os.sched_getaffinity(0)), free_memory())
     maker = maker_of(wanted, runner.processors, runner.memory)
     others = [part for part in wanted if part not in MAKERS]

@@ -41,9 +41,9 @@ def eventually(holds: Callable[[], object], seconds: float = 20) -> bool:
 
 
 def quick_guesses(guess: Callable[[], float]) -> tuple[int, float]:
-    """How many wrong keys are answered before one waits for more than two seconds, and the most that may be: the site lets
-    19 pass, has the next one wait for a part of three seconds, and gives one more in each three seconds that they take.
-    """
+    """How many wrong keys are answered before one waits for more than two seconds, and the most that may be: the site
+    lets 19 pass, has the next one wait for a part of three seconds, and gives one more in each three seconds that they
+    take."""
     begun, quick = time.monotonic(), 0
     while guess() < 2 and quick < 100:
         quick += 1

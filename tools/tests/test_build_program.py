@@ -6,11 +6,13 @@ import shutil
 import signal
 import subprocess
 import time
+from collections.abc import Callable
+from pathlib import Path
+from typing import Any, NamedTuple
 
 import pytest
-from conftest import ROOT, eventually
+from conftest import PATIENCE, ROOT, eventually
 
-# As `rt`, it builds what isn't built of the same text, in out/rlib, with a stamp behind all else. It notes what it does.
 RT = r"""#!/usr/bin/python3
 import hashlib, os, pathlib, shutil, subprocess, sys, time
 told = pathlib.Path(os.environ["TOLD"])
@@ -29,7 +31,8 @@ def note(what):
 
 def stamp(name):
     files = sorted(it for it in (top / "crates" / name / "src").rglob("*") if it.is_file())
-    return hashlib.sha256(repr([rows[name], [it.read_bytes() for it in files], [stamp(it) for it in rows[name] if it in rows]]).encode()).hexdigest()
+    below = [stamp(it) for it in rows[name] if it in rows]
+    return hashlib.sha256(repr([rows[name], [it.read_bytes() for it in files], below]).encode()).hexdigest()
 
 
 def is_built(name):
@@ -55,7 +58,8 @@ os.replace(out / "incremental" / "kept.oantt.new", out / "incremental" / "kept.o
 os.replace(told / f"pid-{name}.new", told / f"pid-{name}")  # from here on a test may end this
 time.sleep(float(text.partition("seconds ")[2].partition("\n")[0] or 0.1))
 if "wrong" in text:
-    print("fn it::well: proved", f"src/lib.rt:3:1: error[unknown-name]: there is no {name}", "note: src/lib.rt:4:1: it is not proved that it returns", sep="\n")
+    print("fn it::well: proved", f"src/lib.rt:3:1: error[unknown-name]: there is no {name}", sep="\n")
+    print("note: src/lib.rt:4:1: it is not proved that it returns")
     print("fn it::ill: no proof: write it", "logic=not-proved", sep="\n")
     print("rattle build: nothing was built, since only a proved crate is built")
     sys.exit(1)
@@ -84,275 +88,291 @@ apart:
 toll_tests: low toll
 toll: short mid_c wide
 """
-LIBRARIES = ["low", "short", "mid_a", "mid_b", "mid_c", "wide"]
-ALL = [*LIBRARIES, "toll"]
-PATIENCE = 60
+LIBRARIES = "low mid_a mid_b mid_c short wide"
+ALL = "low mid_a mid_b mid_c short toll wide"
+STARTED_BY = "tools/build-program"
 
 
-def heed_signals():
-    """Lets signals end what is started, also where these tests run in the background, which ignores some."""
+def heed_signals() -> None:
+    """Lets signals end what is started, also if these tests run in the background, which ignores some."""
     for number in (signal.SIGHUP, signal.SIGINT, signal.SIGTERM):
         signal.signal(number, signal.SIG_DFL)
+
+
+class Done(NamedTuple):
+    status: int
+    out: str
+    err: str
 
 
 class Repository:
     """A repository with a toolchain that stands in for the real one."""
 
-    def __init__(self, folder):
+    def __init__(self, folder: Path) -> None:
         self.folder, self.notes, self.rt = folder / "repository", folder / "told", folder / "bin" / "rt"
         self.environment = {**os.environ, "PATH": f"{folder}/bin:{os.environ['PATH']}", "TOLD": str(self.notes)}
 
-    def begin(self):
+    def begin(self) -> "Repository":
         """Makes it, with nothing that is built."""
         for path in (self.folder / "tools", self.notes, self.rt.parent):
             path.mkdir(parents=True)
-        for path in ("toll", "tools/build-program"):
-            shutil.copy2(ROOT / path, self.folder / path)
+        for name in ("toll", STARTED_BY):
+            shutil.copy2(ROOT / name, self.folder / name)
         self.rt.write_text(RT)
         self.rt.chmod(0o755)
         (self.notes / "version").write_text("kit 1")
-        self.list(CRATES)
+        self.list_crates(CRATES)
         return self
 
-    def list(self, text):
+    def list_crates(self, text: str) -> None:
         """Writes crates.txt, and each crate that isn't there yet."""
         (self.folder / "crates.txt").write_text(text)
         for name in re.findall(r"^(\w+):", text, re.M):
             if not (self.folder / "crates" / name).exists():
                 self.write(name, "fn it\n")
 
-    def write(self, name, text):
+    def write(self, name: str, text: str) -> None:
         file = self.folder / "crates" / name / "src" / ("main.rt" if name == "toll" else "lib.rt")
         file.parent.mkdir(parents=True, exist_ok=True)
         file.write_text(text)
 
-    def start(self, *words, program="toll"):
-        how = {"stdin": subprocess.PIPE, "stdout": subprocess.PIPE, "stderr": subprocess.PIPE, "text": True}
-        return subprocess.Popen([self.folder / program, *words], env=self.environment, preexec_fn=heed_signals, **how)
+    def start(self, *words: str, program: str = "toll", **how: Any) -> "subprocess.Popen[str]":
+        pipes = dict.fromkeys(("stdin", "stdout", "stderr"), subprocess.PIPE)
+        how = {**pipes, "env": self.environment, "preexec_fn": heed_signals, "text": True, **how}
+        process: subprocess.Popen[str] = subprocess.Popen([self.folder / program, *words], **how)
+        return process
 
-    def toll(self, *words, program="toll", given=""):
-        done = self.start(*words, program=program)
-        done.out, done.err = done.communicate(given, timeout=PATIENCE)
-        return done
+    def toll(self, *words: str, program: str = "toll", given: str = "") -> Done:
+        process = self.start(*(words or ("script",)), program=program)
+        out, err = process.communicate(given, timeout=PATIENCE)
+        return Done(process.returncode, out, err)
 
-    def build(self, *words):
-        return self.toll(*words, program="tools/build-program")
+    def build(self, words: str = "") -> Done:
+        process = self.start(*words.split(), program=STARTED_BY)
+        out, err = process.communicate(timeout=PATIENCE)
+        return Done(process.returncode, out, err)
 
-    def noted(self, event="begin"):
+    def noted(self, event: str = "begin") -> str:
         """The crates with which this was done, in order."""
-        return [line.split()[1] for line in self.log().splitlines() if line.split()[0] == event]
+        return " ".join(line.split()[1] for line in self.log().splitlines() if line.split()[0] == event)
 
-    def log(self):
+    def events(self) -> list[str]:
+        return [line.split()[0] for line in self.log().splitlines()]
+
+    def jobs(self) -> dict[str, str]:
+        return dict(re.findall(r"begin (\w+) (\d)", self.log()))
+
+    def log(self) -> str:
         return (self.notes / "log").read_text() if (self.notes / "log").exists() else ""
 
-    def forget(self):
+    def forget(self) -> None:
         (self.notes / "log").unlink(missing_ok=True)
 
-    def out(self, name):
+    def out(self, name: str) -> Path:
         return self.folder / "crates" / name / "out"
 
-    def has_begun(self, name):
-        return name in self.noted()
+    def wait_for(self, name: str) -> None:
+        """Waits until the crate's rt may be ended."""
+        assert eventually((self.notes / f"pid-{name}").exists)
 
-    def is_clean(self):
+    def has_ended(self, name: str) -> bool:
+        child = (self.notes / f"pid-{name}").read_text()
+        return eventually(lambda: not os.path.exists(f"/proc/{child}"))
+
+    def is_clean(self) -> bool:
         return not (self.folder / "out" / "building").exists() and not list(self.folder.glob("crates/*/out/rlib/*.new"))
 
 
 @pytest.fixture
-def repository(tmp_path):
+def repository(tmp_path: Path) -> Repository:
     return Repository(tmp_path).begin()
 
 
 @pytest.fixture(scope="module")
-def built_once(tmp_path_factory):
+def built_once(tmp_path_factory: pytest.TempPathFactory) -> Path:
     """The folder of a repository in which all is built, which no test changes."""
     folder = tmp_path_factory.mktemp("built")
     repository = Repository(folder).begin()
-    assert repository.build().returncode == 0
+    assert repository.build().status == 0
     repository.forget()
     return folder
 
 
 @pytest.fixture
-def built(built_once, tmp_path):
+def built(built_once: Path, tmp_path: Path) -> Repository:
     """A repository in which all is built."""
     shutil.copytree(built_once, tmp_path, symlinks=True, dirs_exist_ok=True)
     return Repository(tmp_path)
 
 
-def test_toll_builds_the_program_and_runs_it(repository):
+def alphabetical(names: str) -> str:
+    return " ".join(sorted(names.split()))
+
+
+def test_toll_builds_the_program_and_runs_it(repository: Repository) -> None:
     done = repository.toll("stock", "ACME", given="lines\n")
-    assert (done.returncode, done.out) == (0, "ran stock ACME\nlines\n"), done.err
-    assert sorted(repository.noted()) == sorted(ALL) and repository.noted()[-1] == "toll"
+    assert done[:2] == (0, "ran stock ACME\nlines\n"), done.err
+    assert alphabetical(repository.noted()) == ALL and repository.noted().endswith(" toll")
     assert "ANEW" not in repository.log() and repository.is_clean()
 
 
-def test_a_built_program_runs_without_a_word(built):
-    done = built.toll("script")
-    assert (done.returncode, done.out, done.err, built.log()) == (0, "ran script\n", "", "")
+def test_a_built_program_runs_without_a_word(built: Repository) -> None:
+    assert built.toll() == (0, "ran script\n", "") and built.log() == ""
 
 
-def test_a_crate_begins_when_those_below_are_built_and_the_longest_chain_first(repository):
-    assert repository.build("--jobs", "1").returncode == 0
-    assert repository.noted() == ["low", "mid_a", "mid_b", "mid_c", "wide", "short", "toll"]
-    assert set(re.findall(r"begin \w+ (\d)", repository.log())) == {"1"}
-
-
-def test_the_chain_is_told_by_the_lines_of_the_crates(repository):
-    repository.write("short", "fn it\n" * 9000)
-    assert repository.build("--jobs", "1").returncode == 0
-    assert repository.noted()[:2] == ["low", "short"]
-
-
-def test_idle_processors_go_to_the_chain(repository):
-    repository.write("mid_a", "seconds 0.5\n")
-    repository.write("short", "seconds 0.5\n")
-    assert repository.build("--jobs", "4", "--memory", "100").returncode == 0
-    jobs = dict(re.findall(r"begin (\w+) (\d)", repository.log()))
-    assert (jobs["low"], jobs["mid_a"], jobs["short"], jobs["toll"]) == ("4", "3", "1", "4")
-
-
-def test_no_more_runs_than_memory_allows(repository):
-    assert repository.build("--jobs", "4", "--memory", "5").returncode == 0
-    events = [line.split()[0] for line in repository.log().splitlines()]
-    assert events == ["begin", "end"] * len(ALL) and set(re.findall(r"begin \w+ (\d)", repository.log())) == {"1"}
-
-
-def test_too_little_memory_still_builds_one_after_another(repository):
-    assert repository.build("--jobs", "2", "--memory", "0.1").returncode == 0
-    assert [line.split()[0] for line in repository.log().splitlines()] == ["begin", "end"] * len(ALL)
-
-
-def test_a_source_that_changed_builds_exactly_what_stands_on_it(built):
-    built.write("mid_b", "fn other\n")
-    assert built.toll("script").out == "ran script\n"
-    assert built.noted() == ["mid_b", "mid_c", "toll"] and "ANEW" not in built.log() and "same" not in built.log()
-
-
-def test_a_line_of_the_list_that_changed_builds_what_stands_on_it(built):
-    built.list(CRATES.replace("wide: low mid_a", "wide: low mid_a slab"))
-    assert built.toll("script").returncode == 0 and built.noted() == ["wide", "toll"]
-
-
-def test_a_source_that_was_only_touched_builds_nothing(built):
-    for source in built.folder.glob("crates/*/src/*"):
-        source.touch()
-    done = built.toll("script")
-    assert (done.out, done.err, built.log()) == ("ran script\n", "", "")
-    newest = max(source.stat().st_mtime_ns for source in built.folder.glob("crates/*/src/*"))
-    assert (built.out("toll") / "toll").stat().st_mtime_ns > newest
-
-
-def test_wrong_bodies_and_tests_are_none_of_the_programs_text(built):
-    built.write("toll_tests", "fn other\n")
-    (built.folder / "crates" / "low" / "must-fail").mkdir()
-    (built.folder / "crates" / "low" / "must-fail" / "ill.edit").write_text("file: src/lib.rt\n")
-    assert built.toll("script").out == "ran script\n" and built.log() == ""
-
-
-def test_another_toolchain_is_asked_about_each_crate(built):
-    (built.notes / "version").write_text("kit 2")
-    assert built.build().returncode == 0
-    assert sorted(built.noted("same")) == sorted(LIBRARIES) and built.noted() == ["toll"]
-
-
-def test_what_rt_built_by_itself_stays(built):
-    for built_from in built.folder.glob("crates/*/out/rlib/built-from"):
-        built_from.unlink()
-    assert built.build().returncode == 0
-    assert sorted(built.noted("same")) == sorted(LIBRARIES) and built.noted() == []
+# What begins when
 
 
 @pytest.mark.parametrize(
-    "change",
-    [
-        lambda out: shutil.rmtree(out / "rlib"),
-        lambda out: (out / "rlib" / "stamp").unlink(),
-        lambda out: (out / "rlib" / "stamp").write_text("other"),
-    ],
+    "write, begins",
+    [({}, "low mid_a mid_b mid_c wide short toll"), ({"short": "fn it\n" * 9000}, "low short ")],
+    ids=["a crate behind those below", "the chain by the lines of the crates"],
 )
-def test_a_library_that_something_else_took_or_made_is_not_taken_for_built(built, change):
-    change(built.out("mid_b"))
-    assert built.build().returncode == 0
-    assert built.noted() == ["mid_b"] and "ANEW" not in built.log()
+def test_the_longest_chain_begins_first(repository: Repository, write: dict[str, str], begins: str) -> None:
+    for name, text in write.items():
+        repository.write(name, text)
+    assert repository.build("--jobs 1").status == 0
+    assert repository.noted().startswith(begins) and set(repository.jobs().values()) == {"1"}
 
 
-def test_a_program_that_something_else_made_is_built(built):
-    (built.out("toll") / "toll").write_text("#!/bin/sh\necho other\n")
-    assert built.build().returncode == 0 and built.noted() == ["toll"]
+def test_idle_processors_go_to_the_chain(repository: Repository) -> None:
+    for name in ("mid_a", "short"):
+        repository.write(name, "seconds 0.5\n")
+    assert repository.build("--jobs 4 --memory 100").status == 0
+    assert {"low": "4", "mid_a": "3", "short": "1", "toll": "4"}.items() <= repository.jobs().items()
 
 
-def test_an_edit_meanwhile_is_left_to_the_next_build(repository):
+@pytest.mark.parametrize("words", ["--jobs 4 --memory 5", "--jobs 2 --memory 0.1"])
+def test_no_more_runs_than_memory_allows_and_one_after_another_if_it_is_too_little(
+    repository: Repository, words: str
+) -> None:
+    assert repository.build(words).status == 0
+    assert repository.events() == ["begin", "end"] * 7 and set(repository.jobs().values()) == {"1"}
+
+
+# What is built anew
+
+
+def touch_all(built: Repository) -> None:
+    for source in built.folder.glob("crates/*/src/*"):
+        source.touch()
+
+
+def add_wrong_body(built: Repository) -> None:
+    built.write("toll_tests", "fn other\n")
+    (built.folder / "crates" / "low" / "must-fail").mkdir()
+    (built.folder / "crates" / "low" / "must-fail" / "ill.edit").write_text("file: src/lib.rt\n")
+
+
+def forget_notes(built: Repository) -> None:
+    for note in built.folder.glob("crates/*/out/rlib/built-from"):
+        note.unlink()
+
+
+CHANGES: dict[str, tuple[Callable[[Repository], object], str, str]] = {
+    "a source": (lambda tree: tree.write("mid_b", "fn other\n"), "mid_b mid_c toll", ""),
+    "a line of the list": (
+        lambda tree: tree.list_crates(CRATES.replace("wide: low", "wide: low slab")),
+        "wide toll",
+        "",
+    ),
+    "a source that was only touched": (touch_all, "", ""),
+    "wrong bodies and tests": (add_wrong_body, "", ""),
+    "another toolchain": (lambda tree: (tree.notes / "version").write_text("kit 2"), "toll", LIBRARIES),
+    "what rt built by itself": (forget_notes, "", LIBRARIES),
+    "a library that was removed": (lambda tree: shutil.rmtree(tree.out("mid_b") / "rlib"), "mid_b", ""),
+    "a library without a stamp": (lambda tree: (tree.out("mid_b") / "rlib" / "stamp").unlink(), "mid_b", ""),
+    "another library": (lambda tree: (tree.out("mid_b") / "rlib" / "stamp").write_text("other"), "mid_b", ""),
+    "another program": (lambda tree: (tree.out("toll") / "toll").write_text("#!/bin/sh\n"), "toll", ""),
+}
+
+
+@pytest.mark.parametrize("change, begun, same", CHANGES.values(), ids=CHANGES)
+def test_what_changed_is_built_with_what_stands_on_it_and_nothing_else(
+    built: Repository, change: Callable[[Repository], object], begun: str, same: str
+) -> None:
+    change(built)
+    done = built.build()
+    assert done.status == 0 and (done.err == "") == (not begun and not same)
+    assert (built.noted(), alphabetical(built.noted("same"))) == (begun, same) and "ANEW" not in built.log()
+    assert built.toll().out == "ran script\n"
+    newest = max(source.stat().st_mtime_ns for source in built.folder.glob("crates/*/src/*"))
+    assert (built.out("toll") / "toll").stat().st_mtime_ns > newest or begun.startswith(("mid_b", "wide"))
+
+
+def test_an_edit_meanwhile_is_left_to_the_next_build(repository: Repository) -> None:
     repository.write("mid_a", "seconds 1\n")
     process = repository.start("script")
-    assert eventually(lambda: repository.has_begun("mid_a"))
+    repository.wait_for("mid_a")
     repository.write("low", "fn later\n")
     assert process.communicate(timeout=PATIENCE)[0] == "ran script\n" and "ANEW" not in repository.log()
     repository.forget()
-    assert repository.toll("script").returncode == 0 and sorted(repository.noted()) == sorted(ALL)
+    assert repository.toll().status == 0 and alphabetical(repository.noted()) == ALL
 
 
-def test_a_crate_that_fails_stops_what_stands_on_it_and_is_told(repository):
+# What fails
+
+
+def test_a_crate_that_fails_stops_what_stands_on_it_and_is_named(repository: Repository) -> None:
     repository.write("mid_b", "wrong\n")
-    done = repository.toll("script")
-    assert (done.returncode, done.out) == (3, "")
-    assert sorted(repository.noted()) == ["low", "mid_a", "mid_b", "short", "wide"]
-    log = repository.out("mid_b") / "build.log"
-    lines = [
-        "mid_b failed:",
-        "    src/lib.rt:3:1: error[unknown-name]: there is no mid_b",
-        "    note: src/lib.rt:4:1: it is not proved that it returns",
-        "    fn it::ill: no proof: write it",
-        f"    all that was said: {log}",
-    ]
-    assert "".join(f"toll: {line}\n" for line in lines) in done.err
+    done, log = repository.toll(), repository.out("mid_b") / "build.log"
+    assert done[:2] == (3, "") and alphabetical(repository.noted()) == "low mid_a mid_b short wide"
+    lines = f"""mid_b failed:
+    src/lib.rt:3:1: error[unknown-name]: there is no mid_b
+    note: src/lib.rt:4:1: it is not proved that it returns
+    fn it::ill: no proof: write it
+    all that was said: {log}"""
+    assert "".join(f"toll: {line}\n" for line in lines.splitlines()) in done.err
     assert done.err.endswith("toll: mid_b failed; above it were left: 2\ntoll: the program couldn't be built\n")
     assert "nothing was built" in log.read_text() and repository.is_clean()
     assert (repository.out("mid_b") / "incremental" / "kept.oantt").read_text() == "wrong\n"
     repository.forget()
     repository.write("mid_b", "right\n")
-    assert repository.toll("script").returncode == 0 and repository.noted() == ["mid_b", "mid_c", "toll"]
+    assert repository.toll().status == 0 and repository.noted() == "mid_b mid_c toll"
 
 
-def test_a_program_stays_where_the_next_cannot_be_built(built):
+def test_a_program_stays_if_the_next_cannot_be_built(built: Repository) -> None:
     built.write("toll", "wrong\n")
-    assert built.toll("script").returncode == 3
-    assert (built.out("toll") / "toll").exists() and built.toll("script").returncode == 3
+    assert built.toll().status == 3
+    assert (built.out("toll") / "toll").exists() and built.toll().status == 3
 
 
-def test_a_library_that_rt_leaves_without_a_stamp_has_failed(repository):
-    repository.rt.write_text(
-        RT.replace('(out / "rlib" / "stamp").write_text(stamp(name))', 'print("the text changed")')
-    )
-    done = repository.toll("script")
-    assert done.returncode == 3 and "toll: low failed:\ntoll:     the text changed\n" in done.err
+def test_a_library_that_rt_leaves_without_a_stamp_has_failed(repository: Repository) -> None:
+    stamping = '(out / "rlib" / "stamp").write_text(stamp(name))'
+    repository.rt.write_text(RT.replace(stamping, 'print("the text changed")'))
+    done = repository.toll()
+    assert done.status == 3 and "toll: low failed:\ntoll:     the text changed\n" in done.err
 
 
-@pytest.mark.parametrize(
-    "number, program, status",
-    [
-        (signal.SIGINT, "toll", 130),
-        (signal.SIGTERM, "toll", 143),
-        (signal.SIGHUP, "toll", 129),
-        (signal.SIGINT, "tools/build-program", 130),
-        (signal.SIGTERM, "tools/build-program", 143),
-    ],
-)
-def test_ended_by_a_signal_it_leaves_nothing_but_what_was_finished(repository, number, program, status):
+# What ends it
+
+
+@pytest.mark.parametrize("number", [signal.SIGINT, signal.SIGTERM, signal.SIGHUP])
+@pytest.mark.parametrize("program", ["toll", STARTED_BY])
+def test_ended_by_a_signal_it_leaves_nothing_but_what_was_finished(
+    repository: Repository, number: int, program: str
+) -> None:
     repository.write("mid_a", "seconds 300\n")
     process = repository.start(program=program)
-    assert eventually(lambda: (repository.notes / "pid-mid_a").exists())
+    repository.wait_for("mid_a")
     process.send_signal(number)
-    assert process.wait(20) == status
-    child = int((repository.notes / "pid-mid_a").read_text())
-    assert eventually(lambda: not os.path.exists(f"/proc/{child}")) and repository.is_clean()
-    assert (repository.out("mid_a") / "incremental" / "kept.oantt").exists() and not (
-        repository.out("mid_a") / "rlib"
-    ).exists()
+    assert process.wait(20) == 128 + number and repository.has_ended("mid_a") and repository.is_clean()
+    kept, built = (repository.out("mid_a") / name for name in ("incremental/kept.oantt", "rlib"))
+    assert kept.exists() and not built.exists()
     repository.forget()
     repository.write("mid_a", "seconds 0.1\n")
-    assert repository.toll("script").returncode == 0
-    assert set(ALL) - {"low", "short"} <= set(repository.noted()) <= set(ALL) - {"low"}
+    assert repository.toll().status == 0
+    begun = set(repository.noted().split())
+    assert set(ALL.split()) - {"low", "short"} <= begun <= set(ALL.split()) - {"low"}
+
+
+def run_within(folder: Path, lines: str, *words: object) -> "subprocess.CompletedProcess[str]":
+    """Runs lines in the place of the builder's own beginning."""
+    text = (ROOT / STARTED_BY).read_text()
+    assert text.count("sys.exit(main())\n") == 1
+    (folder / "program.py").write_text(text.replace("sys.exit(main())\n", lines))
+    command = ["/usr/bin/python3", "-u", str(folder / "program.py"), *map(str, words)]
+    return subprocess.run(command, capture_output=True, text=True, timeout=PATIENCE, preexec_fn=heed_signals)
 
 
 MANY_SIGNALS = """
@@ -372,80 +392,6 @@ for _ in range(20):
             session.pause(lambda: "on it goes")
 os._exit(0)
 """
-
-
-def test_a_signal_at_any_moment_ends_the_build(tmp_path):
-    (tmp_path / "program.py").write_text(
-        (ROOT / "tools/build-program").read_text().replace("sys.exit(main())\n", MANY_SIGNALS)
-    )
-    done = subprocess.run(
-        ["/usr/bin/python3", tmp_path / "program.py"],
-        capture_output=True,
-        text=True,
-        timeout=PATIENCE,
-        preexec_fn=heed_signals,
-    )
-    assert done.returncode == 0 and "on it goes" in done.stderr, done.stderr
-
-
-def test_ctrl_c_ends_all_at_once(repository):
-    repository.write("low", "seconds 300\n")
-    how = {
-        "stdin": subprocess.DEVNULL,
-        "stderr": subprocess.PIPE,
-        "text": True,
-        "start_new_session": True,
-        "preexec_fn": heed_signals,
-    }
-    process = subprocess.Popen([repository.folder / "toll", "script"], env=repository.environment, **how)
-    assert eventually(lambda: (repository.notes / "pid-low").exists())
-    os.killpg(process.pid, signal.SIGINT)
-    assert (
-        "the building was ended; what is proved stays" in process.communicate(timeout=20)[1]
-        and process.returncode == 130
-    )
-    assert repository.is_clean()
-
-
-def test_of_two_at_once_the_second_waits(repository):
-    repository.write("low", "seconds 2\n")
-    first = repository.start("first")
-    assert eventually(lambda: repository.has_begun("low"))
-    second = repository.toll("second")
-    assert (
-        second.out == "ran second\n"
-        and "toll: another build of the program is under way here, and this one waits for it\n" in second.err
-    )
-    assert first.communicate(timeout=PATIENCE)[0] == "ran first\n" and sorted(repository.noted()) == sorted(ALL)
-
-
-def test_what_a_killed_build_left_goes_with_the_next(repository):
-    repository.write("low", "seconds 4\n")
-    process = repository.start(program="tools/build-program")
-    assert eventually(lambda: repository.has_begun("low"))
-    process.kill()
-    process.communicate(timeout=20)
-    assert not repository.is_clean()
-    done = repository.toll("script")
-    assert done.out == "ran script\n" and "another build" in done.err  # its rt goes on to its end, and keeps others out
-    assert repository.is_clean()
-
-
-def test_it_waits_for_another_rt_in_a_crate(repository):
-    lock = os.open(repository.folder / "crates" / "mid_a", os.O_RDONLY)
-    fcntl.flock(lock, fcntl.LOCK_EX)
-    process = repository.start("script")
-    assert eventually(lambda: "end short" in repository.log())
-    time.sleep(0.3)
-    assert not repository.has_begun("mid_a")
-    os.close(lock)
-    out, err = process.communicate(timeout=PATIENCE)
-    assert (
-        out == "ran script\n"
-        and err.count("toll: another rt works in crates/mid_a, and what needs that waits for it\n") == 1
-    )
-
-
 # A crate is given back while a process of this build's has just begun, and doesn't run its own program yet.
 FORKING = """
 crate = type("Place", (), {"folder": Path(sys.argv[1])})
@@ -460,72 +406,115 @@ os._exit(0)
 """
 
 
-def test_a_process_that_has_just_begun_keeps_no_crate(tmp_path):
-    (tmp_path / "program.py").write_text(
-        (ROOT / "tools/build-program").read_text().replace("sys.exit(main())\n", FORKING)
-    )
-    done = subprocess.run(
-        ["/usr/bin/python3", "-u", tmp_path / "program.py", tmp_path], capture_output=True, text=True, timeout=PATIENCE
-    )
+def test_a_signal_at_any_moment_ends_the_build(tmp_path: Path) -> None:
+    done = run_within(tmp_path, MANY_SIGNALS)
+    assert done.returncode == 0 and "on it goes" in done.stderr, done.stderr
+
+
+def test_a_process_that_has_just_begun_keeps_no_crate(tmp_path: Path) -> None:
+    done = run_within(tmp_path, FORKING, tmp_path)
     assert (done.stdout, done.stderr) == ("free\n", "")
 
 
-def test_it_tells_how_far_it_is_and_how_long_it_may_take(repository):
+def test_ctrl_c_ends_all_at_once(repository: Repository) -> None:
+    repository.write("low", "seconds 300\n")
+    process = repository.start("script", stdin=subprocess.DEVNULL, start_new_session=True)
+    repository.wait_for("low")
+    os.killpg(process.pid, signal.SIGINT)
+    assert "the building was ended; what is proved stays" in process.communicate(timeout=20)[1]
+    assert process.returncode == 130 and repository.is_clean()
+
+
+# What waits
+
+
+def test_of_two_at_once_the_second_waits(repository: Repository) -> None:
+    repository.write("low", "seconds 2\n")
+    first = repository.start("first")
+    repository.wait_for("low")
+    second = repository.toll("second")
+    waiting = "toll: another build of the program is under way here, and this one waits for it\n"
+    assert second.out == "ran second\n" and waiting in second.err
+    assert first.communicate(timeout=PATIENCE)[0] == "ran first\n" and alphabetical(repository.noted()) == ALL
+
+
+def test_what_a_killed_build_left_goes_with_the_next(repository: Repository) -> None:
+    repository.write("low", "seconds 4\n")
+    process = repository.start(program=STARTED_BY)
+    repository.wait_for("low")
+    process.kill()
+    process.communicate(timeout=20)
+    assert not repository.is_clean()
+    done = repository.toll()
+    assert done.out == "ran script\n" and "another build" in done.err  # its rt goes on to its end, and keeps others out
+    assert repository.is_clean()
+
+
+def test_it_waits_for_another_rt_in_a_crate(repository: Repository) -> None:
+    lock = os.open(repository.folder / "crates" / "mid_a", os.O_RDONLY)
+    fcntl.flock(lock, fcntl.LOCK_EX)
+    process = repository.start("script")
+    assert eventually(lambda: "end short" in repository.log())
+    time.sleep(0.3)
+    assert "mid_a" not in repository.noted()
+    os.close(lock)
+    out, err = process.communicate(timeout=PATIENCE)
+    waiting = "toll: another rt works in crates/mid_a, and what needs that waits for it\n"
+    assert out == "ran script\n" and err.count(waiting) == 1
+
+
+# What it says
+
+
+def test_it_says_how_far_it_is_and_how_long_it_may_take(repository: Repository) -> None:
     repository.write("wide", "seconds 1.5\n")
     repository.write("mid_a", "fn it\n" * 3000)
-    lines = repository.build("--jobs", "1", "--every", "0.3").err.splitlines()
+    first, *lines = repository.build("--jobs 1 --every 0.3").err.splitlines()
     form = r"toll: \d of 7 crates are proved(, (some \d+ minutes|about a minute) to go)?( \([\w, ]+\))?"
-    assert lines[0].startswith("toll: building the program: ") and all(
-        re.fullmatch(form, line) for line in lines[1:]
-    ), lines
-    assert (
-        lines[1] == "toll: 0 of 7 crates are proved, some 7 minutes to go (low)"
-        and lines[-1] == "toll: 7 of 7 crates are proved"
-    )
-    assert sum("(wide)" in line for line in lines) >= 3
+    assert first.startswith("toll: building the program: ") and all(re.fullmatch(form, line) for line in lines), lines
+    assert lines[0] == "toll: 0 of 7 crates are proved, some 7 minutes to go (low)"
+    assert lines[-1] == "toll: 7 of 7 crates are proved" and sum("(wide)" in line for line in lines) >= 3
 
 
-def test_it_tells_within_thirty_seconds_by_itself():
-    assert (
-        10
-        <= float(re.search(r'"--every", type=float, default=(\d+)', (ROOT / "tools/build-program").read_text())[1])
-        <= 30
-    )
+def test_it_says_so_within_thirty_seconds_by_itself() -> None:
+    (seconds,) = re.findall(r'"--every", type=float, default=(\d+)', (ROOT / STARTED_BY).read_text())
+    assert 10 <= float(seconds) <= 30
 
 
-def test_a_wrong_use_has_status_2(repository):
-    assert repository.build("--jobs", "0").returncode == 2 and repository.log() == ""
+def test_a_wrong_use_has_status_2(repository: Repository) -> None:
+    assert repository.build("--jobs 0").status == 2 and repository.log() == ""
 
 
-def test_with_no_toolchain_it_says_so(repository):
+def test_with_no_toolchain_it_says_so(repository: Repository) -> None:
     repository.rt.unlink()
-    repository.environment["PATH"] = ":".join(
-        folder for folder in repository.environment["PATH"].split(":") if not os.path.exists(f"{folder}/rt")
-    )
-    done = repository.toll("script")
-    assert (done.returncode, done.out, done.err) == (
-        3,
-        "",
-        "toll: the toolchain's command rt isn't here, and the program isn't built\n",
-    )
+    folders = (folder for folder in os.environ["PATH"].split(":") if not os.path.exists(f"{folder}/rt"))
+    repository.environment["PATH"] = ":".join(folders)
+    assert repository.toll() == (3, "", "toll: the toolchain's command rt isn't here, and the program isn't built\n")
 
 
-def test_it_copies_where_there_are_no_hard_links(repository, tmp_path):
+NO_LINKS = """import errno, os
+
+def link(*_, **__):
+    raise OSError(errno.EXDEV, 'no links here')
+
+os.link = link
+"""
+
+
+def test_it_copies_if_there_are_no_hard_links(repository: Repository, tmp_path: Path) -> None:
     (tmp_path / "no-links").mkdir()
-    (tmp_path / "no-links" / "sitecustomize.py").write_text(
-        "import errno, os\n\ndef link(*_, **__):\n    raise OSError(errno.EXDEV, 'no links here')\n\nos.link = link\n"
-    )
+    (tmp_path / "no-links" / "sitecustomize.py").write_text(NO_LINKS)
     repository.environment["PYTHONPATH"] = str(tmp_path / "no-links")
-    assert repository.toll("script").out == "ran script\n"
-    assert sorted(repository.noted()) == sorted(ALL) and "ANEW" not in repository.log()
+    assert repository.toll().out == "ran script\n"
+    assert alphabetical(repository.noted()) == ALL and "ANEW" not in repository.log()
 
 
-def test_what_stands_in_the_tree_is_never_written_into(built):
+def test_what_stands_in_the_tree_is_never_written_into(built: Repository) -> None:
     kept = built.out("low") / "rlib" / "low.rlib" / "format"
-    held = open(kept)
-    built.write("low", "fn other\n")
-    assert built.build().returncode == 0
-    assert held.read() == "fn it\n" and kept.read_text() == "fn other\n"
+    with open(kept) as held:
+        built.write("low", "fn other\n")
+        assert built.build().status == 0
+        assert held.read() == "fn it\n" and kept.read_text() == "fn other\n"
 
 
 @pytest.mark.parametrize(
@@ -536,20 +525,18 @@ def test_what_stands_in_the_tree_is_never_written_into(built):
         (CRATES + "toll: absent\nabsent:\n", "there is no folder crates/absent"),
     ],
 )
-def test_a_list_that_is_wrong_is_told(repository, text, why):
-    repository.list(text)
-    if "absent" in text:
-        shutil.rmtree(repository.folder / "crates" / "absent")
-    done = repository.toll("script")
-    assert (
-        done.returncode == 3
-        and why in done.err
-        and done.err.endswith("toll: the program couldn't be built\n")
-        and repository.log() == ""
-    )
+def test_a_list_that_is_wrong_is_refused(repository: Repository, text: str, why: str) -> None:
+    repository.list_crates(text)
+    shutil.rmtree(repository.folder / "crates" / "absent", ignore_errors=True)
+    done = repository.toll()
+    assert done.status == 3 and why in done.err and repository.log() == ""
+    assert done.err.endswith("toll: the program couldn't be built\n")
 
 
-# As `rt try`, it has the clang of its own kit compile a stub, then the program's module unoptimized and with a sanitizer.
+# A build without proofs
+
+# As `rt try`, it has the clang of its own kit compile a stub, then the program's module unoptimized and with a
+# sanitizer.
 TRYING = r"""#!/usr/bin/python3
 import os, pathlib, subprocess, sys, tempfile, time
 kit, told = pathlib.Path(__file__).resolve().parent.parent, pathlib.Path(os.environ["TOLD"])
@@ -558,7 +545,8 @@ if sys.argv[1] == "version":
     sys.exit()
 assert sys.argv[1] == "try" and (kit / "bin" / "rtlib.py").read_text() == "library" and (kit / "rlibs").is_dir()
 text = pathlib.Path("src/main.rt").read_text()
-assert all(pathlib.Path("..", it.partition(":")[0]).is_dir() for it in pathlib.Path("../../crates.txt").read_text().splitlines())
+rows = pathlib.Path("../../crates.txt").read_text().splitlines()
+assert all(pathlib.Path("..", it.partition(":")[0]).is_dir() for it in rows)
 (told / "pid-try.new").write_text(str(os.getpid()))
 os.replace(told / "pid-try.new", told / "pid-try")
 time.sleep(float(text.partition("seconds ")[2].partition("\n")[0] or 0))
@@ -575,7 +563,8 @@ with tempfile.TemporaryDirectory() as folder:
 CLANG = r"""#!/usr/bin/python3
 import pathlib, sys
 words = sys.argv[1:]
-pathlib.Path(words[words.index("-o") + 1]).write_text(" ".join(it for it in words if it.startswith(("-O", "-f"))) + "\n" + pathlib.Path("module.bc").read_text())
+how = " ".join(it for it in words if it.startswith(("-O", "-f")))
+pathlib.Path(words[words.index("-o") + 1]).write_text(how + "\n" + pathlib.Path("module.bc").read_text())
 """
 LINK = r"""#!/usr/bin/python3
 import pathlib, sys
@@ -584,101 +573,90 @@ to.write_text("linked " + pathlib.Path(sys.argv[sys.argv.index("-o") + 2]).read_
 """
 
 
-@pytest.fixture
-def unproved(repository, tmp_path):
+class Unproved(Repository):
     """A repository with a kit that tries."""
-    kit = tmp_path / "kit"
-    for name, text in (
-        ("bin/rt", TRYING),
-        ("bin/rtlib.py", "library"),
-        ("bin/rattle-link", LINK),
-        ("toolchain/bin/clang", CLANG),
-        ("rlibs/one", ""),
-        ("c/libos_c.a", ""),
-    ):
-        (kit / name).parent.mkdir(parents=True, exist_ok=True)
-        (kit / name).write_text(text)
-        (kit / name).chmod(0o755)
-    repository.rt.unlink()
-    repository.rt.symlink_to(kit / "bin" / "rt")
-    repository.quick = repository.folder / "out" / "quick"
-    return repository
+
+    def begin(self) -> "Unproved":
+        super().begin()
+        kit, self.quick = self.folder.parent / "kit", self.folder / "out" / "quick"
+        self.clang = kit / "toolchain/bin/clang"
+        texts = {"bin/rt": TRYING, "bin/rtlib.py": "library", "bin/rattle-link": LINK, "toolchain/bin/clang": CLANG}
+        for name, text in {**texts, "rlibs/one": "", "c/libos_c.a": ""}.items():
+            (kit / name).parent.mkdir(parents=True, exist_ok=True)
+            (kit / name).write_text(text)
+            (kit / name).chmod(0o755)
+        self.rt.unlink()
+        self.rt.symlink_to(kit / "bin" / "rt")
+        return self
+
+    def is_left(self) -> bool:
+        """Whether something of an unfinished build is left."""
+        return (self.quick / "building").exists()
+
+    def compiled(self) -> str:
+        """What the program was compiled of, and how."""
+        return (self.quick / "toll").read_text()
 
 
-def test_an_unproved_build_is_the_tried_module_optimized_and_says_what_it_is(unproved):
-    done = unproved.build("--unproved")
-    assert (
-        done.returncode == 0 and "toll: out/quick/toll is compiled, and NOTHING OF IT IS PROVED" in done.err
-    ), done.err
-    assert (unproved.quick / "toll").read_text() == "linked -fPIE -O3\nfn it\n"
-    assert not (unproved.quick / "building").exists() and not (unproved.out("toll") / "toll").exists()
+@pytest.fixture
+def unproved(tmp_path: Path) -> Unproved:
+    return Unproved(tmp_path).begin()
 
 
-def test_an_unproved_build_of_the_same_text_stays_and_another_is_compiled(unproved):
-    assert unproved.build("--unproved").returncode == 0
+@pytest.fixture
+def compiled(unproved: Unproved) -> Unproved:
+    """One that has an unproved build."""
+    assert unproved.build("--unproved").status == 0
     (unproved.notes / "pid-try").unlink()
-    assert unproved.build("--unproved").returncode == 0 and not (unproved.notes / "pid-try").exists()
-    unproved.write("toll", "fn other\n")
-    assert unproved.build("--unproved").returncode == 0
-    assert (unproved.quick / "toll").read_text().endswith("fn other\n")
+    return unproved
 
 
-def test_what_cannot_be_compiled_is_told_and_the_last_build_stays(unproved):
-    assert unproved.build("--unproved").returncode == 0
-    unproved.write("toll", "wrong\n")
+def test_an_unproved_build_is_the_tried_module_optimized_and_says_what_it_is(unproved: Unproved) -> None:
     done = unproved.build("--unproved")
-    assert (
-        done.returncode == 3 and "toll:     src/main.rt:3:1: error[unknown-name]: there is no such thing\n" in done.err
-    )
-    assert (unproved.quick / "toll").read_text().endswith("fn it\n") and not (unproved.quick / "building").exists()
+    assert done.status == 0 and "toll: out/quick/toll is compiled, and NOTHING OF IT IS PROVED" in done.err, done.err
+    assert unproved.compiled() == "linked -fPIE -O3\nfn it\n"
+    assert not unproved.is_left() and not (unproved.out("toll") / "toll").exists()
 
 
-def test_an_unproved_build_that_a_signal_ends_leaves_nothing(unproved):
-    unproved.write("toll", "seconds 300\n")
-    process = unproved.start("--unproved", program="tools/build-program")
-    assert eventually(lambda: (unproved.notes / "pid-try").exists())
-    process.send_signal(signal.SIGTERM)
-    assert (
-        process.wait(20) == 143
-        and not (unproved.quick / "building").exists()
-        and not (unproved.quick / "toll").exists()
-    )
-    assert process.communicate()[1].endswith(
-        "toll: the compiling was ended, and nothing of it is left: there is no out/quick/toll, and the next one begins anew\n"
-    )
-    child = int((unproved.notes / "pid-try").read_text())
-    assert eventually(lambda: not os.path.exists(f"/proc/{child}"))
+def test_an_unproved_build_of_the_same_text_stays_and_another_is_compiled(compiled: Unproved) -> None:
+    assert compiled.build("--unproved").status == 0 and not (compiled.notes / "pid-try").exists()
+    compiled.write("toll", "fn other\n")
+    assert compiled.build("--unproved").status == 0 and compiled.compiled().endswith("fn other\n")
 
 
-def test_an_unproved_build_that_is_ended_leaves_the_one_from_before(unproved):
-    assert unproved.build("--unproved").returncode == 0
-    unproved.write("toll", "seconds 300\n")
-    (unproved.notes / "pid-try").unlink()
-    process = unproved.start("--unproved", program="tools/build-program")
-    assert eventually(lambda: (unproved.notes / "pid-try").exists())
-    process.send_signal(signal.SIGINT)
-    assert "nothing of it is left: out/quick/toll is the one from before, and" in process.communicate(timeout=20)[1]
-    assert (unproved.quick / "toll").read_text().endswith("fn it\n")
+def test_what_cannot_be_compiled_is_named_and_the_last_build_stays(compiled: Unproved) -> None:
+    compiled.write("toll", "wrong\n")
+    done = compiled.build("--unproved")
+    assert done.status == 3 and "toll:     src/main.rt:3:1: error[unknown-name]: there is no such thing\n" in done.err
+    assert compiled.compiled().endswith("fn it\n") and not compiled.is_left()
 
 
-def test_an_unproved_build_tells_what_it_compiles_and_how_far_it_is(unproved):
+@pytest.mark.parametrize("number, before", [(signal.SIGTERM, "unproved"), (signal.SIGINT, "compiled")])
+def test_an_unproved_build_that_a_signal_ends_leaves_the_one_from_before(
+    request: pytest.FixtureRequest, number: int, before: str
+) -> None:
+    repository: Unproved = request.getfixturevalue(before)
+    repository.write("toll", "seconds 300\n")
+    process = repository.start("--unproved", program=STARTED_BY)
+    repository.wait_for("try")
+    process.send_signal(number)
+    err = process.communicate(timeout=20)[1]
+    assert process.returncode == 128 + number and repository.has_ended("try") and not repository.is_left()
+    was = "out/quick/toll is the one from before" if before == "compiled" else "there is no out/quick/toll"
+    end = f"toll: the compiling was ended, and nothing of it is left: {was}, and the next one begins anew\n"
+    assert err.endswith(end) and (repository.quick / "toll").exists() == (before == "compiled")
+    assert before == "unproved" or repository.compiled().endswith("fn it\n")
+
+
+def test_an_unproved_build_says_what_it_compiles_and_how_far_it_is(unproved: Unproved) -> None:
     unproved.write("toll", "seconds 1\n" + "fn it\n" * 30000)
-    clang = unproved.rt.resolve().parent.parent / "toolchain" / "bin" / "clang"
-    clang.write_text(
-        clang.read_text().replace("words = sys.argv[1:]", "import time\nwords = sys.argv[1:]\ntime.sleep(1)")
-    )
-    lines = unproved.build("--unproved", "--every", "0.2").err.splitlines()[:-1]
+    slow = "import time\nwords = sys.argv[1:]\ntime.sleep(1)"
+    unproved.clang.write_text(CLANG.replace("words = sys.argv[1:]", slow))
+    lines = unproved.build("--unproved --every 0.2").err.splitlines()[:-1]
     steps = [r"step 1 of 2, 7 crates of 30,0\d\d lines become one module", "step 2 of 2, the module is optimized"]
-    beginning, end = (
-        "toll: compiling out/quick/toll, of which nothing is proved: ",
-        r": \d+ seconds so far, (some \d+ minutes|about a minute) to go",
-    )
-    steps_named = [
-        next((at for at, step in enumerate(steps, 1) if re.fullmatch(beginning + step + end, line)), line)
-        for line in lines
-    ]
-    assert (
-        set(steps_named) == {1, 2}
-        and steps_named == sorted(steps_named)
-        and lines[0].endswith("0 seconds so far, some 7 minutes to go")
-    ), lines
+    beginning = "toll: compiling out/quick/toll, of which nothing is proved: "
+    end = r": \d+ seconds so far, (some \d+ minutes|about a minute) to go"
+    forms = [re.compile(beginning + step + end) for step in steps]
+    numbers = [[number for number, form in enumerate(forms, 1) if form.fullmatch(line)] for line in lines]
+    assert {tuple(found_by) for found_by in numbers} == {(1,), (2,)} and numbers == sorted(numbers), lines
+    assert lines[0].endswith("0 seconds so far, some 7 minutes to go")

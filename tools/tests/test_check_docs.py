@@ -54,7 +54,10 @@ FILES = {
     "CONTRIBUTING.md": "`crates/FOLDER`, `Lots::total`, `shipping.rt`, `cargo build`, `ship_checks`\n",
     "CHANGELOG.md": "",
     **{f"docs/{name}.md": "" for name in ("PROMISES", "ARCHITECTURE", "DECISIONS", "GLOSSARY")},
-    "docs/DEFINITIONS.md": "|what|read|lines|\n|---|---|---|\n|a verdict|`toll_history/specs`: Verdict; `toll_stock/specs`|4|\n",
+    "docs/DEFINITIONS.md": """|what|read|lines|
+|---|---|---|
+|a verdict|`toll_history/specs`: Verdict; `toll_stock/specs`|4|
+""",
     "docs/operations.md": "```nginx\nlisten 80;\n```\nSee `packaging/site.conf`.\n",
     "docs/PROVED.md": PROVED,
     "packaging/site.conf": "server {\nlisten 80;\n}\n",
@@ -62,7 +65,11 @@ FILES = {
     "crates/toll_stock/src/shipping.rt": STOCK,
     "crates/toll_history/specs/Verdict.antt": VERDICT,
     "crates/toll_stock/specs/Enough.antt": "IsEnough : Row → Amount → Type\n",
-    "crates/toll_stock/must-fail/more_shipped_than_there_is.edit": "# promise 1.1\nfile: src/shipping.rt\nold: amount > ON_HAND\nnew: false\n",
+    "crates/toll_stock/must-fail/more_shipped_than_there_is.edit": """# promise 1.1
+file: src/shipping.rt
+old: amount > ON_HAND
+new: false
+""",
     "crates/toll_tests/src/stock.rt": "#[test]\nfn what_is_there_is_shipped(rt: HostRuntime) {}\n",
     "tools/check-docs": "",
     "tools/docs/tests.txt": "# The tests.\n1.1 what_is_there_is_shipped\n",

@@ -1,5 +1,5 @@
-"""The companion through the site, by nginx, `toll` and `hilpoven companion` themselves: each owner gets its own, and nobody
-another's."""
+"""The companion through the site, by nginx, `toll` and `hilpoven companion` themselves: each owner gets its own, and
+nobody another's."""
 import contextlib
 import itertools
 import os
@@ -88,8 +88,8 @@ def test_blanks_around_a_name_are_none_of_it(site: Site, name: str) -> None:
     assert own_alone("ACME", site.get(name, "ACMEKEY1").body)
 
 
-HOSTILE = """- acme BOLT/../ACME ../BOLT ../../../etc/passwd ACME.json ACME%00 ACME%2e %41CME ACME;BOLT ACME,BOLT HOUSE NOBODY
-    AAAAAAAAAAAAAAAAA * . .. .companions ACME\\ $toll_owner \u00c4CME ACME\x7f""".split() + [
+HOSTILE = """- acme BOLT/../ACME ../BOLT ../../../etc/passwd ACME.json ACME%00 ACME%2e %41CME ACME;BOLT ACME,BOLT HOUSE
+    NOBODY AAAAAAAAAAAAAAAAA * . .. .companions ACME\\ $toll_owner \u00c4CME ACME\x7f""".split() + [
     "",
     "ACME BOLT",
 ]
@@ -148,8 +148,8 @@ def test_two_fields_get_nothing(site: Site, lines: str, key: str) -> None:
 
 @pytest.mark.parametrize(
     "path",
-    """/companion/ /companion/BOLT /companion/../BOLT.json /companion.json /companion/BOLT.json /.companion-key /.no-companion
-    /BOLT.json /%63ompanion/BOLT.json /companion/.companions //companion/BOLT.json /Companion""".split(),
+    """/companion/ /companion/BOLT /companion/../BOLT.json /companion.json /companion/BOLT.json /.companion-key
+    /.no-companion /BOLT.json /%63ompanion/BOLT.json /companion/.companions //companion/BOLT.json /Companion""".split(),
 )
 def test_another_path_leads_to_no_file(site: Site, path: str) -> None:
     reply = site.get("ACME", path=path)

@@ -1,4 +1,5 @@
-"""demo/page: what it installs, compiles and says, over programs that stand in for apt-get, the compiling and the demo."""
+"""demo/page: what it installs, compiles and says, over programs that stand in for apt-get, the compiling and the
+demo."""
 import os
 import pathlib
 import shutil
@@ -57,8 +58,9 @@ class Clone:
         script(self.folder / "bin" / "dpkg-query", "true")
 
     def start(self, *words: str, **options: Any) -> "subprocess.Popen[str]":
-        pipes = {"stdout": subprocess.PIPE, "stderr": subprocess.PIPE, "text": True, "env": self.environment}
-        return subprocess.Popen([self.page, *words], **{**pipes, **options})
+        pipes: dict[str, Any] = {"stdout": subprocess.PIPE, "stderr": subprocess.PIPE, "env": self.environment}
+        process: subprocess.Popen[str] = subprocess.Popen([str(self.page), *words], text=True, **pipes | options)
+        return process
 
     def run(self, *words: str, **options: Any) -> tuple[int | None, str, str]:
         process = self.start(*words, **options)
@@ -74,10 +76,8 @@ def clone(tmp_path: pathlib.Path) -> Clone:
 def test_it_compiles_and_then_runs_the_demo(clone: Clone) -> None:
     status, out, err = clone.run("--port", "8080")
     assert (status, out) == (0, f"{clone.folder}/clone/out/quick/toll demo --port 8080\n")
-    assert (
-        err
-        == "demo/page: first the program is compiled, then a sample week is made and its page served\ntoll: step 1 of 2\n"
-    )
+    first = "demo/page: first the program is compiled, then a sample week is made and its page served\n"
+    assert err == first + "toll: step 1 of 2\n"
 
 
 def test_of_another_program_nothing_is_compiled(clone: Clone) -> None:
@@ -99,10 +99,8 @@ def test_where_apt_get_installs_nothing_what_is_missing_is_told_and_nothing_comp
     clone.apt("exit 100")
     status, out, err = clone.run()
     assert (status, out) == (2, "") and not (clone.folder / "began").exists()
-    assert (
-        err.splitlines()[-1]
-        == "demo/page: these are missing, and nothing is served: python3-odf. As root: apt-get install python3-odf"
-    )
+    missing = "these are missing, and nothing is served: python3-odf. As root: apt-get install python3-odf"
+    assert err.splitlines()[-1] == f"demo/page: {missing}"
 
 
 @pytest.mark.parametrize("status", [3, 130])
@@ -132,9 +130,6 @@ def test_a_signal_ends_the_compiling_and_the_end_is_told(
     assert eventually(lambda: (clone.folder / "waits").exists())
     send(process)
     out, err = process.communicate(timeout=PATIENCE)
-    assert (
-        process.returncode in (129, 130, 143)
-        and out == ""
-        and err.endswith("toll: nothing of it is left\ndemo/page: nothing is served\n")
-    )
+    assert process.returncode in (129, 130, 143) and out == ""
+    assert err.endswith("toll: nothing of it is left\ndemo/page: nothing is served\n")
     assert not os.path.exists(f"/proc/{(clone.folder / 'pid').read_text().strip()}")

@@ -1,4 +1,6 @@
 """The sites of many plants on a machine, as `hilpoven setup` writes them."""
+from typing import Any
+import pathlib
 import re
 import subprocess
 import sys
@@ -16,7 +18,7 @@ LOGS = {"acme": "toll.log", "bolt": "toll-bolt.log"}
 
 
 @pytest.fixture
-def sites(tmp_path):
+def sites(tmp_path: pathlib.Path) -> Any:
     """The folder of nginx's settings, with the sites of two plants."""
     for folder in ("conf.d", "sites-enabled", "ssl", "logs", "temporary"):
         (tmp_path / folder).mkdir()
@@ -28,7 +30,7 @@ def sites(tmp_path):
     return tmp_path
 
 
-def test_each_plant_has_its_own_name_and_port_and_the_rest_stands_once(sites):
+def test_each_plant_has_its_own_name_and_port_and_the_rest_stands_once(sites: pathlib.Path) -> None:
     common = (sites / "conf.d" / "00-toll.conf").read_text()
     zones = re.findall(r"limit_\w+_zone .* zone=(\w+):", common)
     assert sorted(zones) == ["toll", "toll_at_once", "toll_wrong_keys"] and "toll.example.com" not in common
@@ -43,7 +45,7 @@ def test_each_plant_has_its_own_name_and_port_and_the_rest_stands_once(sites):
         }
 
 
-def test_nginx_takes_the_sites_of_two_plants(sites):
+def test_nginx_takes_the_sites_of_two_plants(sites: pathlib.Path) -> None:
     key, certificate = sites / "ssl" / "key.pem", sites / "ssl" / "certificate.pem"
     subprocess.run(
         [

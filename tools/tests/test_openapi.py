@@ -4,6 +4,8 @@ import json
 import pathlib
 import re
 import subprocess
+from collections.abc import Iterator
+from typing import Any
 
 import jsonschema
 import pytest
@@ -23,7 +25,7 @@ VALIDATOR = [
 ]
 
 
-def resolved(node):
+def resolved(node: Any) -> Any:
     """A node of the page, or what its reference leads to."""
     while "$ref" in node:
         place = PAGE
@@ -33,7 +35,7 @@ def resolved(node):
     return node
 
 
-def operations():
+def operations() -> list[tuple[str, str, Any]]:
     """Each operation: its path, its method, and what is said of it."""
     return [
         (path, method, operation)
@@ -43,7 +45,7 @@ def operations():
     ]
 
 
-def bodies():
+def bodies() -> Iterator[tuple[str, Any]]:
     """Each body of the page, by the words on where it stands."""
     for path, method, operation in operations():
         for name, body in {"the request": operation.get("requestBody", {}), **operation["responses"]}.items():
@@ -51,23 +53,23 @@ def bodies():
                 yield f"{method} {path}, {name}", content
 
 
-def faults_of(schema, value):
+def faults_of(schema: Any, value: Any) -> list[str]:
     """Why the value isn't one of the schema's. Schemas of OpenAPI 3.0 stand on the fourth draft of JSON Schema."""
     resolver = jsonschema.RefResolver.from_schema(PAGE)
     return [fault.message for fault in jsonschema.Draft4Validator(schema, resolver=resolver).iter_errors(value)]
 
 
-def sources():
+def sources() -> list[str]:
     """The code's files, which may move from crate to crate."""
     return [source.read_text() for source in sorted((ROOT / "crates").glob("*/src/**/*.rt"))]
 
 
-def told_of(file):
+def told_of(file: pathlib.Path) -> list[str]:
     done = subprocess.run([*VALIDATOR, file], capture_output=True, text=True, check=True)
     return done.stdout.splitlines()
 
 
-def test_the_validator_finds_nothing():
+def test_the_validator_finds_nothing() -> None:
     assert told_of(FILE) == []
 
 
@@ -80,7 +82,7 @@ def test_the_validator_finds_nothing():
         (("info", "title"), None),
     ],
 )
-def test_the_validator_finds_what_is_wrong(tmp_path, path, broken):
+def test_the_validator_finds_what_is_wrong(tmp_path: pathlib.Path, path: str, broken: Any) -> None:
     page = copy.deepcopy(PAGE)
     place = page
     for part in path[:-1]:
@@ -90,7 +92,7 @@ def test_the_validator_finds_what_is_wrong(tmp_path, path, broken):
     assert told_of(tmp_path / "openapi.json")
 
 
-def test_the_routes_are_those_of_the_code():
+def test_the_routes_are_those_of_the_code() -> None:
     office = [(path, method) for path, method, operation in operations() if operation.get("x-told-by") != "site"]
     assert [(path, method) for path, method, _ in operations() if (path, method) not in office] == [
         ("/companion", "get")
@@ -106,7 +108,7 @@ def test_the_routes_are_those_of_the_code():
     assert code and code == {(method, re.sub(r"{\w+}", "{}", path)) for path, method in office}
 
 
-def test_what_the_site_sends_alone_is_in_its_settings():
+def test_what_the_site_sends_alone_is_in_its_settings() -> None:
     settings = (ROOT / "packaging" / "nginx.conf").read_text()
     assert [
         path
@@ -115,14 +117,14 @@ def test_what_the_site_sends_alone_is_in_its_settings():
     ] == []
 
 
-def test_an_operation_is_named_by_what_it_does():
+def test_an_operation_is_named_by_what_it_does() -> None:
     names = [operation["operationId"] for _, _, operation in operations()]
     assert all(re.fullmatch("(get|list|place|cancel|release|reject|trace)[A-Z][a-z]+", name) for name in names) and len(
         set(names)
     ) == len(names)
 
 
-def test_the_routes_are_those_of_the_page_beside_it():
+def test_the_routes_are_those_of_the_page_beside_it() -> None:
     rows = re.findall(r"^\| `(/[\w/]+)` \|(.*?)\|(.*?)\|$", (ROOT / "docs" / "http.md").read_text(), re.M)
     page = {
         (method, re.sub(r"\b(ORDER|LOT|N)\b", "{}", path))
@@ -133,7 +135,7 @@ def test_the_routes_are_those_of_the_page_beside_it():
     assert page == {(method, re.sub(r"{\w+}", "{}", path)) for path, method, _ in operations()}
 
 
-def test_the_refusals_are_those_of_the_code():
+def test_the_refusals_are_those_of_the_code() -> None:
     code = {word: int(number) for text in sources() for word, number in re.findall(r"\bRefusal::(\w+) => (\d+),", text)}
     words = SCHEMAS["Refusal"]["properties"]["error"]["enum"]
     assert code == {word: number for number, word in enumerate(words, 1)}
@@ -147,7 +149,7 @@ def test_the_refusals_are_those_of_the_code():
 
 
 @pytest.mark.parametrize("where, content", bodies())
-def test_each_body_has_examples_that_fit(where, content):
+def test_each_body_has_examples_that_fit(where: str, content: Any) -> None:
     examples = (
         [content["example"]]
         if "example" in content
@@ -158,25 +160,25 @@ def test_each_body_has_examples_that_fit(where, content):
         assert faults_of(content["schema"], example) == []
 
 
-def test_each_schema_and_each_field_is_described():
+def test_each_schema_and_each_field_is_described() -> None:
     for name, schema in SCHEMAS.items():
         fields = {"": schema, **schema.get("properties", {})}
         assert [field for field, node in fields.items() if "description" not in resolved(node)] == [], name
 
 
-def test_a_client_elsewhere_finds_the_server():
+def test_a_client_elsewhere_finds_the_server() -> None:
     first = PAGE["servers"][0]["url"]
     assert first == "/"
     assert any("127.0.0.1" not in server["url"] and server["url"].startswith("https://") for server in PAGE["servers"])
 
 
-def test_a_new_word_of_an_error_is_one():
+def test_a_new_word_of_an_error_is_one() -> None:
     assert faults_of(SCHEMAS["Error"], {"error": "NewWord"}) == []
     assert faults_of(SCHEMAS["NoRoute"], {"error": "NewWord"}) and faults_of(SCHEMAS["Error"], {})
 
 
 @pytest.mark.parametrize("path, method, operation", operations())
-def test_each_request_may_be_told_what_the_site_tells_by_itself(path, method, operation):
+def test_each_request_may_be_told_what_the_site_tells_by_itself(path: str, method: str, operation: Any) -> None:
     site = {
         status for status, response in operation["responses"].items() if resolved(response).get("x-told-by") == "site"
     }

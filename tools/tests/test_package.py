@@ -5,6 +5,7 @@ import re
 import shutil
 import subprocess
 import sys
+from typing import Any
 
 import pytest
 from conftest import ROOT, script, tool
@@ -13,19 +14,19 @@ sys.path[:0] = [str(ROOT / "packaging"), str(ROOT / "plant" / "src")]
 import documents  # noqa: E402
 import hilpoven  # noqa: E402
 import versions  # noqa: E402
-from checking.parts import BUILD_NEEDS  # noqa: E402
+from checking.parts import packages_of  # noqa: E402
 
 LIBRARIES = pathlib.Path("/opt/rattle/rattle")
 USAGE = f"toll {hilpoven.VERSION}, office format {hilpoven.OFFICE_VERSION}"
 
 
-def stub(folder, usage=USAGE):
+def stub(folder: pathlib.Path, usage: str = USAGE) -> pathlib.Path:
     """A program that stands in for toll."""
     return script(folder / "program", f"printf '%s\\n' '{usage}' usage: >&2; exit 2")
 
 
 @pytest.fixture(scope="module")
-def packages(tmp_path_factory):
+def packages(tmp_path_factory: pytest.TempPathFactory) -> pathlib.Path:
     """The current folder, which gets the packages if none is given."""
     top = tmp_path_factory.mktemp("package")
     done = tool("package", "--program", stub(top), cwd=top, timeout=900)
@@ -34,7 +35,7 @@ def packages(tmp_path_factory):
 
 
 @pytest.fixture(scope="module")
-def unpacked(packages):
+def unpacked(packages: pathlib.Path) -> pathlib.Path:
     """What the packages install, and the tarball beside it in /usr/local."""
     root = packages / "root"
     for package in packages.glob("*.deb"):
@@ -45,13 +46,13 @@ def unpacked(packages):
     return root
 
 
-def fields(package):
+def fields(package: pathlib.Path) -> dict[str, str]:
     """The fields of a package by their names."""
     printed = subprocess.run(["dpkg-deb", "-f", package], capture_output=True, text=True, check=True).stdout
     return dict(re.findall(r"(?m)^([\w-]+): (.*)$", printed))
 
 
-def test_the_folder_gets_the_packages_and_nothing_else(packages):
+def test_the_folder_gets_the_packages_and_nothing_else(packages: pathlib.Path) -> None:
     files = {
         re.sub(r"[\d.]+(-\d+)?(?=[._-])", "V", file.name, count=1) for file in packages.iterdir() if file.is_file()
     }
@@ -68,10 +69,11 @@ def test_the_folder_gets_the_packages_and_nothing_else(packages):
     assert not [file for file in packages.iterdir() if file.name.startswith((".", "package"))]
 
 
-def test_the_source_package_has_the_tracked_files(packages):
-    words = ["dpkg-source", "--no-check", "--skip-patches", "-x", *packages.glob("*.dsc"), packages / "source"]
+def test_the_source_package_has_the_tracked_files(packages: pathlib.Path) -> None:
+    source = packages / "source"
+    words = ["dpkg-source", "--no-check", "--skip-patches", "-x", *map(str, packages.glob("*.dsc")), str(source)]
     subprocess.run(words, check=True, capture_output=True)
-    git = ["git", "-c", f"safe.directory={ROOT}", "-C", ROOT, "ls-files"]
+    git = ["git", "-c", f"safe.directory={ROOT}", "-C", str(ROOT), "ls-files"]
     listed = subprocess.run(git, capture_output=True, text=True, check=True).stdout.splitlines()
     tracked = {path for path in listed if (ROOT / path).exists()}
     packed = {
@@ -83,7 +85,7 @@ def test_the_source_package_has_the_tracked_files(packages):
 # Documents
 
 
-def test_pages_have_the_names_that_are_installed(unpacked):
+def test_pages_have_the_names_that_are_installed(unpacked: pathlib.Path) -> None:
     pages = {page: page.read_text() for page in (unpacked / "usr/share").rglob("*.md")}
     assert len(pages) > 10
     assert {path: names for path, text in pages.items() if (names := documents.named_in_sources(text))} == {}
@@ -93,7 +95,7 @@ def test_pages_have_the_names_that_are_installed(unpacked):
     assert ".Xr hilpoven 1" in (ROOT / "docs" / "toll.1").read_text()
 
 
-def test_what_a_page_links_to_is_packaged(unpacked):
+def test_what_a_page_links_to_is_packaged(unpacked: pathlib.Path) -> None:
     """Pages and their pictures, and what /owner/ serves."""
     share = unpacked / "usr/share"
     form = r"\]\(([^)#\s]+)|(?:href|src)=\"([^\"#]+)\""
@@ -121,7 +123,7 @@ def test_what_a_page_links_to_is_packaged(unpacked):
         ("`packaging/toll@.service`", "`/usr/lib/systemd/system/toll@.service`"),
     ],
 )
-def test_a_name_becomes_that_which_is_installed(source, installed):
+def test_a_name_becomes_that_which_is_installed(source: str, installed: pathlib.Path) -> None:
     assert documents.installed(source) == installed
 
 
@@ -136,7 +138,7 @@ USED = {
 
 
 @pytest.mark.parametrize("file", USED)
-def test_the_program_has_the_version_of_all(file):
+def test_the_program_has_the_version_of_all(file: str) -> None:
     assert re.findall(USED[file], (ROOT / file).read_text()) == [(hilpoven.VERSION, str(hilpoven.OFFICE_VERSION))]
 
 
@@ -144,25 +146,27 @@ USAGES = [(USAGE, hilpoven.VERSION), ("toll 0.9, office format 2", "0.9"), ("", 
 
 
 @pytest.mark.parametrize("usage, version", USAGES)
-def test_each_file_has_one_version_and_a_program_that_of_its_usage(tmp_path, usage, version):
+def test_each_file_has_one_version_and_a_program_that_of_its_usage(
+    tmp_path: pathlib.Path, usage: str, version: str
+) -> None:
     program = str(stub(tmp_path, usage))
     files = (versions.VERSION_FILE, "CHANGELOG.md", "debian/changelog")
     assert versions.versions(program) == {**dict.fromkeys(files, hilpoven.VERSION), program: version}
 
 
-def test_the_packages_and_the_command_have_the_version(packages, unpacked):
+def test_the_packages_and_the_command_have_the_version(packages: pathlib.Path, unpacked: pathlib.Path) -> None:
     assert {re.sub(r"-\d+$", "", fields(deb)["Version"]) for deb in packages.glob("*.deb")} == {hilpoven.VERSION}
     assert (unpacked / f"usr/lib/python3/dist-packages/hilpoven-{hilpoven.VERSION}.dist-info").is_dir()
 
 
-def test_no_other_page_or_file_says_a_version():
+def test_no_other_page_or_file_says_a_version() -> None:
     form = r"(?:toll|hilpoven|papers)[_-]\d+\.\d[\w.-]*"
     pages = [ROOT / "README.md", *(ROOT / "docs").glob("*.md")]
     named = {page.name: names for page in pages if (names := re.findall(form, page.read_text()))}
     assert named == {"packages.md": ["toll_1.0-1_amd64.deb"]}
 
 
-def test_a_program_of_another_version_is_not_packaged(tmp_path):
+def test_a_program_of_another_version_is_not_packaged(tmp_path: pathlib.Path) -> None:
     program = stub(tmp_path, "no usage")
     done = tool("package", "--program", program, tmp_path)
     wanted = f"package: {versions.VERSION_FILE} has version {hilpoven.VERSION}, but {program} has no version\n"
@@ -175,18 +179,19 @@ def test_a_program_of_another_version_is_not_packaged(tmp_path):
 # Of each package
 
 
-def test_the_gate_installs_what_a_build_needs():
+def test_the_gate_installs_what_a_build_needs() -> None:
     provided = {
         "debhelper-compat": "debhelper",
         "dh-sequence-installsysusers": "debhelper",
         "dh-sequence-python3": "dh-python",
     }
-    listed = re.search(r"(?m)^Build-Depends: ((?:.*,\n)*.*)$", (ROOT / "debian/control").read_text())[1]
+    control = (ROOT / "debian/control").read_text()
+    (listed,) = re.findall(r"(?m)^Build-Depends: ((?:.*,\n)*.*)$", control)
     names = [package.split()[0] for package in listed.split(",")]
-    assert {provided.get(package, package) for package in names} <= set(BUILD_NEEDS)
+    assert {provided.get(package, package) for package in names} <= set(packages_of("build"))
 
 
-def test_a_server_and_its_command_need_no_compiler(packages):
+def test_a_server_and_its_command_need_no_compiler(packages: pathlib.Path) -> None:
     """WeasyPrint brings one. If it is there, apt keeps it, because an installed package suggests it."""
     command, papers = (fields(*packages.glob(f"{name}_*.deb")) for name in ("hilpoven", "hilpoven-papers"))
     heavy = {"weasyprint", "graphviz"}
@@ -197,14 +202,14 @@ def test_a_server_and_its_command_need_no_compiler(packages):
     assert heavy | {"hilpoven"} <= {package.split()[0] for package in papers["Depends"].split(", ")}
 
 
-def test_debians_command_is_isolated(unpacked):
+def test_debians_command_is_isolated(unpacked: pathlib.Path) -> None:
     """Behind sudo no module comes from a member's environment or folder, and there is no other script."""
     (command,) = [program for program in (unpacked / "usr/bin").iterdir() if program.name != "toll"]
     assert re.fullmatch(r"#! ?/usr/bin/python3 -IB", command.read_text().splitlines()[0]) and command.name == "hilpoven"
 
 
 @pytest.mark.parametrize("folder", ["usr/lib/python3/dist-packages", "usr/local/share/hilpoven/src"])
-def test_each_file_of_the_command_is_packaged(unpacked, folder):
+def test_each_file_of_the_command_is_packaged(unpacked: pathlib.Path, folder: str) -> None:
     source, installed = ROOT / "plant/src", unpacked / folder
     files = {
         file.relative_to(source)
@@ -215,17 +220,17 @@ def test_each_file_of_the_command_is_packaged(unpacked, folder):
     assert packaged == files and len(files) > 50
 
 
-def test_the_command_runs_from_the_tarball(unpacked):
+def test_the_command_runs_from_the_tarball(unpacked: pathlib.Path) -> None:
     local = unpacked / "usr/local"
     done = subprocess.run([local / "bin/hilpoven", "--version"], capture_output=True, text=True)
     assert (done.returncode, done.stdout, done.stderr) == (0, f"hilpoven, version {hilpoven.VERSION}\n", "")
     assert (local / "bin/toll").is_file() and not list(local.rglob("__pycache__"))
 
 
-def test_the_tarball_has_what_the_packages_have(unpacked):
+def test_the_tarball_has_what_the_packages_have(unpacked: pathlib.Path) -> Any:
     """Except what is Debian's alone. The settings of /etc are examples there."""
 
-    def files(top, *left_out):
+    def files(top: pathlib.Path, *left_out: str) -> set[str]:
         paths = {str(file.relative_to(top)) for file in top.rglob("*") if not file.is_dir()}
         return {path for path in paths if not path.startswith(left_out)}
 
@@ -235,7 +240,7 @@ def test_the_tarball_has_what_the_packages_have(unpacked):
     assert len(examples) == 3 and files(unpacked / "usr/local", "share/hilpoven/") == packaged | examples
 
 
-def test_the_rule_of_sudo_is_one_that_sudo_reads(unpacked, tmp_path):
+def test_the_rule_of_sudo_is_one_that_sudo_reads(unpacked: pathlib.Path, tmp_path: pathlib.Path) -> None:
     rule = pathlib.Path(shutil.copy(unpacked / "etc/sudoers.d/hilpoven", tmp_path))
     assert rule.stat().st_mode & 0o777 == 0o440
     if shutil.which("visudo"):
@@ -245,7 +250,7 @@ def test_the_rule_of_sudo_is_one_that_sudo_reads(unpacked, tmp_path):
 # Licences
 
 
-def linked_libraries():
+def linked_libraries() -> Any:
     """The toolchain's libraries that crates.txt names, and those that they use."""
     names = set(re.findall(r"\w+", re.sub(r"(?m)^#.*", "", (ROOT / "crates.txt").read_text())))
     linked: set[str] = set()
@@ -258,10 +263,10 @@ def linked_libraries():
     return linked
 
 
-def test_the_licences_of_all_linked_libraries_are_in_the_copyright():
+def test_the_licences_of_all_linked_libraries_are_in_the_copyright() -> Any:
     """By the library's name, each holder, and the licence's last sentence; of Apache-2.0 Debian has the text."""
 
-    def plain(text):
+    def plain(text: str) -> Any:
         return " ".join(re.sub(r"(?m)^ \.$", "", text).split())
 
     copyright_text, wrong = plain((ROOT / "debian/copyright").read_text()), []

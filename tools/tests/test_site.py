@@ -266,8 +266,8 @@ def test_an_address_asks_four_things_at_once_and_others_go_on(site: Proxy, stub:
 
 
 def slow_statuses(site: Proxy, stub: Stub, most: int, addresses: list[str], to: str = "") -> list[int]:
-    """The statuses of requests from these addresses at once. The office answers when so many have come, and all others are
-    refused. With `to`, the addresses are the system's."""
+    """The statuses of requests from these addresses at once. The office answers when so many have come, and all others
+    are refused. With `to`, the addresses are the system's."""
     statuses: list[int] = []
 
     def answer() -> None:
@@ -292,7 +292,8 @@ ONE_NETWORK = [
         " ".join(form.format(f"{number + 1:x}") for number in range(8))
         for form in ("2001:db8:1:2::{}", "2001:db8:1:2:3:4:5:{}", "2001:db8:7::{}")
     ),
-    "2001:db8::1 2001:db8::1:0:0:1 2001:db8:0:0:1::1 2001:db8:0:0:5:6:7:8 2001:0DB8:0000:0000:0:0:0:2 2001:db8::5:6:7:9",
+    "2001:db8::1 2001:db8::1:0:0:1 2001:db8:0:0:1::1 2001:db8:0:0:5:6:7:8 2001:0DB8:0000:0000:0:0:0:2 "
+    "2001:db8::5:6:7:9",
     "2001:0:0:1::1 2001::1:5:6:7:8 2001:0:0:1:5:6:7:9 2001::1:5:0:0:8 2001:0:0:1:0:0:7:8 2001:0000:0000:0001::2",
     "2a00::1 2a00:0:0:0:1:: 2a00::1:2:3:4 2a00:0:0:0:5::6 2a00::ffff:192.0.2.7 2a00:0:0::9",
     "192.0.2.77 ::ffff:192.0.2.77 ::ffff:c000:24d 0:0:0:0:0:ffff:192.0.2.77 ::FFFF:192.0.2.77 0::ffff:c000:024d",
@@ -547,7 +548,8 @@ def slow_site(stub: Stub, tmp_path: Path) -> Iterator[Proxy]:
         yield proxy
 
 
-# Requests that are refused before a limit of their path holds: by their line, by a field, by their form, by their length.
+# Requests that are refused before a limit of their path holds: by their line, by a field, by their form, by their
+# length.
 REFUSED = {
     414: ("GET /stock?" + "q" * 3000 + " HTTP/1.1", HOST),
     400: (GET_STOCK, HOST, "long: " + "x" * 9000),

@@ -1,10 +1,12 @@
 """The units of packaging/: what systemd makes of them, and what each may do."""
 import fnmatch
+import pathlib
 import re
 import shutil
 import subprocess
 import sys
 import tomllib
+from typing import Any
 
 import pytest
 from conftest import ROOT
@@ -26,7 +28,7 @@ PROGRAMS = r"(?m)^(Exec\w+=)(toll|hilpoven)\b"
 
 
 @pytest.fixture(scope="module")
-def installed(tmp_path_factory):
+def installed(tmp_path_factory: pytest.TempPathFactory) -> pathlib.Path:
     """A folder with the units as they are installed; their programs stand in a folder beside it."""
     folder = tmp_path_factory.mktemp("units")
     for name in ("toll", "hilpoven"):
@@ -39,7 +41,7 @@ def installed(tmp_path_factory):
     return folder / "system"
 
 
-def analyzed(installed, *words):
+def analyzed(installed: pathlib.Path, *words: str) -> tuple[int, str]:
     done = subprocess.run(
         ["systemd-analyze", "--man=no", *words],
         capture_output=True,
@@ -50,36 +52,36 @@ def analyzed(installed, *words):
 
 
 @pytest.mark.parametrize("unit", OFFICE + SINGLE)
-def test_systemd_finds_nothing_in_a_unit(installed, unit):
+def test_systemd_finds_nothing_in_a_unit(installed: pathlib.Path, unit: str) -> None:
     assert analyzed(installed, "verify", unit) == (0, "")
 
 
 @pytest.mark.parametrize("unit", OFFICE + SINGLE)
-def test_a_unit_that_is_broken_is_found(installed, unit, tmp_path):
+def test_a_unit_that_is_broken_is_found(installed: pathlib.Path, unit: str, tmp_path: pathlib.Path) -> None:
     """That the look above sees something."""
     broken = shutil.copytree(installed, tmp_path / "system")
     source = broken / re.sub(r"@.*(\.\w+)$", r"@\1", unit)
-    source.write_text(
-        source.read_text().replace("OnCalendar=", "OnCalendar=never ").replace("ExecStart=", "ExecStart=/nowhere/")
-    )
+    text = source.read_text().replace("OnCalendar=", "OnCalendar=never ")
+    source.write_text(text.replace("ExecStart=", "ExecStart=/nowhere/"))
     assert analyzed(broken, "verify", unit) != (0, "")
 
 
 @pytest.mark.parametrize("unit", [unit for unit in OFFICE[:3] + SINGLE[:2]])
-def test_a_unit_may_do_little(installed, unit):
+def test_a_unit_may_do_little(installed: pathlib.Path, unit: str) -> None:
     status, output = analyzed(installed, "security", "--offline=yes", "--no-pager", unit)
-    assert float(re.search(r"exposure level for \S+: ([\d.]+)", output)[1]) <= 1.5, output
+    (exposure,) = re.findall(r"exposure level for \S+: ([\d.]+)", output)
+    assert float(exposure) <= 1.5, output
 
 
-def text_of(name):
+def text_of(name: str) -> str:
     return (ROOT / "packaging" / name).read_text()
 
 
-def setting(text, name):
+def setting(text: str, name: str) -> list[str]:
     return re.findall(rf"(?m)^{name}=(.*)$", text)
 
 
-def test_the_server_has_the_one_capability_that_a_low_port_needs():
+def test_the_server_has_the_one_capability_that_a_low_port_needs() -> None:
     server = text_of("toll@.service")
     for name in ("CapabilityBoundingSet", "AmbientCapabilities"):
         assert setting(server, name) == ["CAP_NET_BIND_SERVICE"]
@@ -89,7 +91,7 @@ def test_the_server_has_the_one_capability_that_a_low_port_needs():
     assert setting(text_of("office.env"), "PORT") and int(setting(text_of("office.env"), "PORT")[0]) < 1024
 
 
-def test_the_c_library_has_what_the_server_sets_of_it():
+def test_the_c_library_has_what_the_server_sets_of_it() -> None:
     """It passes over a name that it doesn't know."""
     (words,) = [
         line.partition("=")[2]
@@ -107,7 +109,7 @@ def test_the_c_library_has_what_the_server_sets_of_it():
         assert tunables[name] == int(value)
 
 
-def test_the_site_looks_for_companions_where_the_unit_puts_them_for_its_group():
+def test_the_site_looks_for_companions_where_the_unit_puts_them_for_its_group() -> None:
     unit, (folder,) = text_of("toll-companion@.service"), re.findall(
         r"alias (/var/cache/\S+)/\$toll_companion\.json;", text_of("nginx.conf")
     )
@@ -127,7 +129,7 @@ def test_the_site_looks_for_companions_where_the_unit_puts_them_for_its_group():
     ]
 
 
-def test_server_and_backup_have_one_file_of_settings():
+def test_server_and_backup_have_one_file_of_settings() -> None:
     units = [text_of(name) for name in ("toll@.service", "toll-backup@.service", "toll-follow@.service")]
     for unit in units:
         assert setting(unit, "EnvironmentFile") == ["/etc/toll/%i.env"]
@@ -141,7 +143,7 @@ def test_server_and_backup_have_one_file_of_settings():
     assert used == set(re.findall(r"(?m)^#?([A-Z]+)=", text_of("office.env")))
 
 
-def test_a_server_waits_for_its_follower_s_look_and_ends_when_another_has_the_office():
+def test_a_server_waits_for_its_follower_s_look_and_ends_when_another_has_the_office() -> None:
     follower, server = text_of("toll-follow@.service"), text_of("toll@.service")
     assert setting(follower, "Before") == ["toll@%i.service"] and setting(follower, "ExecStartPre")[0].endswith(
         "--check"
@@ -152,18 +154,18 @@ def test_a_server_waits_for_its_follower_s_look_and_ends_when_another_has_the_of
     assert "test ! -e ${FILE}.superseded" in setting(server, "ExecStartPre")
 
 
-def test_the_timers_backup_keeps_what_its_settings_say():
+def test_the_timers_backup_keeps_what_its_settings_say() -> None:
     (command,) = setting(text_of("toll-backup@.service"), "ExecStart")
     assert re.findall(r"--(keep|days) \$\{(\w+)\}", command) == [("keep", "HOURS"), ("days", "DAYS")]
 
 
 @pytest.mark.parametrize("name, when", [("toll-backup@.timer", "hourly"), ("single/toll-backup.timer", "daily")])
-def test_a_backup_that_was_due_while_the_machine_was_off_is_made_when_it_is_on(name, when):
+def test_a_backup_that_was_due_while_the_machine_was_off_is_made_when_it_is_on(name: str, when: str) -> None:
     timer = text_of(name)
     assert setting(timer, "Persistent") == ["yes"] and setting(timer, "OnCalendar") == [when]
 
 
-def test_what_owners_did_is_kept_for_ten_years_and_by_its_age_alone():
+def test_what_owners_did_is_kept_for_ten_years_and_by_its_age_alone() -> None:
     """The other log has what anybody may send: it is kept for days, and by number and size."""
     rules = {
         path: {words[0]: words[1:] for words in map(str.split, filter(None, lines.splitlines()))}
@@ -178,7 +180,9 @@ def test_what_owners_did_is_kept_for_ten_years_and_by_its_age_alone():
     assert fnmatch.fnmatch(log, "/var/log/nginx/toll*.log")
 
 
-def test_page_example_unit_and_command_have_the_same_defaults(tmp_path, monkeypatch):
+def test_page_example_unit_and_command_have_the_same_defaults(
+    tmp_path: pathlib.Path, monkeypatch: pytest.MonkeyPatch
+) -> None:
     backup = dict(
         setting_line.split("=") for setting_line in setting(text_of("toll-backup@.service"), "Environment")[0].split()
     )
@@ -193,22 +197,22 @@ def test_page_example_unit_and_command_have_the_same_defaults(tmp_path, monkeypa
     assert [office.file, office.backups, str(office.keep), str(office.days)] == list(defaults.values())
 
 
-def test_the_journal_reads_the_log_that_the_site_keeps():
+def test_the_journal_reads_the_log_that_the_site_keeps() -> None:
     kept = re.findall(r"access_log (\S+) toll if=\$toll_authenticated;", text_of("nginx.conf"))
     assert tomllib.loads(text_of("etc/hilpoven.toml"))["site_logs"] == kept and len(kept) == 1
 
 
-def test_no_site_goes_to_a_port_that_no_unit_serves():
+def test_no_site_goes_to_a_port_that_no_unit_serves() -> None:
     ports = set(re.findall(r"proxy_pass http://127\.0\.0\.1:(\d+)", text_of("nginx.conf")))
     assert len(ports) == 1
 
 
-def test_the_site_goes_to_the_port_of_the_example():
+def test_the_site_goes_to_the_port_of_the_example() -> None:
     (port,) = setting(text_of("office.env"), "PORT")
     assert re.findall(r"proxy_pass http://127\.0\.0\.1:(\d+);", text_of("nginx.conf")) == [port] and int(port) < 1024
 
 
-def operators_units(package):
+def operators_units(package: str) -> dict[str, str]:
     """The units of a package that an operator enables, as systemctl takes them, and the pattern of their instances."""
     lines = [line.split() for line in (ROOT / "debian" / f"{package}.install").read_text().splitlines()]
     names = [source.rpartition("/")[2] for source, *targets in lines if targets == ["usr/lib/systemd/system"]]
@@ -217,23 +221,19 @@ def operators_units(package):
 
 
 @pytest.mark.parametrize("package", ("toll", "hilpoven"))
-def test_a_package_that_is_removed_stops_and_disables_what_its_operator_enabled(package, tmp_path):
+def test_a_package_that_is_removed_stops_and_disables_what_its_operator_enabled(
+    package: str, tmp_path: pathlib.Path
+) -> None:
     """The script that dpkg runs before, with programs that note their words in place of systemd's."""
     units, script = operators_units(package), ROOT / "debian" / f"{package}.prerm"
     for name in ("systemctl", "deb-systemd-invoke"):
         (tmp_path / name).write_text(f'#!/bin/sh\nfor word; do echo "{name} $1 $word" >> {tmp_path}/log; done\n')
         (tmp_path / name).chmod(0o755)
     text = script.read_text().replace("/run/systemd/system", str(tmp_path))
+    stopped = [f"deb-systemd-invoke stop {pattern}" for pattern in units.values()]
     for words, log in (
-        (["upgrade", "99"], set()),
-        (
-            ["remove"],
-            {
-                line
-                for name, pattern in units.items()
-                for line in (f"systemctl disable {name}", f"deb-systemd-invoke stop {pattern}")
-            },
-        ),
+        (["upgrade", "99"], set[str]()),
+        (["remove"], {*stopped, *(f"systemctl disable {name}" for name in units)}),
     ):
         (tmp_path / "log").write_text("")
         subprocess.run(["sh", "-c", text, "prerm", *words], check=True, env={"PATH": f"{tmp_path}:/usr/bin:/bin"})

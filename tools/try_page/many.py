@@ -40,8 +40,8 @@ def many(t: Trial) -> None:
 
 
 def check_times(t: Trial, subject: str, measured: Callable[[], Any], **bounds: int) -> None:
-    """Measures until all is within its bounds, as a moment may be a bad one; what is slow by itself is so each time. The
-    bounds are as much longer as the machine is slower now than an idle one. A slowed browser has none."""
+    """Measures until all is within its bounds, as a moment may be a bad one; what is slow by itself is so each time.
+    The bounds are as much longer as the machine is slower now than an idle one. A slowed browser has none."""
     ends, is_in_time = time.monotonic() + PATIENCE, False
     while not is_in_time and time.monotonic() < ends:
         before = t.browser.js(SUM)
