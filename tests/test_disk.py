@@ -21,29 +21,10 @@ from typing import NamedTuple
 import pytest
 
 from tests.attempts import FAULTED, UNHARMED, Command, Import, Left, New, Request, make_version_1
-from tests.harness import (
-    ACCEPTED,
-    FAIL,
-    KILLED_AFTER,
-    KILLED_BEFORE,
-    PATIENCE,
-    REPEATED,
-    SHORT,
-    TORN,
-    UNAVAILABLE,
-    Disk,
-    Office,
-    Result,
-    Server,
-    content,
-    fault,
-    printed,
-    put,
-    read_all,
-    request,
-    wrong_outcomes,
-)
-from tests.lines import ACTUALS, STOCK, order_body
+from tests.harness import ACCEPTED, FAIL, KILLED_AFTER, KILLED_BEFORE, PATIENCE, REPEATED, SHORT, TORN, UNAVAILABLE
+from tests.harness import Disk, Office, Result, Server, content, fault, printed, put, read_all, request
+from tests.harness import wrong_outcomes
+from tests.lines import ACTUALS, STOCK
 
 # The letters that disk.c has for the kinds of calls: open, read, write, sync, cut, lock, close, look.
 EVERY = "orwstlci"
@@ -51,6 +32,7 @@ KILLED = -signal.SIGKILL
 DISK, LOCKED = fault("Disk"), fault("Locked")
 ORDERS = "> ACME ACMEKEY1 GET /orders"
 NEW_ORDER = 'POST /orders {"order":"O-2","recipe":"R","batches":2}'
+ORDERED = '{"batches":2,"order":"O-2","recipe":"R","status":"open"}'
 
 
 class Way(NamedTuple):
@@ -110,7 +92,7 @@ def adoption(new: New, _: str) -> Command:
 
 def order(new: New, base: str) -> Request:
     """An order over HTTP, for which the server opens the file."""
-    return Request(new(), base, NEW_ORDER, order_body("O-2", batches=2), may_stop=True)
+    return Request(new(), base, NEW_ORDER, ORDERED, may_stop=True)
 
 
 Disturbed = tuple[Command | Request, str]

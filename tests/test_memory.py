@@ -22,20 +22,8 @@ import pytest
 
 from tests.attempts import FAULTED, UNHARMED, Command, Import, New, Request, make_version_1
 from tests.harness import JOBS, UNAVAILABLE, Office, Preloaded, Result, content, fault, put, wrong_outcomes
-from tests.lines import (
-    AT_WORK,
-    BACK_FROM_P1,
-    HOUSE_MAKES,
-    RECALLED,
-    REQUESTS,
-    SCRIPTS,
-    SERVED,
-    STOCK,
-    TESTED,
-    WITH_WATER,
-    lot_body,
-    stock_body,
-)
+from tests.lines import AT_WORK, BACK_FROM_P1, HOUSE_MAKES, RECALLED, REQUESTS, SCRIPTS, SERVED, STOCK, TESTED
+from tests.lines import WITH_WATER
 
 MEMORY = fault("Memory")
 MOST, MOST_WITH_LATER, EVERY = int(os.environ.get("MOST", 60)), 40, sys.maxsize  # refusals of a run
@@ -129,7 +117,7 @@ def over_file(command: Command, *befores: Any) -> Run:
 
 # What is tried
 
-LOTS = range(1000)
+LOTS, ONES = range(1000), (1, 1, 1)
 
 
 def make_ring(new: New) -> str:
@@ -152,13 +140,9 @@ def make_ring(new: New) -> str:
                 kind,
                 "ACME",
                 f"L-{(at + shift) % 1000 + 1}",
-                "S",
-                "",
-                "M",
+                *"S||M".split("|"),
                 *batch[at],
-                1,
-                1,
-                1,
+                *ONES,
             )
             for at in LOTS
             for word, kind, shift in (("C", 4, -1), ("P", 5, 0))
@@ -221,6 +205,14 @@ def request(asked: str, body: str, laid: str = SERVED, first: str = "> ACME ACME
 
 
 ACTUAL = "actual K2 ACME O 1 1 consumed M ACME A S1"
+RELEASED = (
+    '{"disposition":"released","lot":"A","material":"M","measure":"kg","origin":"receipts",'
+    '"results":[{"day":1,"test":"PH","value":8}],"sublots":[{"amount":10,"sublot":"S"}]}'
+)
+STOCK_BESIDE_Z = (
+    '{"lots":[{"amount":100,"disposition":"released","lot":"A","material":"M","measure":"kg"},'
+    '{"amount":%d,"disposition":"quarantined","lot":"Z","material":"M","measure":"kg"}]}'
+)
 BY_PLANT: dict[str, Make] = {
     **{f"{name}, by script": script(name) for name in SCRIPTS},
     "a consumption": plain(f"{ACTUAL} 100 11"),
@@ -236,9 +228,7 @@ BY_PLANT: dict[str, Make] = {
     "a question to a file of version 1": adoption,
 }
 RUNS = BY_PLANT | {
-    "a release that opens the file": request(
-        "POST /lots/A/release", lot_body("A", "released", 10, results=[8]), TESTED + "result ACME A PH 8 1", ""
-    ),
+    "a release that opens the file": request("POST /lots/A/release", RELEASED, TESTED + "result ACME A PH 8 1", ""),
     **{" ".join(asked.split(" ")[:2]): request(asked, body) for asked, body in REQUESTS.items()},
 }
 
@@ -297,8 +287,7 @@ def test_a_turn_that_lacks_memory_is_a_fault_for_the_operator_also_without_a_rep
 def test_with_ample_memory_300_receipts_are_accepted(new: New, at_work: Office) -> None:
     """The stock is asked for after each."""
     lines, question = [f"receive ACME Z-{number} M Z S 1 12" for number in range(1, 301)], "> ACME ACMEKEY1 GET /stock"
-    stocks = [stock_body("A 100 released M", f"Z {amount} quarantined M") for amount in range(1, 301)]
-    wanted = "".join(f"accepted\n200 {stock}\n" for stock in stocks)
+    wanted = "".join(f"accepted\n200 {STOCK_BESIDE_Z % amount}\n" for amount in range(1, 301))
     script = AT_WORK.strip() + "".join(f"\n{line}\n{question}" for line in lines) + "\n"
     answer = new().run(["script"], stdin=script.encode())
     assert answer.status == 0 and answer.out.endswith(wanted)

@@ -24,26 +24,8 @@ import pytest
 
 from tests import socket_client as client
 from tests.attempts import Import, New
-from tests.harness import (
-    ACCEPTED,
-    FAIL,
-    KILLED_AFTER,
-    KILLED_BEFORE,
-    NO_NETWORK,
-    PATIENCE,
-    REPEATED,
-    STOPPED_AT_MODE,
-    UNAVAILABLE,
-    Disk,
-    Office,
-    Result,
-    Server,
-    content,
-    fault,
-    meanwhile,
-    put,
-    wrong_outcomes,
-)
+from tests.harness import ACCEPTED, FAIL, KILLED_AFTER, KILLED_BEFORE, NO_NETWORK, PATIENCE, REPEATED, STOPPED_AT_MODE
+from tests.harness import UNAVAILABLE, Disk, Office, Result, Server, content, fault, meanwhile, put, wrong_outcomes
 from tests.lines import ACTUALS, many_actuals
 
 LOCKED, LOST, NOT_OURS, DAMAGED = (fault(name) for name in ("Locked", "Lost", "NotOurs", "Damaged"))

@@ -19,8 +19,8 @@ INTRODUCTION = """# Promises
 
 `tools/check-docs promises` makes this page. A line leads from a promise, by its number in `docs/PROVED.md`, to the \
 laws and contracts that carry it (with some clauses' names), definitions in those clauses, the code, wrong bodies, \
-and tests. Files are below `crates/`. A wrong body is a file of a crate's `must-fail/` that names the promise. `-`
-means \ that there is none: the clauses carry the promise alone.
+and tests. Files are below `crates/`. A wrong body is a file of a crate's `must-fail/` that names the promise. `-` \
+means that there is none: the clauses carry the promise alone.
 
 |promise|law or contract|definition|code|wrong body|test|
 |---|---|---|---|---|---|

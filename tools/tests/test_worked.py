@@ -41,8 +41,11 @@ by: tools/texts
 # As `rattle`: it refuses text with the word "wrong", and tells what it was asked to read.
 RATTLE = """case $1 in
 fmt) shift 2; ! grep -l unformatted "$@" ;;
-check) echo "$*" >> "$TOLD"; ! grep -rn wrong ../*/src | sed 's/^/error[unknown-name]: /' | grep . || exit 1; echo
-only=0 ;; esac"""
+check)
+    echo "$*" >> "$TOLD"
+    ! grep -rn wrong ../*/src | sed 's/^/error[unknown-name]: /' | grep . || exit 1
+    echo only=0 ;;
+esac"""
 
 
 FILES = {
