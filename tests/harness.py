@@ -165,10 +165,12 @@ class Server:
         count: int = 1_000_000,
         errors: IO[bytes] | int | None = None,
         port: int = 0,
+        descriptors: int = 0,
     ) -> None:
         self.errors = errors or tempfile.TemporaryFile()
+        limited = ["prlimit", f"--nofile={descriptors}"] if descriptors else []
         self.process = subprocess.Popen(
-            [office.program, "--db", office.db, "serve", str(port), str(count)],
+            [*limited, office.program, "--db", office.db, "serve", str(port), str(count)],
             text=True,
             stdout=subprocess.PIPE,
             stderr=self.errors,
@@ -249,8 +251,10 @@ class Office:
         return self.run(["--db", self.db, *words], env, closed=closed)
 
     @contextlib.contextmanager
-    def serve(self, env: dict[str, str] | None = None, count: int = 1_000_000) -> Iterator[Server]:
-        server = Server(self, env, count)
+    def serve(
+        self, env: dict[str, str] | None = None, count: int = 1_000_000, descriptors: int = 0
+    ) -> Iterator[Server]:
+        server = Server(self, env, count, descriptors=descriptors)
         try:
             yield server
         finally:

@@ -1,50 +1,22 @@
 """What one client can't do to the others: each limit of a server, with bounds that hold on a busy machine."""
 import contextlib
 import os
-import pathlib
 import selectors
 import socket
 import subprocess
 import time
-import types
 from collections.abc import Callable, Iterator
 
 import pytest
 
 from bench import offices
 from bench.offices import KEY, Dense, owner_name
+from tests.harness import Office, Server, eventually
 
-ROOT = pathlib.Path(__file__).resolve().parent.parent
-TOLL = pathlib.Path(os.environ.get("TOLL", ROOT / "crates" / "toll" / "out" / "toll")).resolve()
 HELD, RESERVE = 40, 24  # connections of a server with few descriptors, and the descriptors that it keeps for itself
 DROPPED_AFTER = 10  # seconds
 SOON = 30  # seconds: more than any answer takes on a busy machine, less than a client waits that is never answered
 ASKER, OTHER = owner_name(0), owner_name(1)
-
-
-class Server:
-    """A server of an office, and clients of it."""
-
-    def __init__(self, db: pathlib.Path, count: int = 1_000_000, descriptors: int = 1_024) -> None:
-        self.db = db
-        words: list[str | pathlib.Path] = ["prlimit", f"--nofile={descriptors}", TOLL]
-        words += ["--db", db, "serve", "0", str(count)]
-        self.process = subprocess.Popen(words, stdout=subprocess.PIPE, text=True)
-        assert self.process.stdout
-        self.port = int(self.process.stdout.readline().split()[1])
-
-    def connect(self, sent: bytes = b"") -> socket.socket:
-        peer = socket.create_connection(("127.0.0.1", self.port), timeout=SOON)
-        peer.sendall(sent)
-        return peer
-
-    def ask(self, message: bytes) -> bytes:
-        with self.connect(message) as peer:
-            return read(peer)
-
-    def plant(self, *words: str) -> str:
-        """What a command prints, which the server answers."""
-        return subprocess.run([TOLL, "--db", self.db, *words], capture_output=True, text=True, timeout=SOON).stdout
 
 
 def request(target: str, owner: str = OTHER, fields: str = "") -> bytes:
@@ -82,91 +54,83 @@ def refuses(server: Server) -> bool:
     return False
 
 
-def eventually(holds: Callable[[], bool]) -> bool:
-    """Whether it comes to hold before the server drops who sends nothing."""
-    ends = time.monotonic() + DROPPED_AFTER - 2
-    while not (is_so := holds()) and time.monotonic() < ends:
-        time.sleep(0.01)
-    return is_so
-
-
 @pytest.fixture(scope="module")
-def office(tmp_path_factory: pytest.TempPathFactory) -> pathlib.Path:
-    """The file of an owner with 5,000 lots and a dense genealogy, and one with few orders."""
-    db = tmp_path_factory.mktemp("limits") / "office.db"
-
-    def plant(*words: str) -> types.SimpleNamespace:
-        done = subprocess.run([TOLL, "--db", db, *words], capture_output=True, text=True)
-        return types.SimpleNamespace(out=done.stdout)
-
-    offices.with_genealogies(types.SimpleNamespace(db=db, plant=plant), Dense(20), Dense(10, 400), orders=3)
-    return db
+def office(new: Callable[[], Office]) -> Office:
+    """An owner with 5,000 lots and a dense genealogy, and one with few orders."""
+    office = new()
+    offices.with_genealogies(office, Dense(20), Dense(10, 400), orders=3)
+    return office
 
 
 @pytest.fixture
-def serve(office: pathlib.Path) -> Iterator[Callable[..., Server]]:
-    servers: list[Server] = []
-
-    def start(**how: int) -> Server:
-        servers.append(Server(office, **how))
-        return servers[-1]
-
-    yield start
-    for server in servers:
-        server.process.kill()
-        server.process.wait()
+def serve(office: Office) -> Iterator[Callable[..., Server]]:
+    with contextlib.ExitStack() as stack:
+        yield lambda **how: stack.enter_context(office.serve(**how))
 
 
-def test_silent_clients_block_neither_an_owner_nor_the_plant(serve: Callable[..., Server]) -> None:
+def connect(server: Server, sent: bytes = b"") -> socket.socket:
+    peer = server.connect()
+    peer.settimeout(SOON)
+    peer.sendall(sent)
+    return peer
+
+
+def is_answered(server: Server) -> bool:
+    return server.send(request("/orders")).startswith("HTTP/1.1 200")
+
+
+def test_silent_clients_block_neither_an_owner_nor_the_plant(office: Office, serve: Callable[..., Server]) -> None:
     server = serve()
     with contextlib.ExitStack() as stack:
         for _ in range(800):
             stack.enter_context(server.connect())
         for _ in range(200):
             with socket.socket(socket.AF_UNIX) as peer:
-                peer.connect(f"{server.db}.sock")
+                peer.connect(f"{office.db}.sock")
         began = time.monotonic()
-        assert server.ask(request("/orders")).startswith(b"HTTP/1.1 200") and server.plant("stock", OTHER)
+        assert is_answered(server) and office.plant("stock", OTHER).out
         assert time.monotonic() - began < DROPPED_AFTER - 2  # so none of them was dropped meanwhile
 
 
-def test_a_full_server_drops_the_client_that_has_been_sending_longest(serve: Callable[..., Server]) -> None:
+def test_a_full_server_drops_the_client_that_has_been_sending_longest(
+    office: Office, serve: Callable[..., Server]
+) -> None:
     server = serve(descriptors=HELD + RESERVE)
     with contextlib.ExitStack() as stack:
-        peers = [stack.enter_context(server.connect(b"GET /")) for _ in range(HELD)]
+        peers = [stack.enter_context(connect(server, b"GET /")) for _ in range(HELD)]
         for answered in range(5):
-            assert server.ask(request("/orders")).startswith(b"HTTP/1.1 200")
-            stack.enter_context(server.connect(b"GET /"))
-        assert server.plant("stock", OTHER)
+            assert is_answered(server)
+            stack.enter_context(connect(server, b"GET /"))
+        assert office.plant("stock", OTHER).out
         dropped = [not is_open(peer) for peer in peers]
         assert 5 <= sum(dropped) <= 7 and dropped == sorted(dropped, reverse=True)
 
 
 def test_a_server_without_descriptors_drops_who_has_been_sending_longest(serve: Callable[..., Server]) -> None:
     server = serve()
-    with server.connect(b"GET /"), server.connect(b"GET /"):
-        assert server.ask(request("/orders")).startswith(b"HTTP/1.1 200")
+    with connect(server, b"GET /"), connect(server, b"GET /"):
+        assert is_answered(server)
         taken = len(os.listdir(f"/proc/{server.process.pid}/fd"))
         subprocess.run(["prlimit", f"--pid={server.process.pid}", f"--nofile={taken}"], check=True)
         began = time.monotonic()
-        assert server.ask(request("/orders")).startswith(b"HTTP/1.1 ")
+        assert server.send(request("/orders")).startswith("HTTP/1.1 ")
         assert time.monotonic() - began < DROPPED_AFTER - 2  # so nobody was dropped for being slow
 
 
 def test_who_reads_or_sends_slowly_is_dropped_after_ten_seconds(serve: Callable[..., Server]) -> None:
     server = serve()
     stock = request("/stock", ASKER)
-    whole = server.ask(stock)
-    with socket.socket() as reader, server.connect(request("/orders")[:-2]) as sender:
+    whole = server.send(stock)
+    with socket.socket() as reader, connect(server, request("/orders")[:-2]) as sender:
         reader.setsockopt(socket.IPPROTO_TCP, socket.TCP_MAXSEG, 536)  # by which the system reckons the server's buffer
         reader.setsockopt(socket.SOL_SOCKET, socket.SO_RCVBUF, 4_096)
-        reader.connect(("127.0.0.1", server.port))
+        reader.connect(("127.0.0.1", server.port or 0))
         reader.sendall(stock)
         began = time.monotonic()
         while is_open(sender) and time.monotonic() < began + SOON:
             with contextlib.suppress(ConnectionError):
                 sender.sendall(b"x")
-            assert server.ask(request("/orders")).startswith(b"HTTP/1.1 200")
+            assert is_answered(server)
             time.sleep(0.5)
         assert DROPPED_AFTER - 2 < time.monotonic() - began < SOON
         time.sleep(5)  # the reader's seconds began a little later
@@ -182,15 +146,15 @@ def test_who_reads_or_sends_slowly_is_dropped_after_ten_seconds(serve: Callable[
 def test_a_head_that_is_too_long_is_refused(serve: Callable[..., Server], fields: str, status: int) -> None:
     server = serve()
     for _ in range(3):
-        assert server.ask(request("/orders", fields=fields)).startswith(f"HTTP/1.1 {status} ".encode())
-    assert server.ask(request("/orders")).startswith(b"HTTP/1.1 200")
+        assert server.send(request("/orders", fields=fields)).startswith(f"HTTP/1.1 {status} ")
+    assert is_answered(server)
 
 
 def replies_before(server: Server, requests: list[bytes], last: bytes) -> int:
     """How many of these requests, which are sent at once, are answered before one that is sent behind them."""
     with contextlib.ExitStack() as stack, selectors.DefaultSelector() as selector:
         for message in (*requests, last):
-            selector.register(stack.enter_context(server.connect(message)), selectors.EVENT_READ, message)
+            selector.register(stack.enter_context(connect(server, message)), selectors.EVENT_READ, message)
         for answered in range(len(requests) + 1):
             key, _ = selector.select(SOON)[0]
             if key.data == last:
@@ -206,10 +170,16 @@ def test_an_owner_that_asks_without_pause_delays_others_by_no_queue_of_its_own(s
     assert min(replies_before(server, traces, request("/orders")) for _ in range(3)) < 75
 
 
-def test_a_client_that_never_ends_its_request_does_not_keep_a_server_from_its_end(serve: Callable[..., Server]) -> None:
+def test_a_client_that_never_ends_its_request_does_not_keep_a_server_from_its_end(
+    office: Office, serve: Callable[..., Server]
+) -> None:
     server = serve(count=3)
-    with server.connect(b"G"):
-        assert server.ask(request("/orders")).startswith(b"HTTP/1.1 200") and server.ask(request("/orders"))
-        assert eventually(lambda: refuses(server))  # the port closes as soon as the last has connected
-        assert eventually(lambda: not os.path.exists(f"{server.db}.sock"))  # which closes with the port
+    with connect(server, b"G"):
+        assert is_answered(server) and is_answered(server)
+        assert eventually(
+            lambda: refuses(server), DROPPED_AFTER - 2
+        )  # the port closes as soon as the last has connected
+        assert eventually(
+            lambda: not os.path.exists(f"{office.db}.sock"), DROPPED_AFTER - 2
+        )  # which closes with the port
         assert server.process.wait(DROPPED_AFTER + SOON) == 0

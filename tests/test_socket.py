@@ -31,10 +31,11 @@ from tests.lines import ACTUALS, many_actuals
 LOCKED, LOST, NOT_OURS, DAMAGED = (fault(name) for name in ("Locked", "Lost", "NotOurs", "Damaged"))
 DOOR_BEGAN, DOOR_ENDED = "fault Door began", "fault Door ended"
 Change = Callable[[str], Any]
+ORDER = '> ACME ACMEKEY1 POST /orders {"order":"%s","recipe":"R","batches":1}'
 ORDERS, NOBODY = "> ACME ACMEKEY1 GET /orders", 65534
 
 # Each of the plant's commands and questions, also refused, repeated and unread.
-LINES = """\
+LINES = """
 unit-add U2; unit-add U2; owner-add COLT COLTKEY1; owner-add COLT short; material-add ACME N kg;
 test-add ACME M T M5 5; recipe-add ACME R-2 1; require ACME R-2 1 consumed ACME N 5; recipe-add HOUSE H 1;
 order H-1 H 1; order H-1 NONE 1; cancel H-1; cancel H-2; receive ACME K2 N B S1 100 10;
@@ -44,9 +45,7 @@ actual K7 ACME O 1 1 consumed M ACME A S1 40 11; void ACME K7; actual K8 ACME O 
 actual K9 ACME O 1 1 produced P ACME P1 S1 30 11; actual K9 ACME O 1 1 produced P ACME P1 S1 31 11;
 do ACME O 1 stop; do ACME O 1 done; close ACME O 1; open ACME O U1; orders ACME; orders NONE; stock ACME;
 stock HOUSE; batch ACME O 1; batch ACME O 2; trace ACME P1 back; trace ACME A forward; recall ACME A;
-recall ACME NONE; no such words; stock; stock ACME --all""".split(
-    ";"
-)
+recall ACME NONE; no such words; stock; stock ACME --all"""
 
 # Files of actuals that are imported, each twice.
 IMPORTS = {
@@ -97,6 +96,14 @@ def at_work(at_work: Office) -> Office:
         return at_work
 
 
+@pytest.fixture
+def disk(disks: list[Disk], work: str) -> Disk:
+    """An office at work whose calls may be disturbed."""
+    put(work, disks[0].db)
+    disks[0].disturb(0)
+    return disks[0]
+
+
 # With a server and without
 
 
@@ -106,7 +113,7 @@ def test_each_command_and_import_answers_and_leaves_the_same_with_a_server_and_w
         put(work, office.db)
     with served.serve() as server:
         server.ask(ORDERS)
-        for line in LINES:
+        for line in LINES.split(";"):
             assert served.plant(*line.split()) == alone.plant(*line.split()), line
         for name, text in (*IMPORTS.items(), ("none", None)):
             paths = ["none.csv" if text is None else office.write(f"{name}.csv", text) for office in (alone, served)]
@@ -148,11 +155,14 @@ def test_a_socket_that_a_killed_server_left_is_in_nobodys_way_and_the_next_serve
         assert at_work.plant("unit-add", "U3") == ACCEPTED and has_socket(at_work) and server.lines() == []
 
 
-@pytest.mark.parametrize(
-    "make",
-    [os.mkdir, lambda path: pathlib.Path(path).write_text("mine"), lambda path: os.symlink("nowhere", path)],
-    ids=["a folder", "a file", "a link"],
-)
+IN_ITS_PLACE: dict[str, Change] = {
+    "a folder": os.mkdir,
+    "a file": lambda path: pathlib.Path(path).write_text("mine"),
+    "a link": lambda path: os.symlink("nowhere", path),
+}
+
+
+@pytest.mark.parametrize("make", IN_ITS_PLACE.values(), ids=IN_ITS_PLACE)
 def test_what_is_in_the_sockets_place_stays_and_the_server_serves_without(at_work: Office, make: Change) -> None:
     os.unlink(client.path_of(at_work))
     make(client.path_of(at_work))
@@ -246,21 +256,19 @@ def is_stopped(pid: int) -> bool:
     return pathlib.Path(f"/proc/{pid}/stat").read_text().rpartition(")")[2].split()[0] == "T"
 
 
-def test_a_client_that_comes_before_the_socket_has_its_mode_is_turned_away(disks: list[Disk], work: str) -> None:
-    office, path = disks[0], client.path_of(disks[0])
-    put(work, office.db)
-    office.disturb(0)
-    with office.serve(office.env) as server:
+def test_a_client_that_comes_before_the_socket_has_its_mode_is_turned_away(disk: Disk) -> None:
+    path = client.path_of(disk)
+    with disk.serve(disk.env) as server:
         os.unlink(path)
-        office.disturb(0, STOPPED_AT_MODE)
+        disk.disturb(0, STOPPED_AT_MODE)
         server.connect().close()
         while not is_stopped(server.process.pid):
             time.sleep(0.01)
         with client.connect(path) as peer:
-            office.disturb(0)
+            disk.disturb(0)
             server.process.send_signal(signal.SIGCONT)
             assert client.take_parcel(peer) == b""
-        assert is_answered(server) and has_socket(office)
+        assert is_answered(server) and has_socket(disk)
 
 
 # Locks, damage, and what others do to the files
@@ -336,11 +344,8 @@ def test_damage_of_one_owner_costs_the_others_no_opening_and_is_known_until_the_
     with at_work.serve() as server:
         by_others(at_work, "UPDATE lots SET disposition = 9 WHERE owner = 'ACME'")
         assert [owner_statuses(server) for _ in range(20)] == [["503", "200"]] * 20
-        assert [line for line in server.lines() if not line.startswith("opened")] == [
-            "damaged rows of ACME",
-            "fault Unavailable began",
-            "fault Unavailable ended",
-        ]
+        lines = [line for line in server.lines() if not line.startswith("opened")]
+        assert lines == ["damaged rows of ACME", "fault Unavailable began", "fault Unavailable ended"]
         for_owners = openings(server)
         answers = [(at_work.plant("stock", "ACME"), owner_statuses(server)[1]) for _ in range(10)]
         assert answers == [(DAMAGED, "200")] * 10
@@ -360,25 +365,20 @@ def test_a_file_that_is_opened_beside_100_clients_stays_open(at_work: Office) ->
         assert [is_answered(server) for _ in range(5)] == [True] * 5 and openings(server) == 0
 
 
-def test_the_first_requests_read_nothing_of_a_file_that_was_opened_ahead(disks: list[Disk], work: str) -> None:
-    put(work, disks[0].db)
-    disks[0].disturb(0)
-    with disks[0].serve(disks[0].env) as server:
-        disks[0].disturb(0)
-        assert owner_statuses(server) == ["200", "200"] and "r" not in disks[0].calls()
+def test_the_first_requests_read_nothing_of_a_file_that_was_opened_ahead(disk: Disk) -> None:
+    with disk.serve(disk.env) as server:
+        disk.disturb(0)
+        assert owner_statuses(server) == ["200", "200"] and "r" not in disk.calls()
 
 
-def test_what_others_wrote_is_seen_if_a_look_at_the_files_fails(disks: list[Disk], work: str) -> None:
-    office = disks[0]
-    put(work, office.db)
-    office.disturb(0)
-    with office.serve(office.env) as server:
+def test_what_others_wrote_is_seen_if_a_look_at_the_files_fails(disk: Disk) -> None:
+    with disk.serve(disk.env) as server:
         server.ask(ORDERS)
-        looks = [number for number, kind in enumerate(office.calls(), 1) if kind == "i"]
+        looks = [number for number, kind in enumerate(disk.calls(), 1) if kind == "i"]
         assert len(looks) > 1
         for number in looks:
-            by_others(office, f"INSERT INTO orders VALUES ('ACME', 'X-{number}', 'R', 1, 0)")
-            office.disturb(number, FAIL, errno.EIO)
+            by_others(disk, f"INSERT INTO orders VALUES ('ACME', 'X-{number}', 'R', 1, 0)")
+            disk.disturb(number, FAIL, errno.EIO)
             assert f'"X-{number}"' in server.ask(ORDERS) or f'"X-{number}"' in server.ask(ORDERS), number
 
 
@@ -473,9 +473,12 @@ def zero(log: bytearray, begun: int, done: int) -> None:
     log[begun:done] = bytes(done - begun)
 
 
+KEEP_LOG = ".dbconfig no_ckpt_on_close on"
+
+
 def begin_anew(db: str) -> None:
     """Takes the log into FILE, and leaves it as a program that is killed while it begins the log anew."""
-    sqlite(db, ".dbconfig no_ckpt_on_close on", "PRAGMA wal_checkpoint(PASSIVE)")
+    sqlite(db, KEEP_LOG, "PRAGMA wal_checkpoint(PASSIVE)")
     change_log(db, lambda log, _: zero(log, 0, 1))
 
 
@@ -489,53 +492,46 @@ def answers_around(office: Office, change: Change) -> tuple[list[str], Result, l
 
     shutil.copyfile(office.db, office.db + ".old")
     with office.serve() as server:
-        assert server.ask('> ACME ACMEKEY1 POST /orders {"order":"O-2","recipe":"R","batches":1}').startswith("200 ")
+        assert server.ask(ORDER % "O-2").startswith("200 ")
         change(office.db)
         before = files()
         return owner_statuses(server), office.plant("stock", "ACME"), server.lines(), files() == before
 
 
-@pytest.mark.parametrize(
-    "change",
-    [
-        pytest.param(lambda db: os.truncate(f"{db}-wal", 0), id="a log that was emptied"),
-        pytest.param(lambda db: os.unlink(f"{db}-wal"), id="a log that was removed"),
-        pytest.param(lambda db: os.truncate(f"{db}-wal", 100), id="a log that was cut"),
-        pytest.param(lambda db: os.truncate(db, 0), id="an empty FILE"),
-        pytest.param(os.unlink, id="a FILE that was removed"),
-        pytest.param(remove_with_log, id="a FILE that was removed with its log"),
-        pytest.param(lambda db: move_over(db + ".old", db), id="a copy that was moved over FILE"),
-        pytest.param(lambda db: shutil.copyfile(db + ".old", db), id="a copy that was written over FILE"),
-    ],
-)
+LOST_ROWS: dict[str, Change] = {
+    "a log that was emptied": lambda db: os.truncate(f"{db}-wal", 0),
+    "a log that was removed": lambda db: os.unlink(f"{db}-wal"),
+    "a log that was cut": lambda db: os.truncate(f"{db}-wal", 100),
+    "an empty FILE": lambda db: os.truncate(db, 0),
+    "a FILE that was removed": os.unlink,
+    "a FILE that was removed with its log": remove_with_log,
+    "a copy that was moved over FILE": lambda db: move_over(db + ".old", db),
+    "a copy that was written over FILE": lambda db: shutil.copyfile(db + ".old", db),
+}
+
+
+@pytest.mark.parametrize("change", LOST_ROWS.values(), ids=LOST_ROWS)
 def test_a_server_refuses_files_that_lost_rows_and_writes_nothing(at_work: Office, change: Change) -> None:
     assert answers_around(at_work, change) == (["503", "503"], NOT_OURS, ["fault NotOurs began"], True)
 
 
-@pytest.mark.parametrize(
-    "change",
-    [
-        pytest.param(lambda log, frames: flip(log, frames[0] + 24 + 100), id="a byte of the first page"),
-        pytest.param(lambda log, frames: flip(log, frames[-1] + 24 + 4095), id="a byte of the last page"),
-        *[
-            pytest.param(lambda log, frames, at=at: flip(log, frames[1] + at), id=f"byte {at} of a frame's header")
-            for at in (3, 7, 8, 15, 16, 23)
-        ],
-        *[
-            pytest.param(lambda log, frames, at=at: flip(log, at), id=f"byte {at} of the log's header")
-            for at in (0, 3, 7, 10, 15, 16, 23, 24, 31)
-        ],
-        pytest.param(
-            lambda log, frames: zero(log, frames[-1], frames[-1] + 24), id="zeros for the last frame's header"
-        ),
-        pytest.param(lambda log, frames: zero(log, frames[0], frames[1]), id="zeros for a frame in the middle"),
-        pytest.param(lambda log, frames: zero(log, 0, len(log)), id="zeros for all of the log"),
-        pytest.param(lambda log, frames: log.__delitem__(slice(frames[-1], None)), id="a log cut by its last frame"),
-    ],
-)
-def test_a_server_refuses_a_log_that_sqlite_would_read_to_an_earlier_end(
-    at_work: Office, change: Callable[[bytearray, list[int]], Any]
-) -> None:
+ChangeLog = Callable[[bytearray, list[int]], Any]
+EARLIER_ENDS: dict[str, ChangeLog] = {
+    "a byte of the first page": lambda log, frames: flip(log, frames[0] + 24 + 100),
+    "a byte of the last page": lambda log, frames: flip(log, frames[-1] + 24 + 4095),
+    "zeros for the last frame's header": lambda log, frames: zero(log, frames[-1], frames[-1] + 24),
+    "zeros for a frame in the middle": lambda log, frames: zero(log, frames[0], frames[1]),
+    "zeros for all of the log": lambda log, frames: zero(log, 0, len(log)),
+    "a log cut by its last frame": lambda log, frames: log.__delitem__(slice(frames[-1], None)),
+}
+for byte in (3, 7, 8, 15, 16, 23):
+    EARLIER_ENDS[f"byte {byte} of a frame's header"] = lambda log, frames, at=byte: flip(log, frames[1] + at)
+for byte in (0, 3, 7, 10, 15, 16, 23, 24, 31):
+    EARLIER_ENDS[f"byte {byte} of the log's header"] = lambda log, frames, at=byte: flip(log, at)
+
+
+@pytest.mark.parametrize("change", EARLIER_ENDS.values(), ids=EARLIER_ENDS)
+def test_a_server_refuses_a_log_that_sqlite_would_read_to_an_earlier_end(at_work: Office, change: ChangeLog) -> None:
     answers = answers_around(at_work, functools.partial(change_log, change=change))
     assert answers == (["503", "503"], NOT_OURS, ["fault NotOurs began"], True)
 
@@ -555,34 +551,29 @@ def test_bytes_that_others_wrote_in_place_are_read_if_the_time_of_writing_is_put
 
 def test_a_log_is_served_again_once_its_byte_is_put_back(at_work: Office) -> None:
     with at_work.serve() as server:
-        assert server.ask('> ACME ACMEKEY1 POST /orders {"order":"O-2","recipe":"R","batches":1}').startswith("200 ")
+        assert server.ask(ORDER % "O-2").startswith("200 ")
         orders = server.ask(ORDERS)
         for wanted in (UNAVAILABLE, orders):
             change_log(at_work.db, lambda log, frames: flip(log, frames[0] + 24))
             assert server.ask(ORDERS) == wanted
-        assert server.ask('> ACME ACMEKEY1 POST /orders {"order":"O-3","recipe":"R","batches":1}').startswith("200 ")
-        assert [line for line in server.lines() if line.startswith("fault")] == [
-            "fault NotOurs began",
-            "fault NotOurs ended",
-        ]
+        assert server.ask(ORDER % "O-3").startswith("200 ")
+        faults = [line for line in server.lines() if line.startswith("fault")]
+        assert faults == ["fault NotOurs began", "fault NotOurs ended"]
 
 
-@pytest.mark.parametrize(
-    "change",
-    [
-        pytest.param(lambda db: sqlite(db, "PRAGMA wal_checkpoint(TRUNCATE)"), id="a checkpoint"),
-        pytest.param(
-            lambda db: sqlite(db, ".dbconfig no_ckpt_on_close on", "INSERT INTO units VALUES ('U-8')"),
-            id="a commit behind the others in the log",
-        ),
-        pytest.param(lambda db: os.utime(f"{db}-wal"), id="a new time of the log"),
-        pytest.param(begin_anew, id="a checkpoint that was stopped behind the copying"),
-        pytest.param(lambda db: sqlite(db, f".backup {db}.saved"), id="a copy by sqlite3"),
-        pytest.param(lambda db: os.chmod(db, 0o640), id="a new mode"),
-        pytest.param(move_away_and_back, id="a FILE that was moved away and back"),
-        pytest.param(restore, id="a copy in the place of both"),
-    ],
-)
+IN_ORDER: dict[str, Change] = {
+    "a checkpoint": lambda db: sqlite(db, "PRAGMA wal_checkpoint(TRUNCATE)"),
+    "a commit behind the others in the log": lambda db: sqlite(db, KEEP_LOG, "INSERT INTO units VALUES ('U-8')"),
+    "a new time of the log": lambda db: os.utime(f"{db}-wal"),
+    "a checkpoint that was stopped behind the copying": begin_anew,
+    "a copy by sqlite3": lambda db: sqlite(db, f".backup {db}.saved"),
+    "a new mode": lambda db: os.chmod(db, 0o640),
+    "a FILE that was moved away and back": move_away_and_back,
+    "a copy in the place of both": restore,
+}
+
+
+@pytest.mark.parametrize("change", IN_ORDER.values(), ids=IN_ORDER)
 def test_what_others_did_by_sqlite_or_put_back_is_taken(at_work: Office, change: Change) -> None:
     statuses, answer, lines, _ = answers_around(at_work, change)
     assert statuses == ["200", "200"] and answer.status == 0 and not any(line.startswith("fault") for line in lines)
@@ -590,7 +581,7 @@ def test_what_others_did_by_sqlite_or_put_back_is_taken(at_work: Office, change:
 
 def test_a_log_that_a_command_wrote_and_closed_is_taken(at_work: Office) -> None:
     with at_work.serve() as server:
-        assert server.ask('> ACME ACMEKEY1 POST /orders {"order":"O-2","recipe":"R","batches":1}').startswith("200 ")
+        assert server.ask(ORDER % "O-2").startswith("200 ")
         for unit in ("U2", "U3"):
             os.unlink(client.path_of(at_work))  # so that the command opens FILE itself
             assert at_work.plant("unit-add", unit) == ACCEPTED
@@ -601,13 +592,10 @@ def test_a_log_that_a_command_wrote_and_closed_is_taken(at_work: Office) -> None
 # Servers that stop or take long
 
 
-def test_a_server_whose_network_fails_ends_with_3(disks: list[Disk], work: str) -> None:
-    office = disks[0]
-    put(work, office.db)
-    office.disturb(0)
-    with office.serve(office.env) as server:
+def test_a_server_whose_network_fails_ends_with_3(disk: Disk) -> None:
+    with disk.serve(disk.env) as server:
         assert is_answered(server)
-        office.disturb(0, NO_NETWORK, errno.EBADF)
+        disk.disturb(0, NO_NETWORK, errno.EBADF)
         server.connect().close()
         assert server.has_ended(PATIENCE) and server.process.returncode == 3 and server.lines() == ["fault Net"]
 
@@ -685,16 +673,16 @@ def greeting(at_work: Office) -> bytes:
         return client.take_parcel(peer)
 
 
-@pytest.mark.parametrize(
-    "other, ends",
-    [
-        pytest.param(lambda ours: b"", True, id="nothing"),
-        pytest.param(lambda ours: ours[:-1], True, id="half"),
-        pytest.param(lambda ours: client.parcel(b"toll 0.9"), False, id="another build"),
-        pytest.param(lambda ours: ours + b"x", False, id="a longer one"),
-        pytest.param(lambda ours: b"\xff\xff\xff\xff", False, id="a long parcel"),
-    ],
-)
+GREETINGS: dict[str, tuple[Callable[[bytes], bytes], bool]] = {
+    "nothing": (lambda ours: b"", True),
+    "half": (lambda ours: ours[:-1], True),
+    "another build": (lambda ours: client.parcel(b"toll 0.9"), False),
+    "a longer one": (lambda ours: ours + b"x", False),
+    "a long parcel": (lambda ours: b"\xff\xff\xff\xff", False),
+}
+
+
+@pytest.mark.parametrize("other, ends", GREETINGS.values(), ids=GREETINGS)
 def test_another_greeting_is_asked_nothing(
     at_work: Office, greeting: bytes, other: Callable[[bytes], bytes], ends: bool
 ) -> None:
@@ -704,17 +692,11 @@ def test_another_greeting_is_asked_nothing(
     assert not any(received)
 
 
-@pytest.mark.parametrize(
-    "reply",
-    [
-        b"",
-        b"\0",
-        client.answer(0, b"accepted\n")[:-1],
-        client.answer(0, b"accepted\n") + b"x",
-        client.parcel(b""),
-        client.parcel(b"\0\0\0\0\xff"),
-    ],
-)
+ANSWERED = client.answer(0, b"accepted\n")
+EMPTY, BROKEN = client.parcel(b""), client.parcel(b"\0\0\0\0\xff")
+
+
+@pytest.mark.parametrize("reply", [b"", b"\0", ANSWERED[:-1], ANSWERED + b"x", EMPTY, BROKEN])
 def test_a_command_that_is_taken_and_not_answered_is_lost(at_work: Office, greeting: bytes, reply: bytes) -> None:
     with false_server(at_work, greeting, reply):
         assert at_work.plant("unit-add", "U2") == LOST
@@ -770,12 +752,8 @@ def test_a_command_that_is_killed_is_done_whole_or_not_at_all_and_the_server_goe
     with at_work.serve() as server:
         for turn in range(40):
             words = ["import", actuals] if turn % 4 == 0 else f"receive ACME X{turn} M L{turn} S 1 10".split()
-            process = subprocess.Popen(
-                [at_work.program, "--db", at_work.db, *words],
-                stdout=subprocess.DEVNULL,
-                stderr=subprocess.DEVNULL,
-                cwd=at_work.folder,
-            )
+            command, nothing = [at_work.program, "--db", at_work.db, *words], subprocess.DEVNULL
+            process = subprocess.Popen(command, stdout=nothing, stderr=nothing, cwd=at_work.folder)
             time.sleep(chance.uniform(0, 0.03))
             process.kill()
             process.wait()

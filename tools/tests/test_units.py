@@ -6,7 +6,6 @@ import shutil
 import subprocess
 import sys
 import tomllib
-from typing import Any
 
 import pytest
 from conftest import ROOT
