@@ -469,6 +469,14 @@ def flip(log: bytearray, at: int) -> None:
     log[at] ^= 1
 
 
+def flip_in_frame(at: int, log: bytearray, frames: list[int]) -> None:
+    flip(log, frames[1] + at)
+
+
+def flip_in_head(at: int, log: bytearray, _: list[int]) -> None:
+    flip(log, at)
+
+
 def zero(log: bytearray, begun: int, done: int) -> None:
     log[begun:done] = bytes(done - begun)
 
@@ -525,9 +533,9 @@ EARLIER_ENDS: dict[str, ChangeLog] = {
     "a log cut by its last frame": lambda log, frames: log.__delitem__(slice(frames[-1], None)),
 }
 for byte in (3, 7, 8, 15, 16, 23):
-    EARLIER_ENDS[f"byte {byte} of a frame's header"] = lambda log, frames, at=byte: flip(log, frames[1] + at)
+    EARLIER_ENDS[f"byte {byte} of a frame's header"] = functools.partial(flip_in_frame, byte)
 for byte in (0, 3, 7, 10, 15, 16, 23, 24, 31):
-    EARLIER_ENDS[f"byte {byte} of the log's header"] = lambda log, frames, at=byte: flip(log, at)
+    EARLIER_ENDS[f"byte {byte} of the log's header"] = functools.partial(flip_in_head, byte)
 
 
 @pytest.mark.parametrize("change", EARLIER_ENDS.values(), ids=EARLIER_ENDS)

@@ -71,7 +71,20 @@ def closed(plant: Plant, _: int) -> None:
         )
     )
     run(
-        plant, "receive", "ACME", "C90", "SALT", "S-9", "BAY9", 20, 250220, "--of", "S-1", "--why", "correction", "--yes"
+        plant,
+        "receive",
+        "ACME",
+        "C90",
+        "SALT",
+        "S-9",
+        "BAY9",
+        20,
+        250220,
+        "--of",
+        "S-1",
+        "--why",
+        "correction",
+        "--yes",
     )
     run(plant, "note", "corrects", "ACME", "C90", "C1")
     for month in ("2501", "2502"):

@@ -1,6 +1,7 @@
-"""Runs commands of the plant's command one after the other, and writes what each said and wrote: runner.py SOURCE FOLDER < COMMANDS
+"""Runs commands of the plant's command in turn, and writes what each said and wrote: runner.py SOURCE FOLDER < COMMANDS
 
-Each is a child of a process that has imported the libraries, so that none waits for them. The clock is a minute later for each.
+Each is a child of a process that has imported the libraries, so that none waits for them. The clock is a minute later
+for each.
 """
 import importlib
 import io
@@ -18,7 +19,7 @@ import traceback
 import zipfile
 from typing import Any
 
-import clock
+import clock  # type: ignore[import]  # it stands beside this script
 
 LIBRARIES = ("click", "csv", "difflib", "jinja2", "openpyxl", "shutil", "sqlite3", "tempfile", "tomllib", "zipfile")
 PATIENCE = 120  # seconds
