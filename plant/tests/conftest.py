@@ -30,9 +30,9 @@ time.tzset()
 
 compileall.compile_dir(ROOT / "plant" / "src", quiet=1)  # on a full disk, Python would leave a part of what it compiles
 sys.path.insert(0, str(ROOT / "plant" / "src"))
-from hilpoven.core import client, rights, settings as site  # noqa: E402
+from hilpoven.core import client, settings as site  # noqa: E402
 from hilpoven.core.office import Office  # noqa: E402
-from hilpoven.cli import hilpoven, main  # noqa: E402
+from hilpoven.cli import caller, hilpoven, main  # noqa: E402
 
 
 class Told(NamedTuple):
@@ -140,7 +140,7 @@ class Plant:
         """What the plant's command tells a member of the group, who has the rights of the office's user by sudo; the settings name
         the office."""
         with pytest.MonkeyPatch.context() as patch:
-            patch.setattr(rights, "STARTED_AS", 1)
+            patch.setattr(caller, "STARTED_AS", 1)
             return called(*words, stdin=stdin, SUDO_UID="4711", SUDO_USER="anna")
 
     def begun(self, *words: object, **options: object) -> subprocess.Popen:

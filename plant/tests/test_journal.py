@@ -19,7 +19,8 @@ from conftest import HILPOVEN, called, environment, is_told
 from hilpoven.core.journal import log as journals
 from hilpoven.core.journal.log import Journal
 from hilpoven.core.journal.query import check
-from hilpoven.core import settings as site
+from hilpoven.cli import caller
+from hilpoven.core import rights, settings as site
 from hilpoven.core.office import Answer
 from hypothesis import given, settings, strategies
 
@@ -151,9 +152,9 @@ def test_a_long_line_is_followed(tmp_path):
 
 
 def test_the_login_behind_sudo_is_told(monkeypatch):
-    monkeypatch.setattr(journals, "NOBODY", int(open("/proc/self/loginuid").read() or journals.NOBODY))
+    monkeypatch.setattr(caller, "login_number", lambda: rights.NOBODY)
     monkeypatch.setenv("SUDO_USER", "anna")
-    assert journals.login() == "anna"
+    assert caller.person().login == "anna"
 
 
 # Through the command

@@ -8,7 +8,7 @@ import sys
 
 import pytest
 from conftest import HILPOVEN, command, environment
-from hilpoven.core.journal import log as journals
+from hilpoven.cli import caller
 
 RECEIPTS = "owner,key,material,lot,sublot,amount,day\nACME,K30,SALT,S-30,BAY1,5,102\n"
 
@@ -134,7 +134,7 @@ def test_what_root_does_is_done_with_the_rights_of_the_files_owner(reachable):
         done = command("--db", reachable.db, *words, input=stdin, env=environment(TOLL=reachable.program))
         assert done.returncode == 0, done.stderr
     assert {(os.stat(path).st_uid, os.stat(path).st_gid) for path in reachable.folder.iterdir()} == {(4711, 4712)}
-    assert {(entry["user"], entry["login"]) for entry in reachable.lines() if entry["event"] == "asked"} == {("4711", journals.login())}
+    assert {(entry["user"], entry["login"]) for entry in reachable.lines() if entry["event"] == "asked"} == {("4711", caller.person().login)}
 
 
 def test_owner_add_as_toll_has_it_tells_that_the_key_was_seen(at_work):

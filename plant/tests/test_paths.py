@@ -11,8 +11,8 @@ import termios
 import click
 import pytest
 from conftest import HILPOVEN, ROOT, Plant, environment, eventually
-from hilpoven.core import paths, rights
-from hilpoven.cli import hilpoven
+from hilpoven.core import paths
+from hilpoven.cli import caller as cli_caller, hilpoven
 from hilpoven.cli import words as cli_words
 from hilpoven.core.failure import Failure
 from hilpoven.core.journal.query import check
@@ -77,11 +77,11 @@ def test_a_shell_completes_paths():
 @pytest.mark.parametrize("started, caller, is_member", [
     (4242, "4711", True), (4242, "0", False), (4242, "4242", False), (4242, None, False), (4242, "", True), (0, "4711", False)])
 def test_who_came_by_sudo_from_another_is_a_member(monkeypatch, started, caller, is_member):
-    monkeypatch.setattr(rights, "STARTED_AS", started)
+    monkeypatch.setattr(cli_caller, "STARTED_AS", started)
     monkeypatch.delenv("SUDO_UID", raising=False)
     if caller is not None:
         monkeypatch.setenv("SUDO_UID", caller)
-    assert rights.is_member() == is_member
+    assert cli_caller.person().is_member == is_member
 
 
 @pytest.mark.parametrize("words", NAMED)
@@ -222,7 +222,7 @@ def test_a_folder_is_private_up_to_the_root(tmp_path):
 
 def test_papers_for_a_member_are_a_tar(at_work):
     at_work.settle()
-    started = ("import sys, pathlib; from hilpoven import cli; from hilpoven.core import rights, settings; rights.STARTED_AS = 1; "
+    started = ("import sys, pathlib; from hilpoven import cli; from hilpoven.cli import caller; from hilpoven.core import settings; caller.STARTED_AS = 1; "
                f"settings.load.__defaults__ = (pathlib.Path({str(at_work.folder / 'hilpoven.toml')!r}), '', ''); cli.main()")
     with open(at_work.folder / "x.tar", "wb") as out:
         words = ["/usr/bin/python3", "-Bc", started, "papers", "recall", "HOUSE", "W-101", "--no-pdf", "--tar"]

@@ -7,9 +7,9 @@ import click
 import pytest
 from click.testing import CliRunner
 from conftest import Told, script
-from hilpoven.cli import hilpoven, roles
+from hilpoven.cli import caller, hilpoven, roles
 from hilpoven.record import on_behalf
-from hilpoven.core import rights, settings as site
+from hilpoven.core import settings as site
 from hilpoven.core.failure import Failure
 from hilpoven.core.journal import log
 
@@ -42,7 +42,7 @@ def settle(plant, **groups):
 def by(plant, user, *words, **environment):
     """What the plant's command tells a member of the group whose number sudo gives."""
     with pytest.MonkeyPatch.context() as patch:
-        patch.setattr(rights, "STARTED_AS", 4242)
+        patch.setattr(caller, "STARTED_AS", 4242)
         done = CliRunner(mix_stderr=False, env={"SUDO_UID": str(user), "SUDO_USER": "anna", **environment}).invoke(hilpoven, list(words), input="")
     if done.exception and not isinstance(done.exception, SystemExit):
         raise done.exception

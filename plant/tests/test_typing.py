@@ -16,6 +16,7 @@ import pytest
 from conftest import HILPOVEN, PATIENCE, ZONE, Plant, command, copied, environment, forked, script
 from hilpoven.cli.prompting import Dialogue
 from hilpoven.core import settings as site
+from hilpoven.cli.caller import person
 from hilpoven.core.context import Context
 from hilpoven.core.grammar import LINES
 
@@ -265,7 +266,7 @@ def test_no_prompt_is_wider_than_the_terminal(at_work):
         base = None
 
     for line in LINES.values():
-        dialogue = Dialogue(Context(site.Settings()), line, NoTables())
+        dialogue = Dialogue(Context(site.Settings(), person=person()), line, NoTables())
         assert all(len(dialogue.question(value).prompt) <= 79 for value in line.values)
 
 

@@ -4,7 +4,7 @@ import re
 
 import figures
 import pytest
-from hilpoven.core.journal import log
+from hilpoven.cli import caller
 
 SHEET = """key,owner,order,batch,segment,use,material,lot_owner,lot,sublot,amount,day
 K22,ACME,O-1,2,1,consumed,SALT,ACME,S-1,BAY1,30,103
@@ -16,7 +16,7 @@ K24,ACME,O-1,2,1,consumed,SALT,ACME,S-9,BAY1,30,103
 @pytest.fixture
 def by(at_work, monkeypatch):
     """The command of an office, given by a login."""
-    monkeypatch.setattr(log, "login_number", lambda: log.NOBODY)
+    monkeypatch.setattr(caller, "login_number", lambda: caller.NOBODY)
 
     def run(login, *words):
         monkeypatch.setenv("SUDO_USER", login)

@@ -10,7 +10,7 @@ import zoneinfo
 import figures
 import pytest
 from conftest import HILPOVEN, Plant, environment, script
-from hilpoven.core.journal import log
+from hilpoven.cli import caller
 from hilpoven.report.papers import printing
 from hilpoven.core.days import day_of
 from test_certificates import PLANT, Page, settle
@@ -28,7 +28,7 @@ CLERK = "anna-of-the-plant"
 @pytest.fixture
 def shipped(at_work, monkeypatch) -> Plant:
     """An office that shipped, whose settings say who the plant is, and whose command a clerk gives."""
-    monkeypatch.setattr(log, "login_number", lambda: log.NOBODY)
+    monkeypatch.setattr(caller, "login_number", lambda: caller.NOBODY)
     monkeypatch.setenv("SUDO_USER", CLERK)
     settle(at_work.lay(SHIPPED), **PLANT)
     return at_work

@@ -3,6 +3,7 @@ import re
 
 from conftest import Plant
 from hilpoven.core import snapshot
+from hilpoven.cli.caller import person
 from hilpoven.core.context import Context
 from hilpoven.core.settings import load
 from hilpoven.model.register import standing
@@ -13,7 +14,7 @@ NOTED = re.compile(r"noted ([0-9a-f]{16})\n")
 
 def register_of(plant: Plant) -> Register:
     """The notes that stand."""
-    context = Context(load(), str(plant.db))
+    context = Context(load(), str(plant.db), person=person())
     with snapshot.opened(context.office()) as base:
         return standing.standing(context.journal(), base)
 

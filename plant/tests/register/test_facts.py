@@ -4,6 +4,7 @@ import json
 import pytest
 from conftest import Plant
 from hilpoven.core import snapshot
+from hilpoven.cli.caller import person
 from hilpoven.core.context import Context
 from hilpoven.core.settings import load
 from hilpoven.core.journal.log import Journal
@@ -31,12 +32,12 @@ def beside(plant: Plant, words: str, *notes: facts.Note) -> None:
     """Notes something beside a line of `toll`, and gives it the line."""
     journal = Journal(str(plant.journal), str(plant.db))
     entry = journal.asked(journal.file, words.split(), notes=[to_json(fact) for fact in notes])
-    journal.answered(entry, Context(load(), str(plant.db)).office().ask(words.split()))
+    journal.answered(entry, Context(load(), str(plant.db), person=person()).office().ask(words.split()))
 
 
 def described(plant: Plant, lot: str, owner: str = "ACME"):
     """What papers and lists get of a lot."""
-    context = Context(load(), str(plant.db))
+    context = Context(load(), str(plant.db), person=person())
     with snapshot.opened(context.office()) as base:
         return describe_lot(base, standing.register_of(context, base).of(owner), require_lot(base, LotId(owner, lot)))
 
@@ -142,7 +143,7 @@ def test_facts_go_on_over_a_carry_over_with_what_they_are_about(settled):
     assert (lot.owner.name, lot.material.name, lot.lot.expires) == ("Acme Foods Ltd", "Brine", 271101) and values(settled)["PH"] == "<0.05"
     assert settled.toll("receive", "ACME", "K1", "SALT", "S-2", "BAY9", 7, 261201).out == "accepted\n"
     assert described(settled, "S-2").lot == facts.LotFacts("ACME", "S-2")  # another lot of this name
-    context = Context(load(), str(settled.db))
+    context = Context(load(), str(settled.db), person=person())
     with history.opened(context.office()) as whole:
         over_all = standing_over_all(context.journal(), whole)
     assert {lot: (lot_facts.made, lot_facts.expires) for (_, lot), lot_facts in over_all.lots.items()} == {"B-1": (None, 271101), "S-2 (office-1.db)": (260101, 270101)}

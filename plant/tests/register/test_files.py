@@ -1,6 +1,7 @@
 """Notes over the files of an office: what went on keeps them, and another thing of its name has none."""
 import pytest
 from conftest import Plant
+from hilpoven.cli.caller import person
 from hilpoven.core.context import Context
 from hilpoven.core.settings import load
 from hilpoven.model.register import standing
@@ -14,7 +15,7 @@ SCRAPPED = "scrap ACME K9 S-8 BAY1 5 101"
 
 def over_all(plant: Plant) -> list[tuple[str, str]]:
     """The containers and the lots of the links over all files, by the names that they have there."""
-    context = Context(load(), str(plant.db))
+    context = Context(load(), str(plant.db), person=person())
     with history.opened(context.office_to_read()) as whole:
         return [(str(link.container), str(link.contained)) for link in standing.standing_over_all(context.journal(), whole).links]
 

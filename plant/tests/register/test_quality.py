@@ -7,6 +7,7 @@ import json
 import pytest
 from hilpoven.core import settings as site
 from hilpoven.core.journal import log
+from hilpoven.cli import caller
 from hilpoven.model.notes.notes import from_json
 from notes import cut_off
 
@@ -26,7 +27,7 @@ def settle(plant, text=QUALITY):
 @pytest.fixture
 def by(monkeypatch):
     """The command of an office, given by a login; it is root's otherwise."""
-    monkeypatch.setattr(log, "login_number", lambda: log.NOBODY)
+    monkeypatch.setattr(caller, "login_number", lambda: caller.NOBODY)
 
     def run(plant, login, *words, **options):
         with pytest.MonkeyPatch.context() as patch:

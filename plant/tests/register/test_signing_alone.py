@@ -5,7 +5,7 @@ import subprocess
 import pytest
 from conftest import HILPOVEN, PATIENCE, Plant, eventually, forked, script
 from hilpoven.core import settings as site
-from hilpoven.core.journal import log
+from hilpoven.cli import caller
 
 RESULTS = "owner,lot,test,value,day\n"
 SHIPMENTS = "owner,key,lot,sublot,amount,day\n"
@@ -15,7 +15,7 @@ ACTUALS = "key,owner,order,batch,segment,use,material,lot_owner,lot,sublot,amoun
 @pytest.fixture
 def by(monkeypatch):
     """The command of an office within this process, given by a login."""
-    monkeypatch.setattr(log, "login_number", lambda: log.NOBODY)
+    monkeypatch.setattr(caller, "login_number", lambda: caller.NOBODY)
 
     def run(plant, login, *words, **options):
         with pytest.MonkeyPatch.context() as patch:

@@ -8,13 +8,14 @@ from typing import Any, NoReturn, TextIO
 import click
 
 from .. import VERSION
-from ..core import rights, scratch, settings as site
+from ..core import settings as site
 from ..core.context import Context
 from ..core.failure import FAULT, REFUSED, WRONG_USE, Failure, printable
 from ..core.grammar import LINES
 from . import roles
 from .groups import Group, Makers, imported, lazily
 from .output import show, tell
+from .caller import end_by_signals, person
 from .words import PATH
 
 ABOUT = """The plant's command of the order and lot genealogy office.
@@ -115,7 +116,7 @@ class Commands(Group):
 
     def main(self, *words: Any, **options: Any) -> Any:
         """Runs a command. Words that are told back are shown escaped, those of a wrong use too."""
-        if COMPLETION in os.environ and rights.is_member():
+        if COMPLETION in os.environ and person().is_member:
             del os.environ[COMPLETION]  # behind sudo the words come as words, and the environment decides nothing
         elif COMPLETION in os.environ:
             from . import completion
@@ -157,7 +158,7 @@ def hilpoven(context: click.Context, db: str | None, office: str, wait: float | 
             f"{context.invoked_subcommand} makes an office of its own: leave --db and --office out", WRONG_USE
         )
     settings = site.Settings() if is_of_another else site.load(office=office, db=db or "")
-    context.obj = Context(settings, db or "", tell=tell).waiting(wait)
+    context.obj = Context(settings, db or "", person=person(), tell=tell).waiting(wait)
     context.call_on_close(context.obj.end)
     roles.require(context.obj, context.invoked_subcommand or "")
 
@@ -166,7 +167,7 @@ def main() -> None:
     """Runs the command. What it makes is for its user alone."""
     os.umask(0o077)
     hold_streams()
-    scratch.end_by_signals()
+    end_by_signals()
     try:
         hilpoven(prog_name="hilpoven")
     except OSError as error:

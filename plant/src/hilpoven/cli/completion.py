@@ -14,6 +14,7 @@ from ..core.context import Context
 from ..core.failure import Failure
 from ..core.grammar import MOVEMENTS, NEXT, Line, in_capitals
 from ..record.choices import ALL_NAMES, Place
+from .caller import person
 
 PROGRAM = "hilpoven"
 MOST_WAIT = 0.3  # seconds for a lock that somebody has
@@ -113,4 +114,4 @@ def names(ctx: click.Context, place: Place, begun: str) -> list[str]:
 def context_of(given: dict[str, Any]) -> Context:
     """What a command with these words before it would stand on."""
     db = given.get("db") or ""
-    return Context(site.load(office=given.get("office") or "", db=db), db).waiting(MOST_WAIT)
+    return Context(site.load(office=given.get("office") or "", db=db), db, person=person()).waiting(MOST_WAIT)

@@ -11,7 +11,7 @@ from functools import partial
 
 import click
 
-from ..core import client, rights, settings as site
+from ..core import client, settings as site
 from ..core.context import Context
 from ..core.failure import WRONG_USE, Failure
 from .output import tell, tell_line
@@ -23,6 +23,7 @@ from ..report.papers import guard
 from ..core.days import today
 from . import hilpoven
 from .giving import give
+from .caller import person
 from .words import pass_context
 
 SETTINGS = "hilpoven.toml"
@@ -48,7 +49,7 @@ def demo(context: Context, port: int) -> None:
 
     Example: hilpoven demo --port 8080
     """
-    rights.require_operator("demo", "it needs nobody's rights: hilpoven demo")
+    person().require_operator("demo", "it needs nobody's rights: hilpoven demo")
     program = program_of(context.settings)
     try:
         with temporary() as folder, week_in(folder, program) as week, listening(week, port) as listener:
@@ -90,7 +91,7 @@ def week_in(folder: str, program: str) -> Iterator[Week]:
     with open(os.path.join(HERE, SETTINGS)) as lines, open(os.path.join(folder, SETTINGS), "x") as settings:
         settings.write(f"toll = {json.dumps(program)}\n{lines.read()}")
     os.environ.pop("HILPOVEN_SETTINGS", None)  # those of another office, if it is set
-    context = Context(site.load(settings.name), tell=tell)
+    context = Context(site.load(settings.name), person=person(), tell=tell)
     tell_line("hilpoven: a sample week begins, which takes some seconds")
     reply = give(context, ["new"])
     if reply.status:

@@ -4,7 +4,7 @@ from collections.abc import Iterator
 
 import click
 
-from ..core import paths, rights, scanned
+from ..core import paths, scanned
 from ..core.context import Context
 from ..core.failure import REFUSED, WRONG_USE, Failure
 from .output import tell
@@ -51,7 +51,7 @@ def start(context: Context, names: tuple[str, ...]) -> None:
             require_none(begun)
             raise Failure("another drill began and ended meanwhile", REFUSED)
     click.echo(f"the drill over lot {lot} began on {drills.as_moment(begun.begun)}")
-    how = "--tar | tar -x" if rights.is_member() else "FOLDER"
+    how = "--tar | tar -x" if context.person.is_member else "FOLDER"
     tell(
         f"`hilpoven recall {lot}` lists the lots that it went into, with what is on hand and was shipped; "
         f"`hilpoven trace {lot} back` those that it was made of.\n"

@@ -57,8 +57,8 @@ def follow_group(ctx: click.Context, to: str | None, is_check: bool) -> None:
     """
     if ctx.invoked_subcommand is not None:
         return
-    rights.require_operator("follow")
     context: Context = ctx.obj
+    context.person.require_operator("follow")
     if to:
         target = site.target_of(os.getcwd(), to)
         context.settings = replace(context.settings, follow=replace(context.settings.follow, to=target))

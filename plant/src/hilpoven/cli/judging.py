@@ -11,7 +11,6 @@ from ..core.context import Context
 from ..core.failure import REFUSED, Failure
 from .output import tell
 from ..core.grammar import LINES
-from ..core.journal import log
 from ..core.days import day_of, today
 from ..model.rows import Base, Lot, LotId, require_lot, tests_of
 from ..record import making
@@ -109,7 +108,7 @@ def require_another_person(context: Context, desk: making.Desk, lot: LotId) -> N
     """Fails if the caller recorded something of a lot, and the settings need a second person."""
     if context.settings.quality.persons < 2:
         return
-    who = log.login()
+    who = context.person.login
     if who in recorders(desk.journal, desk.bases, lot, context.settings.quality.test):
         advice = "another person signs it; persons = 1 below [quality] in the settings lets the same one"
         raise Failure(f"{who} recorded results or movements of lot {lot}", REFUSED, advice)

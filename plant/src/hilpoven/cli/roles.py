@@ -3,7 +3,6 @@ from typing import TYPE_CHECKING
 
 from ..core.context import Context
 from ..core.grammar import LINES
-from ..core.rights import require_role
 
 if TYPE_CHECKING:
     from ..model.notes.note import Note
@@ -37,14 +36,16 @@ def require(context: Context, command: str) -> None:
     """Fails for a member whose groups have not the role of a command."""
     if role := ROLES.get(command):
         groups: list[str] | None = getattr(context.settings.roles, role)
-        require_role(command, role, [] if groups is None and command in OPERATORS else groups)
+        context.person.require_role(command, role, [] if groups is None and command in OPERATORS else groups)
 
 
 def require_to_withdraw(context: Context, note: "Note") -> None:
     """Fails for a member whose groups have not the role of the command that makes such a note."""
     if command := maker_of(note):
         role = ROLES[command]
-        require_role(f"note withdraw of what `{command}` notes", role, getattr(context.settings.roles, role))
+        context.person.require_role(
+            f"note withdraw of what `{command}` notes", role, getattr(context.settings.roles, role)
+        )
 
 
 def maker_of(note: "Note") -> str:

@@ -7,13 +7,13 @@ import sys
 import click
 
 from .. import HOUSE
-from ..core import rights, settings as site
-from ..core.journal import log
+from ..core import settings as site
 from ..core.failure import WRONG_USE, Failure, printable
 from .output import tell_line
 from ..care.setup.machine import Machine
 from ..care.setup.plan import Plan
 from ..care.setup.steps import Setup, take
+from .caller import person
 from .words import PATH
 
 MAY_BE_ROOT = {"sudo", "wheel", "admin"}  # groups whose members may become root by sudo
@@ -42,7 +42,7 @@ def setup(name: str, host: str, cert: str, key: str, owner: str) -> None:
         raise Failure("HOUSE is the plant itself", WRONG_USE)
     plan = Plan(name, host.lower(), os.path.abspath(cert), os.path.abspath(key), owner)
     owner_key, changes = "", 0
-    machine = Machine(command=os.path.abspath(sys.argv[0]), login=log.login())
+    machine = Machine(command=os.path.abspath(sys.argv[0]), login=person().login)
     for done in take(Setup(plan, machine)):
         tell_line(printable(f"{'done ' if done.is_new else 'there'}  {done.text}"))
         changes, owner_key = changes + done.is_new, done.owner_key or owner_key
@@ -56,10 +56,10 @@ def setup(name: str, host: str, cert: str, key: str, owner: str) -> None:
 
 def become_root() -> None:
     """Goes on as root, by sudo where the caller may; fails for everybody else."""
-    if os.geteuid() == 0 and not rights.is_member():
+    if os.geteuid() == 0 and not person().is_member:
         return
     words = ["sudo", "--", os.path.abspath(sys.argv[0]), *sys.argv[1:]]
-    if not rights.is_member() and MAY_BE_ROOT & set(group_names()):
+    if not person().is_member and MAY_BE_ROOT & set(group_names()):
         sys.stdout.flush()
         os.execvp("sudo", words)
     raise Failure("setup is for root alone", WRONG_USE, printable(shlex.join(words)))

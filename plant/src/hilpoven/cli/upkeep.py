@@ -35,7 +35,9 @@ def new(context: Context, file: str | None) -> None:
 
     Example: hilpoven new /var/lib/toll/office.db
     """
-    new_context = Context(context.settings, file or context.db, context.unnoted, context.tell)
+    new_context = Context(
+        context.settings, file or context.db, context.unnoted, person=context.person, tell=context.tell
+    )
     if has_bytes(new_context.file):
         raise Failure(f"{new_context.file} is there already", WRONG_USE)
     if has_bytes(f"{new_context.file}-wal"):
@@ -113,7 +115,7 @@ def backups_of(context: Context) -> str:
 
 def chosen(context: Context, backup: str) -> str:
     """The path of a backup: one of the settings' folder by its name, or for root and the office's user any file."""
-    if not rights.is_member() and (os.sep in backup or os.path.exists(backup) or not context.settings.backups):
+    if not context.person.is_member and (os.sep in backup or os.path.exists(backup) or not context.settings.backups):
         return os.path.realpath(backup)
     folder = paths.private(backups_of(context))
     if not re.fullmatch(backups.form_of(context.file), backup):
@@ -167,7 +169,7 @@ def restore(context: Context, backup: str | None, is_foreign: bool, moment: floa
     if (backup is None) == (moment is None) or moment is not None and is_foreign:
         raise Failure("either BACKUP or --at TIME is given", WRONG_USE)
     if is_foreign:
-        rights.require_operator("--foreign")
+        context.person.require_operator("--foreign")
     rights.become_owner(context.file)
     subject, aside = restored(context, backup, is_foreign) if moment is None else restored_at(context, moment)
     click.echo(printable(f"{subject} is in place" + (f"; what was there is in {aside}" if aside else "")))

@@ -15,6 +15,7 @@ from ..core.failure import printable
 from ..core.forms import DAY as DAY_FORM
 from ..core.forms import TEXT as TEXT_FORM
 from ..core.forms import name_fault
+from .caller import person
 
 if TYPE_CHECKING:
     from click.shell_completion import CompletionItem
@@ -51,7 +52,7 @@ class Operators(click.ParamType):
         """Fails for a member who gives it; the name of a sheet may be `-`, which is standard input."""
         if param and not (self.is_sheet and value == "-"):
             word = param.opts[0] if isinstance(param, click.Option) else param.make_metavar().strip("[]")
-            rights.require_operator(word, self.instead(param.name or "", str(value)))
+            person().require_operator(word, self.instead(param.name or "", str(value)))
         if self.is_sheet and value != "-":
             rights.note_sheet(str(value))
         return self.of.convert(value, param, ctx)

@@ -2,13 +2,14 @@
 import functools
 import os
 from collections.abc import Callable
-from dataclasses import dataclass, field, replace
+from dataclasses import KW_ONLY, dataclass, field, replace
 from typing import Any, TypeVar
 
 from . import paths, rights, settings as site, timeline
 from .failure import Failure
 from .journal import log as journals
 from .journal.log import Journal
+from .rights import Person
 from .office import SUPERSEDED, Office, require_file
 from .settings import Settings
 
@@ -26,6 +27,8 @@ class Context:
     settings: Settings
     db: str = ""
     unnoted: list[Failure] = field(default_factory=list)  # why answers couldn't be noted
+    _: KW_ONLY
+    person: Person
     tell: Callable[[str], None] = silent  # what is noticed on the way
     known: dict[Any, Any] = field(default_factory=dict, init=False)  # what `once` made, by what makes it
 
@@ -51,7 +54,7 @@ class Context:
 
     def unseen_office(self) -> Office:
         """The office, whose file may not be there. A member works on none in a folder that others may change."""
-        if rights.is_member():
+        if self.person.is_member:
             paths.private(os.path.dirname(self.file))
         settings = self.settings
         return Office(self.file, site.program(settings), settings.wait, settings.quality.test)
@@ -59,7 +62,11 @@ class Context:
     def journal(self) -> Journal:
         """The office's journal."""
         return journals.Journal(
-            journals.adopted(site.journal_of(self.settings, self.file), self.file), self.file, self.unnoted, self.tell
+            journals.adopted(site.journal_of(self.settings, self.file), self.file),
+            self.file,
+            self.unnoted,
+            self.tell,
+            self.person.login,
         )
 
     @property
@@ -77,7 +84,7 @@ class Context:
     def office_to_export(self, *words: str, is_seldom: bool = True) -> Office:
         """The office, of which data is about to be handed out, which is noted. What a timer does every minute isn't."""
         office = self.office_to_read()
-        if is_seldom or journals.has_login():
+        if is_seldom or self.person.has_login:
             self.journal().exported(self.file, list(words))
         return office
 

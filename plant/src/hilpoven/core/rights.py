@@ -3,49 +3,68 @@ import grp
 import os
 import pwd
 import sys
+from dataclasses import dataclass
 
 from .failure import WRONG_USE, Failure, printable
 from .forms import listed
 
-STARTED_AS = os.getuid()  # before the rights of a file's owner are taken
+NOBODY = 4_294_967_295  # the login of a process that no login began
 _sheet = ""  # the path of the sheet that this command names, for its advice
 
 
-def is_member() -> bool:
-    """Whether another user than the office's, and than root, has these rights by sudo: a member of the group hilpoven.
+@dataclass(frozen=True)
+class Person:
+    """Who gives a command: the user as whom it began, the caller whom sudo names by a number and a name, the user who
+    logged in, as the system notes it, and whether there is a terminal."""
 
-    Sudo sets SUDO_UID, which its caller can't change. Whoever began as root, or came from root, may do what root may.
-    """
-    caller = os.environ.get("SUDO_UID")
-    return caller is not None and STARTED_AS != 0 and caller not in ("0", str(STARTED_AS))
+    number: int
+    caller: str | None = None  # by sudo alone, which sets it; its caller can't change it
+    caller_name: str | None = None
+    login_number: int = NOBODY
+    has_terminal: bool = False
 
+    @property
+    def is_member(self) -> bool:
+        """Whether another user than the office's, and than root, has these rights by sudo: a member of the group
+        hilpoven. Whoever began as root, or came from root, may do what root may."""
+        return self.caller is not None and self.number != 0 and self.caller not in ("0", str(self.number))
 
-def require_operator(word: str, advice: str = "") -> None:
-    """Fails for a member, who may not give a word."""
-    if is_member():
-        raise Failure(f"{word} is for root and the office's user alone, and by sudo for nobody else", WRONG_USE, advice)
+    @property
+    def has_login(self) -> bool:
+        """Whether a person began this, and no timer."""
+        return self.login_number != NOBODY or self.caller_name is not None or self.has_terminal
 
+    @property
+    def login(self) -> str:
+        """Who logged in, also behind sudo and su: what the system notes of a login, else whom sudo names, else the
+        user."""
+        return name_of(self.login_number) if self.login_number != NOBODY else self.caller_name or name_of(self.number)
 
-def require_role(command: str, role: str, groups: list[str] | None) -> None:
-    """Fails for a member who is in none of the groups to which the role of a command belongs; where none are said, it
-    belongs to all."""
-    if groups is None or not is_member() or any(is_in(group) for group in groups):
-        return
-    who = f"the members of {listed(groups, 'or')}" if groups else "root and the office's user"
-    raise Failure(f"{command} is for {who} alone, by the role {role} of the settings", WRONG_USE)
+    def require_operator(self, word: str, advice: str = "") -> None:
+        """Fails for a member, who may not give a word."""
+        if self.is_member:
+            raise Failure(
+                f"{word} is for root and the office's user alone, and by sudo for nobody else", WRONG_USE, advice
+            )
 
+    def require_role(self, command: str, role: str, groups: list[str] | None) -> None:
+        """Fails for a member who is in none of the groups to which the role of a command belongs; where none are said,
+        it belongs to all."""
+        if groups is None or not self.is_member or any(map(self.is_in, groups)):
+            return
+        who = f"the members of {listed(groups, 'or')}" if groups else "root and the office's user"
+        raise Failure(f"{command} is for {who} alone, by the role {role} of the settings", WRONG_USE)
 
-def is_in(group: str) -> bool:
-    """Whether the caller of sudo is a member of a group, as the system's database says: the environment has its number
-    alone, which sudo sets."""
-    number = os.environ.get("SUDO_UID", "")
-    if not (number.isascii() and number.isdecimal()):
-        return False
-    try:
-        caller = pwd.getpwuid(int(number))
-        return grp.getgrnam(group).gr_gid in os.getgrouplist(caller.pw_name, caller.pw_gid)
-    except (KeyError, OverflowError):
-        return False
+    def is_in(self, group: str) -> bool:
+        """Whether the caller of sudo is a member of a group, as the system's database says."""
+        number = self.caller or ""
+        if not (number.isascii() and number.isdecimal()):
+            return False
+        try:
+            caller = pwd.getpwuid(int(number))
+            return grp.getgrnam(group).gr_gid in os.getgrouplist(caller.pw_name, caller.pw_gid)
+        except (KeyError, OverflowError):
+            return False
 
 
 def name_of(user: int) -> str:

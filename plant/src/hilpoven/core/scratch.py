@@ -4,28 +4,14 @@ import contextlib
 import errno
 import os
 import signal
-import sys
 import time
 from collections.abc import Iterator
-from types import FrameType
 
 from . import files, lock
 from .failure import Failure
 
 LEFT_SINCE = 60  # seconds since a folder was made that nobody works in
 ENDING = (signal.SIGHUP, signal.SIGINT, signal.SIGTERM)
-
-
-def end_by_signals() -> None:
-    """Has the signals that end a program raise SystemExit, so that what it made is removed."""
-
-    def leave(number: int, _: FrameType | None) -> None:
-        for ending in ENDING:
-            signal.signal(ending, signal.SIG_IGN)  # a second one would break off the removing
-        sys.exit(128 + number)
-
-    for ending in ENDING:
-        signal.signal(ending, leave)
 
 
 @contextlib.contextmanager

@@ -45,7 +45,7 @@ class Machine:
     user: str = "toll"
     lock: str = "/run/hilpoven-setup.lock"  # which no other account can hold
     command: str = "hilpoven"  # this program, by which commands over the office are given
-    login: str = "root"  # who sets up, as the journal names it
+    login: str = ""  # who sets up, as journals name it
 
     @contextlib.contextmanager
     def held(self) -> Iterator[None]:

@@ -12,37 +12,18 @@ from typing import Any
 from .. import files, lock, rights
 from ..failure import FAULT, Failure
 from ..office import Answer
-from ..rights import STARTED_AS, name_of
+from ..rights import name_of
 
 NOTHING_DONE = "nothing is done that isn't noted there"
 BEGINNING = "0" * 64  # before the first line
 PIECE = 8_192  # bytes
 MADE_AT = "made_at"  # a member of a promotion's line: the moment of the office that it puts in place
 IN_PLACE = "in_place"  # a member of an answer: another file has the office's place, also where something failed since
-NOBODY = 4_294_967_295  # the login of a process that no login began
 
 
 def now() -> str:
     """The time of Greenwich."""
     return datetime.now(timezone.utc).isoformat(timespec="milliseconds").replace("+00:00", "Z")
-
-
-def login_number() -> int:
-    """The user who logged in, as the system notes it; `NOBODY` where no login began this."""
-    with contextlib.suppress(OSError, ValueError), open("/proc/self/loginuid") as file:
-        return int(file.read())
-    return NOBODY
-
-
-def has_login() -> bool:
-    """Whether a person began this, and no timer."""
-    return login_number() != NOBODY or "SUDO_USER" in os.environ or os.isatty(0)
-
-
-def login() -> str:
-    """Who logged in, also behind sudo and su: what the system notes of a login, else whom sudo names, else the user."""
-    number = login_number()
-    return name_of(number) if number != NOBODY else os.environ.get("SUDO_USER") or name_of(STARTED_AS)
 
 
 def hash_of(line: bytes) -> str:
@@ -70,15 +51,17 @@ class Journal:
         file: str = "",
         unnoted: list[Failure] | None = None,
         tell: Callable[[str], None] = lambda _: None,
+        login: str = "",
     ) -> None:
-        self.path, self.file, self.tell = path, file, tell  # who reads its notes tells what is noticed then
+        self.path, self.file, self.login = path, file, login or name_of(os.geteuid())
+        self.tell = tell  # who reads its notes tells what is noticed then
         self.unnoted = [] if unnoted is None else unnoted  # why answers couldn't be noted
         self.is_series, self.held = False, list[dict[str, Any]]()  # answers that go to the disk with the next line
 
     def asked(self, file: str, words: list[str], **members: Any) -> str:
         """Adds what is about to be asked of `toll`, and gives the name by which the answer refers to it."""
         name = os.urandom(8).hex()
-        self.add({"event": "asked", "id": name, **doer(file), "words": words, **members})
+        self.add({"event": "asked", "id": name, **self.doer(file), "words": words, **members})
         return name
 
     def answered(self, name: str, answer: Answer, **members: Any) -> None:
@@ -115,12 +98,12 @@ class Journal:
     def note(self, file: str, words: list[str], **members: Any) -> str:
         """Adds notes of the plant, of which nothing is asked of `toll`, and gives the name of the first one."""
         name = os.urandom(8).hex()
-        self.add({"event": "note", "id": name, **doer(file), "words": words, **members})
+        self.add({"event": "note", "id": name, **self.doer(file), "words": words, **members})
         return name
 
     def exported(self, file: str, words: list[str]) -> None:
         """Adds what of the office's data is about to be handed out."""
-        self.add({"event": "exported", **doer(file), "words": words})
+        self.add({"event": "exported", **self.doer(file), "words": words})
 
     @contextlib.contextmanager
     def noted(self, file: str, words: list[str], **members: Any) -> Iterator[Note]:
@@ -164,7 +147,7 @@ class Journal:
         if last in ("", file):
             return
         if not os.path.lexists(last):
-            append(descriptor, {"event": "moved", "from": last, **doer(file)})
+            append(descriptor, {"event": "moved", "from": last, **self.doer(file)})
         elif self.path == f"{file}.journal":
             raise Failure(f"{self.path} is the journal of {last}, and {file} needs one of its own", advice=NOTHING_DONE)
 
@@ -173,7 +156,11 @@ class Journal:
         with self.locked() as descriptor:
             last = file_in(descriptor)
             if last not in ("", file):
-                append(descriptor, {"event": "moved", "from": last, **doer(file)})
+                append(descriptor, {"event": "moved", "from": last, **self.doer(file)})
+
+    def doer(self, file: str) -> dict[str, str]:
+        """Who does something, on which machine, and over which file."""
+        return {"user": name_of(os.geteuid()), "login": self.login, "machine": os.uname().nodename, "file": file}
 
     @contextlib.contextmanager
     def locked(self) -> Iterator[int]:
@@ -194,11 +181,6 @@ class Journal:
             os.close(descriptor)
         if is_new:
             files.sync(os.path.dirname(self.path) or ".")
-
-
-def doer(file: str) -> dict[str, str]:
-    """Who does something, on which machine, and over which file."""
-    return {"user": name_of(os.geteuid()), "login": login(), "machine": os.uname().nodename, "file": file}
 
 
 def append(descriptor: int, *entries: dict[str, Any]) -> None:

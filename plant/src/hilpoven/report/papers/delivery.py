@@ -25,11 +25,11 @@ PAPERS = (".html", ".pdf")
 MOST_NAMED = 12  # papers that are named when all are written
 
 
-def footer_of(source: Source, program: str, for_plant: bool) -> str:
+def footer_of(source: Source, program: str, login: str, for_plant: bool) -> str:
     """The line at the foot of each page. Only the plant reads the names of files, which may hold any word, their
     digests, which are of all owners' rows, and the login of whoever made it."""
     files = " and ".join(f"{part.name}, sha256 {part.hash}" for part in source.files)
-    of_plant, of_others = f" by {log.login()} from {files},", f" from {len(source.files)} files,"
+    of_plant, of_others = f" by {login} from {files},", f" from {len(source.files)} files,"
     origin = of_plant if for_plant else "" if source.is_one else of_others
     now = datetime.datetime.now(datetime.timezone.utc)
     return f"Made on {now:%Y-%m-%d at %H:%M} UTC{origin} with {program}."
@@ -81,7 +81,8 @@ def read(office: Office, journal: log.Journal, delivery: Delivery, begin: Tell, 
         begin("reading it, and comparing with what toll says")
         program, papers = copies.version(office), delivery.make(source)
         documents = [
-            (document, document.footer or footer_of(source, program, document.for_plant)) for document in papers
+            (document, document.footer or footer_of(source, program, journal.login, document.for_plant))
+            for document in papers
         ]
         issue = delivery.issue(papers, tell)
     begin(f"writing {counted(len(papers), 'papers')}")
