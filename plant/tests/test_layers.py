@@ -48,3 +48,14 @@ def test_what_is_imported_late_is_known():
     late = {(module, name) for module, path in MODULES.items() if not module.startswith("cli.")
             for node in ast.walk(ast.parse(path.read_text())) if isinstance(node, ast.FunctionDef) for name in imports_of(module, node)}
     assert late == LATE
+
+
+# What only cli/ does: it prints, ends, asks a terminal, and knows whose process it is.
+DONE_ABOVE = {"print", "input", "exit", "isatty", "getuid", "getlogin", "get_terminal_size"}
+
+
+def test_below_the_command_line_nothing_prints_or_asks():
+    done = {(module, name) for module, path in MODULES.items() if not module.startswith("cli.") for node in ast.walk(ast.parse(path.read_text()))
+            if isinstance(node, ast.Call) and (name := getattr(node.func, "id", getattr(node.func, "attr", ""))) in DONE_ABOVE}
+    assert not done
+    assert {module.split(".")[0] for module, path in MODULES.items() if "import click" in path.read_text()} == {"cli"}
