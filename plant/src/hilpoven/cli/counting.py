@@ -5,7 +5,7 @@ from typing import Any
 
 import click
 
-from ..record import asking
+from ..record import asking, making
 from ..core import client, meanings, snapshot
 from ..core.context import Context
 from ..core.failure import FAULT, REFUSED, WRONG_USE, Failure, printable
@@ -14,7 +14,6 @@ from ..core.office import Office
 from ..core.table import counted
 from ..core.days import day_of, today
 from ..model.rows import require_owner
-from ..record import making
 from ..record.sheets import counting, doubtful_days
 from ..record.sheets.counting import Count, Difference, Outcome
 from ..record.sheets.options import read_source

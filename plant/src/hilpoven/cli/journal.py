@@ -9,12 +9,11 @@ import click
 from ..core import settings as site
 from ..core.context import Context
 from ..core.failure import REFUSED, WRONG_USE, Failure, printable
-from .output import tell
+from .output import print_table, tell
 from ..report import history
 from ..core.journal import query
 from ..report.history import COLUMNS, JournalEntry
 from ..core.exports import as_csv, as_json
-from .output import print_table
 from ..core.days import format_moment, moment_in
 from .groups import Group
 from .words import PATH, pass_context

@@ -5,7 +5,7 @@ from collections.abc import Iterator
 
 import click
 
-from ..record import asking
+from ..record import asking, making
 from ..core import lock
 from ..core.context import Context
 from ..core.failure import REFUSED, Failure
@@ -13,7 +13,6 @@ from .output import tell
 from ..core.grammar import LINES
 from ..core.days import day_of, today
 from ..model.rows import Base, Lot, LotId, require_lot, tests_of
-from ..record import making
 from ..model.register import quality
 from ..model.notes.notes import Held, Judgement, Signed
 from ..record.recorders import recorders

@@ -7,10 +7,9 @@ import click
 from ..core import scanned, snapshot
 from ..core.context import Context
 from ..core.failure import WRONG_USE, Failure
-from .output import tell
+from .output import print_table, tell
 from ..core.forms import listed
 from ..core.table import Row
-from .output import print_table
 from ..model.schema import Kind
 from ..report.lists.tables import FILTERS, LISTINGS, Listing
 from .groups import Group, lazily

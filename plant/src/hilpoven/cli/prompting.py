@@ -23,9 +23,8 @@ from ..model.notes.movements import GETS, party_fault
 from ..model.register.store import Register
 from ..model.register.standing import register_of
 from . import terminal
-from .words import quoted
+from .words import MOST_TOLD, quoted
 from .value_notes import NO_DAY, decimals_of
-from .words import MOST_TOLD
 
 MOST_SHOWN = 9  # choices, each of which is one digit
 LATEST_DAY = "SELECT day FROM moves ORDER BY rowid DESC LIMIT 1"

@@ -9,7 +9,7 @@ from typing import Any
 
 import click
 
-from ..care import backups
+from ..care import backups, lost, reports
 from ..core import paths, rights, server, settings as site, snapshot
 from ..core.context import Context
 from ..core.failure import FAULT, REFUSED, WRONG_USE, Failure, printable
@@ -21,7 +21,6 @@ from ..model import accepted
 from ..record import answered
 from ..core.days import moment_in
 from ..model.register import file as register
-from ..care import lost, reports
 from ..model.years import chain
 from .words import MOST_TOLD, PATH, Operators, pass_context
 

@@ -3,7 +3,7 @@ import sqlite3
 from typing import Any
 
 from ..core import snapshot
-from ..record.asking import Beside
+from ..record.asking import Beside, Typed
 from ..core.context import Context
 from .output import tell
 from ..core.forms import DAY, NAME
@@ -15,7 +15,6 @@ from ..model.notes.facts import ResultFacts, TestFacts
 from ..model.notes.kinds import split_sign
 from ..model.register.store import Register
 from ..model.register.standing import register_of
-from ..record.asking import Typed
 
 Values = dict[str, str]  # of a line, by their names
 LIMITS = ("LOW", "HIGH")

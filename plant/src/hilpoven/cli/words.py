@@ -12,9 +12,7 @@ import click
 from ..core import rights, scanned
 from ..core.context import Context
 from ..core.failure import printable
-from ..core.forms import DAY as DAY_FORM
-from ..core.forms import TEXT as TEXT_FORM
-from ..core.forms import name_fault
+from ..core.forms import DAY as DAY_FORM, TEXT as TEXT_FORM, name_fault
 from .caller import person
 
 if TYPE_CHECKING:

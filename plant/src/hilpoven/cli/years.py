@@ -8,11 +8,10 @@ import click
 
 from ..core.context import Context
 from ..core.failure import REFUSED, Failure, printable
-from .output import tell
+from .output import print_table, tell
 from ..core.office import Office
 from ..core.exports import as_csv
 from ..core.table import Row, Value
-from .output import print_table
 from ..report import statement as statements
 from ..report.lists import overviews
 from ..model.answers import recall_of

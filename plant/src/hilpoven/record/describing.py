@@ -8,8 +8,7 @@ from ..core.journal.log import Journal
 from ..model.descriptions import facts_of_test
 from ..core.table import counted
 from ..model.measures import GROUP, as_measured, decimals_in, limits_text, value_word, whole_of
-from ..model.rows import LotId, require_lot, require_owner
-from ..model.rows import row_of
+from ..model.rows import LotId, require_lot, require_owner, row_of
 from ..model.schema import Role
 from ..model.register import file
 from ..model.notes.facts import LotFacts, ResultFacts, ResultId, TestFacts, joined

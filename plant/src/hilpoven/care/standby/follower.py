@@ -6,10 +6,9 @@ from collections.abc import Callable
 from dataclasses import dataclass, field
 from functools import cached_property
 
-from ...core import files
+from ...core import files, timeline
 from ...core.failure import FAULT, REFUSED, Failure
 from . import capture, chain
-from ...core import timeline
 from .book import Book
 from .capture import Digests, Gap, Place, Scan, Watch
 from .chain import Chain

@@ -4,12 +4,11 @@ from collections.abc import Iterator, Sequence
 from dataclasses import dataclass
 from datetime import datetime
 
-from ...core import scratch
+from ...core import scratch, timeline
 from ...model.schema import Disposition
 from ...model.years.chain import address_of, reading
 from ..years.exchanging import APPENDED
 from . import chain, piece
-from ...core import timeline
 from .chain import Chain, Report
 
 # The rows that never go, and what they never lose, by what they are called.

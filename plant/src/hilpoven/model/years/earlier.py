@@ -11,8 +11,7 @@ from ...core import names
 from ...core.failure import REFUSED
 from ...core.grammar import Line
 from ...core.office import Answer, Office
-from ..schema import INCOMING, ON_HAND, Kind
-from ..schema import MOVE_COLUMNS as MOVE_COLUMNS
+from ..schema import INCOMING, MOVE_COLUMNS as MOVE_COLUMNS, ON_HAND, Kind
 from . import chain
 
 MOVE = f"SELECT {MOVE_COLUMNS} FROM moves WHERE owner = ? AND mkey = ?"

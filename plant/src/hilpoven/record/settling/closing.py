@@ -13,11 +13,10 @@ from ...model.register.closings import Closing
 from ...model.notes.kinds import Why
 from ...model.notes.settled import Cell, Place, Settled, Terms
 from .corrections import Correction
-from ...core.days import date_of, days_of_month
+from ...core.days import FIRST_DAY, date_of, days_of_month
 from ...model.rows import BatchId
 from ...model.schema import Role
 from .settlement import WHYS, Line, Made, Product, Reader, Receipts, Run, Settlement
-from ...core.days import FIRST_DAY
 
 FIGURES = ("actual", "expected", "loss", "allowed", "above")  # of a line, in which it may change
 LINE = ("recipe", "use", "source", "material", "measure")  # by which lines are told apart

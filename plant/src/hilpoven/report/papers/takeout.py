@@ -17,8 +17,7 @@ from .agreement import agree_on_all, check_lots, check_stock
 from .copies import Source
 from .links import links_sheet
 from .printing import Document
-from .reasons import COLUMNS as REASONS
-from .reasons import rows_of as reason_rows
+from .reasons import COLUMNS as REASONS, rows_of as reason_rows
 from .sheets import Column, Row, Sheet, columns
 
 TABLES = (  # the lists, in the order in which one leads to the next
