@@ -1,4 +1,4 @@
-"""What the tools share that run or measure the program: their words, the program, and the harness of tests/."""
+"""What the tools share that try the program: their words, the program, and the way to the harness of tests/."""
 import argparse
 import contextlib
 import os
@@ -14,39 +14,6 @@ ROOT = pathlib.Path(__file__).resolve().parent.parent
 NAME = pathlib.Path(sys.argv[0]).name
 
 sys.path.insert(0, str(ROOT))
-from tests.harness import (
-    PATIENCE,
-    Office,
-    Result,
-    Server,
-    content,
-    eventually,
-    free_port,
-    printed,
-    put,
-    read_all,  # noqa: E402
-    request,
-)
-
-__all__ = [
-    "NAME",
-    "PATIENCE",
-    "ROOT",
-    "Office",
-    "Result",
-    "Server",
-    "Words",
-    "built",
-    "content",
-    "eventually",
-    "folder_of_trial",
-    "free_port",
-    "give_up",
-    "printed",
-    "put",
-    "read_all",
-    "request",
-]
 
 
 def give_up(why: str) -> NoReturn:

@@ -10,7 +10,7 @@ from collections.abc import Iterator
 from dataclasses import dataclass
 from pathlib import Path
 
-from trial import free_port
+from tests.harness import free_port
 
 MARK = "--- the example has ended ---"
 PATIENCE = 60  # seconds without more output

@@ -122,7 +122,7 @@ def test_a_compiling_that_fails_is_told_and_nothing_is_served(clone: Clone, stat
 def test_a_signal_ends_the_compiling_and_the_end_is_told(
     clone: Clone, send: Callable[["subprocess.Popen[str]"], None]
 ) -> None:
-    ending = 'trap "echo toll: nothing of it is left >&2; kill \\$!; exit 143" TERM INT'
+    ending = 'trap "echo toll: nothing of it is left >&2; kill \\$! 2> /dev/null; exit 143" TERM INT'
     clone.builds(
         f"sleep 300 > /dev/null 2>&1 & {ending}; echo $$ > {clone.folder}/pid; touch {clone.folder}/waits; wait"
     )

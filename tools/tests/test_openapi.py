@@ -17,12 +17,8 @@ PAGE = yaml.safe_load(FILE.read_text())
 SCHEMAS = PAGE["components"]["schemas"]
 METHODS = ("get", "post")
 # Debian's libjson-validator-perl has the schema of OpenAPI 3.0 with it.
-VALIDATOR = [
-    "perl",
-    "-MJSON::Validator",
-    "-e",
-    'print "$_\\n" for @{JSON::Validator->new->schema(shift)->schema->errors}',
-]
+LOOK = 'print "$_\\n" for @{JSON::Validator->new->schema(shift)->schema->errors}'
+VALIDATOR = ["perl", "-MJSON::Validator", "-e", LOOK]
 
 
 def resolved(node: Any) -> Any:
@@ -82,7 +78,7 @@ def test_the_validator_finds_nothing() -> None:
         (("info", "title"), None),
     ],
 )
-def test_the_validator_finds_what_is_wrong(tmp_path: pathlib.Path, path: str, broken: Any) -> None:
+def test_the_validator_finds_what_is_wrong(tmp_path: pathlib.Path, path: tuple[str, ...], broken: Any) -> None:
     page = copy.deepcopy(PAGE)
     place = page
     for part in path[:-1]:
@@ -94,9 +90,8 @@ def test_the_validator_finds_what_is_wrong(tmp_path: pathlib.Path, path: str, br
 
 def test_the_routes_are_those_of_the_code() -> None:
     office = [(path, method) for path, method, operation in operations() if operation.get("x-told-by") != "site"]
-    assert [(path, method) for path, method, _ in operations() if (path, method) not in office] == [
-        ("/companion", "get")
-    ]
+    others = [(path, method) for path, method, _ in operations() if (path, method) not in office]
+    assert others == [("/companion", "get")]
     row = r'pattern: "(.*?)",\s+endpoint: Endpoint {\s+parts: Parts::\w+,\s+get: (\w+).*?,\s+post: (\w+)'
     routes = [route for text in sources() for route in re.findall(row, text)]
     code = {
@@ -110,18 +105,14 @@ def test_the_routes_are_those_of_the_code() -> None:
 
 def test_what_the_site_sends_alone_is_in_its_settings() -> None:
     settings = (ROOT / "packaging" / "nginx.conf").read_text()
-    assert [
-        path
-        for path, _, operation in operations()
-        if operation.get("x-told-by") == "site" and f"location = {path} {{" not in settings
-    ] == []
+    of_site = [path for path, _, operation in operations() if operation.get("x-told-by") == "site"]
+    assert [path for path in of_site if f"location = {path} {{" not in settings] == []
 
 
 def test_an_operation_is_named_by_what_it_does() -> None:
     names = [operation["operationId"] for _, _, operation in operations()]
-    assert all(re.fullmatch("(get|list|place|cancel|release|reject|trace)[A-Z][a-z]+", name) for name in names) and len(
-        set(names)
-    ) == len(names)
+    assert len(set(names)) == len(names)
+    assert all(re.fullmatch("(get|list|place|cancel|release|reject|trace)[A-Z][a-z]+", name) for name in names)
 
 
 def test_the_routes_are_those_of_the_page_beside_it() -> None:

@@ -56,16 +56,9 @@ def test_the_folder_gets_the_packages_and_nothing_else(packages: pathlib.Path) -
     files = {
         re.sub(r"[\d.]+(-\d+)?(?=[._-])", "V", file.name, count=1) for file in packages.iterdir() if file.is_file()
     }
-    assert files == {
-        "program",
-        "toll_V_amd64.deb",
-        "hilpoven_V_all.deb",
-        "hilpoven-papers_V_all.deb",
-        "toll-V-x86_64.tar.gz",
-        "hilpoven_V.dsc",
-        "hilpoven_V.orig.tar.gz",
-        "hilpoven_V.debian.tar.xz",
-    }
+    made_of_source = {f"hilpoven_V.{end}" for end in ("dsc", "orig.tar.gz", "debian.tar.xz")}
+    binary = {"toll_V_amd64.deb", "hilpoven_V_all.deb", "hilpoven-papers_V_all.deb", "toll-V-x86_64.tar.gz"}
+    assert files == {"program"} | binary | made_of_source
     assert not [file for file in packages.iterdir() if file.name.startswith((".", "package"))]
 
 

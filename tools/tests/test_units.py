@@ -13,15 +13,8 @@ from conftest import ROOT
 sys.path.insert(0, str(ROOT / "plant" / "src"))
 from hilpoven.core import settings  # noqa: E402
 
-OFFICE = [
-    "toll@acme.service",
-    "toll-backup@acme.service",
-    "toll-companion@acme.service",
-    "toll-follow@acme.service",
-    "toll-backup@acme.timer",
-    "toll-companion@acme.timer",
-    "toll-failed@toll@acme.service.service",
-]
+OFFICE = """toll@acme.service toll-backup@acme.service toll-companion@acme.service toll-follow@acme.service
+    toll-backup@acme.timer toll-companion@acme.timer toll-failed@toll@acme.service.service""".split()
 SINGLE = ["toll.service", "toll-backup.service", "toll-backup.timer"]
 PROGRAMS = r"(?m)^(Exec\w+=)(toll|hilpoven)\b"
 

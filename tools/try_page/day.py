@@ -4,7 +4,9 @@ import re
 from collections.abc import Callable, Iterator
 from typing import Any
 
-from trial import ROOT, content
+from trial import ROOT
+
+from tests.harness import content
 
 from .site import Office
 from .trial import Trial

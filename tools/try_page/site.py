@@ -10,8 +10,10 @@ import subprocess
 from collections.abc import Iterable, Iterator
 from typing import Self
 
-from trial import ROOT, Result, Server, eventually, free_port
-from trial import Office as TriedOffice
+from trial import ROOT  # which leads to tests/
+
+from tests import harness
+from tests.harness import Result, Server, eventually, free_port
 
 __all__ = ["Office", "Proxy", "ROOT", "eventually", "free_port", "has_ipv6"]
 
@@ -59,7 +61,7 @@ def end(process: "subprocess.Popen[str]") -> None:
     process.wait()
 
 
-class Office(TriedOffice):
+class Office(harness.Office):
     """An office with the lines that it accepted, and a server at a port of its own."""
 
     def __init__(self, program: str, folder: pathlib.Path, port: int) -> None:
