@@ -5,18 +5,18 @@ import pathlib
 import random
 import sys
 
-import clock
+import clock  # type: ignore[import]
 
 if __name__ == "__main__":
     clock.stop()  # before anything that reads the time is imported
 
-from companions import PLANT, QA, Known
-from conftest import AT_WORK, Plant
+from companions import PLANT, QA, Known  # type: ignore[import]
+from conftest import AT_WORK, Plant  # type: ignore[attr-defined]
 from hilpoven.cli.demo import week_in
 from hilpoven.core import private_server, settings as site
-from histories import CUT, Growing, accepts
-from test_closing import BATCH, MADE
-from week import PREPARED, WEEK, lived
+from histories import CUT, Growing, accepts  # type: ignore[import]
+from test_closing import BATCH, MADE  # type: ignore[import]
+from week import PREPARED, WEEK, lived  # type: ignore[import]
 
 LINKED = """
 link ACME B-1 W-101 --of-owner HOUSE --why use --amount 5
@@ -99,7 +99,9 @@ def carried(plant: Plant, seed: int) -> None:
     with private_server.opened(plant.program, str(one)) as server:
         growing = Growing(server, random.Random(seed), one)
         growing.grow(140, 1 + seed % 2)
-    parts = [list(part) for is_cut, part in itertools.groupby(growing.steps, lambda step: step == CUT) if not is_cut]
+    parts = [
+        list(part) for is_cut, part in itertools.groupby(growing.steps, lambda step: bool(step == CUT)) if not is_cut
+    ]
     for number, part in enumerate(parts):
         if number:
             run(plant, "carry-over", plant.folder / "next.db", "--day", 260101)

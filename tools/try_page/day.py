@@ -40,7 +40,10 @@ def run_day(t: Trial, office: Office, lines: list[str], ask: Callable[[str], Non
     office.reply(lines[0])
     t.serve(office)
     for line in lines[1:]:
-        ask(line) if line.startswith("> ") else office.reply(line)
+        if line.startswith("> "):
+            ask(line)
+        else:
+            office.reply(line)
 
 
 class Clicks:

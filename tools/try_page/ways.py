@@ -106,7 +106,10 @@ def phone(t: Trial) -> None:
             b.phone(width)
             b.refresh()
             b.heading("Orders")
-            folded(t, name) if width <= FOLDED else t.offers("input[name=order]")
+            if width <= FOLDED:
+                folded(t, name)
+            else:
+                t.offers("input[name=order]")
             narrow(t, name)
     finally:
         b.devtools("Emulation.clearDeviceMetricsOverride")
