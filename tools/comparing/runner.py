@@ -24,7 +24,7 @@ import clock  # type: ignore[import]  # it stands beside this script
 LIBRARIES = ("click", "csv", "difflib", "jinja2", "openpyxl", "shutil", "sqlite3", "tempfile", "tomllib", "zipfile")
 PATIENCE = 120  # seconds
 OUT = "out"  # the folder of a command's files
-BY_CHANCE = re.compile(r"sha256,? [0-9a-f]{64}")  # of an office, whose log has random salts
+BY_CHANCE = re.compile(r"sha256,? [0-9a-f]{64}|-?[0-9.]+ hours old")  # random salts of a log, and a backup's real time
 NOT_COMPARED = (".pdf", ".companions")  # printed pages, and when files of an office were changed
 
 
@@ -112,7 +112,7 @@ def result_of(number: int, command: dict[str, Any], room: str) -> dict[str, str]
     for path in sorted(pathlib.Path(OUT).rglob("*")):
         if path.is_file() and not path.name.endswith(NOT_COMPARED):
             texts |= texts_of(str(path), path.read_bytes())
-    return {name: BY_CHANCE.sub("sha256 OF-AN-OFFICE", text) for name, text in texts.items()}
+    return {name: BY_CHANCE.sub("BY-CHANCE", text) for name, text in texts.items()}
 
 
 def main() -> None:
