@@ -1,4 +1,4 @@
-"""The command `hilpoven` and its subcommands, of which each is imported when it is called."""
+"""The command `hilpoven` and its subcommands, each of which is made and imported when it is called."""
 import os
 import sys
 from functools import partial
@@ -13,7 +13,7 @@ from ..core.context import Context
 from ..core.failure import FAULT, REFUSED, WRONG_USE, Failure, printable
 from ..core.grammar import LINES
 from . import roles
-from .groups import Group, Makers, imported, lazily
+from .groups import Group, Maker, makers_of
 from .output import show, tell
 from .caller import end_by_signals, person
 from .words import PATH
@@ -29,7 +29,7 @@ Example: hilpoven stock ACME
 """
 
 NOTED_LINES = {"receive", "ship", "scrap", "actual", "void", "reject", "cancel", "do", "test-add", "result"}
-NOTING = ["link", "use", "note", "party", "describe", "material", "sign", "hold"]
+RECORD, ASK = "Record", "Ask"  # the sections of the lines in the help
 OF_ANOTHER_OFFICE = {"demo", "setup"}  # which that of the settings doesn't concern
 COMPLETION = "_HILPOVEN_COMPLETE"  # the variable by which a shell asks for completions
 MOST_LETTERS = 4_096  # of a word of a command
@@ -51,53 +51,17 @@ def noted_line_command(name: str) -> click.Command:
     return LineCommand(LINES[name], LINE_NOTES[name])
 
 
-SUBCOMMANDS: Makers = {
-    **{name: partial(noted_line_command if name in NOTED_LINES else line_command, name) for name in LINES},
-    **{name: imported("noting", name) for name in ("link", "use")},
-    "note": imported("noting", "note_group"),
-    "party": imported("parties", "party_group"),
-    "material": imported("materials", "material_group"),
-    **{name: imported("judging", name) for name in ("sign", "hold")},
-    "describe": imported("describing", "describe_group"),
-    "drill": imported("drills", "drill_group"),
-    "for": imported("on_behalf", "for_command"),
-    "import": imported("importing", "import_command"),
-    "count": imported("counting", "count_group"),
-    "to-csv": imported("converting", "to_csv"),
-    "list": imported("listing", "list_group"),
-    "show": imported("showing", "show_group"),
-    "owner": imported("owners", "owner_group"),
-    "status": imported("status", "status"),
-    "journal": imported("journal", "journal_group"),
-    "papers": imported("papers", "papers_group"),
-    "settle": imported("settling", "settle"),
-    "labels": imported("labels", "labels"),
-    "board": imported("board", "board"),
-    "companion": imported("companion", "companion"),
-    **{name: imported("upkeep", name) for name in ("new", "backup", "restore", "verify")},
-    "follow": imported("following", "follow_group"),
-    "promote": imported("following", "promote"),
-    "register": imported("noting", "register_group"),
-    "carry-over": imported("carrying", "carry_over"),
-    "years": imported("years", "years_group"),
-    "demo": imported("demo", "demo"),
-    "setup": imported("setup", "setup"),
-    "complete": imported("completion", "complete"),
-}
+def makers() -> dict[str, Maker]:
+    """How each subcommand is made, the lines of `toll` first."""
+    lines = {}
+    for name, line in LINES.items():
+        make = partial(noted_line_command if name in NOTED_LINES else line_command, name)
+        lines[name] = Maker(make, ASK if line.is_question else RECORD, line.about)
+    return {**lines, **makers_of()}
 
 
 class Commands(Group):
     """All subcommands."""
-
-    others = "Look after the office"
-
-    def sections(self) -> dict[str, list[str]]:
-        """What records and what asks."""
-        return {
-            "Record": [name for name, line in LINES.items() if not line.is_question]
-            + ["for", *NOTING, "import", "count", "to-csv"],
-            "Ask": [name for name, line in LINES.items() if line.is_question] + ["list", "show"],
-        }
 
     def parse_args(self, ctx: click.Context, args: list[str]) -> list[str]:
         """Fails where a word is longer than any value and any path: the journal would keep all of it."""
@@ -136,7 +100,7 @@ class Commands(Group):
 
 @click.group(
     cls=Commands,
-    commands=lazily(SUBCOMMANDS),
+    makers=makers(),
     help=ABOUT,
     context_settings={"help_option_names": ["-h", "--help"], "max_content_width": 100},
 )

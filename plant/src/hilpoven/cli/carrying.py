@@ -12,8 +12,8 @@ from .output import print_table, tell
 from .progress import bar
 from ..core.days import day_of, today
 from ..care.years import steps
-from ..care.years.carrying import COMMAND, Telling, Work, carry_over as carry, has_owner, hindrances, prepared
-from .words import DAY, NAME, PATH, pass_context
+from ..care.years.carrying import COMMAND, Telling, Work, has_owner, hindrances, prepared
+from ..care.years.carrying import carry_over as carry
 
 NEW = "next.db"
 MOST_ORDERS, MOST_GAUGES = 40, 12  # that are shown
@@ -93,38 +93,8 @@ def target_of(file: str, new: str | None) -> str:
     return target
 
 
-@click.command(COMMAND)
-@click.argument("new", metavar="[NEW]", required=False, type=PATH)
-@click.option(
-    "--day",
-    metavar="DAY",
-    type=DAY,
-    help="The day of the receipts that carry the stock over; today, as YYMMDD, by default.",
-)
-@click.option(
-    "--plan",
-    "is_plan",
-    is_flag=True,
-    help="Only shows what would be done, how full the new file would be, and what prevents it.",
-)
-@click.option(
-    "--without",
-    metavar="OWNER",
-    multiple=True,
-    type=NAME,
-    help="An owner that leaves, and has nothing on hand; its rows stay in the earlier file.",
-)
-@pass_context
 def carry_over(context: Context, new: str | None, day: int | None, is_plan: bool, without: tuple[str, ...]) -> None:
-    """Continues in a new file that starts with the stock in the plant. Nothing that was recorded is lost.
-
-    NEW, or next.db in the folder of the office's file, is the new file's name until it takes the name of the office's
-    file, which becomes NAME-1.db next to it, read-only. Close all batches and stop the server first. toll's own
-    commands build the new file, which is compared with the old one before it takes its place. If the command is
-    interrupted, a working office remains; run the same command again.
-
-    Example: hilpoven carry-over /var/lib/toll/next.db
-    """
+    """`hilpoven carry-over`."""
     carried_on = day_of(today(context.settings.time_zone)) if day is None else day
     target = target_of(context.file, new)
     office = context.office_to_read() if is_plan else context.office()

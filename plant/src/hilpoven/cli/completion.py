@@ -64,17 +64,10 @@ def register() -> None:
     add_completion_class(Completion)
 
 
-@click.command(hidden=True, context_settings={"ignore_unknown_options": True, "allow_interspersed_args": False})
-@click.argument("number", metavar="NUMBER", type=click.IntRange(1, 1_000))
-@click.argument("words", metavar="WORD ..", nargs=-1, type=click.UNPROCESSED)
-@click.pass_context
-def complete(ctx: click.Context, number: int, words: tuple[str, ...]) -> None:
-    """Prints what the word of this NUMBER may be, for the shell's completion.
-
-    Example: hilpoven complete 2 hilpoven stock A
-    """
+def complete(_: Context, number: int, words: tuple[str, ...]) -> None:
+    """`hilpoven complete`."""
     try:
-        click.echo(CompletionOfWords(ctx.find_root().command, list(words), number).complete())
+        click.echo(CompletionOfWords(click.get_current_context().find_root().command, list(words), number).complete())
     except (Failure, click.ClickException):
         return
 

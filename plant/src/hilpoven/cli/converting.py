@@ -6,29 +6,16 @@ from typing import Any
 
 import click
 
+from ..core.context import Context
 from ..core import paths
 from ..core.failure import REFUSED, WRONG_USE, Failure
 from ..record.sheets.importing import MOST_BYTES
 from ..record.sheets.options import sheet_of
 from ..record.sheets.sheet import Sheet, text_of
-from .sheet_options import with_options
-from .words import PATH, SHEET
 
 
-@click.command("to-csv")
-@click.argument("source", metavar="SHEET", type=SHEET)
-@click.argument("target", metavar="[CSV]", required=False, type=PATH)
-@with_options
-@click.option("--force", is_flag=True, help="Replaces CSV, if it is there.")
-def to_csv(source: str, target: str | None, force: bool, **given: Any) -> None:
-    """Converts a sheet to the CSV file that `toll import` reads. SHEET may be `-`, which is standard input. Without CSV
-    it writes to standard output.
-
-    It changes no value. It reports all refused values with the sheet's rows and columns, and then writes nothing.
-    `hilpoven import` records a sheet directly.
-
-    Example: hilpoven to-csv monday.xlsx monday.csv
-    """
+def to_csv(_: Context, source: str, target: str | None, force: bool, **given: Any) -> None:
+    """`hilpoven to-csv`."""
     if target and os.path.exists(target) and os.path.exists(source) and os.path.samefile(source, target):
         raise Failure(f"{target} is the sheet itself", WRONG_USE)
     opening = paths.target(target, force) if target else contextlib.nullcontext()

@@ -18,34 +18,12 @@ from ..record.sheets import counting, doubtful_days
 from ..record.sheets.counting import Count, Difference, Outcome
 from ..record.sheets.options import read_source
 from ..record.sheets.values import COUNTS
-from .groups import Group
-from .sheet_options import of_one_kind, yes_option
-from .words import DAY, SHEET, WORD, pass_context
 
-count_group = Group(
-    "count",
-    short_help="makes the sheet of a stock count, and records its differences",
-    help="Makes the sheet of a stock count, and records what was counted otherwise than it is on hand.\n\n"
-    "Example: hilpoven count sheet ACME --xlsx > count.xlsx",
-)
 MOST_LEFT = 5  # sublots that are named of those that a sheet leaves out
 
 
-@count_group.command()
-@click.argument("owner", metavar="[OWNER]", required=False, type=WORD)
-@click.option("--material", metavar="MATERIAL", type=WORD, help="Only this material.")
-@click.option("--day", metavar="DAY", type=DAY, help="The day of the count; today, as YYMMDD, by default.")
-@click.option("--xlsx", is_flag=True, help="Writes a workbook, all of whose cells are texts, instead of CSV.")
-@pass_context
 def sheet(context: Context, owner: str | None, material: str | None, day: int | None, xlsx: bool) -> None:
-    """Writes the sheet of a stock count to standard output: a row for each sublot that holds something, of OWNER or of
-    all.
-
-    Write what you counted into the column counted, and into reason why it isn't what is on hand. Leave the other
-    columns as they are. A row with a blank count isn't counted.
-
-    Example: hilpoven count sheet ACME > count.csv
-    """
+    """`hilpoven count sheet`."""
     if xlsx and sys.stdout.isatty():
         raise Failure("--xlsx is for a file, and standard output is a terminal", WRONG_USE, "`> count.xlsx` takes it")
     when = day_of(today(context.settings.time_zone)) if day is None else day
@@ -58,21 +36,8 @@ def sheet(context: Context, owner: str | None, material: str | None, day: int | 
     click.echo(counting.as_workbook(rows) if xlsx else counting.as_csv(rows), nl=False)
 
 
-@count_group.command("import")
-@click.argument("counted_sheet", metavar="SHEET", type=SHEET)
-@of_one_kind
-@yes_option
-@click.option("--check", is_flag=True, help="Only shows the differences, and records nothing.")
-@pass_context
 def import_command(context: Context, counted_sheet: str, check: bool, are_meant: bool, **given: Any) -> None:
-    """Records the differences of a counted sheet, each with its reason. `-` is standard input.
-
-    What is missing is scrapped. What was found is received into a new lot, LOT-C, which is linked to LOT. A row is
-    refused if its sublot has moved since the sheet was made. A difference is recorded once, however often the sheet is
-    imported.
-
-    Example: hilpoven count import count.xlsx --check
-    """
+    """`hilpoven count import`."""
     office = context.office()
     given["ignored"] = (*given["ignored"], *counting.BESIDE)
     source, sha256 = read_source(counted_sheet, given, COUNTS)

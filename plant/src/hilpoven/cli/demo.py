@@ -24,31 +24,14 @@ from ..core.days import today
 from . import hilpoven
 from .giving import give
 from .caller import person
-from .words import pass_context
 
 SETTINGS = "hilpoven.toml"
 EXAMPLES = ("recall HOUSE W-1102", "list lots --open", "board > board.html")
 QUICK = "/out/quick/toll"  # how the path of a program ends of which nothing is proved
 
 
-@click.command(short_help="shows a sample week on the owner's page")
-@click.option(
-    "--port",
-    type=click.IntRange(0, 65_535),
-    default=0,
-    metavar="PORT",
-    help="The page's port on 127.0.0.1; a free one by default.",
-)
-@pass_context
 def demo(context: Context, port: int) -> None:
-    """Shows a sample week of three owners on the owner's page, to this machine alone.
-
-    It makes an office in a temporary folder, lives through the five working days up to today, prints the page's address
-    and each owner's key, and answers until Ctrl-C. Then the folder is removed. It doesn't touch the office of the
-    settings, and has no TLS, limits or logs: owners need the site that `hilpoven setup` makes.
-
-    Example: hilpoven demo --port 8080
-    """
+    """`hilpoven demo`."""
     person().require_operator("demo", "it needs nobody's rights: hilpoven demo")
     program = program_of(context.settings)
     try:

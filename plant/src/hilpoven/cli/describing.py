@@ -1,7 +1,6 @@
 """`hilpoven describe`: what certificates say of owners, materials, tests and lots, which `toll` doesn't have."""
 from typing import Any
 
-import click
 
 from ..core.context import Context
 from .output import tell
@@ -13,20 +12,8 @@ from ..report.lists.overviews import Overview
 from ..record import describing, making
 from ..model.notes.facts import LotFacts, MaterialFacts, OwnerFacts, RecipeFacts, TestFacts, joined, percent_of
 from ..model.notes.note import Note
-from .groups import Group
 from .noting import record
 from .showing import print_overview
-from .words import DATE, FILLED_TEXT, NAME, PERCENT, WORD, LotCommand, decimals_option, pass_context
-
-describe_group = Group(
-    "describe",
-    short_help="notes full names, units, decimals, methods, expiry days and allowances",
-    help="Notes what certificates say and toll doesn't have: full names, addresses, units, decimals, methods, and the "
-    "days on which a lot was made and expires; and what a contract allows to be lost. Without options it shows what is "
-    "noted.\n\n"
-    "Example: hilpoven describe test ACME BRINE PH",
-)
-name_option = click.option("--name", metavar="TEXT", type=FILLED_TEXT, help="Its full name.")
 
 
 def give(desk: making.Desk, words: tuple[str, ...], note: Note, given: dict[str, Any], overview: Overview) -> None:
@@ -49,16 +36,8 @@ def noted_overview(title: str, **facts: Value) -> Overview:
     return Overview(title, known, remarks=[] if known else ["Nothing is noted of it."])
 
 
-@describe_group.command()
-@click.argument("owner", metavar="OWNER", type=WORD)
-@name_option
-@click.option("--address", metavar="TEXT", type=FILLED_TEXT, help="Where it is, in one line.")
-@pass_context
 def owner(context: Context, owner: str, **given: str | None) -> None:
-    """Notes the full name and the address of an owner. HOUSE is the plant.
-
-    Example: hilpoven describe owner ACME --name 'Acme Foods Ltd' --address '1 Dock Road, Hull'
-    """
+    """`hilpoven describe owner`."""
     with making.desk(context) as desk:
         require_owner(desk.base, owner)
         facts = desk.register.owners.get(owner) or OwnerFacts(owner)
@@ -66,16 +45,8 @@ def owner(context: Context, owner: str, **given: str | None) -> None:
         give(desk, ("owner", owner), OwnerFacts(owner, **members_of(given)), given, overview)
 
 
-@describe_group.command()
-@click.argument("owner", metavar="OWNER", type=WORD)
-@click.argument("material", metavar="MATERIAL", type=WORD)
-@name_option
-@pass_context
 def material(context: Context, owner: str, material: str, **given: str | None) -> None:
-    """Notes the full name of a material.
-
-    Example: hilpoven describe material ACME BRINE --name 'Brine, 10 %'
-    """
+    """`hilpoven describe material`."""
     with making.desk(context) as desk:
         describing.require_material(desk.base, owner, material)
         facts = desk.register.materials.get((owner, material)) or MaterialFacts(owner, material)
@@ -83,20 +54,8 @@ def material(context: Context, owner: str, material: str, **given: str | None) -
         give(desk, ("material", owner, material), MaterialFacts(owner, material, **members_of(given)), given, overview)
 
 
-@describe_group.command()
-@click.argument("owner", metavar="OWNER", type=WORD)
-@click.argument("recipe", metavar="RECIPE", type=WORD)
-@click.option("--allowance", metavar="PERCENT", type=PERCENT, help="How much may be lost: 0.1 to 100, such as 1.5.")
-@click.option(
-    "--product", metavar="MATERIAL", type=NAME, help="Its main product; by default that of which it makes most."
-)
-@pass_context
 def recipe(context: Context, owner: str, recipe: str, **given: Any) -> None:
-    """Notes how much of a recipe's materials may be lost by the contract, in percent of what is required for what was
-    made; and which of its products is the main one, by which that is reckoned. `papers settlement` tells what is lost.
-
-    Example: hilpoven describe recipe ACME BRINE-10 --allowance 1.5
-    """
+    """`hilpoven describe recipe`."""
     with making.desk(context) as desk:
         describing.require_recipe(desk.base, owner, recipe)
         if given["product"]:
@@ -107,24 +66,8 @@ def recipe(context: Context, owner: str, recipe: str, **given: Any) -> None:
         give(desk, ("recipe", owner, recipe), RecipeFacts(owner, recipe, **members_of(given)), given, overview)
 
 
-@describe_group.command()
-@click.argument("owner", metavar="OWNER", type=WORD)
-@click.argument("material", metavar="MATERIAL", type=WORD)
-@click.argument("test", metavar="TEST", type=WORD)
-@name_option
-@click.option("--unit", metavar="TEXT", type=FILLED_TEXT, help="The unit of its values.")
-@click.option("--method", metavar="TEXT", type=FILLED_TEXT, help="The method by which it is measured.")
-@click.option("--results-too", is_flag=True, help="The results that are there have these --decimals too: 702 is 7.02.")
-@pass_context
 def test(context: Context, owner: str, material: str, test: str, results_too: bool, **given: Any) -> None:
-    """Notes the full name of a test of a material, its unit, its method, and how many decimals its values have.
-
-    With decimals, `result` takes 7.02, and limits and results are shown so. toll has whole numbers: it gets 702. Once
-    decimals are noted they stay, as values would be read differently. A test that has results gets them only if these
-    were recorded so, which --results-too says.
-
-    Example: hilpoven describe test ACME BRINE PH --unit pH --decimals 2 --method 'ISO 10523'
-    """
+    """`hilpoven describe test`."""
     names = owner, material, test
     with making.desk(context) as desk:
         limits = describing.limits_of(desk.base, *names)
@@ -143,23 +86,8 @@ def test(context: Context, owner: str, material: str, test: str, results_too: bo
         tell(f"The limits are read as {text}{also}; toll has {limits_text(limits)}.")
 
 
-test.params.append(decimals_option())
-
-
-@describe_group.command(cls=LotCommand)
-@click.argument("owner", metavar="OWNER", type=WORD)
-@click.argument("lot", metavar="LOT", type=WORD)
-@click.option("--made", metavar="DAY", type=DATE, help="The day on which it was made, YYMMDD.")
-@click.option("--expires", metavar="DAY", type=DATE, help="The last day on which it may be used.")
-@click.option("--retest", metavar="DAY", type=DATE, help="The last day on which it may be used without another test.")
-@pass_context
 def lot(context: Context, owner: str, lot: str, **given: int | None) -> None:
-    """Notes the days on which a lot was made, expires, and is to be tested again.
-
-    `ship` and `actual` warn of a lot that is past its day; by the settings they refuse it.
-
-    Example: hilpoven describe lot ACME B-1 --made 261127 --expires 271127
-    """
+    """`hilpoven describe lot`."""
     with making.desk(context) as desk:
         desk.require_lot(LotId(owner, lot))
         note = LotFacts(owner, lot, **members_of(given))

@@ -15,28 +15,11 @@ from ..model.register import drills
 from ..record import making
 from ..model.register.drills import Drill
 from ..model.notes.notes import DrillEnd, DrillStart, Withdrawal
-from .groups import Group
-from .papers import give, paper, require_place
-from .words import TEXT, WORD, pass_context
-
-drill_group = Group(
-    "drill",
-    short_help="practises a recall against the clock, and makes the paper of it",
-    help="Practises a recall against the clock, and makes the paper of it.\n\nExample: hilpoven drill start ACME B-1",
-)
+from .papers import give, require_place
 
 
-@drill_group.command()
-@click.argument("names", metavar="[OWNER] LOT", type=WORD, nargs=-1, required=True)
-@pass_context
 def start(context: Context, names: tuple[str, ...]) -> None:
-    """Starts the clock: find all that became of LOT, as if it were bad. OWNER may be left out where one owner alone has
-    a lot of this name.
-
-    One drill is under way at a time; `status` shows it. Nothing of the office is changed by it.
-
-    Example: hilpoven drill start ACME B-1
-    """
+    """`hilpoven drill start`."""
     names = tuple(scanned.unfolded("drill start", ["OWNER", "LOT"], names))
     if len(names) > 2:
         raise Failure("drill start: OWNER and LOT are all", WRONG_USE, "such as: hilpoven drill start ACME B-1")
@@ -91,19 +74,8 @@ def require_none(drill: Drill | None) -> None:
         )
 
 
-@drill_group.command()
-@click.option("--cancel", is_flag=True, help="It was none: no paper is made.")
-@click.option("--reason", metavar="TEXT", type=TEXT, default="", help="Why it was none; with --cancel.")
-@paper
-@pass_context
 def end(context: Context, cancel: bool, reason: str, folder: str | None, tar: bool, no_pdf: bool) -> None:
-    """Stops the clock, and makes the drill's paper, as `papers` makes others.
-
-    It says how long the drill took, which lots were found, the mass balance of each in percent, who has what was
-    shipped and who did what meanwhile. It is for the plant alone.
-
-    Example: hilpoven drill end drill
-    """
+    """`hilpoven drill end`."""
     if cancel and (folder or tar) or reason and not cancel:
         raise Failure("drill end: --cancel makes no paper, and --reason goes with --cancel", WRONG_USE)
     if not cancel:
@@ -124,16 +96,8 @@ def end(context: Context, cancel: bool, reason: str, folder: str | None, tar: bo
         give_paper(context, drill, folder, tar, no_pdf)
 
 
-@drill_group.command("paper")
-@click.option("--of", "name", metavar="NOTE", type=WORD, default="", help="The note with which it began.")
-@paper
-@pass_context
 def paper_command(context: Context, name: str, folder: str | None, tar: bool, no_pdf: bool) -> None:
-    """Makes the paper of a drill that ended once more: that of the last one, or of one that `note list` names. Its
-    amounts are those of now.
-
-    Example: hilpoven drill paper drill
-    """
+    """`hilpoven drill paper`."""
     require_paper(folder, tar, no_pdf)
     with making.desk(context, hands_out=True) as desk:
         drill = ended_drill(drills.drills_in(desk.statuses), name)

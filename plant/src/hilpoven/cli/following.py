@@ -11,8 +11,6 @@ from ..core import paths, rights, scratch, server, settings as site
 from ..core.context import Context
 from ..core.failure import REFUSED, WRONG_USE, Failure, printable
 from .output import tell, tell_line
-from .groups import Group
-from .words import PATH, Operators, pass_context
 
 if TYPE_CHECKING:
     from ..care.standby.follower import Follower
@@ -36,28 +34,8 @@ def made_folder(folder: str) -> str:
     return paths.private(folder)
 
 
-@click.group("follow", cls=Group, invoke_without_command=True)
-@click.option(
-    "--to",
-    type=Operators(click.STRING),
-    metavar="FOLDER|HOST:FOLDER",
-    help="Where pieces go, instead of FOLLOW or the settings' [follow].",
-)
-@click.option("--check", "is_check", is_flag=True, help="Looks only whether another machine was promoted since.")
-@click.pass_context
-def follow_group(ctx: click.Context, to: str | None, is_check: bool) -> None:
-    """Keeps a standby that is seconds behind, until it is ended.
-
-    It looks at the office ten times a second, while the server runs, and puts what is new into a piece each second:
-    changed pages, and lines of the journal. Pieces go into a folder, or by rsync over ssh into one of another machine.
-    A snapshot begins each day. If the disk is full or the network is lost, the office serves on, and pieces go on when
-    that ends. Only root and the office's user follow; the unit toll-follow@NAME does it.
-
-    Example: hilpoven follow --to standby:/var/lib/toll/NAME/follow
-    """
-    if ctx.invoked_subcommand is not None:
-        return
-    context: Context = ctx.obj
+def follow_group(context: Context, to: str | None, is_check: bool) -> None:
+    """`hilpoven follow`."""
     context.person.require_operator("follow")
     if to:
         target = site.target_of(os.getcwd(), to)
@@ -123,18 +101,8 @@ def say(line: str) -> None:
     tell_line(printable(line))
 
 
-@follow_group.command("status")
-@click.argument("folder", metavar="[FOLDER]", required=False, type=PATH)
-@pass_context
 def follow_status(context: Context, folder: str | None) -> None:
-    """Shows how many seconds and commands the standby is behind. FOLDER is that of the settings by default.
-
-    On the office's machine it tells what isn't in a piece or not sent yet, on the standby how long the follower was
-    silent. It exits with 1 if that is more than `behind` of the settings, if the follower met a fault, or if another
-    machine was promoted since.
-
-    Example: hilpoven follow status
-    """
+    """`hilpoven follow status`."""
     from ..core.days import zone_of
     from ..core import timeline
     from ..care.standby.lag import lag_of
@@ -148,17 +116,8 @@ def follow_status(context: Context, folder: str | None) -> None:
     sys.exit(REFUSED if lag.faults or lag.seconds > context.settings.follow.behind else 0)
 
 
-@follow_group.command("verify")
-@click.argument("folder", metavar="[FOLDER]", required=False, type=PATH)
-@pass_context
 def follow_verify(context: Context, folder: str | None) -> None:
-    """Checks all snapshots and pieces of a folder, that of the settings by default.
-
-    Each has to be there once, whole, in its place, and to follow the one before it. It names each that isn't, and exits
-    with 1 then.
-
-    Example: hilpoven follow verify
-    """
+    """`hilpoven follow verify`."""
     from ..care.standby import chain
 
     wrong = False
@@ -176,24 +135,8 @@ def follow_verify(context: Context, folder: str | None) -> None:
     sys.exit(REFUSED if wrong else 0)
 
 
-@click.command()
-@click.argument("folder", metavar="[FOLDER]", required=False, type=PATH)
-@click.option("--until", metavar="PIECE", type=click.IntRange(0), help="Uses the pieces up to this one alone.")
-@click.option("--check", "is_check", is_flag=True, help="Makes and checks the office, and leaves nothing of it.")
-@pass_context
 def promote(context: Context, folder: str | None, until: int | None, is_check: bool) -> None:
-    """Makes the office of the pieces in a folder, on the standby.
-
-    It looks at all pieces, makes the file and its journal of the newest snapshot and the pieces behind it, and checks
-    the file with SQLite, toll and the sums of the movements. What was in its place is moved aside. Then a new timeline
-    begins: the old machine's office is refused when it comes back and asks the standby. If a piece is damaged or
-    missing, nothing is done, and it says up to which piece --until can go. The journal keeps its lines behind that
-    piece, and keys that were changed behind it aren't right again.
-
-    Under sudo it is for the groups of the role `restore`, and without a line of that role for nobody.
-
-    Example: hilpoven promote
-    """
+    """`hilpoven promote`."""
     from ..care import lost
     from ..care.standby import promoting
 

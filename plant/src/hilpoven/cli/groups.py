@@ -1,53 +1,54 @@
 """Groups of subcommands, each made when it is called, which tell the nearest names of one that isn't there."""
 from collections import UserDict
 from collections.abc import Callable
+from dataclasses import dataclass
+from functools import partial
 from importlib import import_module
-from typing import cast
+from typing import Any, cast
 
 import click
 
 from ..core.failure import WRONG_USE, Failure
+from ..core.grammar import LINES
 from . import roles
+from .table import ENTRIES, HIDDEN, Entry
 
-Makers = dict[str, Callable[[], click.Command]]
 
+@dataclass(frozen=True)
+class Maker:
+    """How a subcommand is made, the section in which lists have it, and what they say of it: that of its entry of the
+    table, if it has one."""
 
-def imported(module: str, name: str) -> Callable[[], click.Command]:
-    """How a command of a module beside this one is imported."""
+    make: Callable[[], click.Command]
+    section: str = ""
+    text: str = ""
+    entry: Entry | None = None
 
-    def make() -> click.Command:
-        command: click.Command = getattr(import_module(f".{module}", __package__), name)
-        return command
-
-    return make
+    @property
+    def about(self) -> str:
+        """What lists say of it."""
+        return self.entry.about if self.entry else self.text
 
 
 class Subcommands(UserDict[str, click.Command]):
     """Subcommands by their names, of which each is made when it is asked for."""
 
-    def __init__(self, makers: Makers) -> None:
+    def __init__(self, makers: dict[str, Maker]) -> None:
         super().__init__({name: click.Command(name) for name in makers})
-        self.makers = makers
+        self.left = dict(makers)
 
     def __getitem__(self, name: str) -> click.Command:
-        if name in self.makers:
-            self.data[name] = self.makers.pop(name)()
+        if maker := self.left.pop(name, None):
+            self.data[name] = maker.make()
         return self.data[name]
-
-
-def lazily(makers: Makers) -> dict[str, click.Command]:
-    """Subcommands that are made when they are asked for."""
-    return cast(dict[str, click.Command], Subcommands(makers))
 
 
 class Group(click.Group):
     """Subcommands, in sections where it has them."""
 
-    others = "Commands"
-
-    def sections(self) -> dict[str, list[str]]:
-        """The sections by their titles, but for that of the others."""
-        return {}
+    def __init__(self, name: str, makers: dict[str, Maker], **options: Any) -> None:
+        self.makers = makers
+        super().__init__(name, commands=cast(dict[str, click.Command], Subcommands(makers)), **options)
 
     def resolve_command(
         self, ctx: click.Context, args: list[str]
@@ -72,9 +73,28 @@ class Group(click.Group):
 
     def format_commands(self, ctx: click.Context, formatter: click.HelpFormatter) -> None:
         """Writes the subcommands in their sections, with what each is for."""
-        sections = self.sections()
-        rest = [name for name in self.commands if all(name not in names for names in sections.values())]
-        for title, names in {**sections, self.others: rest}.items():
-            with formatter.section(title):
-                shown = [name for name in names if not self.commands[name].hidden]
-                formatter.write_dl([(name, self.commands[name].get_short_help_str(160)) for name in shown])
+        for title in dict.fromkeys(maker.section for maker in self.makers.values()):
+            with formatter.section(title or "Commands"):
+                rows = [(name, maker.about) for name, maker in self.makers.items() if maker.section == title]
+                formatter.write_dl([(name, about) for name, about in rows if about != HIDDEN])
+
+
+def makers_of(*group: str) -> dict[str, Maker]:
+    """How the table's subcommands of a group are made, or those that are in none."""
+    entries = [entry for entry in ENTRIES if entry.group == list(group) and (group or entry.name not in LINES)]
+    return {entry.name: Maker(partial(made, entry), "" if group else entry.section, entry=entry) for entry in entries}
+
+
+def made(entry: Entry) -> click.Command:
+    """The subcommand of an entry: a group, of which a module may have the subcommands, or one that `building` makes."""
+    about = {"help": entry.help, "short_help": entry.about}
+    if entry.is_made:
+        return Group(entry.name, getattr(import_module(f".{entry.module}", __package__), entry.function)(), **about)
+    makers = makers_of(*entry.group, entry.name)
+    if makers and not entry.module:
+        return Group(entry.name, makers, **about)
+    from . import building
+
+    if not makers:
+        return building.command_of(entry)
+    return Group(entry.name, makers, invoke_without_command=True, **about, **building.parts_of(entry))

@@ -17,26 +17,10 @@ from ..record.sheets.importing import Import
 from ..record.sheets.options import read_source
 from ..record.sheets.noting import decimals_of, notes_beside
 from ..record.sheets.values import RESULTS
-from .sheet_options import with_options, yes_option
-from .words import SHEET, pass_context
 
 
-@click.command("import")
-@click.argument("path", metavar="SHEET", type=SHEET)
-@with_options
-@yes_option
-@click.option("--check", is_flag=True, help="Checks the sheet and records nothing.")
-@pass_context
 def import_command(context: Context, path: str, check: bool, are_meant: bool, **given: Any) -> None:
-    """Records a sheet of actuals, receipts, shipments or results. SHEET is text with commas, semicolons or tabs, an
-    .xlsx or an .ods; `-` is standard input.
-
-    The first row holds the column names, in any order. The command changes no value. It refuses a row with a value
-    that is invalid or that the spreadsheet may have changed, reports its row and column, and records the other rows.
-    What is already recorded counts once, so correct the sheet and import it again. toll takes a large sheet in parts.
-
-    Example: hilpoven import monday.xlsx
-    """
+    """`hilpoven import`."""
     office = context.office()
     if sys.stderr.isatty():
         click.echo(printable(f"reading {path}"), err=True)

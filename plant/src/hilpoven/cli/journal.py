@@ -15,8 +15,6 @@ from ..core.journal import query
 from ..report.history import COLUMNS, JournalEntry
 from ..core.exports import as_csv, as_json
 from ..core.days import format_moment, moment_in
-from .groups import Group
-from .words import PATH, pass_context
 
 
 def of_settings(context: Context, with_questions: bool) -> list[JournalEntry]:
@@ -46,30 +44,8 @@ def moment(text: str | None, zone: str) -> str | None:
     return time.isoformat(timespec="milliseconds").replace("+00:00", "Z")
 
 
-@click.group("journal", cls=Group, invoke_without_command=True)
-@click.option(
-    "--since",
-    metavar="TIME",
-    help="From this day or time on, such as 2026-11-27T14:30, in the time zone of the settings.",
-)
-@click.option("--until", metavar="TIME", help="Before this day or time.")
-@click.option("--who", "whom", metavar="NAME", help="Only this login or owner.")
-@click.option("--word", metavar="WORD", help="Only entries with this word, such as a lot's name.")
-@click.option(
-    "--site-log",
-    "site_logs",
-    metavar="FILE",
-    multiple=True,
-    type=PATH,
-    help="The site's log, instead of those in the settings.",
-)
-@click.option("--no-site", is_flag=True, help="Only the plant's commands.")
-@click.option("--questions", is_flag=True, help="Also the owners' requests that change nothing.")
-@click.option("--csv", "form", flag_value="csv", help="As CSV, for a spreadsheet.")
-@click.option("--json", "form", flag_value="json", help="As JSON, for a program.")
-@click.pass_context
 def journal_group(
-    ctx: click.Context,
+    context: Context,
     since: str | None,
     until: str | None,
     whom: str | None,
@@ -79,13 +55,7 @@ def journal_group(
     questions: bool,
     form: str | None,
 ) -> None:
-    """Shows who did what and when: the plant's commands and the owners' requests, ordered by time.
-
-    Example: hilpoven journal --since 2026-11-27 --word B-1
-    """
-    if ctx.invoked_subcommand:
-        return
-    context: Context = ctx.obj
+    """`hilpoven journal`."""
     entries = history.of_plant(context.journal().path, context.file) + history.of_owners(list(site_logs), questions)
     if not site_logs and not no_site:
         entries += of_settings(context, questions)
@@ -119,24 +89,8 @@ def head_of(text: str) -> tuple[int, str]:
     return int(match[1]), match[2]
 
 
-@journal_group.command()
-@click.option(
-    "--head",
-    "heads",
-    metavar="'LINES HASH'",
-    multiple=True,
-    help="What `journal head` printed earlier, kept elsewhere.",
-)
-@pass_context
 def verify(context: Context, heads: tuple[str, ...]) -> None:
-    """Checks whether a line of the journal was changed, is missing, cut, dated before the one before it, or about
-    another file.
-
-    Only a head that you kept elsewhere shows that lines are missing at the end, or that the whole journal was
-    rewritten.
-
-    Example: hilpoven journal verify --head "812 3f0a.."
-    """
+    """`hilpoven journal verify`."""
     checked = query.check(context.journal().path, dict(map(head_of, heads)), context.file)
     for finding in [*checked.wrong, *checked.notes]:
         click.echo(finding)
@@ -149,12 +103,7 @@ def verify(context: Context, heads: tuple[str, ...]) -> None:
     sys.exit(REFUSED if checked.wrong else 0)
 
 
-@journal_group.command()
-@pass_context
 def head(context: Context) -> None:
-    """Prints the number of lines and the hash of the last one. Keep it where nobody on this machine can change it.
-
-    Example: hilpoven journal head
-    """
+    """`hilpoven journal head`."""
     checked = query.check(context.journal().path)
     click.echo(f"{checked.lines} {checked.head}")

@@ -19,28 +19,13 @@ from ..record.recorders import recorders
 from ..model.register.store import Register
 from ..model.register.standing import register_of
 from . import answers, roles
-from .words import DAY, FILLED_TEXT, WORD, LotCommand, pass_context
 
 RESULTS = {Signed: quality.LIMIT, Held: quality.LIMIT - 1}  # of the plant's own test
 WORDS = {Signed: "sign", Held: "hold"}  # the commands
-day_option = click.option("--day", metavar="DAY", type=DAY, help="The day of it; today, as YYMMDD, by default.")
 
 
-@click.command(cls=LotCommand)
-@click.argument("owner", metavar="OWNER", type=WORD)
-@click.argument("lot", metavar="LOT", type=WORD)
-@click.option("--reason", metavar="TEXT", type=FILLED_TEXT, help="What else there is to say.")
-@day_option
-@pass_context
 def sign(context: Context, owner: str, lot: str, reason: str | None, day: int | None) -> None:
-    """Signs a lot for the plant, so that it may be released and go. It needs each of the lot's own tests within its
-    limits, and a person who recorded none of the lot's results and movements.
-
-    It is the result 1 of the test that the settings name below [quality]. A lot whose material hasn't this test is
-    signed by a note alone.
-
-    Example: hilpoven sign ACME B-1
-    """
+    """`hilpoven sign`."""
     note = Signed(owner, lot, day_given(context, day), reason or "")
     with desk_alone(context, note) as desk:
         asked = require_lot(desk.base, LotId(owner, lot))
@@ -57,20 +42,8 @@ def sign(context: Context, owner: str, lot: str, reason: str | None, day: int | 
         report(context, recorded)
 
 
-@click.command(cls=LotCommand)
-@click.argument("owner", metavar="OWNER", type=WORD)
-@click.argument("lot", metavar="LOT", type=WORD)
-@click.option("--reason", metavar="TEXT", type=FILLED_TEXT, required=True, help="Why it stays.")
-@day_option
-@pass_context
 def hold(context: Context, owner: str, lot: str, reason: str, day: int | None) -> None:
-    """Holds a lot, released or not, so that none of it is shipped or consumed until it is signed and released again.
-
-    It is the result 0 of the test that the settings name below [quality], so toll itself refuses what would take it. A
-    lot whose material hasn't this test is held by a note alone: then only hilpoven refuses to ship and to consume it.
-
-    Example: hilpoven hold ACME B-1 --reason 'metal in drum 7'
-    """
+    """`hilpoven hold`."""
     note = Held(owner, lot, day_given(context, day), reason)
     with desk_alone(context, note) as desk:
         recorded = record(context, desk, require_lot(desk.base, LotId(owner, lot)), note)

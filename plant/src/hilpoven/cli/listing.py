@@ -12,7 +12,7 @@ from ..core.forms import listed
 from ..core.table import Row
 from ..model.schema import Kind
 from ..report.lists.tables import FILTERS, LISTINGS, Listing
-from .groups import Group, lazily
+from .groups import Maker
 from .words import DAY, WORD, OneOf, pass_context
 
 TYPES = {"kind": OneOf([kind.word for kind in Kind]), "since": DAY}  # of options whose values are no names
@@ -120,9 +120,6 @@ def read(context: Context, name: str, asked: dict[str, Any], only_open: bool) ->
         return Listed(*NOTED[listing.noted](columns, rows, register_of(context, base), base), [])
 
 
-list_group = Group(
-    "list",
-    short_help="lists owners, units, lots and everything else",
-    help="Lists owners, units, lots and everything else.\n\nExample: hilpoven list lots --owner ACME --open",
-    commands=lazily({name: partial(list_command, name, listing) for name, listing in LISTINGS.items()}),
-)
+def makers() -> dict[str, Maker]:
+    """How the subcommand of each table is made."""
+    return {name: Maker(partial(list_command, name, listing), "", listing.about) for name, listing in LISTINGS.items()}

@@ -19,8 +19,6 @@ from ..model.register.quality import LIMIT
 from ..model.register.store import Register
 from ..model.register.standing import register_of
 from . import value_notes
-from .groups import Group
-from .words import WORD, decimals_type, pass_context
 
 Test = tuple[str, str, str]  # its name and its limits, as they are typed
 
@@ -33,29 +31,6 @@ class Step(NamedTuple):
     decimals: int | None
 
 
-material_group = Group(
-    "material",
-    short_help="adds a material with all its tests",
-    help="Adds a material with all its tests.\n\n"
-    "Example: hilpoven material new ACME BRINE kg --test DENSITY 1100 1250",
-)
-
-
-@material_group.command()
-@click.argument("owner", metavar="OWNER", type=WORD)
-@click.argument("material", metavar="MATERIAL", type=WORD)
-@click.argument("measure", metavar="MEASURE", type=WORD)
-@click.option(
-    "--test", "tests", metavar="NAME LOW HIGH", type=(WORD, WORD, WORD), multiple=True, help="A test with its limits."
-)
-@click.option(
-    "--decimals",
-    metavar="NAME N",
-    type=(WORD, decimals_type()),
-    multiple=True,
-    help="How many decimals the values and the limits of a test have.",
-)
-@pass_context
 def new(
     context: Context,
     owner: str,
@@ -64,13 +39,7 @@ def new(
     tests: tuple[Test, ...],
     decimals: tuple[tuple[str, int], ...],
 ) -> None:
-    """Adds a material, its tests, and the test by which the plant signs and holds its lots, if the settings name one.
-
-    Each is a command of toll. What is there already with the same values is passed over, so the same words again finish
-    what was interrupted. No test is added to a material that has a lot.
-
-    Example: hilpoven material new ACME BRINE kg --test DENSITY 1100 1250 --test PH 6.50 8.50 --decimals PH 2
-    """
+    """`hilpoven material new`."""
     plants_test = context.settings.quality.test
     require_tests([name for name, _, _ in tests], [name for name, _ in decimals], plants_test)
     own = [(plants_test, str(LIMIT), str(LIMIT))] if plants_test else []

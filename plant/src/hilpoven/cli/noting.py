@@ -8,7 +8,7 @@ from ..core import scanned
 from ..record.asking import Beside
 from ..core.context import Context
 from ..core.failure import REFUSED, WRONG_USE, Failure
-from ..core.forms import BATCH, MOST_VALUE
+from ..core.forms import BATCH
 from ..core.grammar import LINES
 from ..model.nearest import nearest
 from ..core.exports import as_csv, as_json
@@ -24,18 +24,12 @@ from ..model.register.closings import closings_in
 from ..model.notes.notes import Corrects, Judgement, Link, Note, NotLinked, RowsLost, Settled, Why, Withdrawal
 from ..model.register.suspects import suspects
 from . import answers, day_checks, roles
-from .groups import Group
-from .lines import YES, YES_ABOUT
-from .words import DAY, FILLED_TEXT, TEXT, WORD, LotCommand, OneOf, pass_context
+from .lines import YES_ABOUT
 
 USE_ABOUT = f"{YES_ABOUT} Takes a lot that isn't released, and a closed batch, too."
 COLUMNS = ["note", "time", "who", "owner", "what", "stands"]
 OF_A_LINE = 1_000  # notes that a line of the journal gets
 MOST_TYPED = 1 << 20  # letters of keys on standard input
-why_option = click.option(
-    "--why", type=OneOf([why.value for why in Why]), required=True, help="Why the one contains some of the other."
-)
-reason_option = click.option("--reason", metavar="TEXT", type=TEXT, default="", help="What else there is to say.")
 
 
 def record(desk: making.Desk, words: list[str], note: Note) -> None:
@@ -51,15 +45,6 @@ def batch_number(word: str) -> int:
     return int(word)
 
 
-@click.command()
-@click.argument("owner", metavar="OWNER", type=WORD)
-@click.argument("typed", metavar="[LOT] OF-LOT", type=WORD, nargs=-1, required=True)
-@click.option("--batch", metavar="ORDER N", type=(WORD, WORD), help="All lots of this batch, in place of LOT.")
-@click.option("--of-owner", metavar="OWNER", type=WORD, help="Whose OF-LOT is: OWNER, as by default, or HOUSE.")
-@why_option
-@click.option("--amount", type=click.IntRange(1, MOST_VALUE), metavar="N", help="How much of OF-LOT, if it is known.")
-@reason_option
-@pass_context
 def link(
     context: Context,
     owner: str,
@@ -70,14 +55,7 @@ def link(
     amount: int | None,
     reason: str,
 ) -> None:
-    """Notes that LOT contains some of OF-LOT, where no actual says so: after rework, a return, an addition that the
-    recipe doesn't have, or a correction. Recalls and traces go by it.
-
-    LOT is OWNER's, and OF-LOT is OWNER's or HOUSE's. --batch ORDER N stands for all that the batch made and will make.
-    `note withdraw` takes it back.
-
-    Example: hilpoven link ACME B-2 B-1 --why rework
-    """
+    """`hilpoven link`."""
     owner, *lots = scanned.unfolded("link", ["OWNER"] if batch else ["OWNER", "LOT"], [owner, *typed])
     if len(lots) != (1 if batch else 2):
         wanted = "OF-LOT alone stands behind OWNER with --batch" if batch else "LOT and OF-LOT stand behind OWNER"
@@ -99,21 +77,6 @@ def words_of(note: Link) -> list[str]:
     return words + (["--reason", note.reason] if note.reason else [])
 
 
-@click.command(cls=LotCommand)
-@click.argument("owner", metavar="OWNER", type=WORD)
-@click.argument("order", metavar="ORDER", type=WORD)
-@click.argument("batch", metavar="BATCH", type=WORD)
-@click.argument("of_owner", metavar="OF-OWNER", type=WORD)
-@click.argument("of_lot", metavar="OF-LOT", type=WORD)
-@click.argument("sublot", metavar="SUBLOT", type=WORD)
-@click.argument("amount", metavar="AMOUNT", type=WORD)
-@click.argument("day", metavar="DAY", type=DAY)
-@click.option(
-    "--key", metavar="KEY", type=WORD, help="The key of the scrap, instead of one that is made of the values."
-)
-@reason_option
-@click.option(f"--{YES}", "is_meant", is_flag=True, help=USE_ABOUT)
-@pass_context
 def use(
     context: Context,
     owner: str,
@@ -128,16 +91,7 @@ def use(
     reason: str,
     is_meant: bool,
 ) -> None:
-    """Records what a batch used besides its recipe: scraps it from SUBLOT, and notes that the batch's lots contain some
-    of OF-LOT.
-
-    OF-LOT is OWNER's or HOUSE's. If an actual can record it, use `actual` instead. The same words again are `repeated`;
-    a second use of the same amount on the same day takes a --key of its own. It says so if the lot isn't released, is
-    rejected or failed a test, or if the batch is closed, and does nothing then without --yes. Of a lot that is held no
-    batch uses anything.
-
-    Example: hilpoven use ACME O-1 1 HOUSE AF-1 CAN1 1 261127
-    """
+    """`hilpoven use`."""
     number = batch_number(batch)
     values = [owner, order, str(number), of_owner, of_lot, sublot, as_number(amount), str(day)]
     key = key or f"{OF_USE}{hashlib.sha256(' '.join(values).encode()).hexdigest()[:10].upper()}"
@@ -157,22 +111,8 @@ def use(
     sys.exit(answers.run(context, LINES["scrap"], scrap, beside))
 
 
-note_group = Group(
-    "note",
-    help="Shows and withdraws what the plant noted.\n\nExample: hilpoven note list ACME",
-    short_help="shows and withdraws what the plant noted",
-)
-
-
-@note_group.command()
-@click.argument("name", metavar="NOTE", type=WORD)
-@click.option("--reason", metavar="TEXT", type=TEXT, required=True, help="Why it doesn't hold.")
-@pass_context
 def withdraw(context: Context, name: str, reason: str) -> None:
-    """Withdraws a note, and others that say the same. All of them stay in the journal; `note list` has the names.
-
-    Example: hilpoven note withdraw 0123456789abcdef --reason 'it was B-3'
-    """
+    """`hilpoven note withdraw`."""
     if not reason.strip():
         raise Failure("--reason is empty", WRONG_USE)
     with making.desk(context) as desk:
@@ -223,19 +163,8 @@ def require_last_closing(desk: making.Desk, note: Note, changed: Note) -> None:
         raise Failure(f"settlement {changed.number} isn't the last one of {changed.owner}: {last.number} is", REFUSED)
 
 
-@note_group.command("not-linked")
-@click.argument("owner", metavar="OWNER", type=WORD)
-@click.argument("keys", metavar="KEY ..", type=WORD, nargs=-1)
-@click.option("--until", metavar="DAY", type=DAY, help="All receipts until this day that `status` lists of OWNER.")
-@pass_context
 def not_linked(context: Context, owner: str, keys: tuple[str, ...], until: int | None) -> None:
-    """Notes that receipts contain no lot that was here before, so that `status` no longer lists them.
-
-    `-` in the place of the keys reads them from standard input, one in a line. Opening stock takes --until, the day on
-    which it came.
-
-    Example: hilpoven note not-linked ACME K2 K3
-    """
+    """`hilpoven note not-linked`."""
     if bool(keys) == (until is not None):
         raise Failure("note not-linked: either KEY .. or --until DAY", WRONG_USE)
     if keys == ("-",):
@@ -263,20 +192,8 @@ def record_each(desk: making.Desk, words: list[str], notes: list[NotLinked]) -> 
     click.echo(f"{counted(len(new), 'receipts')} noted, {len(notes) - len(new):,} noted already")
 
 
-@note_group.command("corrects")
-@click.argument("owner", metavar="OWNER", type=WORD)
-@click.argument("key", metavar="KEY", type=WORD)
-@click.argument("of_key", metavar="OF-KEY", type=WORD)
-@click.option("--of-owner", metavar="OWNER", type=WORD, help="Whose OF-KEY is: OWNER's, as by default, or another's.")
-@pass_context
 def corrects(context: Context, owner: str, key: str, of_key: str, of_owner: str | None) -> None:
-    """Notes that a receipt or a scrap is a correction, and of which movement: of the amount that OF-KEY recorded, which
-    was too small or too great. Settlements go by it.
-
-    Of a correction of which nothing is noted it follows from what became of its lot, if it can mean only one thing.
-
-    Example: hilpoven note corrects ACME K20 K12
-    """
+    """`hilpoven note corrects`."""
     note = Corrects(owner, key, of_owner or owner, of_key)
     with making.desk(context) as desk:
         making.require_correction(desk, note)
@@ -284,22 +201,8 @@ def corrects(context: Context, owner: str, key: str, of_key: str, of_owner: str 
         record(desk, ["note", "corrects", owner, key, of_key, *other], note)
 
 
-@note_group.command("movement")
-@click.argument("owner", metavar="OWNER", type=WORD)
-@click.argument("key", metavar="KEY", type=WORD)
-@click.option("--to", "recipient", metavar="PARTY", type=WORD, help="The customer that got a shipment.")
-@click.option(
-    "--from", "sender", metavar="PARTY", type=WORD, help="The supplier of a receipt; of a return the customer."
-)
-@click.option("--supplier-lot", metavar="TEXT", type=FILLED_TEXT, help="The supplier's name of the lot of a receipt.")
-@click.option("--document", metavar="TEXT", type=FILLED_TEXT, help="The document that went with it.")
-@pass_context
 def movement(context: Context, owner: str, key: str, **given: str | None) -> None:
-    """Notes what is known later of a receipt or a shipment: who sent or got it, and the document that went with it.
-    What isn't given stays as it was noted.
-
-    Example: hilpoven note movement ACME K7 --to NORD
-    """
+    """`hilpoven note movement`."""
     facts = facts_of(owner, key, {**given, "party": given["recipient"] or given["sender"]})
     if facts is None:
         raise Failure(
@@ -317,16 +220,8 @@ def movement(context: Context, owner: str, key: str, **given: str | None) -> Non
         record(desk, ["note", "movement", owner, key, *words], facts)
 
 
-@note_group.command("list")
-@click.argument("owner", metavar="[OWNER]", type=WORD, required=False)
-@click.option("--csv", "form", flag_value="csv", help="As CSV, for a spreadsheet.")
-@click.option("--json", "form", flag_value="json", help="As JSON, for a program.")
-@pass_context
 def list_command(context: Context, owner: str | None, form: str | None) -> None:
-    """Lists what the plant noted, of one owner or of all, in the order in which it was noted.
-
-    Example: hilpoven note list ACME
-    """
+    """`hilpoven note list`."""
     rows: list[Row] = []
     with making.desk(context) as desk:
         if owner:
@@ -346,20 +241,8 @@ def list_command(context: Context, owner: str | None, form: str | None) -> None:
         click.echo("no notes", err=True)
 
 
-register_group = Group(
-    "register",
-    help="Looks after the register of what the plant noted.\n\nExample: hilpoven register rebuild",
-    short_help="makes the register of notes anew",
-)
-
-
-@register_group.command()
-@pass_context
 def rebuild(context: Context) -> None:
-    """Makes the register anew from the journal, which has each note. Nothing is lost.
-
-    Example: hilpoven register rebuild
-    """
+    """`hilpoven register rebuild`."""
     office, journal = context.office(), context.journal()
     with journal.noted(office.file, ["register", "rebuild"]):
         count = len(file.rebuild(journal).notes)

@@ -2,7 +2,6 @@
 import sys
 from collections.abc import Sequence
 
-import click
 
 from .. import HOUSE
 from ..record import asking, on_behalf
@@ -14,24 +13,10 @@ from ..core.grammar import LINES, faults
 
 from . import roles
 from .lines import miscounted
-from .words import FILLED_TEXT, WORD, OneOf, pass_context
 
 
-@click.command("for")
-@click.argument("owner", metavar="OWNER", type=WORD)
-@click.argument("name", metavar="|".join(on_behalf.PATHS), type=OneOf(list(on_behalf.PATHS)))
-@click.argument("values", metavar="VALUE..", nargs=-1, type=WORD)
-@click.option("--by", "said_by", metavar="TEXT", type=FILLED_TEXT, required=True, help="Who asked for it, and how.")
-@pass_context
 def for_command(context: Context, owner: str, name: str, values: Sequence[str], said_by: str) -> None:
-    """Does what an owner asked for by mail or telephone: places or cancels an order, releases or rejects a lot.
-
-    The values and the roles are those of `order`, `cancel`, `release` and `reject`. It asks the office's server over
-    HTTP with the owner's key, which it reads from the file and shows to nobody; without a server it begins one for this
-    alone. toll can't tell it from the owner, so the journal records it with TEXT.
-
-    Example: hilpoven for ACME release B-1 --by 'Jane Doe, mail of 27 November'
-    """
+    """`hilpoven for`."""
     roles.require(context, name)
     line = LINES[name]
     owner, *values = scanned.unfolded(f"for OWNER {name}", ["OWNER", *line.values], [owner, *values])

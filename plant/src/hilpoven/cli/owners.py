@@ -12,8 +12,6 @@ from .output import pass_on, tell
 from ..core.forms import name_fault, secret_fault
 from ..care.keys import CHANGE, KEY_LETTERS, Key, change_key, random_key
 from ..core.office import Answer
-from .groups import Group
-from .words import pass_context
 
 MOST_READ = 4_096  # letters of standard input, of which a key is at most the first 32
 
@@ -55,28 +53,8 @@ def check_name(name: str) -> None:
         raise Failure(f"NAME: `{name}` {fault}", WRONG_USE)
 
 
-owner_group = Group(
-    "owner",
-    help="Adds an owner, or changes its key.\n\nExample: hilpoven owner add ACME --random",
-    short_help="adds an owner, or changes its key",
-)
-random_option = click.option(
-    "--random", "is_random", is_flag=True, help="Makes a key of 32 letters, prints it once, and reads nothing."
-)
-
-
-@owner_group.command()
-@click.argument("name", metavar="NAME")
-@random_option
-@pass_context
 def add(context: Context, name: str, is_random: bool) -> None:
-    """Adds an owner. It reads the key from standard input, one line, or makes one of 32 letters if nothing is there.
-
-    toll takes a key on its command line, where others may see it. So toll gets a throwaway key, which this command
-    then replaces by the owner's key.
-
-    Example: hilpoven owner add ACME < keyfile
-    """
+    """`hilpoven owner add`."""
     check_name(name)
     key = key_given(is_random)
     office, journal = context.office(), context.journal()
@@ -96,18 +74,8 @@ def add(context: Context, name: str, is_random: bool) -> None:
     sys.exit(answer.status)
 
 
-@owner_group.command("key")
-@click.argument("name", metavar="NAME")
-@random_option
-@pass_context
 def key_command(context: Context, name: str, is_random: bool) -> None:
-    """Changes an owner's key, if the old one leaked. It reads the key from standard input, one line, or makes one of
-    32 letters if nothing is there.
-
-    A running server uses the new key from the next request on. Backups keep the old key.
-
-    Example: hilpoven owner key ACME --random
-    """
+    """`hilpoven owner key`."""
     check_name(name)
     if name == HOUSE:
         raise Failure("HOUSE is the plant, and has no key", WRONG_USE)

@@ -5,7 +5,6 @@ import sys
 from collections.abc import Callable
 from typing import Any
 
-import click
 
 from ..core import forms
 from ..core.context import Context
@@ -18,26 +17,8 @@ from ..report.papers.copies import Source
 from ..report.papers.printing import Document
 from ..core.days import today
 from ..model.rows import BatchId, LotId
-from .groups import Group
 from .output import tell
 from .progress import say_done, steps
-from .words import DAY, MONTH, PATH, LotCommand, pass_context
-
-papers_group = Group(
-    "papers",
-    short_help="makes papers: recall, batch record, certificate, lot card, statement, settlement and others",
-    help="Makes the documents that the plant hands out, as pages, PDF and tables.\n\n"
-    "Example: hilpoven papers recall HOUSE W-101 recall",
-)
-
-
-def paper(make: Callable[..., Any]) -> Callable[..., Any]:
-    """The values that each paper takes: where it goes, and whether it is printed."""
-    make = click.option("--no-pdf", is_flag=True, help="Makes no PDF, which saves a second a page.")(make)
-    make = click.option("--tar", is_flag=True, help="Writes the documents to standard output, as a tar of a folder.")(
-        make
-    )
-    return click.argument("folder", metavar="[FOLDER]", required=False, type=PATH)(make)
 
 
 def check(**words: str) -> None:
@@ -70,58 +51,22 @@ def give(
     say_done(written)
 
 
-@papers_group.command(cls=LotCommand)
-@click.argument("owner", metavar="OWNER")
-@click.argument("lot", metavar="LOT")
-@paper
-@pass_context
 def recall(context: Context, owner: str, lot: str, **where: Any) -> None:
-    """Makes a recall: for the plant, and for each affected owner.
-
-    FOLDER is created completely or not at all. Its folder plant has everything, and its folder owners one folder for
-    each owner, with only that owner's lots. Each starts with what to do first; then where it lies, what left, where it
-    went, and each lot's balance.
-
-    Example: hilpoven papers recall HOUSE W-101 recall
-    """
+    """`hilpoven papers recall`."""
     check(owner=owner, lot=lot)
     give(context, f"recall-{owner}-{lot}", lambda source: recall_paper.documents(source, LotId(owner, lot)), **where)
 
 
-@papers_group.command()
-@click.argument("owner", metavar="OWNER")
-@click.argument("order", metavar="ORDER")
-@click.argument("number", metavar="BATCH")
-@paper
-@pass_context
 def batch(context: Context, owner: str, order: str, number: str, **where: Any) -> None:
-    """Makes a batch record for the owner: requirements, actual amounts, the lots consumed and produced with their
-    tests, and who did each step when, as the journal has it.
-
-    The record of an open batch is provisional.
-
-    Example: hilpoven papers batch ACME O-1 1 record
-    """
+    """`hilpoven papers batch`."""
     check(owner=owner, order=order)
     asked = BatchId(owner, order, number_of("BATCH", number, forms.BATCH))
     name = f"batch-{owner}-{order}-{asked.number}"
     give(context, name, lambda source: batch_record.documents(source, asked, context.journal()), **where)
 
 
-@papers_group.command(cls=LotCommand)
-@click.argument("owner", metavar="OWNER")
-@click.argument("lot", metavar="LOT")
-@click.option("--shipment", "key", metavar="KEY", default="", help="Names the amount, recipient and document of it.")
-@paper
-@pass_context
 def certificate(context: Context, owner: str, lot: str, key: str, **where: Any) -> None:
-    """Makes a certificate of analysis: each test with its limits, its latest result and whether it passes.
-
-    A lot without a result gets a certificate of release. If the lot isn't released, is held, or is past its day, the
-    page says so on top. With --shipment it is for the one who gets that shipment.
-
-    Example: hilpoven papers certificate ACME B-1 certificate
-    """
+    """`hilpoven papers certificate`."""
     check(owner=owner, lot=lot, **({"key": key} if key else {}))
     give(
         context,
@@ -133,19 +78,8 @@ def certificate(context: Context, owner: str, lot: str, key: str, **where: Any) 
     )
 
 
-@papers_group.command("delivery-note")
-@click.argument("owner", metavar="OWNER")
-@click.argument("key", metavar="KEY")
-@click.option("--with", "others", metavar="KEY", multiple=True, help="Another shipment that goes with it.")
-@paper
-@pass_context
 def delivery_note(context: Context, owner: str, key: str, others: tuple[str, ...], **where: Any) -> None:
-    """Makes the delivery note of a shipment, with the recipient and the document that the plant noted.
-
-    Shipments that go --with it have the same recipient and the same document.
-
-    Example: hilpoven papers delivery-note ACME K7 note --with K8
-    """
+    """`hilpoven papers delivery-note`."""
     for word in (key, *others):
         check(owner=owner, key=word)
     name = f"delivery-{owner}-{key}"
@@ -157,29 +91,10 @@ def delivery_note(context: Context, owner: str, key: str, others: tuple[str, ...
     )
 
 
-@papers_group.command("lot", cls=LotCommand)
-@click.argument("owner", metavar="OWNER")
-@click.argument("lot", metavar="LOT")
-@paper
-@pass_context
 def lot_command(context: Context, owner: str, lot: str, **where: Any) -> None:
-    """Makes a lot card: tests, sublots, balance and movements, with a picture of one step back and forward.
-
-    Example: hilpoven papers lot ACME B-1 card
-    """
+    """`hilpoven papers lot`."""
     check(owner=owner, lot=lot)
     give(context, f"lot-{owner}-{lot}", lambda source: lot_card.documents(source, LotId(owner, lot)), **where)
-
-
-def between(make: Callable[..., Any]) -> Callable[..., Any]:
-    """The values of each paper about an owner between two days."""
-    for option in (
-        click.option("--to", "last", metavar="DAY", type=DAY, required=True, help="The last day."),
-        click.option("--from", "first", metavar="DAY", type=DAY, required=True, help="The first day."),
-        click.argument("owner", metavar="OWNER"),
-    ):
-        make = option(make)
-    return make
 
 
 def require_order(first: int, last: int) -> None:
@@ -188,26 +103,10 @@ def require_order(first: int, last: int) -> None:
         raise Failure(f"--from: {first} is behind --to, {last}", WRONG_USE)
 
 
-@papers_group.command()
-@click.argument("owner", metavar="OWNER")
-@click.option("--from", "first", metavar="DAY", type=DAY, help="The first day.")
-@click.option("--to", "last", metavar="DAY", type=DAY, help="The last day.")
-@click.option("--month", metavar="MONTH", type=MONTH, help="A month instead, YYMM: as it was closed, or as it is.")
-@paper
-@pass_context
 def settlement(
     context: Context, owner: str, first: int | None, last: int | None, month: int | None, **where: Any
 ) -> None:
-    """Makes an owner's settlement: what its batches consumed and produced between two days, against what their recipes
-    require, with yield, loss, and what the contract allows (`describe recipe`).
-
-    A batch is settled once, on the last day of its actuals, when it is closed. Batches that go on are apart. Rework,
-    returns and corrections count once.
-
-    With --month it is the paper of a month that was closed (`settle`), always the same; or, before, what it would have.
-
-    Example: hilpoven papers settlement ACME --from 261101 --to 261130 settlement
-    """
+    """`hilpoven papers settlement`."""
     check(owner=owner)
     if month is not None and first is None and last is None:
         make = functools.partial(owners_months.documents, journal=context.journal(), owner=owner, month=month)
@@ -220,31 +119,16 @@ def settlement(
     give(context, f"settlement-{owner}-{first}-{last}", make, **where)
 
 
-@papers_group.command()
-@between
-@paper
-@pass_context
 def statement(context: Context, owner: str, first: int, last: int, **where: Any) -> None:
-    """Makes an owner's statement: receipts, uses, shipments and stock of each lot, between two days.
-
-    Example: hilpoven papers statement ACME --from 261101 --to 261130 statement
-    """
+    """`hilpoven papers statement`."""
     check(owner=owner)
     require_order(first, last)
     name = f"statement-{owner}-{first}-{last}"
     give(context, name, lambda source: owners_statement.documents(source, owner, first, last), **where)
 
 
-@papers_group.command()
-@click.argument("owner", metavar="OWNER")
-@paper
-@pass_context
 def takeout(context: Context, owner: str, **where: Any) -> None:
-    """Makes the tables of all that the office has of an owner, for one that leaves: its materials, recipes, orders,
-    batches, lots, movements and results, and what the plant noted of them. Nothing of another owner is in them.
-
-    Example: hilpoven papers takeout ACME --tar > acme.tar
-    """
+    """`hilpoven papers takeout`."""
     check(owner=owner)
     day = today(context.settings.time_zone)
     give(context, f"takeout-{owner}", lambda source: owners_takeout.documents(source, owner, day), **where)

@@ -10,52 +10,15 @@ from ..model.rows import require_owner
 from ..record import making
 from ..model.notes.kinds import Emptied
 from ..model.notes.notes import Party, Role
-from .groups import Group
 from .noting import record
-from .words import FILLED_TEXT, NAME, WORD, OneOf, pass_context
 
 COLUMNS = ["owner", "party", "name", "roles", "contact", "phone", "address"]
 
-party_group = Group(
-    "party",
-    short_help="notes customers, suppliers and carriers of an owner",
-    help="Notes who gets an owner's shipments, who sends its receipts, and who carries them. toll has none of it.\n\n"
-    "Example: hilpoven party list ACME",
-)
 
-
-@party_group.command()
-@click.argument("owner", metavar="OWNER", type=WORD)
-@click.argument("party", metavar="PARTY", type=NAME)
-@click.option("--name", metavar="TEXT", type=FILLED_TEXT, help="Its full name, which a new one has to have.")
-@click.option("--address", metavar="TEXT", type=FILLED_TEXT, help="Where it is, in one line.")
-@click.option("--contact", metavar="TEXT", type=FILLED_TEXT, help="Who is told of a recall.")
-@click.option("--phone", metavar="TEXT", type=FILLED_TEXT, help="At which number, at any hour.")
-@click.option(
-    "--role",
-    "roles",
-    type=OneOf([role.value for role in Role]),
-    multiple=True,
-    help="What it is to the owner, which a new one has to have; may be given several times: all of its roles.",
-)
-@click.option(
-    "--empty",
-    "emptied",
-    type=OneOf([emptied.value for emptied in Emptied]),
-    multiple=True,
-    help="What is known of it no longer; may be given several times.",
-)
-@pass_context
 def add(
     context: Context, owner: str, party: str, roles: tuple[str, ...], emptied: tuple[str, ...], **texts: str | None
 ) -> None:
-    """Notes a party of an owner, or what is new of it. What isn't given stays as it was noted; --empty takes it out.
-    HOUSE is the plant.
-
-    A customer gets shipments, a supplier sends receipts, a carrier does neither.
-
-    Example: hilpoven party add ACME NORD --name 'Nord Foods Ltd' --phone '+44 20 7946 0000' --role customer
-    """
+    """`hilpoven party add`."""
     given = {name: text for name, text in texts.items() if text}
     if both := [name for name in emptied if name in given]:
         raise Failure(f"party add: --{both[0]} is given, and --empty {both[0]} too", WRONG_USE)
@@ -77,16 +40,8 @@ def require_known(desk: making.Desk, note: Party) -> None:
         raise Failure("party add: nothing is given to note", WRONG_USE, "such as --phone TEXT")
 
 
-@party_group.command("list")
-@click.argument("owner", metavar="[OWNER]", type=WORD, required=False)
-@click.option("--csv", "form", flag_value="csv", help="As CSV, for a spreadsheet.")
-@click.option("--json", "form", flag_value="json", help="As JSON, for a program.")
-@pass_context
 def list_command(context: Context, owner: str | None, form: str | None) -> None:
-    """Lists the parties of all owners, or of one.
-
-    Example: hilpoven party list ACME
-    """
+    """`hilpoven party list`."""
     with making.desk(context) as desk:
         if owner:
             require_owner(desk.base, owner)

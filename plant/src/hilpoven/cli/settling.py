@@ -2,31 +2,17 @@
 import os
 from typing import Any
 
-import click
 
 from ..core.context import Context
 from ..core.failure import REFUSED, Failure
 from ..core.office import SUPERSEDED
 from ..report.papers import months
 from ..core.days import date_of, days_of_month, format_month, today
-from .papers import check, give, paper
-from .words import MONTH, pass_context
+from .papers import check, give
 
 
-@click.command()
-@click.argument("owner", metavar="OWNER")
-@click.argument("month", metavar="MONTH", type=MONTH)
-@paper
-@pass_context
 def settle(context: Context, owner: str, month: int, **where: Any) -> None:
-    """Closes the settlement of OWNER for MONTH, written as YYMM, and makes its paper with a number.
-
-    It has each batch that is closed and on no closed settlement yet. What is closed or corrected later is on the next
-    one, marked. `papers settlement OWNER --month MONTH` shows before what it will have, and makes the same paper again
-    afterwards. The journal has the closing as a note, and `note withdraw` takes the last one back.
-
-    Example: hilpoven settle ACME 2611 settlement
-    """
+    """`hilpoven settle`."""
     check(owner=owner)
     require_over(context, month)
     if os.path.lexists(context.file + SUPERSEDED):

@@ -7,6 +7,7 @@ import sys
 import click
 
 from .. import HOUSE
+from ..core.context import Context
 from ..core import settings as site
 from ..core.failure import WRONG_USE, Failure, printable
 from .output import tell_line
@@ -14,29 +15,12 @@ from ..care.setup.machine import Machine
 from ..care.setup.plan import Plan
 from ..care.setup.steps import Setup, take
 from .caller import person
-from .words import PATH
 
 MAY_BE_ROOT = {"sudo", "wheel", "admin"}  # groups whose members may become root by sudo
 
 
-@click.command(short_help="sets up an office with its site for owners")
-@click.argument("name", metavar="NAME")
-@click.option("--host", metavar="HOST", required=True, help="The site's host name, such as toll.example.com.")
-@click.option(
-    "--cert", metavar="FILE", required=True, type=PATH, help="The host's certificate, with the chain, as PEM."
-)
-@click.option("--key", metavar="FILE", required=True, type=PATH, help="The certificate's private key, as PEM.")
-@click.option("--owner", metavar="OWNER", default="", help="An owner to begin with, whose key is made and shown once.")
-def setup(name: str, host: str, cert: str, key: str, owner: str) -> None:
-    """Sets up an office with its site for owners: its settings in /etc/toll, with a free port, its folder, its file,
-    its units, and nginx's site with TLS.
-
-    Each step says what it did, or that it was done already, so the same command goes on after a failure. It replaces
-    no file that it didn't write, or that was changed since. Root alone may run it: for members of the group sudo it
-    calls sudo itself.
-
-    Example: hilpoven setup north --host toll.example.com --cert /etc/ssl/toll.pem --key /etc/ssl/private/toll.key
-    """
+def setup(_: Context, name: str, host: str, cert: str, key: str, owner: str) -> None:
+    """`hilpoven setup`."""
     become_root()
     if owner == HOUSE:
         raise Failure("HOUSE is the plant itself", WRONG_USE)

@@ -11,7 +11,6 @@ from ..care.health import Fullness, health_of, metrics
 from ..core.table import Row, counted
 from .output import print_table
 from ..report.companion import making
-from .words import pass_context
 
 MOST = 12  # gauges that are shown, where none is above FULL
 FEW = 5  # receipts that are shown
@@ -69,22 +68,8 @@ def print_suspects(fullness: Fullness, is_whole: bool) -> None:
     )
 
 
-@click.command()
-@click.option("--prometheus", is_flag=True, help="As metrics, for monitoring.")
-@click.option("--all", "is_whole", is_flag=True, help="Shows every owner against every limit.")
-@pass_context
 def status(context: Context, prometheus: bool, is_whole: bool) -> None:
-    """Checks the office's health, and shows how full it is.
-
-    It checks the file's pages and that toll or its server opens it, that a server answers and that the newest backup
-    is recent. It compares each owner's rows with each limit, in percent, those from 80 % on first. If days are YYMMDD
-    dates, it estimates from up to 90 days behind the opening stock, and from at least 28, when an owner reaches a
-    limit. Below, it lists receipts of what batches
-    make, at which a trace may end. It exits with 0 if all is well, with 1 if
-    something needs attention, and with 3 if something failed.
-
-    Example: hilpoven status
-    """
+    """`hilpoven status`."""
     rights.become_owner(context.file)
     health = health_of(context, making.age_of)
     if prometheus:

@@ -19,21 +19,12 @@ from ..core.journal import query
 from ..core.journal.log import Journal
 from ..model import accepted
 from ..record import answered
-from ..core.days import moment_in
 from ..model.register import file as register
 from ..model.years import chain
-from .words import MOST_TOLD, PATH, Operators, pass_context
 
 
-@click.command()
-@click.argument("file", metavar="[FILE]", required=False, type=PATH)
-@pass_context
 def new(context: Context, file: str | None) -> None:
-    """Creates a new office, that of the settings where no FILE is given. The file must not exist. No other command
-    creates one, so a mistyped name is reported.
-
-    Example: hilpoven new /var/lib/toll/office.db
-    """
+    """`hilpoven new`."""
     new_context = Context(
         context.settings, file or context.db, context.unnoted, person=context.person, tell=context.tell
     )
@@ -71,31 +62,8 @@ def require_no_notes(journal: Journal) -> None:
         )
 
 
-@click.command()
-@click.argument("folder", metavar="[FOLDER]", required=False, type=PATH)
-@click.option(
-    "--keep",
-    type=Operators(click.IntRange(1)),
-    metavar="N",
-    help="How many of the newest backups to keep; as in the settings, or 30, by default.",
-)
-@click.option(
-    "--days",
-    type=Operators(click.IntRange(0)),
-    metavar="N",
-    help="For how many days to keep the last one; as in the settings, or 0, by default.",
-)
-@pass_context
 def backup(context: Context, folder: str | None, keep: int | None, days: int | None) -> None:
-    """Makes a backup in a folder, while the server runs, and checks it.
-
-    Its name is that of the file, the office's mark and the time in UTC, so offices may share a folder. SQLite checks
-    all of it, and toll opens a copy of it, before it gets its name: so there is a complete backup or none. The
-    journal's lines so far lie beside it, and the journal notes its SHA-256. Only the office's user and root may change
-    the folder. The server doesn't need to reopen its file.
-
-    Example: hilpoven backup /var/lib/toll/backup
-    """
+    """`hilpoven backup`."""
     settings = context.settings
     office, journal = context.office(), context.journal()
     days = settings.days if days is None else days
@@ -124,47 +92,8 @@ def chosen(context: Context, backup: str) -> str:
     return os.path.join(folder, backup)
 
 
-class Moment(click.ParamType):
-    """A moment, of the plant's time zone where it names none, as the journal is printed in."""
-
-    name = "moment"
-
-    def convert(self, value: object, param: click.Parameter | None, ctx: click.Context | None) -> float:
-        """The moment in seconds since 1970; fails if the text is none."""
-        context = ctx.find_object(Context) if ctx else None
-        try:
-            return moment_in(str(value), context.settings.time_zone if context else "").timestamp()
-        except (ValueError, OverflowError, OSError):
-            self.fail(f"`{printable(str(value)[:MOST_TOLD])}` is no time such as 2026-11-27T01:02:03", param, ctx)
-
-
-@click.command()
-@click.argument("backup", metavar="[BACKUP]", required=False)
-@click.option(
-    "--foreign",
-    "is_foreign",
-    is_flag=True,
-    help="Takes a file that the journal doesn't note as a backup. Only for root and the office's user.",
-)
-@click.option(
-    "--at",
-    "moment",
-    metavar="TIME",
-    type=Moment(),
-    help="Restores a moment that `hilpoven follow` has kept, in the time zone of the settings.",
-)
-@pass_context
 def restore(context: Context, backup: str | None, is_foreign: bool, moment: float | None) -> None:
-    """Restores a backup, or the office of a moment. BACKUP is its name in the folder of the settings, or a path.
-
-    It stops if a server has the file, checks the whole backup with SQLite, toll and the sums of the movements, and
-    whether the journal notes its SHA-256. Then it moves the file and its log into a folder next to it, copies the
-    backup into place, and checks it with toll. If the journal is gone, the one beside the backup comes back. The
-    register is made anew from the journal. Import the sheets since the backup again. With --at it makes the file of
-    the snapshots and pieces of `hilpoven follow`, as it was at that time.
-
-    Example: hilpoven restore office-1a2b3c4d-20261127-010203.db
-    """
+    """`hilpoven restore`."""
     if (backup is None) == (moment is None) or moment is not None and is_foreign:
         raise Failure("either BACKUP or --at TIME is given", WRONG_USE)
     if is_foreign:
@@ -196,18 +125,8 @@ def restored_at(context: Context, moment: float) -> tuple[str, str]:
     return f"the office of {restored.last.at}", restored.aside
 
 
-@click.command()
-@pass_context
 def verify(context: Context) -> None:
-    """Checks all of the office: its file, its journal, its register and its backups.
-
-    SQLite checks the whole file, toll opens it, each sublot has to hold what its movements come to, and the rows that
-    accepted commands of the journal added have to be there, and what owners did that the site's log has as done, and
-    what the pieces of a standby on this machine have. The journal has to be whole, and the register has to be
-    what the journal gives. Each backup in the folder of the settings has to have the SHA-256 that the journal notes.
-
-    Example: hilpoven verify
-    """
+    """`hilpoven verify`."""
     office, wrong, lost_rows = context.office_to_read(), list[str](), list[str]()
     checked = query.check(context.journal().path, file=context.file)  # before the copy, which has all that it says
     entries = [] if checked.wrong else query.entries(context.journal().path, context.file)

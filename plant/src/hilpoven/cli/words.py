@@ -219,6 +219,22 @@ class Day(click.ParamType):
         return int(text)
 
 
+class Moment(click.ParamType):
+    """A moment, of the plant's time zone where it names none, as the journal is printed in."""
+
+    name = "moment"
+
+    def convert(self, value: object, param: click.Parameter | None, ctx: click.Context | None) -> float:
+        """The moment in seconds since 1970; fails if the text is none."""
+        from ..core.days import moment_in
+
+        context = ctx.find_object(Context) if ctx else None
+        try:
+            return moment_in(str(value), context.settings.time_zone if context else "").timestamp()
+        except (ValueError, OverflowError, OSError):
+            self.fail(f"`{printable(str(value)[:MOST_TOLD])}` is no time such as 2026-11-27T01:02:03", param, ctx)
+
+
 class OneOf(click.Choice):
     """A word of a list, which is told in one line where it is missing."""
 
@@ -232,7 +248,7 @@ SHEET = Operators(click.Path(readable=False), is_sheet=True)
 WORD = Word()
 TEXT, FILLED_TEXT = Text(may_be_empty=True), Text(may_be_empty=False)
 NAME = Name()
-DATE, MONTH, PERCENT = Date(), Month(), Percent()
+DATE, MONTH, PERCENT, MOMENT = Date(), Month(), Percent(), Moment()
 
 
 def decimals_type() -> click.IntRange:

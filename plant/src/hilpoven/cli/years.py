@@ -15,7 +15,7 @@ from ..core.table import Row, Value
 from ..report import statement as statements
 from ..report.lists import overviews
 from ..model.answers import recall_of
-from ..core.days import FIRST_DAY, LAST_DAY, format_day
+from ..core.days import format_day
 from ..model.genealogy import FORWARD, Genealogy, Trace
 from ..model.recall import RecallLine, recall_lines
 from ..model.rows import Lot, LotId, require_owner
@@ -24,24 +24,8 @@ from ..model.notes.notes import Link
 from ..model.register.standing import standing_over_all
 from ..model.years import history
 from ..model.years.history import History
-from .groups import Group
 from .showing import print_overview
-from .words import DAY, LotCommand, pass_context
 
-years_group = Group(
-    "years",
-    short_help="searches all files of the office, from the first to the newest",
-    help="Searches all files of the office, from the first to the newest, as if they were one.\n\n"
-    "Example: hilpoven years recall ACME S-1",
-)
-csv_option = click.option("--csv", "is_csv", is_flag=True, help="As CSV, for a spreadsheet.")
-in_option = click.option(
-    "--in",
-    "file",
-    metavar="FILE",
-    default="",
-    help="Choose the lot in this file, if several lots have the name; the newest by default.",
-)
 FILES = """
 SELECT name, at, (SELECT count(*) FROM moves WHERE moves.file = files.number), hash FROM files ORDER BY number
 """
@@ -60,30 +44,15 @@ def tell_sources(whole: History, lot: LotId | None = None) -> None:
         tell(line)
 
 
-@years_group.command("files")
-@csv_option
-@pass_context
 def files(context: Context, is_csv: bool) -> None:
-    """Lists the files of the office, and checks that each earlier one is unchanged.
-
-    Example: hilpoven years files
-    """
+    """`hilpoven years files`."""
     with history.opened(context.office_to_export("years", "files")) as whole:
         rows = whole.base.execute(FILES).fetchall()
     print_rows(["file", "carried over", "movements", "sha256"], rows, is_csv)
 
 
-@years_group.command("recall", cls=LotCommand)
-@click.argument("owner", metavar="OWNER")
-@click.argument("lot", metavar="LOT")
-@in_option
-@csv_option
-@pass_context
 def recall(context: Context, owner: str, lot: str, file: str, is_csv: bool) -> None:
-    """Lists the lots that a lot went into, with the amounts on hand and shipped, over all files.
-
-    Example: hilpoven years recall ACME S-1
-    """
+    """`hilpoven years recall`."""
     office = context.office_to_export("years", "recall", owner, lot)
     with history.opened(office, owner) as whole:
         start = whole.lot(owner, lot, file)
@@ -141,18 +110,8 @@ def check_newest(office: Office, whole: History, lines: list[RecallLine], start:
             )
 
 
-@years_group.command("trace", cls=LotCommand)
-@click.argument("owner", metavar="OWNER")
-@click.argument("lot", metavar="LOT")
-@click.argument("way", metavar="WAY", type=click.Choice(["back", "forward"]))
-@in_option
-@csv_option
-@pass_context
 def trace(context: Context, owner: str, lot: str, way: str, file: str, is_csv: bool) -> None:
-    """Lists the lots that a lot was made of, or went into, over all files.
-
-    Example: hilpoven years trace ACME B-1 back
-    """
+    """`hilpoven years trace`."""
     office = context.office_to_export("years", "trace", owner, lot, way)
     with history.opened(office, owner) as whole:
         start = whole.lot(owner, lot, file)
@@ -162,17 +121,8 @@ def trace(context: Context, owner: str, lot: str, way: str, file: str, is_csv: b
         tell_sources(whole, start)
 
 
-@years_group.command("lot", cls=LotCommand)
-@click.argument("owner", metavar="OWNER")
-@click.argument("lot", metavar="LOT")
-@in_option
-@click.option("--json", "is_json", is_flag=True, help="As JSON, for a program.")
-@pass_context
 def lot_card(context: Context, owner: str, lot: str, file: str, is_json: bool) -> None:
-    """Shows a lot with its tests, sublots and movements, over all files.
-
-    Example: hilpoven years lot ACME S-1
-    """
+    """`hilpoven years lot`."""
     with history.opened(context.office_to_export("years", "lot", owner, lot), owner) as whole:
         start = whole.lot(owner, lot, file)
         register = standing_over_all(context.journal(), whole)
@@ -181,17 +131,8 @@ def lot_card(context: Context, owner: str, lot: str, file: str, is_json: bool) -
         tell_sources(whole, start)
 
 
-@years_group.command("statement")
-@click.argument("owner", metavar="OWNER")
-@click.option("--from", "first", metavar="DAY", type=DAY, default=FIRST_DAY, help="From this day on.")
-@click.option("--to", "last", metavar="DAY", type=DAY, default=LAST_DAY, help="Up to this day.")
-@csv_option
-@pass_context
 def statement(context: Context, owner: str, first: int, last: int, is_csv: bool) -> None:
-    """Shows receipts, uses, shipments and stock of each of an owner's lots between two days, over all files.
-
-    Example: hilpoven years statement ACME --from 261101 --to 261130
-    """
+    """`hilpoven years statement`."""
     words = "years", "statement", owner, str(first), str(last)
     with history.opened(context.office_to_export(*words), owner) as whole:
         require_owner(whole.base, owner)
