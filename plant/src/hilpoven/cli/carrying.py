@@ -12,7 +12,7 @@ from .output import print_table, tell
 from .progress import bar
 from ..core.days import day_of, today
 from ..care.years import steps
-from ..care.years.carrying import COMMAND, Telling, Work, has_owner, hindrances, prepared
+from ..care.years.carrying import Telling, Work, has_owner, hindrances, prepared
 from ..care.years.carrying import carry_over as carry
 
 NEW = "next.db"

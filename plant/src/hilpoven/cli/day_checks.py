@@ -17,7 +17,7 @@ def require_meant(context: Context, line: Line, typed: list[str]) -> None:
         today(context.settings.time_zone)
     ):
         return
-    from . import day_doubts
+    from ..record import day_doubts
 
     if why := day_doubts.doubt_of(context, line, values):
         require_agreed(f"DAY: {why}")

@@ -48,7 +48,7 @@ def free_key(context: Context, office: Office, line: Line, words: list[str]) -> 
     values = dict(zip(line.values, written(line, words)[0]))
     owner, row = values["OWNER"], earlier.move_of(line, values)
     with ExitStack() as stack:
-        bases = [stack.enter_context(snapshot.opened(office)), *(file.base for file in earlier.files_of(office))]
+        bases = [stack.enter_context(snapshot.read_briefly(office)), *(file.base for file in earlier.files_of(office))]
         key = next_key(bases, owner, context.settings.key_prefix)
         same = keys_of_same(bases, owner, row) if row else []
     if same:

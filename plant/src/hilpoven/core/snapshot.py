@@ -1,5 +1,4 @@
-"""A copy of an office's file as it stands at one moment. The file itself is never opened by SQLite, so a server that
-has it open need not open it anew."""
+"""A copy of an office's file as it stands at one moment, and a brief look at the file itself."""
 import contextlib
 import os
 import sqlite3
@@ -13,6 +12,7 @@ from .office import Office
 
 TRIES = 5  # of a copy that is made while others work
 SETTLED = 20_000_000  # nanoseconds after which a later change of a file shows in its time
+IN_URI = str.maketrans({letter: f"%{ord(letter):02x}" for letter in "%?#"})
 Stamp = tuple[int, int, int]
 
 
@@ -84,6 +84,23 @@ def opened(office: Office) -> Iterator[sqlite3.Connection]:
         require_office(base, office.file)
         files.remove(path, "", "-wal", "-shm")
         yield base
+
+
+@contextlib.contextmanager
+def read_briefly(office: Office) -> Iterator[sqlite3.Connection]:
+    """The tables of the file itself, for a few rows of one owner: a server refuses owners meanwhile. Nothing is written,
+    so a server need not open the file anew. SQLite's index of the log goes again, unless another program made it."""
+    index = f"{office.file}-shm"
+    with lock.held(office.file, office.wait):
+        had_index = os.path.lexists(index)
+        try:
+            with contextlib.closing(sqlite3.connect(f"file:{office.file.translate(IN_URI)}?mode=ro", uri=True)) as base:
+                require_office(base, office.file)
+                yield base
+        finally:
+            if not had_index:
+                with contextlib.suppress(FileNotFoundError):
+                    os.unlink(index)
 
 
 def require_office(base: sqlite3.Connection, file: str) -> None:

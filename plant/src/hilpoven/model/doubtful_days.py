@@ -12,10 +12,11 @@ from .schema import STANDING
 Base = sqlite3.Connection
 RECENT = 20  # movements, of which the days tell whether days are dates
 DAYS = "SELECT m.day FROM moves AS m WHERE {} ORDER BY m.rowid DESC LIMIT ?"
-# The first day of each lot of an owner, by the owner's own movements: nobody else brings it anything.
-FIRST = (
-    f"SELECT m.lot, min(m.day) FROM moves AS m WHERE m.owner = ? AND m.lot_owner = m.owner AND {STANDING} GROUP BY 1"
-)
+# The first day of one lot of an owner, or of each, by the owner's own movements: nobody else brings it anything.
+FIRST = f"""
+SELECT m.lot, min(m.day) FROM moves AS m
+WHERE m.owner = :owner AND m.lot_owner = m.owner AND :lot IN ('', m.lot) AND {STANDING} GROUP BY 1
+"""
 
 
 @dataclass(frozen=True)
@@ -26,6 +27,7 @@ class OfficeDays:
     bases: Sequence[Base]
     recent: list[int]
     today: int
+    is_for_one: bool = False  # lot, of whose owner the other lots' days aren't read
     firsts: dict[str, dict[str, int]] = field(default_factory=dict)  # of the owners' lots, as far as they were read
 
     def doubt(self, day: int, lot: LotId) -> str:
@@ -49,7 +51,8 @@ class OfficeDays:
         if lot.owner not in self.firsts:
             firsts = self.firsts[lot.owner] = {}
             for base in self.bases:
-                for name, day in base.execute(FIRST, (lot.owner,)):
+                words = {"owner": lot.owner, "lot": lot.name if self.is_for_one else ""}
+                for name, day in base.execute(FIRST, words):
                     firsts[name] = min(day, firsts.get(name, day))
         return self.firsts[lot.owner].get(lot.name)
 
@@ -59,10 +62,12 @@ def is_in_future(day: int, now: int) -> bool:
     return date_of(day) is not None and day > now
 
 
-def read_days(bases: Sequence[Base], zone: str, others: Iterable[int] = ()) -> OfficeDays:
+def read_days(
+    bases: Sequence[Base], zone: str, others: Iterable[int] = (), is_for_one: bool = False
+) -> OfficeDays:
     """What is known of the days of an office, whose newest tables come first; of one without movements, the others."""
     recent: list[int] = []
     for base in bases:  # without the receipts by which stock came over, whose days are the carry-over's
         sql = DAYS.format(chain.NOT_CARRIED if chain.came_from(base) else "true")
         recent += [day for day, in base.execute(sql, (RECENT - len(recent),))]
-    return OfficeDays(bases, recent or list(others), day_of(today(zone)))
+    return OfficeDays(bases, recent or list(others), day_of(today(zone)), is_for_one)

@@ -18,11 +18,12 @@ def doubt_of(context: Context, line: Line, values: dict[str, str]) -> str:
     be read, which `toll` tells."""
     office = context.office()
     with suppress(Failure, sqlite3.Error), ExitStack() as stack:
-        base = stack.enter_context(snapshot.opened(office))
+        base = stack.enter_context(snapshot.read_briefly(office))
         bases = [base, *(file.base for file in earlier.files_of(office))]
         if not any(is_recorded(each, line, values) for each in bases):
             owner, lot = earlier.lot_of(values)
-            return read_days(bases, context.settings.time_zone).doubt(int(values["DAY"]), LotId(owner, lot))
+            days = read_days(bases, context.settings.time_zone, is_for_one=True)
+            return days.doubt(int(values["DAY"]), LotId(owner, lot))
     return ""
 
 
