@@ -211,7 +211,9 @@ def test_many_lines_are_answered_and_noted_as_one_by_one(at_work, laid, tmp_path
     assert again == one.run("import", "--what", "receipts", receipts(one, 40, 100))
     assert noted(at_work) == noted(one) and at_work.content() == one.content()
     asked = [entry["id"] for entry in at_work.lines() if entry["event"] == "asked"]
-    assert asked == [entry["of"] for entry in at_work.lines() if entry["event"] == "told"] and len(asked) == 80
+    assert asked == [entry["of"] for entry in at_work.lines() if entry["event"] == "told"] and len(asked) == 44
+    (known,) = [entry for entry in at_work.lines() if entry["event"] == "note"]  # what is there already is given once
+    assert known["words"] == ["import", "sheet.csv"] and len(known["known"]) == 36 and known["sheet_sha256"]
     assert check(str(at_work.journal)).wrong == [] and (is_served or not list(at_work.folder.glob("*.sock")))
 
 
@@ -364,3 +366,17 @@ def test_a_result_is_there_already_however_its_numbers_are_written(at_work, agai
     twice = "owner,lot,test,value,day\nACME,B-1,PH,8,105\nACME,B-1,PH,08,105\n"
     assert at_work.run("import", "--what", "results", "-", stdin=twice).out.startswith("2 results: 1 accepted, 1 there already")
     assert at_work.rows("SELECT test, value, day FROM results WHERE lot = 'B-1' AND day > 102 ORDER BY day, value") == [("PH", -5, 103), ("PH", 7, 103), ("DENSITY", 1200, 103), ("PH", -5, 104), ("PH", 8, 105)]
+
+
+def test_what_is_there_already_is_found_without_toll(at_work, tmp_path, monkeypatch):
+    assert at_work.toll("void", "ACME", "K3").status == 0
+    rows = ["K2,ACME,O-1,1,1,consumed,SALT,ACME,S-1,BAY1,300,101", "K3,ACME,O-1,1,1,consumed,WATER,HOUSE,W-101,TANK,700,101", "K4,ACME,O-1,1,2,produced,BRINE,ACME,B-1,TOTE1,979,101"]
+    header = "key,owner,order,batch,segment,use,material,lot_owner,lot,sublot,amount,day"
+    done = at_work.run("import", sheet(at_work, "\n".join([header, *rows]) + "\n"))
+    assert (done.status, done.out.splitlines()) == (1, [
+        "row 3 (ACME K3): refused 41 Voided: the actual was taken back",
+        "row 4 (ACME K4): refused 35 KeyConflict: the owner has a movement with this key, and something in it differs",
+        "3 actuals: 0 accepted, 1 there already, 2 refused, 0 can't be read; nothing was new"]), done
+    monkeypatch.setattr(at_work, "program", str(script(tmp_path / "toll", "exit 9")))
+    done = at_work.run("import", sheet(at_work, "\n".join([header, rows[0]]) + "\n"))
+    assert (done.status, done.out) == (0, "1 actual: 0 accepted, 1 there already, 0 refused, 0 can't be read; nothing was new\n"), done

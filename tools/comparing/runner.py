@@ -1,13 +1,15 @@
 """Runs commands of the plant's command in turn, and writes what each said and wrote: runner.py SOURCE FOLDER < COMMANDS
 
-Each is a child of a process that has imported the libraries, so that none waits for them. The clock is a minute later
+Each is a child of a process that has imported all modules, so that none waits for them. The clock is a minute later
 for each.
 """
+import gc
 import importlib
 import io
 import json
 import os
 import pathlib
+import pkgutil
 import pty
 import re
 import shutil
@@ -120,8 +122,12 @@ def main() -> None:
     clock.stop()
     sys.path.insert(0, sys.argv[1])
     os.chdir(sys.argv[2])
-    for name in LIBRARIES:
-        importlib.import_module(name)
+    package = importlib.import_module("hilpoven")
+    modules = [module.name for module in pkgutil.walk_packages(package.__path__, "hilpoven.")]
+    for name in (*LIBRARIES, *modules):
+        if not name.endswith("__main__"):
+            importlib.import_module(name)
+    gc.freeze()
     room = os.path.dirname(sys.argv[2])
     json.dump([result_of(number, command, room) for number, command in enumerate(json.load(sys.stdin))], sys.stdout)
 

@@ -13,6 +13,7 @@ from .output import tell_line
 from ..core.office import Office
 from ..core.table import counted
 from ..core.days import day_of, today
+from ..model.years import earlier
 from ..model.rows import require_owner
 from ..record.sheets import counting, doubtful_days
 from ..record.sheets.counting import Count, Difference, Outcome
@@ -41,7 +42,9 @@ def import_command(context: Context, counted_sheet: str, check: bool, are_meant:
     office = context.office()
     given["ignored"] = (*given["ignored"], *counting.BESIDE)
     source, sha256 = read_source(counted_sheet, given, COUNTS)
-    doubtful_days.check(context, source, are_meant, counting.is_recorded)
+    if source.records and not source.wrong:
+        with earlier.tables_of(office) as bases:
+            doubtful_days.check(bases, context.settings.time_zone, source, are_meant, counting.is_recorded)
     for finding in sorted([*source.wrong, *source.let]):
         click.echo(str(finding), err=True)
     if source.wrong:

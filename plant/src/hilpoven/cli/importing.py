@@ -9,11 +9,14 @@ import click
 from ..core import meanings
 from ..core.context import Context
 from ..core.failure import REFUSED, WRONG_USE, Failure, printable
+from ..core.office import Office
 from .output import tell, tell_line
 from .progress import bar
+from ..model.years import earlier
 from ..core.table import counted
 from ..record.sheets import doubtful_days
-from ..record.sheets.importing import Import
+from ..record.sheets.importing import Import, known_rows
+from ..record.sheets.sheet import Sheet
 from ..record.sheets.options import read_source
 from ..record.sheets.noting import decimals_of, notes_beside
 from ..record.sheets.values import RESULTS
@@ -30,7 +33,7 @@ def import_command(context: Context, path: str, check: bool, are_meant: bool, **
     beside = {} if sheet.wrong else notes_beside(context, sheet)
     for remark in sheet.remarks:
         tell_line(remark)
-    doubtful_days.check(context, sheet, are_meant)
+    known = looked_at(context, office, sheet, are_meant) if sheet.records and not sheet.wrong else set()
     for finding in sorted([*sheet.wrong, *sheet.refused, *sheet.let]):
         click.echo(str(finding), err=True)
     if sheet.wrong:
@@ -46,7 +49,7 @@ def import_command(context: Context, path: str, check: bool, are_meant: bool, **
         sys.exit(REFUSED if sheet.refused else 0)
     source = {"sheet": os.path.basename(path), "sheet_sha256": sha256}
     with bar(given["what"], len(sheet.records)) as advance:
-        given_sheet = Import(context, office, sheet, source, advance, beside)
+        given_sheet = Import(context, office, sheet, source, advance, beside, known)
         given_sheet.run()
     for line in given_sheet.lines(given["what"]):
         click.echo(line)
@@ -54,3 +57,10 @@ def import_command(context: Context, path: str, check: bool, are_meant: bool, **
         tell_line(end)
         tell(meanings.explained("faults", meanings.fault_in(given_sheet.fault), {}))
     sys.exit(given_sheet.status)
+
+
+def looked_at(context: Context, office: Office, sheet: Sheet, are_meant: bool) -> set[int]:
+    """Looks at the days of a sheet, in a copy of the file; the rows that the file has already."""
+    with earlier.tables_of(office) as bases:
+        doubtful_days.check(bases, context.settings.time_zone, sheet, are_meant)
+        return known_rows(bases[0], sheet)

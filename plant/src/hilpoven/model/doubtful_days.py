@@ -62,9 +62,7 @@ def is_in_future(day: int, now: int) -> bool:
     return date_of(day) is not None and day > now
 
 
-def read_days(
-    bases: Sequence[Base], zone: str, others: Iterable[int] = (), is_for_one: bool = False
-) -> OfficeDays:
+def read_days(bases: Sequence[Base], zone: str, others: Iterable[int] = (), is_for_one: bool = False) -> OfficeDays:
     """What is known of the days of an office, whose newest tables come first; of one without movements, the others."""
     recent: list[int] = []
     for base in bases:  # without the receipts by which stock came over, whose days are the carry-over's

@@ -1,13 +1,14 @@
 """What earlier files of an office say of what it is about to be told: a movement that is in one of them is not recorded
 again, and a lot that came from them takes no receipt that it wouldn't have taken there."""
+import contextlib
 import functools
 import os
 import sqlite3
-from collections.abc import Sequence
+from collections.abc import Iterator, Sequence
 from dataclasses import dataclass
 
 from ... import HOUSE
-from ...core import names
+from ...core import names, snapshot
 from ...core.failure import REFUSED
 from ...core.grammar import Line
 from ...core.office import Answer, Office
@@ -48,6 +49,13 @@ def files_of(office: Office) -> tuple[EarlierFile, ...]:
     before the file had its name, and nothing writes them: so it is read without the lock and without the log.
     """
     return open_files(office.file, os.stat(office.file).st_ino) if names.earlier_files(office.file) else ()
+
+
+@contextlib.contextmanager
+def tables_of(office: Office) -> Iterator[list[sqlite3.Connection]]:
+    """The tables of a copy of an office's file, and those of its earlier files, the newest first."""
+    with snapshot.opened(office) as base:
+        yield [base, *(file.base for file in files_of(office))]
 
 
 def lot_of(values: dict[str, str]) -> tuple[str, str]:
@@ -94,6 +102,13 @@ def answer_by_key(file: EarlierFile, line: Line, values: dict[str, str], row: tu
     if file.base.execute(VOIDED, (owner, key)).fetchone():
         return Answer(REFUSED, "refused 41 Voided\n", reason)
     return Answer(0, "repeated\n", reason)
+
+
+def is_repeated(base: sqlite3.Connection, line: Line, values: dict[str, str]) -> bool:
+    """Whether tables have the movement of a line with its key, and not as void: `toll` answers `repeated` then."""
+    row = move_of(line, values)
+    known = None if row is None else base.execute(MOVE, (values["OWNER"], values["KEY"])).fetchone()
+    return known == row is not None and not base.execute(VOIDED, (values["OWNER"], values["KEY"])).fetchone()
 
 
 def answer_by_lot(files: Sequence[EarlierFile], line: Line, values: dict[str, str]) -> Answer | None:

@@ -38,7 +38,8 @@ class Cell(NamedTuple):
 
     def trimmed(self) -> "Cell":
         """The same without the blanks around its text, of which a number has none."""
-        return self._replace(text=self.text.strip())
+        text = self.text.strip()
+        return self if text == self.text else self._replace(text=text)
 
 
 class Table(NamedTuple):

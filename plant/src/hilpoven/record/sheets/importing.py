@@ -17,7 +17,7 @@ from ..stops import Stops
 from ...core import client, lock, meanings, scratch, snapshot
 from ...core.context import Context
 from ...core.failure import FAULT, REFUSED, Failure, printable
-from ...core.grammar import LINES
+from ...core.grammar import LINES, Line
 from ...core.office import Answer, Office
 from ...core.journal import log as journals
 from ...core.table import counted
@@ -32,9 +32,10 @@ MOST_BYTES = 1_048_576  # of a file that `toll` imports
 FIRST, LEAST, MOST = 500, 100, 20_000  # records in one import of `toll`
 QUICK, SLOW = 0.5, 3.0  # seconds: after a quicker one more records are given, after a slower one fewer
 THERE = "there already"  # a result with the same value and day
-GIVEN_BY = {RECEIPTS.name: "receive", SHIPMENTS.name: "ship", RESULTS.name: "result"}  # the line of each
+GIVEN_BY = {ACTUALS.name: "actual", RECEIPTS.name: "receive", SHIPMENTS.name: "ship", RESULTS.name: "result"}  # lines
 UNANSWERED = "toll ended without an answer"
-NEW, OLD = "accepted", ("repeated", THERE)
+REPEATED = "repeated"
+NEW, OLD = "accepted", (REPEATED, THERE)
 
 
 @dataclass
@@ -48,6 +49,7 @@ class Import:
     source: dict[str, Any]
     advance: Callable[[int], None]
     beside: dict[int, dict[str, Any]] = field(default_factory=dict)
+    known: set[int] = field(default_factory=set)  # rows that the file has already, which `toll` isn't asked about
     counts: Counter[str] = field(default_factory=Counter)
     rows: list[tuple[int, str, str]] = field(default_factory=list)  # row, key or result, outcome
     answered: set[int] = field(default_factory=set)  # rows
@@ -57,10 +59,23 @@ class Import:
     def run(self) -> None:
         """Gives the sheet to `toll`, until a fault or a signal ends that: the report is printed all the same."""
         with ended_by_signal(self):
+            left = self.left_of_known()
             if self.sheet.kind == ACTUALS:
-                self.give_actuals()
+                self.give_actuals(left)
             else:
-                self.give_lines()
+                self.give_lines(left)
+
+    def left_of_known(self) -> list[Record]:
+        """The records that the file doesn't have, or beside which something is noted. That the others were given again
+        is a line of the journal."""
+        known = [each for each in self.sheet.records if each.row in self.known and each.row not in self.beside]
+        for record in known:
+            self.note(record, REPEATED)
+            self.advance(1)
+        if known:
+            words, keys = ["import", self.source["sheet"]], list(map(name_of, known))
+            self.context.journal().note(self.office.file, words, **self.source, known=keys)
+        return [record for record in self.sheet.records if record.row not in self.answered]
 
     def note(self, record: Record, outcome: str) -> None:
         """Notes what came of a row."""
@@ -75,10 +90,10 @@ class Import:
             self.fault = answer.error.strip() or last or UNANSWERED
         return bool(self.fault)
 
-    def give_actuals(self) -> None:
+    def give_actuals(self, records: list[Record]) -> None:
         """Gives actuals by `toll import`, in parts, each noted in the journal with its keys."""
         took = 0.0
-        records, stops = self.sheet.records, self.context.once(Stops)
+        stops = self.context.once(Stops)
         if earlier.files_of(self.office):
             records = self.left_of(records, partial(earlier.answer, self.office, ACTUAL))
         with scratch.folder(tempfile.gettempdir()) as folder:
@@ -94,7 +109,7 @@ class Import:
         """The actuals that are left to be given; of those that are answered without `toll` the answer is noted."""
         left = []
         for record in records:
-            answer = answered([record.values[value.lower().replace("-", "_")] for value in ACTUAL.values])
+            answer = answered(list(values_of(ACTUAL, record).values()))
             if answer:
                 self.note(record, (answer.output or answer.error).strip())
                 self.advance(1)
@@ -120,15 +135,15 @@ class Import:
         is_cut = len(outcomes) < len(part)
         return not self.has_fault(answer._replace(status=FAULT) if is_cut else answer, (outcomes or [""])[-1])
 
-    def give_lines(self) -> None:
+    def give_lines(self, records: list[Record]) -> None:
         """Gives receipts, shipments or results line by line. A result with the value and day of one that stands isn't
         given."""
         line = LINES[GIVEN_BY[self.sheet.kind.name]]
         standing = standing_results(self.office) if self.sheet.kind == RESULTS else set()
         journal = self.context.journal()
-        with client.asker(self.office, len(self.sheet.records)) as ask, journal.series():
-            for record in self.sheet.records:
-                words = [record.values[value_name.lower()] for value_name in line.values]
+        with client.asker(self.office, len(records)) as ask, journal.series():
+            for record in records:
+                words = list(values_of(line, record).values())
                 if self.sheet.kind == RESULTS and result_of(record) in standing:
                     self.note(record, THERE)
                 else:
@@ -215,6 +230,17 @@ def fitting(records: list[Record]) -> list[Record]:
     while len(text_of(ACTUALS, records)) > MOST_BYTES:
         records = records[: len(records) // 2]
     return records
+
+
+def values_of(line: Line, record: Record) -> dict[str, str]:
+    """The values of a record, by their names in its line."""
+    return {value: record.values[value.lower().replace("-", "_")] for value in line.values}
+
+
+def known_rows(base: sqlite3.Connection, sheet: Sheet) -> set[int]:
+    """The rows of a sheet whose movements tables have with the same key and the same values."""
+    line = LINES[GIVEN_BY[sheet.kind.name]]
+    return {record.row for record in sheet.records if earlier.is_repeated(base, line, values_of(line, record))}
 
 
 def result_of(record: Record) -> ResultId:

@@ -196,7 +196,7 @@ class Sheet:
         self.refused += [
             Finding(row, place, "it has no header above it")
             for place, cell in placed.items()
-            if not cell.is_empty() and place not in self.headed
+            if place not in self.headed and not cell.is_empty()
         ]
         if len(self.refused) == count:
             self.records.append(Record(row, values, {column: text for column, text in noted.items() if text}))
@@ -231,7 +231,7 @@ class Sheet:
         """The value as it is written, where it can be."""
         place = self.places[column]
         try:
-            if cell.is_empty() and column in self.kind.noted and column not in self.asked.required:
+            if column in self.kind.noted and column not in self.asked.required and cell.is_empty():
                 return ""
             value = self.read(row, column, cell, reading)
         except Refused as why:
@@ -246,15 +246,17 @@ class Sheet:
 
     def read(self, row: int, column: str, cell: Cell, reading: Reading) -> Taken:
         """The value of a cell; that blanks around it are taken off is reported, or that it can be read without them."""
-        trimmed = cell.trimmed()
         if cell.is_empty():
             raise Refused("it is empty")
+        trimmed = cell.trimmed()
         if cell.strange and not (cell.day and reading is of_days):
             raise Refused(f"it is {shortened(cell.strange, MOST_LETTERS)}")
         if len(cell.text) > MOST_LETTERS or len(cell.shown or "") > MOST_LETTERS:
             raise Refused(f"it has more than {MOST_LETTERS:,} letters")
-        is_better = trimmed != cell and not can_be_read(reading, cell) and can_be_read(reading, trimmed)
-        if trimmed == cell or not (self.asked.trim or is_better):
+        if trimmed is cell:
+            return reading(cell)
+        is_better = not can_be_read(reading, cell) and can_be_read(reading, trimmed)
+        if not (self.asked.trim or is_better):
             return reading(cell)
         value = reading(trimmed)
         words = "taken without them" if self.asked.trim else "--trim takes it without them"

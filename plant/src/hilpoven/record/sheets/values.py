@@ -3,6 +3,7 @@ import re
 import string
 from collections.abc import Callable
 from dataclasses import dataclass, field
+from functools import cached_property
 from datetime import date
 from decimal import Decimal
 from typing import NamedTuple
@@ -224,7 +225,7 @@ class Kind:
     columns: dict[str, Callable[[Cell], Taken]]
     noted: dict[str, Callable[[Cell], Taken]] = field(default_factory=dict)
 
-    @property
+    @cached_property
     def readings(self) -> dict[str, Callable[[Cell], Taken]]:
         """How the values of each column are read."""
         return {**self.columns, **self.noted}
