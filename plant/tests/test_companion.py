@@ -188,6 +188,58 @@ def test_a_change_shows_in_the_files_that_it_changes_and_in_no_other(at_work, fo
     assert refresh(at_work, folder) == f"0 written, {count} as before, 0 removed"
 
 
+STEPS = """
+do ACME O-1 1 done
+result ACME B-1 PH 7 103
+> ACME POST /lots/B-1/release
+void ACME K2
+split ACME K8 B-1 TOTE1 TOTE3 5 103
+scrap ACME K9 B-1 TOTE3 5 103
+> ACME POST /orders {"order":"O-2","recipe":"BRINE-10","batches":1}
+> ACME POST /orders/O-2/cancel
+close ACME O-1 1
+material-add ACME GLUE kg
+test-add ACME GLUE PH 1 2
+recipe-add ACME R 1
+require ACME R 1 consumed ACME GLUE 3
+> ACME POST /lots/S-1/reject
+"""
+NOTED = (("hold", "ACME", "B-1", "--reason", "wet"), ("sign", "ACME", "B-1"), ("party", "add", "ACME", "N", "--name", "N", "--role", "supplier"), ("note", "movement", "ACME", "K1", "--from", "N"),
+         ("link", "ACME", "B-1", "S-1", "--why", "use"), ("describe", "lot", "ACME", "B-1", "--expires", "271127"), ("note", "not-linked", "ACME", "K1"))
+
+
+@pytest.mark.parametrize("settings", ["", '[quality]\ntest = "QA"\n'])
+def test_each_step_makes_the_files_of_its_owner_anew_and_no_other(at_work, folder, tmp_path, monkeypatch, settings):
+    site.load.__defaults__[0].write_text(settings)
+    refresh(at_work, folder)
+    made, contents_of = [], making.contents_of
+    monkeypatch.setattr(making, "contents_of", lambda subject, plant: made.append(subject.owner) or contents_of(subject, plant))
+    steps = [*STEPS.strip().splitlines(), *(NOTED if settings else NOTED[2:])]
+    for number, step in enumerate(steps):
+        at_work.lay(step) if isinstance(step, str) else at_work.run(*step)
+        time.sleep(0.03)
+        refresh(at_work, folder)
+        assert set(made) <= {"ACME"}, step
+        made.clear()
+        (anew := tmp_path / f"anew{number}").mkdir(mode=0o700)
+        refresh(at_work, anew)
+        assert {name: companion_of(folder, name) | {"made": ""} for name in ("ACME", "BOLT")} == {name: companion_of(anew, name) | {"made": ""} for name in ("ACME", "BOLT")}, step
+        made.clear()
+
+
+def test_a_file_in_place_of_the_offices_makes_all_anew(at_work, folder, monkeypatch):
+    refresh(at_work, folder)
+    made, contents_of = [], making.contents_of
+    monkeypatch.setattr(making, "contents_of", lambda subject, plant: made.append(subject.owner) or contents_of(subject, plant))
+    for end in ("", "-wal"):
+        path = pathlib.Path(f"{at_work.db}{end}")
+        copy = path.with_name(f"copy{end}")
+        copy.write_bytes(path.read_bytes())
+        copy.replace(path)
+    time.sleep(0.03)
+    assert refresh(at_work, folder) == "0 written, 2 as before, 0 removed" and made == ["ACME", "BOLT"]
+
+
 def test_one_of_an_owner_that_is_gone_goes_and_nothing_else(at_work, folder):
     refresh(at_work, folder)
     for name in ("NOBODY.json", "lower.json", "README"):

@@ -56,6 +56,15 @@ class Folder:
         except FileNotFoundError:
             return 0
 
+    def state_of(self, owner: str) -> list[int]:
+        """What tells one file of an owner's companion from another: its size, and when it was changed; zeros where it
+        isn't there."""
+        try:
+            state = os.stat(name_of(owner), dir_fd=self.descriptor, follow_symlinks=False)
+        except FileNotFoundError:
+            return [0, 0]
+        return [state.st_size, state.st_mtime_ns]
+
     def remove(self, owner: str) -> None:
         """Removes an owner's companion."""
         os.unlink(name_of(owner), dir_fd=self.descriptor)

@@ -16,6 +16,7 @@ from ...core.office import Office
 from ..papers import copies
 from .contents import contents_of
 from .folder import MARK, READABLE, Folder, name_of, opened
+from .stamps import stamps_of
 from .subject import subjects
 from ...model.register.standing import register_of
 
@@ -73,8 +74,8 @@ def refresh(context: Context, folder: Folder, office: Callable[[], Office]) -> C
     of = office()
     made_of = settled_sources(context)  # before the copy, so that a later change shows
     with uncollected():
-        counts = write(context, folder, of)
-    folder.put_mark({**made_of, "owners": sorted(folder.owners())})
+        counts, own = write(context, folder, of, made_of)
+    folder.put_mark({**made_of, "owners": sorted(folder.owners()), "own": own})
     return counts
 
 
@@ -90,22 +91,30 @@ def uncollected() -> Iterator[None]:
             gc.enable()
 
 
-def write(context: Context, folder: Folder, office: Office) -> Counts:
-    """Writes the companions of all owners, and removes those of owners that aren't there. One that says the same is
-    left as it is: otherwise its owner would see when others work."""
-    written, owners = 0, set()
+Own = dict[str, list[Any]]  # of each owner: of what its companion is made, and which file it is
+
+
+def write(context: Context, folder: Folder, office: Office, made_of: dict[str, Any]) -> tuple[Counts, Own]:
+    """Writes the companions of the owners of whom something changed, and removes those of owners that aren't there. One
+    that says the same is left as it is: otherwise its owner would see when others work."""
+    written, known = 0, folder.mark().get("own")
+    before: Own = known if isinstance(known, dict) else {}
     made_at = time.strftime("%Y-%m-%dT%H:%M:%SZ", time.gmtime())
     with copies.tables(office) as base:
-        for subject in subjects(base, register_of(context, base)):
+        register = register_of(context, base)
+        registers = register.by_owner()
+        stamps = stamps_of(base, registers, [made_of["by"], os.stat(office.file).st_ino])
+        changed = {owner for owner, stamp in stamps.items() if before.get(owner) != [stamp, *folder.state_of(owner)]}
+        for subject in subjects(base, register, registers, changed):
             content = encoded(contents_of(subject, context.settings.plant), made_at)
-            owners.add(subject.owner)
             if folder.read(name_of(subject.owner))[FRONT_BYTES:] != content[FRONT_BYTES:]:
                 folder.give(name_of(subject.owner), content, READABLE)
                 written += 1
-    gone = folder.owners() - owners
+    gone = folder.owners() - stamps.keys()
     for owner in gone:
         folder.remove(owner)
-    return Counts(written, len(owners) - written, len(gone))
+    own: Own = {owner: [stamp, *folder.state_of(owner)] for owner, stamp in stamps.items()}
+    return Counts(written, len(stamps) - written, len(gone)), own
 
 
 def encoded(contents: dict[str, Any], made_at: str) -> bytes:

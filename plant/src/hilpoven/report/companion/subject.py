@@ -1,5 +1,5 @@
 """An owner of whom a companion is made: the tables of a copy, its own notes, and how members are written."""
-from collections.abc import Iterator, Mapping
+from collections.abc import Collection, Iterator, Mapping
 from dataclasses import dataclass
 from functools import cached_property
 from typing import Any, NamedTuple
@@ -83,11 +83,14 @@ def filled(**members: Any) -> Value:
     return {name: value for name, value in members.items() if value not in (None, "", [])}
 
 
-def subjects(base: Base, register: Register) -> Iterator[Subject]:
-    """All owners, each with what is its own of the notes and of what the plant's quality says."""
+def subjects(
+    base: Base, register: Register, registers: Mapping[str, Register], owners: Collection[str]
+) -> Iterator[Subject]:
+    """Some owners, each with what is its own of the notes and of what the plant's quality says."""
     own: dict[str, dict[LotId, quality.Status]] = {}
-    for lot, status in quality.statuses(base, register).items():
+    for lot, status in quality.statuses(base, register).items() if owners else ():
         own.setdefault(lot.owner, {})[lot] = status
-    registers, nothing = register.by_owner(), Register(plants_test=register.plants_test)
+    nothing = Register(plants_test=register.plants_test)
     for owner in owners_of(base):
-        yield Subject(owner, base, registers.get(owner, nothing), own.get(owner, {}))
+        if owner in owners:
+            yield Subject(owner, base, registers.get(owner, nothing), own.get(owner, {}))
