@@ -11,6 +11,8 @@ def typed(kind: Any, value: Any) -> Any:
     """A value in a type: a dataclass of an object that has its fields and no others, a tuple or a list of a list, a
     dictionary of an object, an optional value, a number with a point of any number, and else a value of that very
     type. Fails with TypeError if it is none."""
+    if type(value) is kind:
+        return value
     origin, of = get_origin(kind), get_args(kind)
     if origin is UnionType:
         return None if value is None else typed(of[0], value)
@@ -22,8 +24,6 @@ def typed(kind: Any, value: Any) -> Any:
         return [typed(of[0], each) for each in value]
     if origin is dict and isinstance(value, dict):
         return {typed(of[0], name): typed(of[1], each) for name, each in value.items()}
-    if type(value) is kind:
-        return value
     if kind is float and type(value) is int:
         return float(value)
     raise TypeError(f"{value!r} isn't of the type {getattr(kind, '__name__', kind)}")

@@ -67,10 +67,6 @@ class Book:
         """Whether there are other earlier files than the chain names."""
         return self.earlier != self.named
 
-    def new_lines(self) -> lines.Lines:
-        """What the journal has behind what was taken."""
-        return lines.behind(self.journal, self.taken)
-
     def writer(self, kind: str, size: int) -> "AbstractContextManager[Writer]":
         """A piece of about so many bytes; fails if it would leave less room on the disk than is kept free."""
         free = shutil.disk_usage(self.folder).free

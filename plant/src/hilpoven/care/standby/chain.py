@@ -286,13 +286,6 @@ def put_lines(lines: IO[bytes], one: Piece) -> None:
     lines.writelines(one.lines())
 
 
-def build_journal(pieces: Iterable[Piece], path: str) -> None:
-    """Makes the journal alone, of pieces that were looked at."""
-    with open(path, "xb") as lines:
-        for one in pieces:
-            put_lines(lines, one)
-
-
 def seconds_of(at: str) -> float:
     """A time of a header as seconds since 1970."""
     return datetime.fromisoformat(at).timestamp()

@@ -8,7 +8,7 @@ from functools import cached_property
 
 from ...core import files, timeline
 from ...core.failure import FAULT, REFUSED, Failure
-from . import capture, chain
+from . import capture, chain, lines
 from .book import Book
 from .capture import Digests, Gap, Place, Scan, Watch
 from .chain import Chain
@@ -98,7 +98,7 @@ class Follower:
 
     def write_pending(self) -> None:
         """Makes a piece of what is new in the log and the journal, if anything is."""
-        last, new = self.book.last, self.book.new_lines()
+        last, new = self.book.last, lines.behind(self.book.journal, self.book.taken)
         if self.watch is None or last is None or not (self.pending.commits or new.count):
             return
         size = self.pending.size or last.size
@@ -245,7 +245,7 @@ class Follower:
         if self.sender:
             self.sender.step(self.state)
         if saved.save(self.state) and self.sender:
-            self.sender.add_state()
+            self.sender.is_state_new = True
 
     def note_fault(self, fault: str) -> None:
         """Tells of a fault that begins or ends."""

@@ -12,7 +12,7 @@ import json
 import os
 import re
 from collections.abc import Iterator
-from dataclasses import asdict, dataclass
+from dataclasses import dataclass
 from datetime import datetime
 from typing import IO, Any, NamedTuple
 
@@ -99,7 +99,8 @@ class Header:
 
     def as_bytes(self) -> bytes:
         """The header as it is in the file."""
-        text = json.dumps({"format": FORMAT, **asdict(self)}).encode()
+        values = {"format": FORMAT, **vars(self), "log": self.log and vars(self.log)}  # as asdict gives them, slowly
+        text = json.dumps(values).encode()
         if len(text) > HEAD - SUM:
             raise Failure("the path of the office's file is too long for a piece")
         text = text.ljust(HEAD - SUM)

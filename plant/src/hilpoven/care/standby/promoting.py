@@ -122,7 +122,9 @@ def newest_lines(choice: Choice, built: Built, room: str) -> str:
     if choice.newest[1] == choice.end:
         return built.journal
     path = os.path.join(room, "newest.journal")
-    chain.build_journal(chain.pieces_of(choice.chain, *choice.newest), path)
+    with open(path, "xb") as lines:
+        for one in chain.pieces_of(choice.chain, *choice.newest):
+            chain.put_lines(lines, one)
     return path if query.common(built.journal, path) == os.path.getsize(built.journal) else built.journal
 
 

@@ -4,7 +4,7 @@ import re
 import shlex
 import subprocess
 import time
-from collections.abc import Iterable
+from collections.abc import Sequence
 from dataclasses import dataclass
 from enum import Enum, auto
 from typing import IO, NamedTuple
@@ -80,11 +80,11 @@ class Remote:
         """The folder with a stroke at its end, as rsync reads it."""
         return f"{self.to.rstrip('/')}/"
 
-    def begin(self, purpose: Purpose, words: list[str], names: Iterable[str] = (), content: str = "") -> Job:
-        """Begins rsync, with lines at its standard input. Both streams are in memory, so a full disk ends nothing."""
-        output = in_memory("output")
-        with in_memory("lines") as lines:
-            lines.write(os.fsencode(content))
+    def begin(self, purpose: Purpose, words: list[str], names: Sequence[str] = ()) -> Job:
+        """Begins rsync, with names at its standard input. Both streams are in memory, so a full disk ends nothing."""
+        output = open(os.memfd_create("output"), "w+b")
+        with open(os.memfd_create("lines"), "w+b") as lines:
+            lines.writelines(os.fsencode(f"{name}\n") for name in names)
             lines.seek(0)
             try:
                 process = subprocess.Popen(
@@ -99,7 +99,7 @@ class Remote:
 
     def send(self, folder: str, names: list[str]) -> Job:
         """Begins to send files of a folder."""
-        return self.begin(Purpose.SEND, ["--files-from=-", f"{folder}/", self.address], names, as_lines(names))
+        return self.begin(Purpose.SEND, ["--files-from=-", f"{folder}/", self.address], names)
 
     def names(self, *patterns: str) -> Job:
         """Begins to list the files there whose names fit one of these patterns."""
@@ -109,7 +109,7 @@ class Remote:
     def remove(self, names: list[str]) -> Job:
         """Begins to remove these files there, and no others. Each costs the same, however many there are."""
         words = ["--delete-missing-args", "--existing", "--ignore-existing", "--omit-dir-times", "--files-from=-"]
-        return self.begin(Purpose.REMOVE, [*words, NOWHERE, self.address], names, as_lines(names))
+        return self.begin(Purpose.REMOVE, [*words, NOWHERE, self.address], names)
 
     def listed(self) -> list[ListedFile]:
         """All pieces and marks there, which are waited for."""
@@ -119,16 +119,6 @@ class Remote:
         if fault:
             raise Failure(f"{self.to} can't be asked: {fault}")
         return files_in(text)
-
-
-def in_memory(name: str) -> IO[bytes]:
-    """A file without a name, which is on no disk."""
-    return open(os.memfd_create(name), "w+b")
-
-
-def as_lines(names: list[str]) -> str:
-    """Names as rsync reads them."""
-    return "".join(f"{name}\n" for name in names)
 
 
 def files_in(text: str) -> list[ListedFile]:

@@ -36,7 +36,7 @@ class Sender:
     bulk_job: Job | None = None
     begun: set[str] = field(default_factory=set)  # the chains of which a snapshot is there
     is_known: bool = False  # whether it is known what is there
-    is_state_new: bool = False
+    is_state_new: bool = False  # whether the follower's state is to be sent
     looked: float = 0.0
     state_sent: float = 0.0
 
@@ -56,10 +56,6 @@ class Sender:
             self.bulk += [earlier for earlier in os.listdir(self.folder) if earlier.startswith(chain.EARLIER)] + [name]
         else:
             self.unsent[name] = at
-
-    def add_state(self) -> None:
-        """Has the follower's state sent."""
-        self.is_state_new = True
 
     def remove(self, names: list[str]) -> None:
         """Has files removed there; those that aren't there yet aren't sent."""
