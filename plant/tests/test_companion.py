@@ -212,32 +212,32 @@ NOTED = (("hold", "ACME", "B-1", "--reason", "wet"), ("sign", "ACME", "B-1"), ("
 def test_each_step_makes_the_files_of_its_owner_anew_and_no_other(at_work, folder, tmp_path, monkeypatch, settings):
     site.load.__defaults__[0].write_text(settings)
     refresh(at_work, folder)
-    made, contents_of = [], making.contents_of
-    monkeypatch.setattr(making, "contents_of", lambda subject, plant: made.append(subject.owner) or contents_of(subject, plant))
+    owners, contents_of = [], making.contents_of
+    monkeypatch.setattr(making, "contents_of", lambda subject, plant: owners.append(subject.owner) or contents_of(subject, plant))
     steps = [*STEPS.strip().splitlines(), *(NOTED if settings else NOTED[2:])]
     for number, step in enumerate(steps):
         at_work.lay(step) if isinstance(step, str) else at_work.run(*step)
         time.sleep(0.03)
         refresh(at_work, folder)
-        assert set(made) <= {"ACME"}, step
-        made.clear()
+        assert set(owners) <= {"ACME"}, step
+        owners.clear()
         (anew := tmp_path / f"anew{number}").mkdir(mode=0o700)
         refresh(at_work, anew)
         assert {name: companion_of(folder, name) | {"made": ""} for name in ("ACME", "BOLT")} == {name: companion_of(anew, name) | {"made": ""} for name in ("ACME", "BOLT")}, step
-        made.clear()
+        owners.clear()
 
 
 def test_a_file_in_place_of_the_offices_makes_all_anew(at_work, folder, monkeypatch):
     refresh(at_work, folder)
-    made, contents_of = [], making.contents_of
-    monkeypatch.setattr(making, "contents_of", lambda subject, plant: made.append(subject.owner) or contents_of(subject, plant))
+    owners, contents_of = [], making.contents_of
+    monkeypatch.setattr(making, "contents_of", lambda subject, plant: owners.append(subject.owner) or contents_of(subject, plant))
     for end in ("", "-wal"):
         path = pathlib.Path(f"{at_work.db}{end}")
         copy = path.with_name(f"copy{end}")
         copy.write_bytes(path.read_bytes())
         copy.replace(path)
     time.sleep(0.03)
-    assert refresh(at_work, folder) == "0 written, 2 as before, 0 removed" and made == ["ACME", "BOLT"]
+    assert refresh(at_work, folder) == "0 written, 2 as before, 0 removed" and owners == ["ACME", "BOLT"]
 
 
 def test_one_of_an_owner_that_is_gone_goes_and_nothing_else(at_work, folder):

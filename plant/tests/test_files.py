@@ -91,8 +91,8 @@ def test_what_has_a_name_is_replaced_by_nothing_new(tmp_path):
     assert path.read_bytes() == b"another's" and os.listdir(tmp_path) == ["file"]
 
 
-@pytest.mark.parametrize("made", ["", "file.made"])
-def test_a_fault_leaves_the_old_one_and_nothing_beside_it(tmp_path, made):
+@pytest.mark.parametrize("temporary_name", ["", "file.made"])
+def test_a_fault_leaves_the_old_one_and_nothing_beside_it(tmp_path, temporary_name):
     path = tmp_path / "file"
     path.write_bytes(b"old")
 
@@ -100,14 +100,14 @@ def test_a_fault_leaves_the_old_one_and_nothing_beside_it(tmp_path, made):
         raise OSError(28, "No space left on device")
 
     with pytest.raises(OSError):
-        files.replace(str(path), b"new", made=made, prepare=fail)
+        files.replace(str(path), b"new", temporary_name=temporary_name, prepare=fail)
     assert path.read_bytes() == b"old" and os.listdir(tmp_path) == ["file"]
 
 
 def test_a_link_in_the_place_of_what_is_made_leads_nowhere(tmp_path):
     (tmp_path / "secret").write_bytes(b"secret")
     (tmp_path / "file.made").symlink_to(tmp_path / "secret")
-    files.replace(str(tmp_path / "file"), b"new", made="file.made")
+    files.replace(str(tmp_path / "file"), b"new", temporary_name="file.made")
     assert (tmp_path / "secret").read_bytes() == b"secret" and not (tmp_path / "file").is_symlink()
 
 

@@ -1,4 +1,4 @@
-"""Whether an office is well, and how full it is: a table of checks, each of which gives what it found."""
+"""Whether an office is well, and how full it is: a table of checks, each of which gives what it finding."""
 import contextlib
 import os
 import sqlite3
@@ -38,7 +38,7 @@ METRICS = {
 
 
 @dataclass
-class Found:
+class Finding:
     """What checks found: the lines that tell it, what wants attention, what isn't well, and the values of metrics."""
 
     lines: list[str] = field(default_factory=list)
@@ -99,7 +99,7 @@ class Subject:
 
 
 @dataclass
-class Health(Found):
+class Health(Finding):
     """What was found of an office, and how full it is."""
 
     fullness: Fullness = field(default_factory=Fullness)
@@ -110,7 +110,7 @@ class Health(Found):
         return FAULT if self.bad else REFUSED if self.attention else 0
 
 
-def check_file(subject: Subject) -> Found:
+def check_file(subject: Subject) -> Finding:
     """Reads a copy of the file, and has `toll` open it, unless a server has it open already."""
     context, fullness = subject.context, subject.fullness
     try:
@@ -127,12 +127,12 @@ def check_file(subject: Subject) -> Found:
                     why = answer.error.strip() or "it ended without an answer"
                     raise Failure(f"toll doesn't open {office.file}: {why}")
     except Failure as failure:
-        return Found(bad=[failure.message])
+        return Finding(bad=[failure.message])
     except sqlite3.Error as error:
-        return Found(bad=[f"the tables of {context.file} can't be read: {error}"])
+        return Finding(bad=[f"the tables of {context.file} can't be read: {error}"])
     size = files.size_of(context.file) + files.size_of(f"{context.file}-wal")
     unread = [text for text in notes.attention if text not in earlier.attention]
-    return Found(
+    return Finding(
         [f"file: {context.file} opens; {size / 1e6:,.1f} MB with its log", *short, *notes.lines, *earlier.lines],
         [*earlier.attention, *unread, *map(fullness.described, fullness.pressing())],
         values={"file_opens": [("", 1)]},
@@ -154,30 +154,30 @@ def count_rows(base: sqlite3.Connection, fullness: Fullness, day: date) -> None:
     fullness.soon_full = [gauge for gauge, when in fullness.full_by.items() if pace.is_soon(when, day)]
 
 
-def check_notes(context: Context, base: sqlite3.Connection, fullness: Fullness) -> Found:
+def check_notes(context: Context, base: sqlite3.Connection, fullness: Fullness) -> Finding:
     """Looks for receipts that look as if a trace ended there, and for a drill that is under way."""
     try:
         fullness.suspects = suspects(base, standing.standing(context.journal(), base))
         drill = drills.under_way(drills.drills_of(context.journal(), base))
     except Failure as failure:
-        return Found(attention=[failure.message])
+        return Finding(attention=[failure.message])
     if drill is None:
-        return Found()
+        return Finding()
     began = f"by {drill.begun.who} on {drills.as_moment(drill.begun)}"
-    return Found([f"drill: one over lot {drill.lot} is under way, begun {began}; `hilpoven drill end` ends it"])
+    return Finding([f"drill: one over lot {drill.lot} is under way, begun {began}; `hilpoven drill end` ends it"])
 
 
-def check_earlier(context: Context, base: sqlite3.Connection) -> Found:
+def check_earlier(context: Context, base: sqlite3.Connection) -> Finding:
     """Looks whether the office's earlier files lie beside its file."""
     try:
         earlier = chain.earlier_files(context.file, chain.came_from(base))
     except Failure as failure:
-        return Found(attention=[failure.message])
+        return Finding(attention=[failure.message])
     names = ", ".join(file.name for file in earlier)
-    return Found([f"earlier files: {names}; the last was carried over at {earlier[-1].at}"] if earlier else [])
+    return Finding([f"earlier files: {names}; the last was carried over at {earlier[-1].at}"] if earlier else [])
 
 
-def check_server(subject: Subject) -> Found:
+def check_server(subject: Subject) -> Finding:
     """Asks the server, where one is there or is to be there."""
     context = subject.context
     greeting, port = server.greeting(context.file), context.settings.port
@@ -187,34 +187,34 @@ def check_server(subject: Subject) -> Found:
     owners = f"answers at port {port}; " if serves and port else ""
     none = "takes no commands: each opens the file itself" if owners else "none: each command opens the file itself"
     plant = f"takes the plant's commands ({greeting})" if greeting else none
-    return Found(
+    return Finding(
         [f"server: {owners}{plant}"],
         bad=[f"the server at port {port} {wrong}"] if port and not serves else [],
         values={"server_answers": [("", int(serves))]},
     )
 
 
-def check_backups(subject: Subject) -> Found:
+def check_backups(subject: Subject) -> Finding:
     """Looks for the newest backup."""
     context = subject.context
     folder = context.settings.backups
     if not folder:
-        return Found(["backup: no folder is named in the settings"])
+        return Finding(["backup: no folder is named in the settings"])
     newest, ahead = backups.newest(context.file, folder, context.journal())
-    found = Found(attention=[f"{backup} is dated in the future: is the clock right?" for backup in ahead])
+    finding = Finding(attention=[f"{backup} is dated in the future: is the clock right?" for backup in ahead])
     if not newest:
-        found.attention.append(f"there is no backup in {folder}")
-        return found
+        finding.attention.append(f"there is no backup in {folder}")
+        return finding
     made_at = os.path.getmtime(newest)
     hours = (time.time() - made_at) / 3600
-    found.lines.append(f"backup: {newest}, {hours:,.1f} hours old")
-    found.values["last_backup_timestamp_seconds"] = [("", int(made_at))]
+    finding.lines.append(f"backup: {newest}, {hours:,.1f} hours old")
+    finding.values["last_backup_timestamp_seconds"] = [("", int(made_at))]
     if hours > context.settings.backup_hours:
-        found.attention.append(f"the newest backup is {hours:,.0f} hours old")
-    return found
+        finding.attention.append(f"the newest backup is {hours:,.0f} hours old")
+    return finding
 
 
-def check_companions(subject: Subject) -> Found:
+def check_companions(subject: Subject) -> Finding:
     """Looks whether the owners' companions are as new as the file, where the office has any."""
     context = subject.context
     folder = site.companions_of(context.settings)
@@ -222,25 +222,25 @@ def check_companions(subject: Subject) -> Found:
     try:
         age = subject.age_of(context, folder) if is_own else None
     except Failure as failure:
-        return Found(attention=[failure.message])
+        return Finding(attention=[failure.message])
     if age is None:
-        return Found()
-    found = Found([f"companions: {folder}, looked after {age.seconds / 60:,.0f} minutes ago"])
+        return Finding()
+    finding = Finding([f"companions: {folder}, looked after {age.seconds / 60:,.0f} minutes ago"])
     if age.is_old and age.seconds > OLD_COMPANIONS:
         timer = f"`systemctl status toll-companion@{context.settings.office}.timer`"
-        found.attention.append(f"the owners' companions in {folder} are older than the file: {timer}")
-    return found
+        finding.attention.append(f"the owners' companions in {folder} are older than the file: {timer}")
+    return finding
 
 
-def check_standby(subject: Subject) -> Found:
+def check_standby(subject: Subject) -> Finding:
     """Looks how far a standby is behind, if the settings have one or somebody follows."""
     context = subject.context
     follow = context.settings.follow
     lag = lag_of(context.file, folder_of(context.file, follow.to), zone_of(context.settings.time_zone))
     if lag is None:
-        return Found(attention=[f"standby: nobody follows to {follow.to}"] if follow.to else [])
+        return Finding(attention=[f"standby: nobody follows to {follow.to}"] if follow.to else [])
     late = [f"it is {lag.seconds:,.0f} seconds behind"] if lag.seconds > follow.behind else []
-    return Found(
+    return Finding(
         [f"standby: {line}" for line in lag.lines],
         [f"standby: {fault}" for fault in [*lag.faults, *late]],
         values={
@@ -251,7 +251,7 @@ def check_standby(subject: Subject) -> Found:
     )
 
 
-Check = Callable[[Subject], Found]
+Check = Callable[[Subject], Finding]
 CHECKS: tuple[Check, ...] = (check_file, check_server, check_backups, check_companions, check_standby)
 
 
@@ -260,11 +260,11 @@ def health_of(context: Context, age_of: AgeOf) -> Health:
     subject = Subject(context, age_of)
     health = Health(fullness=subject.fullness)
     for check in CHECKS:
-        found = check(subject)
-        health.lines += found.lines
-        health.attention += found.attention
-        health.bad += found.bad
-        health.values |= found.values
+        finding = check(subject)
+        health.lines += finding.lines
+        health.attention += finding.attention
+        health.bad += finding.bad
+        health.values |= finding.values
     health.values |= health.fullness.values()
     return health
 

@@ -82,10 +82,12 @@ class Group(click.Group):
 def makers_of(*group: str) -> dict[str, Maker]:
     """How the table's subcommands of a group are made, or those that are in none."""
     entries = [entry for entry in ENTRIES if entry.group == list(group) and (group or entry.name not in LINES)]
-    return {entry.name: Maker(partial(made, entry), "" if group else entry.section, entry=entry) for entry in entries}
+    return {
+        entry.name: Maker(partial(command_of, entry), "" if group else entry.section, entry=entry) for entry in entries
+    }
 
 
-def made(entry: Entry) -> click.Command:
+def command_of(entry: Entry) -> click.Command:
     """The subcommand of an entry: a group, of which a module may have the subcommands, or one that `building` makes."""
     about = {"help": entry.help, "short_help": entry.about}
     if entry.is_made:

@@ -23,7 +23,8 @@ HIDDEN = "-"  # in the place of what lists say of a subcommand: they leave it ou
 KINDS = {
     metavar: kind
     for kind, metavars in {
-        "word": "OWNER OF-OWNER ORDER BATCH LOT OF-LOT SUBLOT AMOUNT KEY OF-KEY NOTE MATERIAL MEASURE RECIPE TEST UNIT PARTY",
+        "word": "OWNER OF-OWNER ORDER BATCH LOT OF-LOT SUBLOT AMOUNT KEY OF-KEY NOTE MATERIAL MEASURE RECIPE TEST UNIT"
+        " PARTY",
         "day": "DAY",
         "filled": "TEXT",
         "month": "MONTH",

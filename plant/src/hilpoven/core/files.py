@@ -55,7 +55,7 @@ def replace(
     mode: int = 0o600,
     is_new: bool = False,
     is_lasting: bool = True,
-    made: str = "",
+    temporary_name: str = "",
     prepare: Callable[[int], None] = lambda descriptor: None,
 ) -> None:
     """Puts a file of this content in a path's place at one stroke: whoever opens it has the old one or the new one, and
@@ -64,11 +64,11 @@ def replace(
     A file that needn't last waits for no disk, and after such a stop it may be empty.
 
     `mode` has the rights of a new file, of which the process's mask takes some; `prepare` gets the open file before it
-    has its name, as for rights that no mask takes. `made` is the name that it has until then, where nobody else makes
-    one in its folder, so that what a kill leaves is written over.
+    has its name, as for rights that no mask takes. `temporary_name` is the name that it has until then, where nobody
+    else makes one in its folder, so that what a kill leaves is written over.
     """
-    temporary = os.path.join(os.path.dirname(path), made or hidden_name())
-    if made:
+    temporary = os.path.join(os.path.dirname(path), temporary_name or hidden_name())
+    if temporary_name:
         with contextlib.suppress(FileNotFoundError):
             os.unlink(temporary)
     try:
@@ -116,12 +116,12 @@ def copy_bytes(reader: IO[bytes], writer: IO[bytes]) -> None:
 
 def copy_in_place(source: str, target: str) -> None:
     """Copies a file to a name that the copy has once all of its bytes are on the disk."""
-    made = os.path.join(os.path.dirname(target), hidden_name())
+    copied = os.path.join(os.path.dirname(target), hidden_name())
     try:
-        copy(source, made)
-        rename(made, target)
+        copy(source, copied)
+        rename(copied, target)
     finally:
-        remove(made)
+        remove(copied)
 
 
 def hash_of(path: str) -> str:

@@ -201,8 +201,8 @@ def table_of(path: str, kind: type[Table], lines: dict[str, Any], table: str = "
     declared, values = {each.name: each for each in fields(kind)}, {}
     for name, value in lines.items():
         if name not in declared:
-            what = "nothing to require" if table == "require" else f"no line of [{table}]" if table else "no setting"
-            raise Failure(f"{path}: {name} is {what}", WRONG_USE, f"there are: {', '.join(declared)}")
+            refusal = "nothing to require" if table == "require" else f"no line of [{table}]" if table else "no setting"
+            raise Failure(f"{path}: {name} is {refusal}", WRONG_USE, f"there are: {', '.join(declared)}")
         values[name] = value_of(path, declared[name], value)
     return kind(**values)
 

@@ -88,7 +88,7 @@ def opened(office: Office) -> Iterator[sqlite3.Connection]:
 
 @contextlib.contextmanager
 def read_briefly(office: Office) -> Iterator[sqlite3.Connection]:
-    """The tables of the file itself, for a few rows of one owner: a server refuses owners meanwhile. Nothing is written,
+    """The tables of the file itself, for few rows of one owner: a server refuses owners meanwhile. Nothing is written,
     so a server need not open the file anew. SQLite's index of the log goes again, unless another program made it."""
     index = f"{office.file}-shm"
     with lock.held(office.file, office.wait):

@@ -170,19 +170,19 @@ class Sender:
         """Has all that isn't there sent, and what is old and isn't here any more removed, as a removal that failed left
         it; fails if there are pieces of another follower."""
         here = {name for name in os.listdir(self.folder) if piece.name_of(name) or name.startswith(chain.EARLIER)}
-        there, old = {file.name for file in files}, list(self.old_there(files, here))
-        self.require_no_other(here, sorted(there.difference(old)))
-        missing = sorted(here - there)
+        sent, old = {file.name for file in files}, list(self.old_there(files, here))
+        self.require_no_other(here, sorted(sent.difference(old)))
+        missing = sorted(here - sent)
         self.unsent = {name: self.moment_of(name) for name in missing if name.endswith(".piece")} | self.unsent
         self.bulk = [name for name in missing if name not in self.unsent]
-        self.begun = begun_by(there)
+        self.begun = begun_by(sent)
         self.is_known = True
         self.remove(old)
 
-    def require_no_other(self, here: set[str], there: list[str]) -> None:
+    def require_no_other(self, here: set[str], sent: list[str]) -> None:
         """Fails if there are pieces of another follower of the same timeline."""
         own = {of.name for of in chain.grouped(here)}
-        for name in there:
+        for name in sent:
             if (of := piece.name_of(name)) and of.timeline == self.timeline and of.chain not in own:
                 raise Failure(
                     f"{self.remote.to} has pieces of another follower, such as {name}",

@@ -67,7 +67,7 @@ class Saved:
             return False
         self.at, self.last = time.monotonic(), new
         with contextlib.suppress(OSError):
-            files.replace(self.path, content, is_lasting=False, made=f"{NAME}.made")
+            files.replace(self.path, content, is_lasting=False, temporary_name=f"{NAME}.made")
             return True
         with contextlib.suppress(OSError):
             with open(os.open(self.path, os.O_WRONLY | files.SAFE), "wb") as file:

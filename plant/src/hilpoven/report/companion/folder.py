@@ -47,7 +47,7 @@ class Folder:
             os.utime(descriptor, (second, second))
             os.fchmod(descriptor, mode)
 
-        files.replace(f"{paths.open_path(self.descriptor)}/{name}", content, made=MAKING, prepare=prepare)
+        files.replace(f"{paths.open_path(self.descriptor)}/{name}", content, temporary_name=MAKING, prepare=prepare)
 
     def second_of(self, name: str) -> int:
         """The second of a file's time; 0 where there is none."""

@@ -28,9 +28,9 @@ def stamps_of(base: Base, registers: dict[str, Register], made_of: Any) -> dict[
     the office's has another number, which is to be in that."""
     digests = {owner: hashlib.sha256(repr(made_of).encode()) for owner in owners_of(base)}
     for sql in ROWS:
-        for owner, *told in base.execute(sql):
+        for owner, *values in base.execute(sql):
             if owner in digests:
-                digests[owner].update(repr((sql, told)).encode())
+                digests[owner].update(repr((sql, values)).encode())
     for owner, register in registers.items():
         if owner in digests:
             digests[owner].update(repr(list(map(ordered, vars(register).values()))).encode())
