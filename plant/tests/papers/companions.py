@@ -3,7 +3,6 @@ import json
 import pathlib
 import re
 import shutil
-from dataclasses import replace
 from typing import Any
 
 from conftest import Plant
@@ -142,11 +141,18 @@ class Known(Filled):
         assert figures <= self.own_figures(owner), (owner, figures - self.own_figures(owner))
 
     def look_at_notes(self) -> None:
-        """The notes of all owners in one go are those of each."""
+        """The notes of each owner are those of all that are its own."""
         with self.plant.reading() as base:
-            register = replace(standing.standing(Journal(str(self.plant.journal), str(self.plant.db)), base), plants_test=QA)
-        by_owner = register.by_owner()
-        assert by_owner == {owner: register.of(owner) for owner in by_owner} and set(self.owners) <= by_owner.keys()
+            register = standing.standing(Journal(str(self.plant.journal), str(self.plant.db)), base)
+            for owner in self.owners:
+                own = register.of(owner)
+                assert own.links == [link for link in register.links if link.owner == owner] and own.parties
+                assert own.reasons == [reason for reason in register.reasons if reason.owner == owner]
+                assert own.not_linked == {key for key in register.not_linked if key[0] == owner}
+                for name in ("parties", "facts", "materials", "recipes", "tests", "lots", "bounds", "corrects", "judged"):
+                    things = getattr(register, name)
+                    assert getattr(own, name) == {key: said for key, said in things.items() if key[0] == owner}, (owner, name)
+                    assert all(getattr(own, name).get(key) is None for key in things if key[0] != owner), (owner, name)
 
     def links_of(self, owner: str) -> list[Link]:
         """The links that the journal has of an owner, with those that were withdrawn."""

@@ -1,5 +1,8 @@
 """How the tests of the register make notes, and look at those that stand."""
+import contextlib
 import re
+import sys
+from collections.abc import Iterator
 
 from conftest import Plant
 from hilpoven.core import snapshot
@@ -12,16 +15,24 @@ from hilpoven.model.register.store import Register
 NOTED = re.compile(r"noted ([0-9a-f]{16})\n")
 
 
+@contextlib.contextmanager
+def reading(plant: Plant) -> Iterator[Register]:
+    """The notes that stand, while they are read."""
+    context = Context(load(), str(plant.db), person=person(), tell=lambda line: print(line, file=sys.stderr))
+    with snapshot.opened(context.office()) as base:
+        yield standing.standing(context.journal(), base)
+
+
 def register_of(plant: Plant) -> Register:
     """The notes that stand."""
-    context = Context(load(), str(plant.db), person=person())
-    with snapshot.opened(context.office()) as base:
-        return standing.standing(context.journal(), base)
+    with reading(plant) as register:
+        return register
 
 
 def links(plant: Plant) -> list[tuple[str, str]]:
     """The containers and the lots of the links that stand."""
-    return [(str(link.container), str(link.contained)) for link in register_of(plant).links]
+    with reading(plant) as register:
+        return [(str(link.container), str(link.contained)) for link in register.links]
 
 
 def noted(plant: Plant, *words: object) -> str:

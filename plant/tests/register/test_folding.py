@@ -49,14 +49,19 @@ def journal(tmp_path) -> Journal:
 
 def folded_anew(journal):
     """What a fold from the first line gives."""
-    fresh = folding.Folded()
+    fresh = file.memory()
     folding.fold_on(journal.path, fresh)
-    return fresh
+    return file.Opened(fresh)
+
+
+def names(notes):
+    """The names of notes, in their order."""
+    return [name for name, in notes.rows("SELECT name FROM note ORDER BY id")]
 
 
 def is_same(one, other):
     """Whether two folds have the same notes, answers and files."""
-    return (list(one.notes.items()), one.answers, one.files.moves, one.files.last) == (list(other.notes.items()), other.answers, other.files.moves, other.files.last)
+    return all(one.rows(sql) == other.rows(sql) for queries in file.OF_JOURNAL.values() for sql in queries)
 
 
 @settings(max_examples=200, deadline=None)
@@ -87,8 +92,8 @@ def add(journal, step, count, note, asked):
     elif step in ("accepted", "refused") and asked:
         journal.answered(asked.pop(count % len(asked)), Answer(0, "accepted\n", "") if step == "accepted" else Answer(1, "refused 35 KeyConflict\n", ""))
     elif step == "withdrawn":
-        names = list(folded_anew(journal).notes)
-        journal.note(journal.file, ["note"], notes=[to_json(Withdrawal("ACME", names[count % len(names)] if names else "0" * 16, "no"))])
+        known = names(folded_anew(journal))
+        journal.note(journal.file, ["note"], notes=[to_json(Withdrawal("ACME", known[count % len(known)] if known else "0" * 16, "no"))])
     elif step == "cut":
         with open(journal.path, "ab") as lines:
             lines.write(b'{"before": "0", "event": "note", "id": "0123456789abcdef", "notes": [{"kind": "lin')
@@ -113,32 +118,32 @@ def test_the_register_is_what_a_fold_from_the_first_line_gives_at_each_step(tmp_
     journal, asked = Journal(str(folder / "office.db.journal"), str(folder / "office.db")), []
     for step, count, note in steps:
         add(journal, step, count, note, asked)
-        stored, fresh = file.notes_of(journal), folded_anew(journal)
-        assert is_same(stored, fresh) if fresh.notes else not stored.notes
-        assert os.path.exists(file.path_of(journal.file)) == bool(fresh.notes)
+        stored, fresh = file.Notes(journal), folded_anew(journal)
+        assert is_same(stored, fresh) if names(fresh) else not names(stored)
+        assert os.path.exists(file.path_of(journal.file)) == bool(names(fresh))
         assert file.difference(journal) == ""
-    assert list(file.rebuild(journal).notes.items()) == list(folded_anew(journal).notes.items())
+    assert names(file.rebuild(journal)) == names(folded_anew(journal))
     assert file.difference(journal) == ""
 
 
 def test_a_journal_without_a_note_makes_no_file(journal):
     journal.answered(journal.asked(journal.file, ["unit-add", 'A "notes": [{"kind": "link"}]']), Answer(0, "accepted\n", ""))
-    assert file.notes_of(journal).notes == {} and file.rebuild(journal).notes == {}
+    assert names(file.Notes(journal)) == names(file.rebuild(journal)) == []
     assert not os.path.exists(file.path_of(journal.file))
 
 
 def test_a_note_in_another_event_or_of_a_strange_name_is_none(journal):
     value = [to_json(NotLinked("ACME", "K1"))]
     journal.add({"event": "told", "of": "0" * 16, "notes": value}, {"event": "note", "id": "../x", "notes": value}, {"event": "note", "id": "0" * 16, "notes": value[0]})
-    assert file.notes_of(journal).notes == {}
+    assert names(file.Notes(journal)) == []
 
 
 def test_a_register_that_is_missing_is_made_by_the_next_reader(journal):
     journal.note(journal.file, ["note"], notes=[to_json(NotLinked("ACME", "K1"))])
-    first, path = file.notes_of(journal), file.path_of(journal.file)
+    first, path = names(file.Notes(journal)), file.path_of(journal.file)
     assert os.stat(path).st_mode & 0o777 == 0o600
     os.unlink(path)
-    assert is_same(file.notes_of(journal), first) and os.path.exists(path)
+    assert names(file.Notes(journal)) == first and os.path.exists(path)
 
 
 def test_a_forged_line_counts_until_verify_tells_it(journal):
@@ -146,7 +151,7 @@ def test_a_forged_line_counts_until_verify_tells_it(journal):
     line = json.loads(open(journal.path).read())
     with open(journal.path, "a") as lines:
         lines.write(json.dumps({**line, "id": "0" * 16, "notes": [to_json(NotLinked("ACME", "K2"))]}) + "\n")
-    assert len(file.notes_of(journal).notes) == 2
+    assert len(names(file.Notes(journal))) == 2
     assert check(journal.path).wrong == ["line 2 doesn't follow line 1: one of them was changed, or lines between them are missing"]
 
 
@@ -158,7 +163,7 @@ def test_a_long_journal_is_read_at_once(journal):
 
     def is_fast(seconds: float) -> bool:
         begun = time.process_time()
-        file.notes_of(journal)
+        file.Notes(journal)
         return time.process_time() - begun < seconds
 
     assert eventually(lambda: is_fast(0.5)) and not os.path.exists(file.path_of(journal.file))

@@ -10,7 +10,7 @@ from hilpoven.core import rights
 from hilpoven.core.office import Answer
 from hilpoven.core.journal.log import Journal
 from hilpoven.model.register import file
-from notes import links, noted, register_of
+from notes import links, noted, reading, register_of
 
 ONE = [("ACME B-1", "ACME S-1")]
 
@@ -63,7 +63,7 @@ def as_office(path, folder):
 
 def as_tables_with_a_trigger(path, folder):
     base = sqlite3.connect(path)
-    base.execute("CREATE TRIGGER t AFTER INSERT ON notes BEGIN DELETE FROM notes; END")
+    base.execute("CREATE TRIGGER t AFTER INSERT ON note BEGIN DELETE FROM note; END")
     base.commit()
 
 
@@ -102,21 +102,58 @@ def test_a_damaged_register_is_made_anew(linked, damage):
     assert linked.run("verify").status == 0 and links(linked) == ONE
 
 
-def test_rows_that_the_journal_doesn_t_have_are_told(linked):
-    path = file.path_of(str(linked.db))
-    base = sqlite3.connect(path)
-    ((text,),) = base.execute("SELECT noted FROM notes").fetchall()
-    base.execute("INSERT INTO notes (name, noted) VALUES (?, ?)", ("0" * 16, text.replace("S-1", "S-2")))
+FORGED = """INSERT INTO note (name, line, time, who, file, after, words, is_own, kind, owner, subject, value, meant)
+SELECT '0000000000000000', line, time, who, file, after, words, is_own, kind, owner, subject, replace(value, 'S-1', 'S-2'), meant FROM note"""
+
+
+@pytest.mark.parametrize("sql, why", [
+    (FORGED, "its notes aren't those of the journal"), ("DELETE FROM note", "its notes aren't those of the journal"),
+    ("UPDATE note SET is_done = 1, is_own = 0", "its notes aren't those of the journal"), ("UPDATE folded SET file = 'x'", "its names of the file aren't those of the journal"),
+    ("DELETE FROM link_note", "its standing notes aren't those of the journal"), ("UPDATE link_note SET of_lot = 'S-2'", "its standing notes aren't those of the journal"),
+    ("UPDATE note SET fault = 'withdrawn: no'", "its standing notes aren't those of the journal"), ("DELETE FROM folded", "it doesn't say how far the journal was read"),
+    ("UPDATE note SET value = '[1', is_open = 1", "a row of it can't be read")])
+def test_rows_that_the_journal_doesn_t_have_are_told(linked, sql, why):
+    base = sqlite3.connect(file.path_of(str(linked.db)))
+    base.execute(sql)
     base.commit()
     base.close()
     done = linked.run("verify")
-    assert done.status == 1 and "register: its notes aren't those of the journal" in done.out
-    base = sqlite3.connect(path)
-    base.execute("UPDATE notes SET noted = '[1]'")
+    assert done.status == 1 and why in done.out
+    assert linked.run("register", "rebuild").status == 0 and linked.run("verify").status == 0 and links(linked) == ONE
+
+
+def test_a_row_that_can_t_be_read_leaves_the_notes_to_the_journal(linked, capsys):
+    base = sqlite3.connect(file.path_of(str(linked.db)))
+    base.execute("UPDATE link_note SET why = 'theft'")
     base.commit()
     base.close()
-    assert links(linked) == ONE and "a row of it can't be read" in linked.run("verify").out
-    assert linked.run("register", "rebuild").status == 0 and linked.run("verify").status == 0
+    assert links(linked) == ONE and "a row of it can't be read" in capsys.readouterr().err
+    assert linked.run("register", "rebuild").status == 0 and links(linked) == ONE and capsys.readouterr().err == ""
+
+
+def test_a_register_of_an_earlier_version_is_made_anew_by_the_next_reader(linked):
+    path = file.path_of(str(linked.db))
+    base = sqlite3.connect(path)
+    ((*place, about),) = base.execute("SELECT start, stop, hash, file FROM folded").fetchall()
+    for (name,) in base.execute("SELECT name FROM sqlite_master WHERE type = 'table'").fetchall():
+        base.execute(f"DROP TABLE {name}")
+    for sql in file.EARLIER:
+        base.execute(sql)
+    base.execute("INSERT INTO folded VALUES (?, ?, ?, ?)", (*place, json.dumps(about)))
+    base.execute("INSERT INTO notes VALUES (1, ?, '[]')", (linked.lines()[-1]["id"],))
+    base.commit()
+    base.close()
+    inode = os.stat(path).st_ino
+    assert links(linked) == ONE and linked.run("note", "list").err == "" and linked.run("verify").status == 0 and os.stat(path).st_ino == inode
+
+
+def test_a_register_that_is_put_in_another_s_place_leaves_the_notes_to_the_journal(linked, capsys):
+    """Whoever has it open doesn't read the file that was moved aside."""
+    path = file.path_of(str(linked.db))
+    with reading(linked) as register:
+        os.rename(path, f"{path}.aside")
+        assert links(linked) == ONE
+        assert [str(link.contained) for link in register.links] == ["ACME S-1"] and "another one has its place" in capsys.readouterr().err
 
 
 def test_a_register_with_notes_that_the_journal_lost_is_kept(linked):

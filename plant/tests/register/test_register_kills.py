@@ -7,7 +7,7 @@ import pytest
 from conftest import Plant
 from hilpoven.core.journal.log import Journal
 from hilpoven.core.journal.query import check
-from hilpoven.model.register import file, folding
+from hilpoven.model.register import file
 from notes import links, noted
 from test_kills import kill_at, put, steps
 
@@ -51,10 +51,10 @@ def require_whole(plant: Plant) -> None:
     """The journal verifies, and the register is what a fold from its first line gives."""
     checked = check(str(plant.journal))
     assert checked.wrong == [] and checked.notes == [], checked
-    journal, fresh = Journal(str(plant.journal), str(plant.db)), folding.Folded()
+    journal = Journal(str(plant.journal), str(plant.db))
     assert file.difference(journal) == ""
-    folding.fold_on(journal.path, fresh)
-    assert file.rebuild(journal).notes == fresh.notes and file.difference(journal) == ""
+    file.rebuild(journal)
+    assert file.difference(journal) == "" and plant.run("verify").status == 0
     assert sorted(name for name in os.listdir(plant.folder) if "register" in name) == ["office.db.register"]
 
 

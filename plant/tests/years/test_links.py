@@ -14,7 +14,7 @@ from hilpoven.core.journal.log import Journal
 from hilpoven.model.genealogy import Genealogy
 from hilpoven.model.rows import LotId
 from hilpoven.model import below
-from hilpoven.model.register.folding import AFTER
+from hilpoven.model.register.noted import AFTER
 from hilpoven.model.notes.notes import Link, Note, Why, Withdrawal, to_json
 from hilpoven.model.register.standing import standing_over_all
 from hilpoven.model.years import history

@@ -11,12 +11,15 @@ from ..core.journal import query
 from ..core.journal.query import listed
 from ..core.journal.log import MADE_AT, Journal
 from ..model.accepted import rows_of
-from ..model.register import file
-from ..model.register.folding import Noted
+from ..model.register.file import Notes, Opened, memory
 from ..model.register.meant import NAMED
 from ..model.register.named_rows import named_by
 from ..model.notes.notes import Note, RowsLost, to_json
-from ..model.register.standing import Base, OfficeFile, Status, files_of, statuses
+from ..model.register.noted import Noted
+from ..model.register.faults import OfficeFile, files_of
+from ..model.register.keeping import keep
+from ..model.register.standing import Status, belonging, kept, statuses
+from ..model.register.tables import Base, subject_of
 
 FIRST = 10  # notes that are told where many lost their rows
 LIST = "`hilpoven note list` has all"
@@ -83,8 +86,8 @@ def note_lost(context: Context) -> list[Status]:
     """Notes behind a restore which notes lost their rows, so that they stand for no later rows of the same names; gives
     those that stood before."""
     journal = context.journal()
-    folded = file.notes_of(journal)  # made anew where it was moved aside
-    notes = folded.belonging(journal)
+    known = Notes(journal)  # made anew where it was moved aside
+    notes = belonging(known, journal)
     entries = query.entries(journal.path, journal.file) if notes else []
     places = [at for at, entry in enumerate(entries) if is_restoring(entry)]
     if not places:
@@ -92,8 +95,7 @@ def note_lost(context: Context) -> list[Status]:
     since = behind(entries, places[-1])
     with snapshot.opened(context.unseen_office()) as base, files_of(journal, base) as files:
         before = lost_before(notes, since.lines) | {noted.name for noted in notes if since.has_lost(noted)}
-        all_notes = statuses(folded, journal, files, before)
-        lost = [status for status in all_notes if status.is_lost or is_absent(status, files)]
+        lost = [status for status in statuses_with(known, journal, base, before) if is_lost_or_absent(status, files)]
     last = lost_before(notes, {noted.line for noted in notes})
     if lost or last:
         note = RowsLost(HOUSE, tuple(status.noted.name for status in lost))
@@ -101,10 +103,19 @@ def note_lost(context: Context) -> list[Status]:
     return [status for status in lost if status.noted.name not in last]
 
 
-def is_absent(status: Status, files: Sequence[OfficeFile]) -> bool:
-    """Whether no file has what a note names that stands, and whose line doesn't say which row it means."""
+def statuses_with(known: Notes, journal: Journal, base: Base, lost: frozenset[str]) -> list[Status]:
+    """Whether each note stands if these ones lost their rows, which no register keeps."""
+    looked_at = Opened(memory())
+    known.read(lambda tables: tables.backup(looked_at.base))
+    keep(looked_at.base, journal, base, lost)
+    return statuses(looked_at)
+
+
+def is_lost_or_absent(status: Status, files: Sequence[OfficeFile]) -> bool:
+    """Whether a note doesn't stand for want of its row alone, or no file has what it names, and its line doesn't say
+    which row it means."""
     if status.fault or status.note is None or status.noted.meant:
-        return False
+        return status.is_lost
     return any(
         not any(office_file.base.execute(NAMED[table], names).fetchone() for office_file in files)
         for table, names in named_by(status.note)
@@ -113,13 +124,12 @@ def is_absent(status: Status, files: Sequence[OfficeFile]) -> bool:
 
 def unsettled(journal: Journal, base: Base) -> list[Status]:
     """The notes whose rows the office hasn't, without those that were noted again."""
-    folded = file.notes_of(journal)
-    if not folded.notes:
-        return []
-    with files_of(journal, base) as files:
-        all_notes = statuses(folded, journal, files)
-    standing = {status.note for status in all_notes if not status.fault}
-    return [status for status in all_notes if status.is_lost and status.note not in standing]
+    notes = kept(journal, base)
+
+    def stands_again(note: Note) -> bool:
+        return any(other.note == note for other in statuses(notes, subject=subject_of(note), fault=""))
+
+    return [status for status in statuses(notes, is_lost=1) if status.note and not stands_again(status.note)]
 
 
 def report(journal: Journal, base: Base) -> list[str]:

@@ -26,7 +26,7 @@ def start(context: Context, names: tuple[str, ...]) -> None:
     with making.desk(context) as desk:
         lot = LotId(*names) if len(names) == 2 else only_lot(desk, *names)
         require_lot(desk, lot)
-        require_none(drills.under_way(drills.drills_in(desk.statuses)))
+        require_none(drills.under_way(drills.drills_of(desk.journal, desk.base)))
         name = desk.record(["drill", "start", *lot], DrillStart(*lot))
         begun = drills.under_way(drills.drills_of(desk.journal, desk.base))
         if begun is None or begun.begun.name != name:  # another one began at the same time
@@ -81,7 +81,7 @@ def end(context: Context, cancel: bool, reason: str, folder: str | None, tar: bo
     if not cancel:
         require_paper(folder, tar, no_pdf)
     with making.desk(context, hands_out=not cancel) as desk:
-        drill = drills.under_way(drills.drills_in(desk.statuses))
+        drill = drills.under_way(drills.drills_of(desk.journal, desk.base))
         if drill is None:
             raise Failure("no drill is under way", REFUSED, "`hilpoven drill start OWNER LOT` starts one")
         if cancel:
@@ -100,7 +100,7 @@ def paper_command(context: Context, name: str, folder: str | None, tar: bool, no
     """`hilpoven drill paper`."""
     require_paper(folder, tar, no_pdf)
     with making.desk(context, hands_out=True) as desk:
-        drill = ended_drill(drills.drills_in(desk.statuses), name)
+        drill = ended_drill(drills.drills_of(desk.journal, desk.base), name)
     give_paper(context, drill, folder, tar, no_pdf)
 
 

@@ -18,11 +18,13 @@ from ..model.measures import as_number
 from ..model.movement_keys import OF_USE
 from ..model.rows import LotId, require_owner
 from ..record import expiry, making, usable
-from ..model.register import file
+from ..model.register import file, lines
 from ..model.notes.movements import facts_of
 from ..model.register.closings import closings_in
 from ..model.notes.notes import Corrects, Judgement, Link, Note, NotLinked, RowsLost, Settled, Why, Withdrawal
+from ..model.register.standing import statuses
 from ..model.register.suspects import suspects
+from ..model.register.tables import storable, subject_of
 from . import answers, day_checks, roles
 from .lines import YES_ABOUT
 
@@ -116,9 +118,9 @@ def withdraw(context: Context, name: str, reason: str) -> None:
     if not reason.strip():
         raise Failure("--reason is empty", WRONG_USE)
     with making.desk(context) as desk:
-        status = next((candidate for candidate in desk.statuses if candidate.noted.name == name), None)
+        status = next(iter(statuses(desk.notes, name=storable(name))), None)
         if status is None or status.note is None:
-            names = [known.noted.name for known in desk.statuses]
+            names = [known for known, in desk.notes.rows("SELECT name FROM note WHERE fault IS NOT NULL ORDER BY id")]
             raise Failure(f"there is no note {name}", REFUSED, nearest(name, names, "notes"))
         if status.fault and not status.is_lost:
             raise Failure(f"note {name} doesn't stand: {status.fault}", REFUSED)
@@ -132,8 +134,8 @@ def withdraw(context: Context, name: str, reason: str) -> None:
         require_last_closing(desk, status.note, changed)
         same = [
             other.noted.name
-            for other in desk.statuses
-            if other.note == status.note and not other.fault and other is not status
+            for other in statuses(desk.notes, subject=subject_of(status.note), fault="")
+            if other.note == status.note and other.noted.name != name
         ]
         notes = [Withdrawal(status.note.owner, of, reason) for of in (name, *same)]
         click.echo(f"noted {desk.record(['note', 'withdraw', name, '--reason', reason], *notes)}")
@@ -142,9 +144,10 @@ def withdraw(context: Context, name: str, reason: str) -> None:
 def changed_by(desk: making.Desk, note: Note) -> Note:
     """The note that holds or doesn't by another one: itself, or what a withdrawal, of a withdrawal or not, is about in
     the end. Fails where that isn't there."""
-    notes = {status.noted.name: status.note for status in desk.statuses}
+    passed = set[str]()
     while isinstance(note, Withdrawal):
-        named = notes.pop(note.of, None)
+        named = next((status.note for status in statuses(desk.notes, name=note.of) if note.of not in passed), None)
+        passed.add(note.of)
         if named is None:
             raise Failure(f"there is no note {note.of}, which was withdrawn", REFUSED)
         note = named
@@ -158,7 +161,7 @@ def require_last_closing(desk: making.Desk, note: Note, changed: Note) -> None:
     if isinstance(note, Withdrawal):
         advice = "`hilpoven settle` closes the month again, with another number"
         raise Failure("a settlement that was taken back stays so", REFUSED, advice)
-    last = closings_in(desk.statuses, changed.owner)[-1].settled
+    last = closings_in(statuses(desk.notes, Settled), changed.owner)[-1].settled
     if changed != last:
         raise Failure(f"settlement {changed.number} isn't the last one of {changed.owner}: {last.number} is", REFUSED)
 
@@ -226,7 +229,7 @@ def list_command(context: Context, owner: str | None, form: str | None) -> None:
     with making.desk(context) as desk:
         if owner:
             require_owner(desk.base, owner)
-        for status in desk.statuses:
+        for status in statuses(desk.notes):
             noted, note, fault = status.noted, status.note, status.fault
             note_owner, sentence = (note.owner, note.sentence) if note else ("", f"a note that {fault}")
             if owner in (None, note_owner):
@@ -245,9 +248,9 @@ def rebuild(context: Context) -> None:
     """`hilpoven register rebuild`."""
     office, journal = context.office(), context.journal()
     with journal.noted(office.file, ["register", "rebuild"]):
-        count = len(file.rebuild(journal).notes)
+        ((count,),) = file.rebuild(journal).rows("SELECT count(*) FROM note")
     click.echo(
-        f"{file.path_of(office.file)} has {counted(count, 'notes')}"
+        f"{lines.path_of(office.file)} has {counted(count, 'notes')}"
         if count
         else "the journal has no note, and there is no register"
     )

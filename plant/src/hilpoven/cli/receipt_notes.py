@@ -11,7 +11,7 @@ from ..model.notes import likeness
 from ..record import making
 from ..model.notes.movements import RETURNS, SENDS, Task
 from ..model.notes.notes import Link, NotLinked, Note, Why
-from ..model.register.standing import HAS_LOT
+from ..model.register.faults import HAS_LOT
 from .movement_notes import facts_beside
 from .words import OneOf, at_terminal
 

@@ -19,7 +19,7 @@ from ..core.journal import query
 from ..core.journal.log import Journal
 from ..model import accepted
 from ..record import answered
-from ..model.register import file as register
+from ..model.register import lines as register
 from ..model.years import chain
 
 
@@ -54,7 +54,7 @@ def new(context: Context, file: str | None) -> None:
 def require_no_notes(journal: Journal) -> None:
     """Fails where there are notes of the office that was here: those of a new one would be mixed with them."""
     path = register.path_of(journal.file)
-    if register.has_notes(journal):
+    if register.may_have_notes(journal):
         raise Failure(
             f"there are notes of the office that was here, in {journal.path}",
             WRONG_USE,
@@ -135,6 +135,7 @@ def verify(context: Context) -> None:
         with contextlib.closing(sqlite3.connect(copy)) as base:
             wrong += backups.checked_tables(base) or accepted.lacking(base, rows)
             lost_rows = [] if wrong else lost.report(context.journal(), base)
+            register_report = reports.verified(context.journal(), None if wrong else base)
         wrong += owners.lacking(copy) if owners and not wrong else []
         answer = office.ask(["stock", "HOUSE"], copy)
     if answer.status:
@@ -148,13 +149,14 @@ def verify(context: Context) -> None:
         f"journal: {checked.lines} lines, {len(checked.unanswered)} without an answer"
         f"{'' if checked.wrong else '; it is whole'}"
     )
-    unlike = verify_register(context, lost_rows)
+    for line in [*register_report.lines, *lost_rows]:
+        click.echo(f"register: {printable(line)}")
     changed: list[str] = []
     if os.path.isdir(folder := context.settings.backups):
         count, changed = backups.changed(context.file, folder, context.journal())
-        reports = [f"{changed_backup} isn't the file that was made" for changed_backup in changed]
-        click.echo(f"backups: {'; '.join([*reports, f'{count - len(changed)} as the journal notes them'])}")
-    sys.exit(FAULT if wrong else REFUSED if checked.wrong or changed or unlike else 0)
+        unlike = [f"{changed_backup} isn't the file that was made" for changed_backup in changed]
+        click.echo(f"backups: {'; '.join([*unlike, f'{count - len(changed)} as the journal notes them'])}")
+    sys.exit(FAULT if wrong else REFUSED if checked.wrong or changed or register_report.is_wrong else 0)
 
 
 class Answered:
@@ -190,12 +192,3 @@ class Answered:
         others = f"; and {len(rows) - answered.FIRST:,} more" if len(rows) > answered.FIRST else ""
         first = "; ".join(rows[: answered.FIRST])
         return [*wrong, *([printable(f"the standby's pieces have what is missing: {first}{others}")] if rows else [])]
-
-
-def verify_register(context: Context, lost_rows: list[str]) -> bool:
-    """Prints whether the register is what the journal gives, where either has notes, and which notes lost what they
-    were noted of; whether it isn't."""
-    report = reports.verified(context.journal())
-    for line in [*report.lines, *lost_rows]:
-        click.echo(f"register: {printable(line)}")
-    return report.is_wrong

@@ -2,7 +2,6 @@
 import sys
 from collections import Counter
 from collections.abc import Sequence
-from dataclasses import replace
 
 import click
 
@@ -126,7 +125,8 @@ def lot_card(context: Context, owner: str, lot: str, file: str, is_json: bool) -
     with history.opened(context.office_to_export("years", "lot", owner, lot), owner) as whole:
         start = whole.lot(owner, lot, file)
         register = standing_over_all(context.journal(), whole)
-        overview = overviews.lot(whole.base, *start, replace(register, plants_test=context.settings.quality.test))
+        register.plants_test = context.settings.quality.test
+        overview = overviews.lot(whole.base, *start, register)
         click.echo(overview.as_json()) if is_json else print_overview(overview)
         tell_sources(whole, start)
 

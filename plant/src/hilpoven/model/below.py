@@ -10,10 +10,13 @@ from . import answers
 from .genealogy import FORWARD, Genealogy
 from .recall import recall_lines
 from .rows import LotId
-from .register import file
-from .notes.notes import Link, Note, from_json
+from .register.file import Notes
+from .notes.notes import Link
 from .register.standing import standing
 
+LINKED = f"""
+SELECT 1 FROM note WHERE kind = '{Link.KIND}' AND owner <> '' AND (? = '{HOUSE}' OR owner IN (?, '{HOUSE}')) LIMIT 1
+"""
 HEADING = "noted by the plant: links add these lots, or shorten the way to them"
 MARK = "*"
 
@@ -22,8 +25,7 @@ def lines_below(office: Office, journal: Journal, words: Sequence[str], answer: 
     """The lines that links add to an answer, or shorten, under a heading; none if there are none of them. The words are
     of a `recall` or a `trace`."""
     name, start, way = words[0], LotId(*words[1:3]), words[3] if words[3:] else FORWARD
-    notes = file.notes_of(journal).notes.values()
-    if not any(may_concern(from_json(noted.value), start) for noted in notes):
+    if not may_concern(Notes(journal), start):
         return []
     with snapshot.opened(office) as base:
         trace = Genealogy(base, standing(journal, base).links).trace(start, way)
@@ -33,10 +35,10 @@ def lines_below(office: Office, journal: Journal, words: Sequence[str], answer: 
         return noted_text(answers.trace_text(trace.noted))
 
 
-def may_concern(note: Note | None, start: LotId) -> bool:
-    """Whether a note is a link that a trace of this lot may come to: it stays with the lot's owner and HOUSE, unless
+def may_concern(notes: Notes, start: LotId) -> bool:
+    """Whether there is a link to which a trace of this lot may come: it stays with the lot's owner and HOUSE, unless
     the lot is HOUSE's, which all owners' batches may consume."""
-    return isinstance(note, Link) and (start.owner == HOUSE or note.owner in (start.owner, HOUSE))
+    return bool(notes.rows(LINKED, (start.owner, start.owner)))
 
 
 def noted_text(lines: Sequence[str]) -> list[str]:

@@ -75,10 +75,10 @@ def below(context: Context, line: Line, given: Given) -> list[str]:
     """What the plant's links add to a recall or a trace, below what `toll` answers."""
     if line.name not in TRACES or given.answer.status:
         return []
-    from ..model.register import file
+    from ..model.register import lines
 
     office, journal = context.office(), context.journal()
-    if not file.has_notes(journal):
+    if not lines.may_have_notes(journal):
         return []
     from ..model import below
 

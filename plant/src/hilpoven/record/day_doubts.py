@@ -9,7 +9,7 @@ from ..core.grammar import MOVEMENTS, Line
 from ..model.doubtful_days import read_days
 from ..model.measures import value_of
 from ..model.rows import LotId
-from ..model.register.standing import HAS_KEY, HAS_RESULT
+from ..model.register.faults import HAS_KEY, HAS_RESULT
 from ..model.years import earlier
 
 

@@ -10,11 +10,12 @@ from ..core.table import counted
 from ..model.measures import GROUP, as_measured, decimals_in, limits_text, value_word, whole_of
 from ..model.rows import LotId, require_lot, require_owner, row_of
 from ..model.schema import Role
-from ..model.register import file
+from ..model.register import lines
+from ..model.register.file import Notes
 from ..model.notes.facts import LotFacts, ResultFacts, ResultId, TestFacts, joined
 from ..model.notes.kinds import Bound, split_sign
 from ..model.notes.note import Note
-from ..model.register.standing import HAS_RESULT
+from ..model.register.faults import HAS_RESULT
 from ..model.register.store import Register
 
 Base = sqlite3.Connection
@@ -36,11 +37,11 @@ WHERE r.owner = ? AND l.material = ? AND r.test = ? ORDER BY r.rowid
 
 def has_noted(journal: Journal, *kinds: type[Note]) -> bool:
     """Whether a journal has a note of one of these kinds, whether it stands or not."""
-    if not file.has_notes(journal):
+    if not lines.may_have_notes(journal):
         return False
-    names = {kind.KIND for kind in kinds}
-    values = [noted.value for noted in file.notes_of(journal).notes.values()]
-    return any(isinstance(value, dict) and str(value.get("kind")) in names for value in values)
+    names = [kind.KIND for kind in kinds]
+    sql = f"SELECT 1 FROM note WHERE kind IN ({', '.join('?' * len(names))}) LIMIT 1"
+    return bool(Notes(journal).rows(sql, tuple(names)))
 
 
 def has_measures(journal: Journal) -> bool:

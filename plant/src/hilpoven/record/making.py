@@ -16,14 +16,16 @@ from ..core.journal.log import Journal
 from ..model.rows import BatchId, LotId, read_moves, require_owner
 from ..model.schema import STANDING, Kind
 from ..model.years import chain, earlier
-from ..model.register import file
-from ..model.register.folding import AFTER
+from ..model.register.file import Notes
+from ..model.register.noted import AFTER
 from ..model.notes.movements import GETS, RETURNS, SENDS, Parties, Task, require_party
 from ..model.notes.facts import MovementFacts
 from ..model.register.meant import MEANT
 from ..model.register.named_rows import RowReader
 from ..model.notes.notes import Corrects, Link, Note, Why, to_json
-from ..model.register.standing import HAS_BATCH, HAS_LOT, Status, files_of, standing as standing_notes, statuses
+from ..model.register.faults import HAS_BATCH, HAS_LOT
+from ..model.register.standing import kept, statuses
+from ..model.register.tables import storable, subject_of
 from ..model.register.store import Register
 
 Base = sqlite3.Connection
@@ -144,37 +146,25 @@ class Desk:
         return came.file if came else ""
 
     @functools.cached_property
-    def statuses(self) -> list[Status]:
-        """Each note of the journal, and whether it stands."""
-        folded = file.notes_of(self.journal)
-        if not folded.notes:
-            return []
-        with files_of(self.journal, self.base) as files:
-            return statuses(folded, self.journal, files)
+    def notes(self) -> Notes:
+        """The journal's notes, of which it is known whether they stand."""
+        return kept(self.journal, self.base)
 
     @functools.cached_property
     def register(self) -> Register:
         """The notes that stand, by what they are about."""
-        return standing_notes(self.journal, self.base)
-
-    @functools.cached_property
-    def names_of_notes(self) -> dict[Note, str]:
-        """The notes about this file that stand, each with its first name. Where the last one about a thing counts, no
-        other one is there."""
-        names, lasts = dict[Note, str](), dict[tuple[object, ...], Note]()
-        for status in self.statuses:
-            note = status.note
-            if note is None or status.fault or status.noted.after != self.after:
-                continue
-            if note.SUBJECT and (before := lasts.get((note.KIND, *note.subject))) and before != note:
-                names.pop(before, None)
-            lasts[note.KIND, *note.subject] = note
-            names.setdefault(note, status.noted.name)
-        return names
+        return Register(self.notes)
 
     def standing(self, note: Note) -> str | None:
-        """The name of a note about this file that says the same, and stands; `None` if there is none."""
-        return self.names_of_notes.get(note)
+        """The name of a note about this file that says the same, and stands; `None` if there is none. Where the last
+        note about a thing counts, no other one is there."""
+        names: list[str] = []
+        for status in statuses(self.notes, subject=subject_of(note), fault="", after=storable(self.after)):
+            if status.note == note:
+                names.append(status.noted.name)
+            elif note.SUBJECT:
+                names = []
+        return names[0] if names else None
 
     @functools.cached_property
     def parties(self) -> Parties:
@@ -196,11 +186,8 @@ class Desk:
         """What the party did that sent a receipt: returned it, if a link of its lot says so."""
         returned = {
             status.note.lot
-            for status in self.statuses
-            if isinstance(status.note, Link)
-            and not status.fault
-            and status.note.owner == owner
-            and status.note.why == Why.RETURN
+            for status in statuses(self.notes, Link, owner=owner, fault="")
+            if isinstance(status.note, Link) and status.note.why == Why.RETURN
         }
         return RETURNS if any(self.has(HAS_RECEIPT_OF, owner, key, lot) for lot in returned) else SENDS
 

@@ -13,9 +13,10 @@ from ..core.office import Answer
 from ..model.rows import LotId
 from ..model.schema import IS_OUTGOING, Kind
 from ..model.years.earlier import MOVE, MOVE_COLUMNS, lot_of, move_of
-from ..model.register import file, folding, quality
+from ..model.register import lines, quality
+from ..model.register.file import Notes
 from ..model.register.standing import register_of
-from ..model.notes.notes import Held, Signed, from_json
+from ..model.notes.notes import Held, Signed
 
 TAKEN = f"SELECT owner, mkey, {MOVE_COLUMNS} FROM moves AS m WHERE m.lot_owner = ? AND m.lot = ? AND {IS_OUTGOING}"
 # A test of a lot that has the name of the plant's own and other limits.
@@ -23,6 +24,7 @@ IS_ANOTHER = f"""
 SELECT 1 FROM lots AS l JOIN tests AS t USING (owner, material)
 WHERE l.owner = :owner AND l.lot = :lot AND t.test = :test AND NOT ({quality.IS_PLANTS})
 """
+HAS_HELD = f"SELECT 1 FROM note WHERE kind = '{Held.KIND}' AND owner <> '' AND is_own = 1 LIMIT 1"
 JUDGED = tuple(f'"kind": "{kind.KIND}"'.encode() for kind in (Held, Signed))  # what a line with a judgement has
 Movement = tuple[str | int, ...]  # its owner and its key, and its row
 
@@ -99,16 +101,12 @@ class Stops:
 
     def read_notes(self) -> NotesAlone:
         """The same. The office's tables are read only if there are such notes."""
-        notes = file.notes_of(self.context.journal()).notes.values()
-        if not any(noted.is_own and isinstance(from_json(noted.value), Held) for noted in notes):
+        if not Notes(self.context.journal()).rows(HAS_HELD):
             return NotesAlone()
         with snapshot.opened(self.context.office_to_read()) as base:
-            statuses = quality.statuses(base, register_of(self.context, base))
-            held = {
-                lot: status
-                for lot, status in statuses.items()
-                if status.is_note_alone and status.state == quality.State.HELD
-            }
+            register = register_of(self.context, base)
+            statuses = {lot: quality.statuses(base, register, lot).get(lot) for lot in register.held_alone}
+            held = {lot: status for lot, status in statuses.items() if status and status.is_note_alone}
             return NotesAlone(held, frozenset(row for lot in held for row in base.execute(TAKEN, lot)))
 
 
@@ -120,14 +118,14 @@ def movement_of(line: Line, values: Mapping[str, str]) -> Movement | None:
 
 def size_of(path: str) -> int:
     """How many bytes a journal has; none where it isn't there."""
-    with folding.opened(path) as descriptor:
+    with lines.opened(path) as descriptor:
         return 0 if descriptor is None else os.fstat(descriptor).st_size
 
 
 def has_judgement(path: str, place: int) -> bool:
     """Whether a journal has a signature or a hold behind a place. What else has these bytes costs only a look."""
-    with folding.opened(path) as descriptor:
+    with lines.opened(path) as descriptor:
         if descriptor is None:
             return False
-        lines = os.pread(descriptor, os.fstat(descriptor).st_size - place, place)
-    return any(mark in lines for mark in JUDGED)
+        behind = os.pread(descriptor, os.fstat(descriptor).st_size - place, place)
+    return any(mark in behind for mark in JUDGED)

@@ -5,7 +5,7 @@ from ..model.schema import Disposition
 from ..model.register import quality
 from .making import Desk
 from ..model.notes.notes import Link
-from ..model.register.standing import HAS_KEY
+from ..model.register.faults import HAS_KEY
 from ..model.register.store import Register
 
 

@@ -13,7 +13,7 @@ from ...core.office import Answer, Office
 from ...core.server import Place
 from ...core.journal import log, query
 from ...model import accepted
-from ...model.register import file as register
+from ...model.register import lines
 from ...model.years import chain
 from . import comparing, exchanging, steps
 from .filling import Filling
@@ -108,7 +108,7 @@ def hindrances(work: Work) -> list[str]:
     answer = work.office.ask(["stock", "HOUSE"], tried)
     if answer.status:
         reasons.append(f"verify: toll doesn't open it: {answer.error.strip()}")
-    noted = "; `hilpoven note list` has what to note anew there" if register.has_notes(work.journal) else ""
+    noted = "; `hilpoven note list` has what to note anew there" if lines.may_have_notes(work.journal) else ""
     return reasons + [
         f"verify: journal: {fault}: move {path} elsewhere and keep it, and a new one begins{noted}" for fault in unwhole
     ]

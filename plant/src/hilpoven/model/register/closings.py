@@ -2,7 +2,7 @@
 from collections.abc import Iterable
 from dataclasses import dataclass
 
-from .folding import Noted
+from .noted import Noted
 from ..notes.settled import Settled
 from .standing import Status
 

@@ -6,10 +6,10 @@ from datetime import datetime, timedelta, timezone
 from ...core.failure import printable
 from ...core.journal.log import Journal
 from ..rows import LotId
-from . import file
-from .folding import Noted
+from .noted import Noted
 from ..notes.notes import DrillEnd, DrillStart
-from .standing import Base, Status, files_of, reader_of, statuses
+from .standing import Status, kept, reader_of, statuses
+from .tables import Base
 
 
 @dataclass(frozen=True)
@@ -52,11 +52,7 @@ def drills_in(notes: Iterable[Status]) -> list[Drill]:
 
 def drills_of(journal: Journal, base: Base) -> list[Drill]:
     """The drills of an office of whose file this is a copy, the oldest first."""
-    folded = file.notes_of(journal)
-    if not folded.notes:
-        return []
-    with files_of(journal, base) as files:
-        return drills_in(statuses(folded, journal, files))
+    return drills_in(statuses(kept(journal, base), DrillStart, DrillEnd))
 
 
 def lot_over_all(drill: Drill, journal: Journal, newest: Base, whole: Base | None) -> LotId:

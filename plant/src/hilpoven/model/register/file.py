@@ -1,25 +1,28 @@
-"""The register's file beside an office's: what the fold over the journal gave, so that a reader folds only what is new.
+"""The register's file beside an office's: the journal's notes with whether each stands, so that a reader adds only what
+is new.
 
-The journal is the truth. Where the file is missing, the next reader makes it; where it can't be used, the notes are
-read from the journal, which is told, and `hilpoven register rebuild` makes it anew.
+The journal is the truth. Where the file is missing, the next reader makes it; where an earlier version wrote it, the next
+reader makes it anew; where it can't be used, the notes are read from the journal, which is told, and `hilpoven register
+rebuild` makes it anew.
 """
 import contextlib
-import json
 import os
 import sqlite3
 import stat
-from collections.abc import Iterator
+from collections.abc import Callable, Iterator
 from dataclasses import dataclass
+from typing import TypeVar
 
 from ...core import files, lock, rights, snapshot
 from ...core.failure import REFUSED, Failure
 from ...core.journal.log import Journal
-from . import folding
-from .folding import Folded, Place, as_text, continues, fold_on, from_text
+from . import lines, tables
+from .folding import fold_on, has_a_note
+from .lines import path_of
+from .tables import MARK, SCHEMA, Base
 
-END = ".register"  # of its name
-MARK = 0x48504C4E  # the number by which SQLite knows whose file it is
-TABLES = (
+# What the register of an earlier version has, which is made anew.
+EARLIER = (
     "CREATE TABLE notes (place INTEGER PRIMARY KEY, name TEXT NOT NULL UNIQUE, noted TEXT NOT NULL) STRICT",
     "CREATE TABLE answers (line TEXT PRIMARY KEY, is_done INTEGER NOT NULL) STRICT",
     "CREATE TABLE moved (source TEXT NOT NULL, target TEXT NOT NULL) STRICT",
@@ -30,6 +33,8 @@ REBUILD = "`hilpoven register rebuild` makes it anew from the journal"
 MOVE = "move it elsewhere and keep it, and the next reader makes another one"
 TRIES = 10
 PATIENCE = 5.0  # seconds
+Keep = Callable[[Base], None]  # what a reader has the register keep besides
+Value = TypeVar("Value")
 
 
 class Unusable(Exception):
@@ -40,60 +45,96 @@ class Unusable(Exception):
         self.is_replaceable = advice == REBUILD
 
 
-def path_of(file: str) -> str:
-    """The path of the register of an office's file."""
-    return f"{file}{END}"
+def keep_nothing(_: Base) -> None:
+    """What a reader has the register keep that asks for no note that stands."""
 
 
-@dataclass(frozen=True)
-class Known:
-    """What a register had when this process read it last: its stamp, and how far the journal was folded."""
+@dataclass
+class Opened:
+    """Tables that are open for reading."""
 
-    stamp: snapshot.Stamp
-    folded: Folded
+    base: Base
 
+    def read(self, action: Callable[[Base], Value]) -> Value:
+        """What is read of the tables."""
+        return action(self.base)
 
-KNOWN: dict[str, Known] = {}  # by their paths: most commands read the notes several times
-
-
-def notes_of(journal: Journal) -> Folded:
-    """What the journal's notes are now. Where it has none, no file is made."""
-    path, folded = path_of(journal.file), Folded()
-    if not os.path.lexists(path):
-        fold_on(journal.path, folded)
-        if not folded.notes:
-            return folded
-    try:
-        with locked(path, journal.file) as base:
-            folded = caught_up(base, journal, folded, KNOWN.get(path))
-            KNOWN[path] = Known(snapshot.stamp_of(path), folded)
-            return folded
-    except (OSError, sqlite3.Error, Unusable) as error:
-        journal.tell(f"The register {path} isn't used, and notes are read from the journal: {reason_of(error)}.")
-    fold_on(journal.path, folded)
-    return folded
+    def rows(self, sql: str, words: tuple[str | int, ...] = ()) -> list[tables.Row]:
+        """The rows of a query."""
+        return self.read(lambda base: base.execute(sql, words).fetchall())
 
 
-def has_notes(journal: Journal) -> bool:
-    """Whether a journal has a line with a note, or had one: then there is a register."""
-    if os.path.lexists(path_of(journal.file)):
-        return True
-    with folding.opened(journal.path) as descriptor:
-        return descriptor is not None and folding.has_notes(descriptor, 0)
+class Notes(Opened):
+    """The notes of a journal, in the tables of its register, or in memory where the journal has none or the register
+    can't be used. What `keep` does to the tables is done once they have what is new."""
+
+    def __init__(self, journal: Journal, keep: Keep = keep_nothing) -> None:
+        self.journal, self.keep, self.path = journal, keep, path_of(journal.file)
+        self.state: os.stat_result | None = None  # of the file; `None` where the tables are in memory
+        if not os.path.lexists(self.path) and not has_a_note(journal.path):
+            self.base = memory()
+            return
+        try:
+            with locked(self.path, journal.file) as base:
+                caught_up(base, journal, keep)
+                self.base, self.state = base, os.stat(self.path)
+        except (OSError, sqlite3.Error, ValueError, TypeError, Unusable) as error:
+            self.base = self.in_memory(error)
+
+    def read(self, action: Callable[[Base], Value]) -> Value:
+        """The same. Where the file can't be used any more, they are made of the journal."""
+        try:
+            if self.state and not os.path.samestat(self.state, os.stat(self.path)):
+                raise Unusable("another one has its place since it was opened", "")
+            return action(self.base)
+        except (OSError, sqlite3.Error, ValueError, TypeError, Unusable) as error:
+            if self.state is None:
+                raise Failure(f"the notes of {self.journal.path} can't be read: {error}") from error
+            self.base, self.state = self.made_anew(error), None
+            return action(self.base)
+
+    def made_anew(self, error: Exception) -> Base:
+        """The tables made of the journal, where it is still known which office they are of."""
+        try:
+            return self.in_memory(error)
+        except sqlite3.Error as further:
+            raise Failure(f"the notes of {self.journal.path} can't be read: {further}") from error
+
+    def in_memory(self, error: Exception) -> Base:
+        """The same tables made of the journal, because of what is wrong with the file, which is told."""
+        why = reason_of(error)
+        self.journal.tell(f"The register {self.path} isn't used, and notes are read from the journal: {why}.")
+        base = memory()
+        fold_on(self.journal.path, base)
+        self.keep(base)
+        return base
+
+
+def memory() -> Base:
+    """Tables in memory, empty."""
+    base = sqlite3.connect(":memory:", isolation_level=None)
+    tables.make(base)
+    return base
 
 
 def reason_of(error: Exception) -> str:
     """Why the file can't be used, and what to do about it."""
-    if isinstance(error, OSError):
-        return error.strerror or str(error)
+    match error:
+        case OSError():
+            return error.strerror or str(error)
+        case ValueError() | TypeError():
+            return f"a row of it can't be read: {error}; {REBUILD}"
     return str(error) if isinstance(error, Unusable) else f"{error}; {REBUILD}"
 
 
 @contextlib.contextmanager
-def locked(path: str, file: str) -> Iterator[sqlite3.Connection]:
-    """The register's tables while nobody else reads or writes them; empty ones where it isn't there yet."""
-    with held(path, file), tables(path) as base:
+def locked(path: str, file: str) -> Iterator[Base]:
+    """The register's tables while nobody else writes them; empty ones where it isn't there yet. They stay open, unless
+    something fails."""
+    with held(path, file), contextlib.ExitStack() as stack:
+        base = stack.enter_context(contextlib.closing(opened(path)))
         yield base
+        stack.pop_all()
 
 
 @contextlib.contextmanager
@@ -129,16 +170,6 @@ def held_file(path: str, file: str) -> Iterator[int]:
         files.sync(os.path.dirname(path))
 
 
-@contextlib.contextmanager
-def tables(path: str) -> Iterator[sqlite3.Connection]:
-    """The tables of a register that is held; fails where the file has others."""
-    address = snapshot.address_of(path, "rw")
-    with contextlib.closing(sqlite3.connect(address, uri=True, isolation_level=None)) as base:
-        base.execute("PRAGMA trusted_schema = OFF")
-        require_tables(base)
-        yield base
-
-
 def is_same(path: str, descriptor: int) -> bool:
     """Whether a path still leads to an open file."""
     try:
@@ -148,22 +179,30 @@ def is_same(path: str, descriptor: int) -> bool:
     return os.path.samestat(state, os.fstat(descriptor))
 
 
-def require_tables(base: sqlite3.Connection) -> None:
-    """Makes the tables where the file has none at all; fails unless they are a register's."""
-    tables = [sql for sql, in base.execute("SELECT sql FROM sqlite_master WHERE sql IS NOT NULL")]
+def opened(path: str) -> Base:
+    """The tables of a register that is held; fails where the file has others."""
+    base = sqlite3.connect(snapshot.address_of(path, "rw"), uri=True, isolation_level=None)
+    with contextlib.ExitStack() as stack:
+        stack.callback(base.close)
+        base.execute("PRAGMA trusted_schema = OFF")
+        require_tables(base)
+        stack.pop_all()
+    return base
+
+
+def require_tables(base: Base) -> None:
+    """Makes the tables where the file has none at all; fails unless they are a register's, if only an earlier one's."""
+    known = [sql for sql, in base.execute("SELECT sql FROM sqlite_master WHERE sql IS NOT NULL")]
     ((mark,),) = base.execute("PRAGMA application_id").fetchall()
-    if not tables and not mark:
+    if not known and not mark:
         with transaction(base):
-            for sql in TABLES:
-                base.execute(sql)
-            base.execute("INSERT INTO folded VALUES (0, 0, '', '\"\"')")
-            base.execute(f"PRAGMA application_id = {MARK}")
-    elif mark != MARK or sorted(tables) != sorted(TABLES):
+            tables.make(base)
+    elif mark != MARK or sorted(known) not in (sorted(SCHEMA), sorted(EARLIER)):
         raise Unusable("it is another database", MOVE)
 
 
 @contextlib.contextmanager
-def transaction(base: sqlite3.Connection) -> Iterator[None]:
+def transaction(base: Base) -> Iterator[None]:
     """Has all that is written come into the file, or nothing."""
     base.execute("BEGIN IMMEDIATE")
     try:
@@ -175,66 +214,36 @@ def transaction(base: sqlite3.Connection) -> Iterator[None]:
         raise
 
 
-def caught_up(
-    base: sqlite3.Connection, journal: Journal, known: Folded | None = None, last: Known | None = None
-) -> Folded:
-    """What the register has, with what the journal has behind it, which is added. Where the register is new, what is
-    known of the journal need not be read again, and where nobody wrote it, what was read of it last."""
-    is_same = last and snapshot.stamp_of(path_of(journal.file)) == last.stamp and place_in(base) == last.folded.place
-    folded = last.folded if last and is_same else read(base)
-    require_continued(folded, journal)
-    place, notes, answers, moves = folded.place, len(folded.notes), set(folded.answers), len(folded.files.moves)
-    folded = known if known and not place.end else folded
-    fold_on(journal.path, folded)
-    if folded.place != place:
+def caught_up(base: Base, journal: Journal, keep: Keep = keep_nothing) -> None:
+    """Adds what the journal has behind what the register has. One of an earlier version is made anew."""
+    is_earlier = base.execute("SELECT 1 FROM sqlite_master WHERE name = 'notes'").fetchone() is not None
+    require_continued(base, journal, "notes" if is_earlier else "note")
+    if is_earlier:
         with transaction(base):
-            new = [(noted.name, as_text(noted)) for noted in list(folded.notes.values())[notes:]]
-            base.executemany("INSERT INTO notes (name, noted) VALUES (?, ?)", new)
-            answered = [(line, is_done) for line, is_done in folded.answers.items() if line not in answers]
-            base.executemany("INSERT INTO answers VALUES (?, ?)", answered)
-            moved = [(json.dumps(source), json.dumps(target)) for source, target in folded.files.moves[moves:]]
-            base.executemany("INSERT INTO moved VALUES (?, ?)", moved)
-            row = folded.place.start, folded.place.end, folded.place.hash, json.dumps(folded.files.last)
-            base.execute("UPDATE folded SET (start, stop, hash, file) = (?, ?, ?, ?)", row)
-    return folded
+            for name in ("notes", "answers", "moved", "folded"):
+                base.execute(f"DROP TABLE {name}")
+            tables.make(base)
+    with transaction(base):
+        fold_on(journal.path, base)
+    keep(base)
 
 
-def require_continued(folded: Folded, journal: Journal) -> None:
-    """Fails unless the journal goes on from the place to which it was folded."""
-    if continues(journal.path, folded.place):
+def require_continued(base: Base, journal: Journal, table: str) -> None:
+    """Fails unless the journal goes on from the place to which it was read."""
+    place = base.execute("SELECT start, stop, hash FROM folded").fetchone()
+    if place is None:
+        raise Unusable("it doesn't say how far the journal was read")
+    if lines.continues(journal.path, *place):
         return
-    fresh = Folded()
+    fresh = memory()
     fold_on(journal.path, fresh)
-    lost = len(folded.notes.keys() - fresh.notes.keys())
+    known = {name for name, in fresh.execute("SELECT name FROM note")}
+    lost = sum(name not in known for name, in base.execute(f"SELECT name FROM {table}"))
     loss = f", and {lost:,} of its notes aren't there" if lost else ""
     raise Unusable(f"{journal.path} doesn't go on from what was read of it{loss}", MOVE if lost else REBUILD)
 
 
-def read(base: sqlite3.Connection) -> Folded:
-    """What the register has."""
-    folded = Folded()
-    try:
-        for (text,) in base.execute("SELECT noted FROM notes ORDER BY place"):
-            noted = from_text(text)
-            folded.notes[noted.name] = noted
-        folded.answers = {line: bool(is_done) for line, is_done in base.execute("SELECT line, is_done FROM answers")}
-        folded.asked = {noted.line for noted in folded.notes.values() if not noted.is_own}
-        for source, target in base.execute("SELECT source, target FROM moved ORDER BY rowid"):
-            folded.files.moves.append((str(json.loads(source)), str(json.loads(target))))
-        ((start, stop, hash, last),) = base.execute("SELECT start, stop, hash, file FROM folded").fetchall()
-        folded.place, folded.files.last = Place(start, stop, hash), str(json.loads(last))
-    except (TypeError, ValueError) as error:
-        raise Unusable(f"a row of it can't be read: {error}") from error
-    return folded
-
-
-def place_in(base: sqlite3.Connection) -> Place | None:
-    """How far the register has the journal; `None` if it doesn't say so."""
-    row = base.execute("SELECT start, stop, hash FROM folded").fetchone()
-    return Place(*row) if row else None
-
-
-def rebuild(journal: Journal) -> Folded:
+def rebuild(journal: Journal) -> Notes:
     """Makes the register anew from the journal. Fails where what has its name is another's, a link, a database of
     something else, or has notes that the journal doesn't have."""
     path = path_of(journal.file)
@@ -247,13 +256,13 @@ def rebuild(journal: Journal) -> Folded:
                         os.unlink(path + end)
         except (OSError, Unusable) as error:
             raise Failure(f"{path} can't be made anew: {reason_of(error)}", REFUSED) from error
-    return notes_of(journal)
+    return Notes(journal)
 
 
 def require_replaceable(path: str, journal: Journal) -> None:
     """Fails unless what is held is a register, if only a damaged one, without notes that the journal doesn't have."""
     try:
-        with tables(path) as base:
+        with contextlib.closing(opened(path)) as base:
             caught_up(base, journal)
     except sqlite3.Error:
         return  # it is damaged
@@ -262,22 +271,37 @@ def require_replaceable(path: str, journal: Journal) -> None:
             raise
 
 
-def difference(journal: Journal) -> str:
-    """In what the register isn't what the journal gives; empty if it is, or if there is none."""
+# What a register has of the journal alone, and what it has of the notes that stand.
+OF_JOURNAL = {
+    "notes": [f"SELECT id, {tables.NOTED}, kind, owner, subject FROM note ORDER BY id"],
+    "answers": ["SELECT DISTINCT line, is_done FROM note WHERE is_own = 0 ORDER BY line"],
+    "names of the file": ["SELECT source, target FROM moved UNION ALL SELECT '', file FROM folded"],
+}
+OF_STANDING = {
+    "standing notes": [
+        "SELECT id, fault, is_lost, is_open FROM note ORDER BY id",
+        *(f"SELECT * FROM {table} ORDER BY note, rowid" for table in dict.fromkeys(tables.TABLES.values())),
+    ]
+}
+
+
+def difference(journal: Journal, keep: Keep | None = None) -> str:
+    """In what the register isn't what the journal gives; empty if it is, or if there is none. Which notes stand is
+    compared where it is given how that is kept."""
     path = path_of(journal.file)
     if not os.path.lexists(path):
         return ""
     try:
         with locked(path, journal.file) as base:
-            stored, fresh = caught_up(base, journal), Folded()
-            fold_on(journal.path, fresh, stored.place.end)
-    except (OSError, sqlite3.Error, Unusable) as error:
+            caught_up(base, journal, keep or keep_nothing)
+            ((stop,),) = base.execute("SELECT stop FROM folded").fetchall()
+            fresh = memory()
+            fold_on(journal.path, fresh, stop)
+            if keep:
+                keep(fresh)
+            for part, queries in {**OF_JOURNAL, **(OF_STANDING if keep else {})}.items():
+                if any(base.execute(sql).fetchall() != fresh.execute(sql).fetchall() for sql in queries):
+                    return f"its {part} aren't those of the journal; {REBUILD}"
+    except (OSError, sqlite3.Error, ValueError, TypeError, Unusable) as error:
         return f"it isn't used: {reason_of(error)}"
-    for part, is_equal in (
-        ("notes", list(stored.notes.items()) == list(fresh.notes.items())),
-        ("answers", stored.answers == fresh.answers),
-        ("names of the file", (stored.files.moves, stored.files.last) == (fresh.files.moves, fresh.files.last)),
-    ):
-        if not is_equal:
-            return f"its {part} aren't those of the journal; {REBUILD}"
     return ""

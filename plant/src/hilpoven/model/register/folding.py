@@ -1,190 +1,98 @@
-"""The fold over a journal: its notes, what was answered to the commands that they belong to, and where the file was."""
-import contextlib
-import functools
-import json
+"""How the lines of a journal come into a register: its notes, what was answered to the commands that they belong to, and
+where the file was."""
 import os
 import re
-from collections.abc import Iterator
-from dataclasses import dataclass, field, fields
 from typing import Any
 
-from ...core.files import READ
-from ...core.failure import Failure
-from ...core.rights import advice
-from ...core.journal.log import Journal, entry_of, hash_of
-from ...core.journal.query import Files, who
-from ..notes.note import Note
-from ..notes.notes import from_json
-from .meant import MEANT, Row, rows_in
+from ...core.journal.log import IN_PLACE, entry_of, hash_of
+from . import tables
+from .lines import MARK, has_notes, opened, pieces
+from .noted import notes_in
+from .tables import Base
 
-MARK = b'"notes": [{"'  # what each line with a note has, and a text never has: there a quote stands behind a backslash
-MOVED, TOLD, FILE = b'"moved"', b'"event": "told"', b'"file": '
-AT_ONCE = 1 << 18  # bytes
-LINE = re.compile("[0-9a-f]{16}")  # the name of a line
-AFTER = "after"  # the member of a line: which earlier file the office's file had come from when the note was made
+MOVED, TOLD, FILE, REPLACED = b'"moved"', b'"event": "told"', b'"file": ', f'"{IN_PLACE}"'.encode()
+OF = re.compile(rb'"of": "([0-9a-f]{16})"')  # of which line an answer is
+ANSWERED = "UPDATE note SET is_done = ?, is_open = 1 WHERE line = ? AND is_own = 0 AND is_done IS NULL"
 DONE = ("accepted\n", "repeated\n")
 
 
-@dataclass(frozen=True)
-class Noted:
-    """A note as the journal has it. `value` is what stands there, which may be a note of a kind that isn't known."""
-
-    name: str
-    line: str  # the name of its line
-    time: str
-    who: str
-    file: str
-    after: str  # the earlier file that the office's file had come from; empty while there was none
-    words: tuple[str, ...]  # of the command
-    is_own: bool  # whether its line is about nothing else; otherwise it belongs to what the line asks
-    value: Any
-    meant: tuple[Row, ...] | None = ()  # the rows that it means, as far as its line has them; `None` if they are none
-
-    @functools.cached_property
-    def note(self) -> Note | None:
-        """The note that it is; `None` if it can't be read. It is read once."""
-        return from_json(self.value)
+def fold_on(path: str, register: Base, end: int | None = None) -> None:
+    """Adds to a register the lines that a journal has behind the last one that it has, or those of them before a place.
+    A last line without its end is left for later."""
+    start, stop, digest, last_file = register.execute("SELECT start, stop, hash, file FROM folded").fetchone()
+    with opened(path) as descriptor:
+        if descriptor is None or os.fstat(descriptor).st_size == stop or end == stop:
+            return
+        if not register.execute("SELECT 1 FROM note LIMIT 1").fetchone() and not has_notes(descriptor, stop):
+            return
+        reader, last = LineReader(register, last_file), b""
+        for piece in pieces(descriptor, stop, end):
+            at = piece.rfind(b"\n", 0, len(piece) - 1) + 1
+            start, stop, last = stop + at, stop + len(piece), piece[at:]
+            reader.read(piece)
+    if last:
+        row = start, stop, hash_of(last[:-1]), tables.storable(reader.file)
+        register.execute("UPDATE folded SET (start, stop, hash, file) = (?, ?, ?, ?)", row)
 
 
-MEMBERS = [member.name for member in fields(Noted)]
+class LineReader:
+    """Adds what lines of a journal say to a register."""
 
+    def __init__(self, register: Base, file: str) -> None:
+        self.register = register
+        self.file = file  # that the last line was about which is about one
+        rows = register.execute("SELECT DISTINCT line FROM note WHERE is_own = 0 AND is_done IS NULL")
+        self.asked = {str(line) for line, in rows}  # whose answers are looked for
 
-@dataclass(frozen=True)
-class Place:
-    """How far a journal is folded: where its last folded line begins and ends, and that line's hash."""
+    def read(self, piece: bytes) -> None:
+        """Adds what whole lines say."""
+        if not self.is_wanted(piece):
+            if (at := piece.rfind(FILE)) >= 0:
+                self.note_file(piece[piece.rfind(b"\n", 0, at) + 1 : piece.index(b"\n", at)])
+            return
+        of_file = b""
+        for line in piece.split(b"\n"):
+            if self.is_wanted(line):
+                entry = entry_of(line) or {}
+                self.add(entry)
+                self.file, of_file = (str(entry["file"]), b"") if "file" in entry else (self.file, of_file)
+            elif FILE in line:
+                of_file = line
+        self.note_file(of_file)
 
-    start: int = 0
-    end: int = 0
-    hash: str = ""
+    def note_file(self, line: bytes) -> None:
+        """Notes the file that a line is about."""
+        self.file = str((entry_of(line) or {}).get("file", self.file))
 
-
-@dataclass
-class Folded:
-    """What a journal says up to a place: its notes in their order, whether the commands that they belong to were done,
-    as far as that was answered, and the files that it is about."""
-
-    place: Place = Place()
-    notes: dict[str, Noted] = field(default_factory=dict)
-    answers: dict[str, bool] = field(default_factory=dict)  # by the name of the line
-    files: Files = field(default_factory=Files)
-    asked: set[str] = field(default_factory=set)  # the lines whose answers are looked for
+    def is_wanted(self, lines: bytes) -> bool:
+        """Whether lines may say something that a register has."""
+        if MARK in lines or MOVED in lines or REPLACED in lines:
+            return True
+        return bool(self.asked) and TOLD in lines and any(name.decode() in self.asked for name in OF.findall(lines))
 
     def add(self, entry: dict[str, Any]) -> None:
-        """Adds what a line says."""
-        self.files.note(entry)
-        if entry.get("event") == "told" and entry.get("of") in self.asked:
+        """Adds what a line says: where the file was, what was answered, notes, and that the office may be another one,
+        so that all notes are looked at again."""
+        if entry.get("event") == "moved":
+            names = tables.storable(str(entry.get("from"))), tables.storable(str(entry.get("file")))
+            self.register.execute("INSERT INTO moved (source, target) VALUES (?, ?)", names)
+        if IN_PLACE in entry:
+            self.register.execute("UPDATE checked SET last_rows = ''")
+        if entry.get("event") == "told" and (line := str(entry.get("of"))) in self.asked:
             is_done = entry.get("status") == 0 and entry.get("answer") in DONE
-            self.answers.setdefault(str(entry["of"]), is_done)
+            self.register.execute(ANSWERED, (is_done, line))
+            self.asked.remove(line)
         for noted in notes_in(entry):
-            self.notes.setdefault(noted.name, noted)
+            tables.add(self.register, noted)
             if not noted.is_own:
                 self.asked.add(noted.line)
 
-    def belonging(self, journal: Journal) -> list[Noted]:
-        """The notes about a file, by the names that it has had. A journal beside a file that has none about it was
-        copied with it, as that of a backup, and has those of the file that was copied."""
-        notes = self.about(journal.file)
-        is_beside = journal.path == f"{journal.file}.journal"
-        return self.about(self.files.last) if is_beside and not notes else notes
 
-    def about(self, file: str) -> list[Noted]:
-        """The notes about a file, by the names that it has had."""
-        names = self.files.of(file)
-        return [noted for noted in self.notes.values() if noted.file in names]
-
-
-def notes_in(entry: dict[str, Any]) -> Iterator[Noted]:
-    """The notes of a line."""
-    line, values, words = str(entry.get("id")), entry.get("notes"), entry.get("words")
-    if entry.get("event") not in ("note", "asked") or not LINE.fullmatch(line) or not isinstance(values, list):
-        return
-    meant = entry.get(MEANT, [[]] * len(values))
-    is_each = isinstance(meant, list) and len(meant) == len(values)
-    for number, value in enumerate(values, 1):
-        yield Noted(
-            line if number == 1 else f"{line}.{number}",
-            line,
-            str(entry.get("time")),
-            who(entry),
-            str(entry.get("file")),
-            str(entry.get(AFTER, "")),
-            tuple(map(str, words)) if isinstance(words, list) else (),
-            entry["event"] == "note",
-            value,
-            rows_in(meant[number - 1]) if is_each else None,
-        )
-
-
-def fold_on(path: str, folded: Folded, end: int | None = None) -> None:
-    """Folds the lines that a journal has behind a place, or those of them before another one. A last line without its
-    end is left for later."""
-    with opened(path) as descriptor:
-        if descriptor is None or not folded.notes and not has_notes(descriptor, folded.place.end):
-            return
-        os.lseek(descriptor, folded.place.end, os.SEEK_SET)
-        last, of_file, reached = b"", b"", folded.place.end
-        with open(descriptor, "rb", closefd=False) as lines:
-            for line in lines:
-                if not line.endswith(b"\n") or reached == end:
-                    break
-                last = line
-                reached += len(line)
-                if MARK in line or MOVED in line or folded.asked and TOLD in line:
-                    entry = entry_of(line) or {}
-                    folded.add(entry)
-                    of_file = b"" if "file" in entry else of_file
-                elif FILE in line:
-                    of_file = line
-    folded.files.note(entry_of(of_file) or {})
-    if last:
-        folded.place = Place(reached - len(last), reached, hash_of(last[:-1]))
-
-
-def continues(path: str, place: Place) -> bool:
-    """Whether a journal still has the last line that was folded, where it was."""
+def has_a_note(path: str) -> bool:
+    """Whether a journal has a note."""
     with opened(path) as descriptor:
         if descriptor is None:
-            return place.end == 0
-        line = os.pread(descriptor, place.end - place.start, place.start)
-    return place.end == 0 or len(line) == place.end - place.start and hash_of(line[:-1]) == place.hash
-
-
-@contextlib.contextmanager
-def opened(path: str) -> Iterator[int | None]:
-    """A journal, open for reading; `None` where there is none. No link is followed."""
-    try:
-        descriptor = os.open(path, READ)
-    except FileNotFoundError:
-        yield None
-        return
-    except OSError as error:
-        raise Failure(f"the journal {path} can't be read: {error.strerror}", advice=advice(path, error)) from error
-    try:
-        yield descriptor
-    except OSError as error:
-        raise Failure(f"the journal {path} can't be read: {error.strerror}") from error
-    finally:
-        os.close(descriptor)
-
-
-def has_notes(descriptor: int, place: int) -> bool:
-    """Whether a journal has a note behind a place. Its bytes are searched, and no line of it is read."""
-    before = b""
-    while piece := os.pread(descriptor, AT_ONCE, place):
-        if MARK in piece or MARK in before + piece[: len(MARK)]:
-            return True
-        place, before = place + len(piece), piece[-len(MARK) :]
-    return False
-
-
-def as_text(noted: Noted) -> str:
-    """A note with its line, for the register."""
-    return json.dumps([getattr(noted, name) for name in MEMBERS])
-
-
-def from_text(text: str) -> Noted:
-    """The note of such a text; fails with ValueError or TypeError if it is none. Earlier versions wrote none that has
-    the rows that it means."""
-    name, line, time, name_of_doer, file, after, words, is_own, value, *meant = json.loads(text)
-    rows = rows_in(meant[0]) if meant and meant != [[]] else None if meant == [None] else ()
-    return Noted(name, line, time, name_of_doer, file, after, tuple(words), is_own, value, rows)
+            return False
+        with_marks = (piece for piece in pieces(descriptor, 0) if MARK in piece)
+        lines = (line for piece in with_marks for line in piece.split(b"\n") if MARK in line)
+        return any(any(notes_in(entry_of(line) or {})) for line in lines)

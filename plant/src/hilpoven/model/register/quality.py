@@ -52,10 +52,11 @@ class Status:
 def statuses(base: Base, register: Register, lot: LotId | None = None) -> dict[LotId, Status]:
     """What the plant's quality says of each lot of which it says anything, or of one lot."""
     owner, name = lot or (None, None)
+    all_judged = register.judged if lot is None else {lot: judged} if (judged := register.judged.get(lot)) else {}
     by_lot = {
-        of_lot: noted_status(judged[-1].note)
-        for of_lot, judged in register.judged.items()
-        if judged[-1].is_note_alone and lot in (None, of_lot)
+        LotId(*of_lot): noted_status(of_one[-1].note)
+        for of_lot, of_one in all_judged.items()
+        if of_one[-1].is_note_alone
     }
     if register.plants_test:
         words = {"test": register.plants_test, "owner": owner, "lot": name}

@@ -21,7 +21,7 @@ from ...model.rows import Base, LotId, lots_of, sublots_of
 from ...model.schema import Kind
 from ..making import Desk
 from ...model.notes.notes import Link, Reason, Why
-from ...model.register.standing import HAS_KEY, HAS_LOT
+from ...model.register.faults import HAS_KEY, HAS_LOT
 from .sheet import Finding, Record, Sheet
 
 COLUMNS = ("owner", "lot", "sublot", "material", "measure", "disposition", "on_hand", "counted", "reason", "day")

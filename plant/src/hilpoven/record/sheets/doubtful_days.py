@@ -4,7 +4,7 @@ from collections.abc import Callable, Sequence
 from ...model.doubtful_days import read_days
 from ...model.measures import value_of
 from ...model.rows import Base, LotId
-from ...model.register.standing import HAS_KEY, HAS_RESULT
+from ...model.register.faults import HAS_KEY, HAS_RESULT
 from .sheet import Finding, Record, Sheet
 
 RESULT = ("owner", "lot", "test")

@@ -102,10 +102,9 @@ def write(context: Context, folder: Folder, office: Office, made_of: dict[str, A
     made_at = time.strftime("%Y-%m-%dT%H:%M:%SZ", time.gmtime())
     with copies.tables(office) as base:
         register = register_of(context, base)
-        registers = register.by_owner()
-        stamps = stamps_of(base, registers, [made_of["by"], os.stat(office.file).st_ino])
+        stamps = stamps_of(base, register, [made_of["by"], os.stat(office.file).st_ino])
         changed = {owner for owner, stamp in stamps.items() if before.get(owner) != [stamp, *folder.state_of(owner)]}
-        for subject in subjects(base, register, registers, changed):
+        for subject in subjects(base, register, changed):
             content = encoded(contents_of(subject, context.settings.plant), made_at)
             if folder.read(name_of(subject.owner))[FRONT_BYTES:] != content[FRONT_BYTES:]:
                 folder.give(name_of(subject.owner), content, READABLE)

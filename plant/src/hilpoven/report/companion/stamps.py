@@ -3,6 +3,7 @@ import hashlib
 from typing import Any
 
 from ...model.register.store import Register
+from ...model.register.tables import TABLES
 from ...model.rows import Base, owners_of
 
 # Of each owner. No row goes, and what may change in one is told of each; a sublot holds what movements come to.
@@ -23,20 +24,21 @@ ROWS = tuple(
 )
 
 
-def stamps_of(base: Base, registers: dict[str, Register], made_of: Any) -> dict[str, str]:
+# Which notes of each owner stand. What one says never changes.
+NOTES = tuple(
+    f"SELECT owner, group_concat(note) FROM (SELECT owner, note FROM {table} ORDER BY note) GROUP BY owner"
+    for table in dict.fromkeys(TABLES.values())
+)
+
+
+def stamps_of(base: Base, register: Register, made_of: Any) -> dict[str, str]:
     """The stamp of each owner: of its rows and its notes, and of what all companions are made of. A file that replaces
     the office's has another number, which is to be in that."""
-    digests = {owner: hashlib.sha256(repr(made_of).encode()) for owner in owners_of(base)}
-    for sql in ROWS:
-        for owner, *values in base.execute(sql):
+    begun = repr((made_of, register.plants_test)).encode()
+    digests = {owner: hashlib.sha256(begun) for owner in owners_of(base)}
+    notes = register.opened.rows if register.opened else None
+    for sql, rows in (*((sql, base.execute(sql)) for sql in ROWS), *((sql, notes(sql)) for sql in NOTES if notes)):
+        for owner, *values in rows:
             if owner in digests:
                 digests[owner].update(repr((sql, values)).encode())
-    for owner, register in registers.items():
-        if owner in digests:
-            digests[owner].update(repr(list(map(ordered, vars(register).values()))).encode())
     return {owner: digest.hexdigest() for owner, digest in digests.items()}
-
-
-def ordered(notes: Any) -> Any:
-    """Notes of a kind, in an order that is the same in each process."""
-    return sorted(notes) if isinstance(notes, set) else notes

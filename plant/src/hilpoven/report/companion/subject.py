@@ -83,14 +83,11 @@ def filled(**members: Any) -> Value:
     return {name: value for name, value in members.items() if value not in (None, "", [])}
 
 
-def subjects(
-    base: Base, register: Register, registers: Mapping[str, Register], owners: Collection[str]
-) -> Iterator[Subject]:
+def subjects(base: Base, register: Register, owners: Collection[str]) -> Iterator[Subject]:
     """Some owners, each with what is its own of the notes and of what the plant's quality says."""
     own: dict[str, dict[LotId, quality.Status]] = {}
     for lot, status in quality.statuses(base, register).items() if owners else ():
         own.setdefault(lot.owner, {})[lot] = status
-    nothing = Register(plants_test=register.plants_test)
     for owner in owners_of(base):
         if owner in owners:
-            yield Subject(owner, base, registers.get(owner, nothing), own.get(owner, {}))
+            yield Subject(owner, base, register.of(owner), own.get(owner, {}))

@@ -7,7 +7,7 @@ import secrets
 import sqlite3
 import subprocess
 from collections.abc import Iterator
-from dataclasses import dataclass, field, replace
+from dataclasses import dataclass, field
 from typing import Any
 
 from ... import HOUSE
@@ -102,7 +102,8 @@ def opened(office: Office, journal: Journal) -> Iterator[Source]:
             files = parts_of(office.file, newest.base, newest.path, newest.digest)
             base = newest.base if len(files) == 1 else stack.enter_context(merged(files))
             register = standing.read(journal, newest.base, None if len(files) == 1 else base)
-            yield Source(newest, base, tuple(files), replace(register, plants_test=office.plants_test))
+            register.plants_test = office.plants_test
+            yield Source(newest, base, tuple(files), register)
         except sqlite3.Error as error:
             raise Failure(f"a copy of {office.file} can't be read: {error}") from error
 

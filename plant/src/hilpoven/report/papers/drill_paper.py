@@ -12,7 +12,7 @@ from ...model.rows import LotId
 from ...model.schema import Kind
 from ...model.below import MARK
 from ...model.register.drills import Drill, as_clock, as_moment, lot_over_all
-from ...model.register.folding import Noted
+from ...model.register.noted import Noted
 from ...model.notes.notes import Link
 from .copies import Source
 from .links import links_sheet

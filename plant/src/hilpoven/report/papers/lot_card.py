@@ -42,7 +42,7 @@ def documents(source: Source, asked: LotId) -> list[Document]:
     genealogy = Genealogy(source.base, source.register.links)
     beside = neighbours(source, genealogy, asked)
     register = source.register.of(asked.owner)
-    known = Register(tests=register.tests, bounds=register.bounds, plants_test=register.plants_test)
+    known = Register(plants_test=register.plants_test).having(tests=register.tests, bounds=register.bounds)
     overview = overviews.lot(source.base, *asked, known)
     sublots, ledger = (
         [tuple(None if cell == "" else cell for cell in row) for row in overview.tables[name][1]]

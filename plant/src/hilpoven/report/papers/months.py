@@ -11,12 +11,13 @@ from ...record.settling.closing import Change, Month, Months
 from ...record.settling.corrections import Correction
 from ...core.days import days_of_month, format_month
 from ...model.rows import require_owner
-from ...model.register import closings, file
+from ...model.register import closings
 from ...model.register.closings import Closing
 from ...model.register.drills import as_moment
 from ...model.notes.notes import to_json
 from ...model.notes.settled import Settled
-from ...model.register.standing import Base, Status, files_of, statuses
+from ...model.register.standing import Status, kept, statuses
+from ...model.register.tables import Base
 from ...model.years.history import places_of
 from . import settlement
 from .copies import Source
@@ -52,12 +53,8 @@ SUMS = {"batches": ["amount"]}  # columns whose numbers are summed where rows ar
 
 
 def statuses_of(journal: Journal, base: Base) -> list[Status]:
-    """Each note of an office's journal, and whether it stands."""
-    folded = file.notes_of(journal)
-    if not folded.notes:
-        return []
-    with files_of(journal, base) as files:
-        return statuses(folded, journal, files)
+    """Each settlement that was closed, and whether its note stands."""
+    return statuses(kept(journal, base), Settled)
 
 
 def documents(source: Source, journal: Journal, owner: str, month: int) -> list[Document]:

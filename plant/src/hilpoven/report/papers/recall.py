@@ -1,6 +1,6 @@
 """What a recall is for its readers: the plant reads all of it, and each owner concerned its own part."""
 from collections import Counter, defaultdict
-from dataclasses import dataclass, replace
+from dataclasses import dataclass
 from functools import cached_property
 
 from ... import HOUSE
@@ -163,7 +163,7 @@ def read_report(source: Source, start: LotId) -> Report:
 def noted_of(register: Register, moves: list[Move]) -> Register:
     """What the plant noted, but of movements only what it noted of these, since each reader looks through it."""
     keys = {(move.owner, move.key) for move in moves}
-    return replace(register, facts={key: facts for key, facts in register.facts.items() if key in keys})
+    return register.having(facts={key: facts for key, facts in register.facts.items() if key in keys})
 
 
 def steps_of(source: Source, recall: Recall) -> list[Step]:
