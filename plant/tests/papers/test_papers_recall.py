@@ -7,7 +7,7 @@ import figures
 import pytest
 from conftest import AT_WORK, Plant
 from hilpoven.report.papers import printing
-from hilpoven.model.register import quality
+from hilpoven.model import quality
 from test_papers_texts import SHIPPED
 
 RECALL = ("papers", "recall", "HOUSE", "W-101")

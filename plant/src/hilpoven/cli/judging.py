@@ -13,7 +13,7 @@ from .output import tell
 from ..core.grammar import LINES
 from ..core.days import day_of, today
 from ..model.rows import Base, Lot, LotId, require_lot, tests_of
-from ..model.register import quality
+from ..model import quality
 from ..model.notes.notes import Held, Judgement, Signed
 from ..record.recorders import recorders
 from ..model.register.store import Register

@@ -45,6 +45,7 @@ class ListCommand(click.Command):
 
 
 MOST_DAYS = 3_650
+HAVE_NOTES = ("owners", "materials", "tests", "lots", "moves", "results")  # the lists of whose rows something is noted
 
 
 def options_of(name: str, listing: Listing) -> list[click.Parameter]:
@@ -106,18 +107,18 @@ def read(context: Context, name: str, asked: dict[str, Any], only_open: bool) ->
         owner = asked.get("owner") if listing.whose_lot == "owner" else None
         asked["lot_owner"], asked["lot"] = scanned.named_lot("list", owner, asked["lot"])
     with snapshot.opened(context.office_to_read()) as base:
-        columns = list(listing.columns)
-        rows: list[Row] = [tuple(row) for row in base.execute(listing.sql(asked, only_open), asked)]
-        if not rows and (asked or only_open):
-            from ..report.lists import absence
+        if context.may_have_notes and name in HAVE_NOTES:
+            from ..report.lists import noted
 
-            return Listed(columns, rows, absence.reasons(base, name, asked, only_open))
-        if not listing.noted or not context.may_have_notes:
+            columns, rows = noted.read_of(context, base, name, asked, only_open)
+        else:
+            columns = list(listing.columns)
+            rows = [tuple(row) for row in base.execute(listing.sql(asked, only_open), asked)]
+        if rows or not asked and not only_open:
             return Listed(columns, rows, [])
-        from ..model.register.standing import register_of
-        from ..report.lists.noted import NOTED
+        from ..report.lists import absence
 
-        return Listed(*NOTED[listing.noted](columns, rows, register_of(context, base), base), [])
+        return Listed(columns, rows, absence.reasons(base, name, asked, only_open))
 
 
 def makers() -> dict[str, Maker]:

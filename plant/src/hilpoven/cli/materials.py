@@ -15,7 +15,7 @@ from ..model.descriptions import facts_of_test
 from ..model.measures import limits_text, value_of
 from ..model.rows import Base, require_owner
 from ..record.describing import LIMITS, MATERIAL
-from ..model.register.quality import LIMIT
+from ..model.quality import LIMIT
 from ..model.register.store import Register
 from ..model.register.standing import register_of
 from . import value_notes

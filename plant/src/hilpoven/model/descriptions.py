@@ -1,7 +1,7 @@
 """A lot as papers and lists describe it: full names, days, and its tests with limits and values as measured."""
 from dataclasses import dataclass
 
-from .register import quality
+from . import quality
 from .notes.facts import LotFacts, MaterialFacts, OwnerFacts, ResultId, TestFacts
 from .register.store import Register
 from .measures import GROUP, as_measured, shown

@@ -105,6 +105,12 @@ MOVE_COLUMNS = "kind, lot_owner, lot, sublot, target, material, ord, number, seg
 IS_INCOMING, IS_OUTGOING = among("m.kind", INCOMING), among("m.kind", OUTGOING)
 IS_ACTUAL = among("m.kind", ACTUAL_OF.values())
 STANDING = "NOT EXISTS (SELECT 1 FROM voids AS v WHERE v.owner = m.owner AND v.mkey = m.mkey)"
+# By how much a movement changes what is on hand of its lot.
+CHANGE = (
+    f"CASE WHEN NOT ({STANDING}) THEN 0 WHEN {IS_INCOMING} THEN m.amount WHEN {IS_OUTGOING} THEN -m.amount ELSE 0 END"
+)
+# Whether the latest result of a test of a lot is within its limits, in a word.
+LIMITS = "CASE WHEN passes IS NULL THEN 'missing' WHEN passes THEN 'within' ELSE 'out' END"
 VOID = f"CASE WHEN {STANDING} THEN '' ELSE 'void' END"
 ON_HAND = "(SELECT coalesce(sum(s.amount), 0) FROM sublots AS s WHERE s.owner = l.owner AND s.lot = l.lot)"
 ORIGIN = "CASE l.ord WHEN '' THEN 'receipts' ELSE l.ord || '/' || l.number END"

@@ -13,7 +13,8 @@ from ..core.office import Answer
 from ..model.rows import LotId
 from ..model.schema import IS_OUTGOING, Kind
 from ..model.years.earlier import MOVE, MOVE_COLUMNS, lot_of, move_of
-from ..model.register import lines, quality
+from ..model import quality
+from ..model.register import lines
 from ..model.register.file import Notes
 from ..model.register.standing import register_of
 from ..model.notes.notes import Held, Signed

@@ -2,7 +2,7 @@
 lot and the batch are like."""
 from ..model.rows import Base, BatchId, Lot, batches_of, lots_of, tests_of
 from ..model.schema import Disposition
-from ..model.register import quality
+from ..model import quality
 from .making import Desk
 from ..model.notes.notes import Link
 from ..model.register.faults import HAS_KEY

@@ -1,11 +1,10 @@
 """What is noted of receipts and shipments: which party may stand there, and how lists show it."""
-from collections.abc import Mapping, Sequence
+from collections.abc import Mapping
 from dataclasses import dataclass
 
 from ...core.failure import REFUSED, Failure
 from ...core.forms import listed
 from ..nearest import nearest
-from ...core.table import Row
 from .facts import MovementFacts
 from .notes import Party, Role
 
@@ -60,18 +59,3 @@ def cells_of(facts: Facts, owner: str, key: str) -> tuple[str, ...]:
     """What is noted of a movement, in the order of `COLUMNS`."""
     noted = facts.get((owner, key), UNKNOWN)
     return noted.party, noted.supplier_lot, noted.document
-
-
-def with_facts(columns: Sequence[str], rows: list[Row], facts: Facts) -> tuple[list[str], list[Row]]:
-    """A table of movements with what is noted of each; unchanged if nothing is noted of any of them."""
-    owner, key = columns.index("owner"), columns.index("key")
-    return with_columns(columns, rows, COLUMNS, [cells_of(facts, str(row[owner]), str(row[key])) for row in rows])
-
-
-def with_columns(
-    columns: Sequence[str], rows: Sequence[Row], new_columns: Sequence[str], cells: Sequence[Row]
-) -> tuple[list[str], list[Row]]:
-    """A table with more columns behind it; unchanged if nothing stands in them."""
-    if not any(map(any, cells)):
-        return list(columns), list(rows)
-    return [*columns, *new_columns], [(*row, *added) for row, added in zip(rows, cells)]

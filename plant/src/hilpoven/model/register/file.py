@@ -63,6 +63,11 @@ class Opened:
         """The rows of a query."""
         return self.read(lambda base: base.execute(sql, words).fetchall())
 
+    def attach(self, base: Base) -> None:
+        """Has another file's tables have these beside them, as `register`."""
+        base.execute("ATTACH ':memory:' AS register")
+        base.deserialize(self.base.serialize(), name="register")
+
 
 class Notes(Opened):
     """The notes of a journal, in the tables of its register, or in memory where the journal has none or the register
@@ -92,6 +97,17 @@ class Notes(Opened):
                 raise Failure(f"the notes of {self.journal.path} can't be read: {error}") from error
             self.base, self.state = self.made_anew(error), None
             return action(self.base)
+
+    def attach(self, base: Base) -> None:
+        """The same."""
+
+        def attach(_: Base) -> None:
+            if self.state is None:
+                Opened.attach(self, base)
+            else:
+                base.execute("ATTACH ? AS register", (self.path,))
+
+        self.read(attach)
 
     def made_anew(self, error: Exception) -> Base:
         """The tables made of the journal, where it is still known which office they are of."""

@@ -9,7 +9,7 @@ from ...core.days import format_day, last_day_within
 from ...model.genealogy import Genealogy
 from ...model.rows import Lot, LotId, OpenTest, open_tests, read_lots, select
 from ...model.schema import Disposition
-from ...model.register import quality
+from ...model import quality
 from ...model.below import MARK
 from ...record.expiry import last_day
 from ...model.notes.notes import Link

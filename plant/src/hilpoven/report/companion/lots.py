@@ -5,7 +5,7 @@ from functools import cache
 
 from ...model.rows import LotId
 from ...model.schema import Disposition
-from ...model.register.quality import State, Status
+from ...model.quality import State, Status
 from .subject import Limits, Subject, Value, filled
 
 ON_HAND = "SELECT lot, sum(amount) FROM sublots WHERE owner = ? GROUP BY lot"

@@ -5,7 +5,7 @@ from functools import cached_property
 from typing import Any, NamedTuple
 
 from ...model.rows import Base, LotId, owners_of
-from ...model.register import quality
+from ...model import quality
 from ...model.register.store import Register
 
 Value = dict[str, Any]

@@ -11,31 +11,33 @@ from ...core.forms import BATCH
 from ...model.nearest import nearest
 from ...core.exports import with_texts
 from ...core.table import Row, Value, formatted
-from ...model.register import quality
+from ...model import quality
 from ...model.notes.facts import LotFacts
-from ...model.notes.movements import COLUMNS, cells_of, with_columns, with_facts
-from ...model.notes.notes import Link, Party
-from ...model.register.recipients import Received, facts_of, party_of
+from ...model import views
+from ...model.notes.movements import COLUMNS, cells_of
+from ...model.notes.notes import Link
+from ...model.register.recipients import Received
 from ...model.register.store import Register
-from ...model.descriptions import facts_of_test, shown_result
 from ...model.genealogy import Genealogy
-from ...model.measures import shown
-from ...model.rows import BatchId, LotId, lots_of, read_batches, read_moves, row_of
+from ...model.rows import BatchId, LotId, lots_of, read_batches, row_of
 from ...model.schema import (
     BATCH_NAME,
     CLOSED,
     IS_ACTUAL,
     IS_INCOMING,
     IS_OUTGOING,
-    STANDING,
+    CHANGE,
+    LIMITS,
     VOID,
     Disposition,
     Kind,
     Role,
     State,
 )
-from ...model.schema import REQUIREMENTS, TESTS
-from .tables import LISTINGS
+from ...model.schema import REQUIREMENTS
+from ..columns import Column, measured, noted, select
+from .noted import NOTED as NOTED_LISTS
+from .tables import LISTINGS, plain
 
 Base = sqlite3.Connection
 NOTED = "noted by the plant"
@@ -59,6 +61,11 @@ class Overview:
         rows: list[Row] = [tuple(row) for row in cursor.fetchall()]
         self.tables[name] = ([column[0].replace("_", " ") for column in cursor.description], rows)
         return rows
+
+    def select(self, name: str, base: Base, columns: dict[str, Column], behind: str, words: tuple[str, ...]) -> None:
+        """Adds a table of these columns, of tables that have the views."""
+        heads, rows = select(base, columns, behind, words)
+        self.tables[name] = [head.replace("_", " ") for head in heads], rows
 
     def add_filled(self, name: str, columns: list[str], rows: list[Row]) -> None:
         """Adds a table, if it has rows."""
@@ -91,18 +98,35 @@ def require_owner(base: Base, owner: str) -> None:
         row_of(base, "SELECT 1 FROM owners WHERE owner = ?", (owner,), "owner", "SELECT owner FROM owners")
 
 
-SUBLOTS = "SELECT sublot, amount FROM sublots WHERE owner = :owner AND lot = :lot ORDER BY sublot"
-LEDGER = f"""
-SELECT m.owner, m.mkey AS key, {Kind.sql('m.kind')} AS kind, m.sublot, m.target, {BATCH_NAME} AS batch, m.day,
-  CASE WHEN {IS_INCOMING} THEN m.amount END AS [in], CASE WHEN {IS_OUTGOING} THEN m.amount END AS out,
-  CASE m.kind WHEN {Kind.SPLIT:d} THEN m.amount END AS moved, {VOID} AS void,
-  sum(CASE WHEN NOT ({STANDING}) THEN 0 WHEN {IS_INCOMING} THEN m.amount WHEN {IS_OUTGOING} THEN -m.amount ELSE 0 END)
-    OVER (ORDER BY m.rowid) AS balance
-FROM moves AS m WHERE m.lot_owner = :owner AND m.lot = :lot ORDER BY m.rowid
-"""
-
-
-RESULTS = "SELECT test, value, day FROM results WHERE owner = :owner AND lot = :lot ORDER BY test, number"
+SUBLOTS = "SELECT sublot, amount FROM sublots WHERE owner = ? AND lot = ? ORDER BY sublot"
+# The movements of a lot, with what came in, what left, and what was left then.
+LEDGER = {
+    **{name: Column((sql,)) for name, sql in plain("m.owner key=m.mkey", kind=Kind.sql("m.kind")).items()},
+    **{name: Column((f"m.{name}",)) for name in ("sublot", "target")},
+    "batch": Column((BATCH_NAME,)),
+    "day": Column(("m.day",)),
+    "in": Column((f"CASE WHEN {IS_INCOMING} THEN m.amount END",)),
+    "out": Column((f"CASE WHEN {IS_OUTGOING} THEN m.amount END",)),
+    "moved": Column((f"CASE m.kind WHEN {Kind.SPLIT:d} THEN m.amount END",)),
+    "void": Column((VOID,)),
+    "balance": Column((f"sum({CHANGE}) OVER (ORDER BY m.rowid)",)),
+    **NOTED_LISTS["moves"].columns,
+}
+# The tests of a lot with limits and latest results as measured, all of its results, and who has what was shipped.
+TESTS = {
+    "test": Column(("test",)),
+    "low": measured("low", "decimals"),
+    "high": measured("high", "decimals"),
+    "latest": measured("value", "decimals", "sign"),
+    "day": Column(("day",)),
+    "results": Column(("results",)),
+    "limits": Column((LIMITS,)),
+    **noted("unit", unit="unit"),
+}
+RESULTS = {"test": TESTS["test"], "value": TESTS["latest"], "day": TESTS["day"]}
+RECIPIENTS = (
+    "SELECT party, name, contact, phone, amount, document FROM shipment WHERE lot_owner = ? AND lot = ? ORDER BY rowid"
+)
 RECIPIENT_COLUMNS = ["party", "name", "contact", "phone", "shipments", "amount", "documents"]
 
 
@@ -118,18 +142,18 @@ def lot(base: Base, owner: str, name: str, register: Register = NOTHING_NOTED) -
         f"lot {name} of {owner}", {column.replace("_", " "): facts[column] for column in columns[2:]} | days
     )
     add_origin(overview, base, LotId(owner, name))
-    words = {"owner": owner, "lot": name, "material": facts["material"]}
     if quality_text := quality.text_of(base, register, LotId(owner, name)):
         overview.facts[quality.COLUMN] = quality_text
-    tests = add_tests(overview, base, register, LotId(owner, name), str(facts["material"]))
-    overview.add("sublots", base.execute(SUBLOTS, words))
-    overview.add("ledger", base.execute(LEDGER, words))
-    heads, rows = with_facts(*overview.tables["ledger"], register.facts)
-    overview.tables["ledger"] = [head.replace("_", " ") for head in heads], rows
-    overview.add_filled("who has it", RECIPIENT_COLUMNS, recipients(base, LotId(owner, name), register))
+    views.over(base, register)
+    tests = add_tests(overview, base, (owner, name))
+    overview.add("sublots", base.execute(SUBLOTS, (owner, name)))
+    overview.select(
+        "ledger", base, LEDGER, "FROM movement AS m WHERE m.lot_owner = ? AND m.lot = ? ORDER BY m.rowid", (owner, name)
+    )
+    overview.add_filled("who has it", RECIPIENT_COLUMNS, recipients(base, (owner, name)))
     genealogy = Genealogy(base, register.links)
     overview.add_links(genealogy.links_about(LotId(owner, name)))
-    overview.remarks = release_of(owner, name, str(facts["disposition"]), tests, register)
+    overview.remarks = release_of(owner, name, str(facts["disposition"]), tests)
     overview.remarks += rejected_in(base, genealogy.links_in(LotId(owner, name)))
     return overview
 
@@ -139,36 +163,16 @@ def days_of(facts: LotFacts | None) -> dict[str, Value]:
     return {f"noted {name}": day for name, day in facts.days.items()} if facts else {}
 
 
-def add_tests(overview: Overview, base: Base, register: Register, lot: LotId, material: str) -> list[Row]:
-    """Adds the tests of a lot, and all results if it has several of one, both as measured and without the plant's own
-    test; all tests."""
-    words = {"owner": lot.owner, "lot": lot.name, "material": material}
-    overview.add("tests", base.execute(TESTS, words))
-    columns, tests = tests_as_measured(*overview.tables["tests"], register, lot, material)
-    own = {row[0]: row for row in tests if not quality.is_plants(register, *row[:3])}
-    overview.tables["tests"] = columns, list(own.values())
-    results: list[Row] = [
-        (test, shown_result(register, material, (*lot, test, value, day)), day)
-        for test, value, day in base.execute(RESULTS, words)
-        if test in own
-    ]
-    overview.add_filled("results", ["test", "value", "day"], results if len(results) > len(own) else [])
-    return tests
-
-
-def tests_as_measured(
-    columns: list[str], rows: list[Row], register: Register, lot: LotId, material: str
-) -> tuple[list[str], list[Row]]:
-    """The tests of a lot with limits and latest results as measured, and the units of these."""
-    measured, units = list[Row](), list[Row]()
-    for test, low, high, latest, day, results, limits in rows:
-        facts = facts_of_test(register, lot.owner, material, str(test))
-        bounds = [shown(limit, facts.decimals) for limit in (low, high) if isinstance(limit, int)]
-        if isinstance(latest, int) and isinstance(day, int):
-            latest = shown_result(register, material, (*lot, str(test), latest, day))
-        measured.append((test, *bounds, latest, day, results, limits))
-        units.append((facts.unit,))
-    return with_columns(columns, measured, ["noted unit"], units)
+def add_tests(overview: Overview, base: Base, lot: tuple[str, str]) -> list[Row]:
+    """Adds the tests of a lot, and all results if it has several of one, without the plant's own test; all tests, and
+    whether each is the plant's own."""
+    of_lot = "FROM {} WHERE owner = ? AND lot = ? AND is_plants IS NOT 1 ORDER BY test"
+    overview.select("tests", base, TESTS, of_lot.format("lot_test"), lot)
+    heads, results = select(base, RESULTS, f"{of_lot.format('result')}, number", lot)
+    overview.add_filled("results", heads, results if len(results) > len(overview.tables["tests"][1]) else [])
+    all_tests = {**TESTS, "is_plants": Column(("is_plants",))}
+    del all_tests["noted_unit"]
+    return select(base, all_tests, "FROM lot_test WHERE owner = ? AND lot = ? ORDER BY test", lot)[1]
 
 
 def add_origin(overview: Overview, base: Base, name: LotId) -> None:
@@ -179,29 +183,26 @@ def add_origin(overview: Overview, base: Base, name: LotId) -> None:
         overview.facts["batch"] = f"{batch.id.name}, recipe {batch.recipe}, unit {unit}, {state}, {closed}"
 
 
-def recipients(base: Base, name: LotId, register: Register) -> list[Row]:
+def recipients(base: Base, lot: tuple[str, str]) -> list[Row]:
     """Who has what was shipped of a lot, as the plant noted it; a row without a party is of what nobody is known to
     have."""
-    received: dict[Party, Received] = defaultdict(Received)
-    for move in read_moves(base, f"m.lot_owner = ? AND m.lot = ? AND m.kind = {Kind.SHIP:d}", name):
-        received[party_of(register, move)].add(move.amount, facts_of(register, move).document)
-    return [
-        (party.party, party.name, party.contact, party.phone, account.shipments, account.amount, account.named)
-        for party, account in sorted(received.items(), key=lambda item: item[0].party)
-    ]
+    received: dict[Row, Received] = defaultdict(Received)
+    for *party, amount, document in base.execute(RECIPIENTS, lot):
+        received[tuple(party)].add(amount, document)
+    return [(*party, got.shipments, got.amount, got.named) for party, got in sorted(received.items())]
 
 
-def release_of(owner: str, name: str, disposition: str, tests: list[Row], register: Register) -> list[str]:
+def release_of(owner: str, name: str, disposition: str, tests: list[Row]) -> list[str]:
     """What is missing for the release of a lot, or how it is released."""
     if disposition != "quarantined":
         return [f"It is {disposition}{' for good' if disposition == 'rejected' else ''}."]
     missing = [
         "  the plant's signature"
-        if quality.is_plants(register, test, low, high)
+        if is_plants
         else f"  {test}: no result yet; the limits are {formatted(low)} to {formatted(high)}"
         if limits == "missing"
         else f"  {test}: the latest result, {formatted(latest)}, is out of {formatted(low)} to {formatted(high)}"
-        for test, low, high, latest, _, _, limits, *_ in tests
+        for test, low, high, latest, _, _, limits, is_plants in tests
         if limits != "within"
     ]
     if missing:

@@ -43,7 +43,6 @@ class Listing(NamedTuple):
     is_open: str = ""  # SQL: the rows that `--open` leaves
     open_about: str = ""
     tests: dict[str, str] = {}  # SQL: the rows that options leave which aren't of a column alone
-    noted: str = ""  # what its rows are, of which the register may have notes
     status: str = ""  # the column that tells why `--open` leaves a row out
 
     @property
@@ -65,10 +64,14 @@ class Listing(NamedTuple):
 
     def sql(self, asked: Iterable[str] = (), only_open: bool = False) -> str:
         """The query with these of its filters, whose names are parameters."""
-        tests = [*(self.filters[name] for name in asked), *([self.is_open] if only_open else [])]
-        where = " AND ".join(f"({test})" for test in tests)
         columns = ", ".join(f'{sql} AS "{name}"' for name, sql in self.columns.items())
-        return f"SELECT {columns} FROM {self.source} {f'WHERE {where} ' if where else ''}ORDER BY {self.order}"
+        return f"SELECT {columns} {self.behind(self.source, asked, only_open)}"
+
+    def behind(self, source: str, asked: Iterable[str], only_open: bool, also: Iterable[str] = ()) -> str:
+        """SQL behind the columns: where rows come from, which of them, and their order."""
+        tests = [*(self.filters[name] for name in asked), *([self.is_open] if only_open else []), *also]
+        where = " AND ".join(f"({test})" for test in tests)
+        return f"FROM {source} {f'WHERE {where} ' if where else ''}ORDER BY {self.order}"
 
 
 def plain(columns: str, **others: str) -> dict[str, str]:
@@ -89,7 +92,6 @@ LISTINGS: dict[str, Listing] = {
         ),
         "(SELECT owner FROM owners UNION SELECT 'HOUSE') AS o",
         "1",
-        noted="owners",
     ),
     "units": Listing(
         "units, with the batch that each runs",
@@ -99,16 +101,13 @@ LISTINGS: dict[str, Listing] = {
         "b.owner IS NOT NULL",
         "units that run a batch",
     ),
-    "materials": Listing(
-        "materials with their measures", plain("owner material measure"), "materials", "1, 2", noted="materials"
-    ),
+    "materials": Listing("materials with their measures", plain("owner material measure"), "materials", "1, 2"),
     "tests": Listing(
         "tests of materials with their limits; of a lot's material with --lot",
         plain("owner material test low high"),
         "tests AS t",
         "1, 2, 3",
         tests={"lot": "(t.owner, t.material) IN (SELECT owner, material FROM lots WHERE lot = :lot)"},
-        noted="tests",
     ),
     "recipes": Listing(
         "recipes, with how many requirements and orders each has",
@@ -157,7 +156,6 @@ LISTINGS: dict[str, Listing] = {
         f"l.disposition = {Disposition.QUARANTINED:d}",
         "lots that are quarantined",
         status="disposition",
-        noted="lots",
     ),
     "sublots": Listing(
         "sublots with what each holds",
@@ -185,7 +183,6 @@ LISTINGS: dict[str, Listing] = {
         STANDING,
         "movements that are not voided",
         tests={"material": "(m.lot_owner, m.lot) IN (SELECT owner, lot FROM lots WHERE material = :material)"},
-        noted="movements",
     ),
     "results": Listing(
         "results of tests, in the order in which they were recorded",
@@ -194,7 +191,6 @@ LISTINGS: dict[str, Listing] = {
         "rowid",
         LATEST,
         "the latest result of each test",
-        noted="results",
     ),
     "voids": Listing(
         "voided actuals",

@@ -11,7 +11,7 @@ from ...model.genealogy import Genealogy
 from ...model.rows import OF_BATCH, Batch, BatchId, Lot, LotId, Move, batches_of, lots_of, moves_of, read_moves
 from ...model.rows import require_owner, requirements_of, sublots_of
 from ...model.schema import IS_ACTUAL, Kind
-from ...model.register import quality
+from ...model import quality
 from .agreement import agree, check_lots
 from .copies import Source
 from .links import links_sheet

@@ -7,7 +7,7 @@ from ...model.descriptions import DescribedLot, describe_lot, in_full, owner_in_
 from ...core.days import day_of
 from ...model.rows import Lot, LotId, require_lot
 from ...model.schema import Disposition
-from ...model.register import quality
+from ...model import quality
 from ...record.expiry import past_day
 from .agreement import check_lots
 from .copies import Source

@@ -10,7 +10,7 @@ from ...core.scanned import ScannedSublot
 from ...core.days import day_of, format_day
 from ...model.rows import Lot, LotId, require_lot, sublots_of
 from ...record import expiry
-from ...model.register import quality
+from ...model import quality
 from ...model.notes.facts import LotFacts
 from . import printing
 from .agreement import check_stock

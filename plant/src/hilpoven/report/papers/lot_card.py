@@ -7,7 +7,7 @@ from ...model.descriptions import describe_lot, shown_result
 from ...model.genealogy import BACK, FORWARD, Genealogy
 from ...model.rows import Base, Lot, LotId, lots_of, moves_of, require_lot, results_of, sublots_of, tests_of
 from ...model.schema import Kind
-from ...model.register import quality
+from ...model import quality
 from ...model.below import MARK
 from ...model.register.store import Register
 from . import pictures

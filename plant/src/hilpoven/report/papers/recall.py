@@ -9,7 +9,7 @@ from ...model.balance import Balance, require_closed
 from ...model.recall import Recall, RecallLine, read_recall, recall_lines
 from ...model.rows import Batch, BatchId, Lot, LotId, Move, batches_of, require_lot, sublots_of
 from ...model.schema import Kind
-from ...model.register import quality
+from ...model import quality
 from ...model.below import noted_text
 from ...model.notes.notes import Link
 from ...model.register.store import Register

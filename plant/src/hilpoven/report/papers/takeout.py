@@ -4,13 +4,13 @@ from datetime import date
 
 from ... import HOUSE
 from ...core.failure import REFUSED, Failure
-from ...core.table import Row as ListRow
+from ...model import views
 from ...model.answers import OrderLine, rows_of
 from ...model.balance import balances, require_closed
-from ..lists.noted import NOTED
 from ...model.rows import lots_of, moves_of, read_lots, require_owner, sublots_of
+from ..lists import noted
 from ..lists.tables import LISTINGS
-from ...model.register import quality
+from ...model import quality
 from ...model.notes.notes import Held, Judgement
 from ...model.register.store import Register
 from .agreement import agree_on_all, check_lots, check_stock
@@ -23,11 +23,6 @@ from .sheets import Column, Row, Sheet, columns
 TABLES = (  # the lists, in the order in which one leads to the next
     *("materials", "tests", "recipes", "requirements", "orders", "batches"),
     *("lots", "sublots", "moves", "results", "voids"),
-)
-PLANTS_TESTS = (
-    f"SELECT t.material, t.test FROM tests AS t WHERE t.owner = :owner AND {quality.IS_PLANTS}",
-    f"SELECT l.lot, t.test FROM tests AS t JOIN lots AS l USING (owner, material) WHERE owner = :owner "
-    f"AND {quality.IS_PLANTS}",
 )
 NUMBERS = {"low", "high", "segments", "requirements", "orders", "amount", "batches", "opened", "closed", "on_hand"}
 NUMBERS |= {"batch", "segment", "number", "value"}
@@ -46,7 +41,7 @@ def documents(source: Source, owner: str, when: date) -> list[Document]:
         raise Failure(f"{HOUSE} is the plant itself: a backup has all of it", REFUSED)
     check(source, owner)
     register = source.register.of(owner)
-    sheets = [sheet for sheet in (*tables_of(source, register, owner), *notes_of(source, register)) if sheet.rows]
+    sheets = [sheet for sheet in (*tables_of(source, owner), *notes_of(source, register)) if sheet.rows]
     contents = Sheet(
         "contents", CONTENTS, [(f"{sheet.name}.csv", len(sheet.rows), ABOUT[sheet.name]) for sheet in sheets]
     )
@@ -79,24 +74,14 @@ def check(source: Source, owner: str) -> None:
     )
 
 
-def tables_of(source: Source, register: Register, owner: str) -> Iterator[Sheet]:
-    """The lists of the owner's rows, with what is noted of them and without the owner's name."""
-    plants = plants_tests(source, register, owner)
+def tables_of(source: Source, owner: str) -> Iterator[Sheet]:
+    """The lists of the owner's rows, with what is noted of them and without the owner's name. Without the plant's own
+    tests: an owner gets what the plant says of lots."""
+    base = views.over(source.base, source.register)
     for name in TABLES:
-        listing, heads = LISTINGS[name], list(LISTINGS[name].columns)
-        asked = source.base.execute(listing.sql(["owner"]), {"owner": owner})
-        rows: list[ListRow] = [tuple(row) for row in asked]
-        if name in ("tests", "results"):
-            rows = [row for row in rows if row[1:3] not in plants]
-        if listing.noted:
-            heads, rows = NOTED[listing.noted](heads, rows, register, source.base)
+        also = ["is_plants IS NOT 1"] if name in ("tests", "results") else []
+        heads, rows = noted.read(base, name, {"owner": owner}, also=also)
         yield Sheet(name, [column_of(head) for head in heads[1:]], [tuple(row[1:]) for row in rows])
-
-
-def plants_tests(source: Source, register: Register, owner: str) -> set[ListRow]:
-    """The plant's own tests by their materials, and by the lots of these: an owner gets what the plant says of lots."""
-    words = {"owner": owner, "test": register.plants_test}
-    return {row for sql in PLANTS_TESTS for row in source.base.execute(sql, words)}
 
 
 def column_of(head: str) -> Column:
