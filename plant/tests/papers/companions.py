@@ -146,12 +146,12 @@ class Known(Filled):
             register = standing.standing(Journal(str(self.plant.journal), str(self.plant.db)), base)
             for owner in self.owners:
                 own = register.of(owner)
-                assert own.links == [link for link in register.links if link.owner == owner] and own.parties
+                assert own.links == [link for link in register.links if link.owner == owner]
                 assert own.reasons == [reason for reason in register.reasons if reason.owner == owner]
                 assert own.not_linked == {key for key in register.not_linked if key[0] == owner}
                 for name in ("parties", "facts", "materials", "recipes", "tests", "lots", "bounds", "corrects", "judged"):
                     things = getattr(register, name)
-                    assert getattr(own, name) == {key: said for key, said in things.items() if key[0] == owner}, (owner, name)
+                    assert getattr(own, name) == {key: notes for key, notes in things.items() if key[0] == owner}, (owner, name)
                     assert all(getattr(own, name).get(key) is None for key in things if key[0] != owner), (owner, name)
 
     def links_of(self, owner: str) -> list[Link]:

@@ -12,7 +12,8 @@ from ..core.failure import REFUSED, Failure
 from .output import tell
 from ..core.grammar import LINES
 from ..core.days import day_of, today
-from ..model.rows import Base, Lot, LotId, require_lot, tests_of
+from ..model.descriptions import tests_of
+from ..model.rows import Base, Lot, LotId, require_lot
 from ..model import quality
 from ..model.notes.notes import Held, Judgement, Signed
 from ..record.recorders import recorders
@@ -70,8 +71,7 @@ def day_given(context: Context, day: int | None) -> int:
 
 def require_passed(base: Base, register: Register, lot: Lot) -> None:
     """Fails unless each of a lot's own tests has a result within its limits."""
-    tests = quality.own_tests(register, tests_of(base, lot))
-    if missing := [test.name for test in tests if test.limits != "within"]:
+    if missing := [test.name for test in tests_of(base, register, lot.id) if not test.passes]:
         advice = f"`hilpoven show lot {lot.id.owner} {lot.id.name}` has its tests"
         raise Failure(f"lot {lot.id} has no result within the limits of {', '.join(missing)}", REFUSED, advice)
 

@@ -1,39 +1,48 @@
 """A lot as papers and lists describe it: full names, days, and its tests with limits and values as measured."""
 from dataclasses import dataclass
+from typing import NamedTuple
 
-from . import quality
-from .notes.facts import LotFacts, MaterialFacts, OwnerFacts, ResultId, TestFacts
+from . import views
+from .measures import shown
+from .notes.facts import LotFacts, MaterialFacts, OwnerFacts, TestFacts
 from .register.store import Register
-from .measures import GROUP, as_measured, shown
-from .rows import Base, Lot, LotId, Test, tests_of
+from .rows import Base, Lot, LotId
 
 
 RETEST = "to be tested again"  # as papers call the day
 
 
-@dataclass(frozen=True)
-class DescribedTest:
-    """A test of a lot, and what is noted of it; limits and latest value as measured, without a value an empty text."""
+class DescribedTest(NamedTuple):
+    """A test of a lot: what is noted of it, its limits and its latest result as they were measured, and whether that is
+    within the limits; `None` where there is none."""
 
-    test: Test
-    facts: TestFacts
-    low: str
-    high: str
-    value: str
-    sign: str  # before the value, where it is a bound
+    name: str
+    full_name: str
+    method: str
+    low: int
+    high: int
+    value: int | None
+    unit: str
+    day: int | None
+    passes: int | None
 
-    @property
-    def title(self) -> str:
-        """Its full name, or else its name."""
-        return self.facts.name or self.test.name
 
-    @property
-    def numbers(self) -> tuple[str, int, int, int | None]:
-        """Its name, limits and latest value as cells of a table: programs get numbers, and people read what was
-        measured."""
-        test, decimals = self.test, self.facts.decimals
-        value = None if test.value is None else shown(test.value, decimals, self.sign)
-        return test.name, shown(test.low, decimals), shown(test.high, decimals), value
+# The tests of a lot without the plant's own.
+TESTS = """
+SELECT test, name, method, low, high, value, unit, day, passes, decimals, sign FROM lot_test
+WHERE owner = ? AND lot = ? AND NOT is_plants ORDER BY test
+"""
+
+
+def tests_of(base: Base, register: Register, lot: LotId) -> list[DescribedTest]:
+    """The tests of a lot with its latest results, without the plant's own, which is shown as a signature or a hold, and
+    never as a number."""
+    tests, rows = list[DescribedTest](), views.over(base, register).execute(TESTS, lot)
+    for name, full_name, method, low, high, value, unit, day, passes, decimals, sign in rows:
+        low, high = shown(low, decimals), shown(high, decimals)
+        result = None if value is None else shown(value, decimals, sign or "")
+        tests.append(DescribedTest(name, full_name, method, low, high, result, unit, day, passes))
+    return tests
 
 
 @dataclass(frozen=True)
@@ -43,7 +52,7 @@ class DescribedLot:
     owner: OwnerFacts
     material: MaterialFacts
     lot: LotFacts
-    tests: tuple[DescribedTest, ...]
+    tests: list[DescribedTest]
 
     @property
     def days(self) -> dict[str, str]:
@@ -73,36 +82,13 @@ def facts_of_test(register: Register, owner: str, material: str, test: str) -> T
     return register.tests.get((owner, material, test)) or TestFacts(owner, material, test)
 
 
-def sign_of(register: Register, result: ResultId) -> str:
-    """What stands before the value of a result: `<` or `>` where it is a bound."""
-    bound = register.bounds.get(result)
-    return bound.sign if bound else ""
-
-
-def shown_result(register: Register, material: str, result: ResultId) -> int:
-    """The value of a result of a list, which people read as it was measured."""
-    owner, _, test, value, _ = result
-    return shown(value, facts_of_test(register, owner, material, test).decimals, sign_of(register, result))
-
-
-def describe_test(register: Register, lot: LotId, material: str, test: Test) -> DescribedTest:
-    """A test of a lot with what is noted of it."""
-    facts = facts_of_test(register, lot.owner, material, test.name)
-    low, high = (as_measured(limit, facts.decimals, GROUP) for limit in (test.low, test.high))
-    if test.value is None or test.day is None:
-        return DescribedTest(test, facts, low, high, "", "")
-    sign = sign_of(register, (lot.owner, lot.name, test.name, test.value, test.day))
-    return DescribedTest(test, facts, low, high, sign + as_measured(test.value, facts.decimals, GROUP), sign)
-
-
 def describe_lot(base: Base, register: Register, lot: Lot) -> DescribedLot:
     """A lot with all that certificates and lists say of it, without the plant's own test. An owner's paper gives the
     owner's own notes."""
     owner, material = lot.id.owner, lot.material
-    own = quality.own_tests(register, tests_of(base, lot))
     return DescribedLot(
         register.owners.get(owner) or OwnerFacts(owner),
         register.materials.get((owner, material)) or MaterialFacts(owner, material),
         register.lots.get(lot.id) or LotFacts(owner, lot.id.name),
-        tuple(describe_test(register, lot.id, material, test) for test in own),
+        tests_of(base, register, lot.id),
     )

@@ -1,12 +1,10 @@
 """What the plant's quality says of lots: whether each is signed, held or neither. Of a lot whose material has the test
 of the plant's own, that is its latest result, which `toll` enforces; of another one, a note alone."""
-from collections.abc import Iterable
 from dataclasses import dataclass
 from enum import Enum
 
-from ..core.table import Value
 from ..core.days import format_day
-from .rows import Base, LotId, Test
+from .rows import Base, LotId
 from . import views
 from .notes.notes import because
 from .views import LIMIT as LIMIT
@@ -56,14 +54,3 @@ def text_of(base: Base, register: Register, lot: LotId) -> str:
     """What is shown of a lot; empty if the plant's quality says nothing of it."""
     status = statuses(base, register, lot).get(lot)
     return status.text if status else ""
-
-
-def is_plants(register: Register, *test: Value) -> bool:
-    """Whether a test, by its name and its limits, is the plant's own, by which it signs and holds lots."""
-    return test == (register.plants_test, LIMIT, LIMIT)
-
-
-def own_tests(register: Register, tests: Iterable[Test]) -> list[Test]:
-    """The tests of a material without the plant's own, which is shown as a signature or a hold, and never as a
-    number."""
-    return [test for test in tests if not is_plants(register, test.name, test.low, test.high)]

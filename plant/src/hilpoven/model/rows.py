@@ -7,7 +7,7 @@ from typing import Any, NamedTuple
 from .. import HOUSE
 from ..core.failure import REFUSED, Failure
 from .nearest import nearest
-from .schema import INCOMING, ON_HAND, OPEN_TESTS, ORIGIN, REQUIREMENTS, STANDING, TESTS, Disposition, Kind, State
+from .schema import INCOMING, ON_HAND, ORIGIN, REQUIREMENTS, STANDING, Disposition, Kind, State
 
 Base = sqlite3.Connection
 
@@ -96,29 +96,6 @@ class Batch:
         return self.unit, self.state.word, "closed" if self.is_closed else "open"
 
 
-@dataclass(frozen=True)
-class Test:
-    """A test of a lot: its limits, the latest result, its day, how many there are, and `within`, `out` or `missing`."""
-
-    name: str
-    low: int
-    high: int
-    value: int | None
-    day: int | None
-    results: int
-    limits: str
-
-
-class OpenTest(NamedTuple):
-    """A test of a quarantined lot whose latest result isn't within its limits: out of them, or missing."""
-
-    lot: LotId
-    name: str
-    low: int
-    high: int
-    is_out: bool
-
-
 LOTS = f"""
 SELECT l.owner, l.lot, l.material, m.measure, l.disposition, {ORIGIN}, {ON_HAND}
 FROM lots AS l JOIN materials AS m USING (owner, material) WHERE
@@ -194,20 +171,6 @@ def sublots_of(base: Base, lots: Iterable[LotId]) -> dict[tuple[LotId, str], int
 def batches_of(base: Base, batches: Iterable[BatchId]) -> dict[BatchId, Batch]:
     """These batches, as they are now."""
     return {batch.id: batch for wanted in batches for batch in read_batches(base, OF_BATCH.format("b"), wanted)}
-
-
-def tests_of(base: Base, lot: Lot) -> list[Test]:
-    """The tests of a lot's material with the lot's results."""
-    words = {"owner": lot.id.owner, "lot": lot.id.name, "material": lot.material}
-    return [Test(*row) for row in base.execute(TESTS, words)]
-
-
-def open_tests(base: Base) -> list[OpenTest]:
-    """The tests of all quarantined lots whose latest result isn't within the limits, by lot and name."""
-    return [
-        OpenTest(LotId(owner, lot), test, low, high, bool(is_out))
-        for owner, lot, test, low, high, is_out in base.execute(OPEN_TESTS)
-    ]
 
 
 def results_of(base: Base, lot: Lot) -> list[tuple[str, int, int]]:

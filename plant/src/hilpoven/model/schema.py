@@ -121,22 +121,6 @@ BATCH_NAME = "CASE m.ord WHEN '' THEN '' ELSE m.owner || ' ' || m.ord || '/' || 
 LATEST = """
 r.number = (SELECT max(x.number) FROM results AS x WHERE x.owner = r.owner AND x.lot = r.lot AND x.test = r.test)
 """
-_RESULTS = "FROM results AS r WHERE r.owner = t.owner AND r.lot = :lot AND r.test = t.test"
-_LATEST, _DAY = (f"(SELECT {column} {_RESULTS} ORDER BY r.number DESC LIMIT 1)" for column in ("value", "day"))
-# The tests of the material of a lot, with the lot's latest result of each.
-TESTS = f"""
-SELECT test, low, high, {_LATEST} AS latest, {_DAY} AS day, (SELECT count(*) {_RESULTS}) AS results,
-  CASE WHEN {_LATEST} IS NULL THEN 'missing' WHEN {_LATEST} BETWEEN low AND high THEN 'within' ELSE 'out' END AS limits
-FROM tests AS t WHERE owner = :owner AND material = :material ORDER BY test
-"""
-# The tests of quarantined lots whose latest result is out of the limits, or missing.
-OPEN_TESTS = f"""
-SELECT l.owner, l.lot, t.test, t.low, t.high, r.value IS NOT NULL AS is_out
-FROM lots AS l JOIN tests AS t ON t.owner = l.owner AND t.material = l.material
-LEFT JOIN results AS r ON r.owner = l.owner AND r.lot = l.lot AND r.test = t.test AND {LATEST}
-WHERE l.disposition = {Disposition.QUARANTINED:d} AND coalesce(r.value NOT BETWEEN t.low AND t.high, 1)
-ORDER BY l.owner, l.lot, t.test
-"""
 # What a recipe requires of a batch, with what was recorded.
 REQUIREMENTS = f"""
 SELECT q.segment, {Role.sql('q.role')} AS use, q.source AS owner, q.material, q.amount AS required,

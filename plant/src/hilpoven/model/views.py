@@ -16,7 +16,7 @@ Base = sqlite3.Connection
 LIMIT = 1  # the lower and the upper one of the plant's own test: its result 1 is a signature, and 0 a hold
 
 
-def said(member: str, table: str, where: str, empty: str = "''") -> str:
+def last_of(member: str, table: str, where: str, empty: str = "''") -> str:
     """SQL: what the last note of a thing says that says this member."""
     return (
         f"coalesce((SELECT x.{member} FROM register.{table} AS x WHERE {where} AND x.{member} <> {empty} "
@@ -52,14 +52,14 @@ SIGN = """
 VIEWS = {
     # The plant and the owners, with their full names.
     "owner": f"""
-SELECT o.owner, {said('name', 'owner_note', OF_OWNER)}, {said('address', 'owner_note', OF_OWNER)}
+SELECT o.owner, {last_of('name', 'owner_note', OF_OWNER)}, {last_of('address', 'owner_note', OF_OWNER)}
 FROM (SELECT owner FROM owners UNION SELECT 'HOUSE') AS o""",
     # Materials with their full names.
-    "material": f"SELECT m.*, {said('name', 'material_note', OF_MATERIAL)} FROM materials AS m",
+    "material": f"SELECT m.*, {last_of('name', 'material_note', OF_MATERIAL)} FROM materials AS m",
     # Tests of materials with their decimals, and whether one is the plant's own, by which it signs and holds lots.
     "test": f"""
-SELECT t.*, {said('decimals', 'test_note', OF_TEST, '0')}, {said('name', 'test_note', OF_TEST)},
-  {said('unit', 'test_note', OF_TEST)}, {said('method', 'test_note', OF_TEST)},
+SELECT t.*, {last_of('decimals', 'test_note', OF_TEST, '0')}, {last_of('name', 'test_note', OF_TEST)},
+  {last_of('unit', 'test_note', OF_TEST)}, {last_of('method', 'test_note', OF_TEST)},
   t.test = (SELECT plants_test FROM temp.setting) AND t.low = {LIMIT} AND t.high = {LIMIT} AS is_plants
 FROM tests AS t""",
     # Results with the decimals of their test, the sign of a bound, and whether each passes; NULL without such a test.
@@ -70,7 +70,8 @@ FROM results AS r LEFT JOIN lots AS l USING (owner, lot)
 LEFT JOIN temp.test AS t ON t.owner = l.owner AND t.material = l.material AND t.test = r.test""",
     # What each lot is tested for, with the latest result, and whether it is within the limits; NULL without a result.
     "lot_test": f"""
-SELECT l.owner, l.lot, l.material, t.test, t.low, t.high, t.decimals, t.name, t.unit, t.is_plants, r.value, r.day,
+SELECT l.owner, l.lot, l.material, l.disposition, t.test, t.low, t.high, t.decimals, t.name, t.unit, t.method,
+  t.is_plants, r.value, r.day,
   coalesce(r.number, 0) AS results, {SIGN} AS sign, r.value BETWEEN t.low AND t.high AS passes
 FROM lots AS l JOIN temp.test AS t ON t.owner = l.owner AND t.material = l.material
 LEFT JOIN results AS r ON r.owner = l.owner AND r.lot = l.lot AND r.test = t.test AND {LATEST}""",
@@ -95,12 +96,12 @@ SELECT l.*, m.measure, {ON_HAND} AS on_hand, {day('made')}, {day('expires')}, {d
 FROM lots AS l JOIN materials AS m USING (owner, material)""",
     # Movements with their party, the supplier's lot and their document.
     "movement": f"""
-SELECT m.rowid AS rowid, m.*, {said('party', 'movement_note', OF_MOVEMENT)},
-  {said('supplier_lot', 'movement_note', OF_MOVEMENT)}, {said('document', 'movement_note', OF_MOVEMENT)}
+SELECT m.rowid AS rowid, m.*, {last_of('party', 'movement_note', OF_MOVEMENT)},
+  {last_of('supplier_lot', 'movement_note', OF_MOVEMENT)}, {last_of('document', 'movement_note', OF_MOVEMENT)}
 FROM moves AS m""",
     # Parties, and how they are reached.
     "party": f"""
-SELECT p.owner, p.party, {said('name', 'party_note', OF_PARTY)}, {said('roles', 'party_note', OF_PARTY)},
+SELECT p.owner, p.party, {last_of('name', 'party_note', OF_PARTY)}, {last_of('roles', 'party_note', OF_PARTY)},
   {', '.join(map(reached, ('address', 'contact', 'phone')))}
 FROM (SELECT DISTINCT owner, party FROM register.party_note) AS p""",
     # Shipments with who got each.

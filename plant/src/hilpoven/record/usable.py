@@ -1,8 +1,8 @@
 """Why a batch may not be meant to use some of a lot besides its recipe: `toll` records that as a scrap, whatever the
 lot and the batch are like."""
-from ..model.rows import Base, BatchId, Lot, batches_of, lots_of, tests_of
+from ..model.descriptions import tests_of
+from ..model.rows import Base, BatchId, Lot, batches_of, lots_of
 from ..model.schema import Disposition
-from ..model import quality
 from .making import Desk
 from ..model.notes.notes import Link
 from ..model.register.faults import HAS_KEY
@@ -25,7 +25,7 @@ def doubts_of_lot(base: Base, register: Register, lot: Lot) -> list[str]:
     released."""
     if lot.disposition == Disposition.REJECTED:
         return [f"lot {lot.id} is rejected"]
-    failed = [test.name for test in quality.own_tests(register, tests_of(base, lot)) if test.limits == "out"]
+    failed = [test.name for test in tests_of(base, register, lot.id) if test.passes == 0]
     if failed:
         return [f"the latest result of lot {lot.id} is out of the limits of {', '.join(failed)}"]
     return [] if lot.disposition == Disposition.RELEASED else [f"lot {lot.id} is not released"]

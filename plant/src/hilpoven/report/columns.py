@@ -14,16 +14,17 @@ def as_given(value: Value) -> Value:
 
 
 class Column(NamedTuple):
-    """A column: its SQL, an expression for each value that it is made of, and how. Of a group, which says what is noted,
-    all columns stand in a table if one of them says something in some row."""
+    """A column: its SQL, an expression for each value that it is made of, and how. Of a group, which says what is
+    noted, all columns stand in a table if one of them says something in some row."""
 
     sql: tuple[str, ...]
     value: Callable[..., Value] = as_given
     group: str = ""
 
 
-def noted(group: str, **columns: str) -> dict[str, Column]:
-    """Columns of a group by their names, each with its SQL."""
+def noted(columns: dict[str, str]) -> dict[str, Column]:
+    """Columns of a group, which its first one names, each with its SQL by its name."""
+    group = next(iter(columns))
     return {f"noted_{name}": Column((sql,), group=group) for name, sql in columns.items()}
 
 

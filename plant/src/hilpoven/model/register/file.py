@@ -1,9 +1,9 @@
 """The register's file beside an office's: the journal's notes with whether each stands, so that a reader adds only what
 is new.
 
-The journal is the truth. Where the file is missing, the next reader makes it; where an earlier version wrote it, the next
-reader makes it anew; where it can't be used, the notes are read from the journal, which is told, and `hilpoven register
-rebuild` makes it anew.
+The journal is the truth. Where the file is missing, the next reader makes it; where an earlier version wrote it, the
+next reader makes it anew; where it can't be used, the notes are read from the journal, which is told, and `hilpoven
+register rebuild` makes it anew.
 """
 import contextlib
 import os

@@ -1,5 +1,5 @@
-"""How the lines of a journal come into a register: its notes, what was answered to the commands that they belong to, and
-where the file was."""
+"""How the lines of a journal come into a register: its notes, what was answered to the commands that they belong to,
+and where the file was."""
 import os
 import re
 from typing import Any

@@ -1,7 +1,7 @@
 """How a register keeps which of its notes stand.
 
-New notes are looked at as they come, and those that may stand later by each reader: whose row isn't there, or whose command
-has no answer. All are looked at where another office has the file's place, as behind a restore or a carry-over.
+New notes are looked at as they come, and those that may stand later by each reader: whose row isn't there, or whose
+command has no answer. All are looked at where another office has the file's place, as behind a restore or a carry-over.
 """
 import heapq
 import json
@@ -122,8 +122,8 @@ class Keeper:
         return fault_of(noted, noted.note, is_done, self.files, self.lost)
 
     def changed(self, id: int, noted: Noted, note: Note, notes: Sequence[Note], is_new: bool) -> list[int]:
-        """Has the table of a note's kind have what is read of it; the notes that are to be looked at because of that. Of
-        a new note it has nothing yet."""
+        """Has the table of a note's kind have what is read of it, of which it has nothing yet if the note is new; the
+        notes that are to be looked at because of that."""
         kind = type(note)
         rows = [tables.values_of(noted, each) for each in notes] if kind in tables.TABLES else []
         if rows == ([] if is_new else tables.rows_of(self.register, id, kind)):

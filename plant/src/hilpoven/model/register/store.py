@@ -43,10 +43,10 @@ class Things(Mapping[Key, Value]):
     def read(self, words: dict[str, Any]) -> dict[Any, Value]:
         """What is noted of the things of which columns have these values."""
         things: dict[Any, Value] = {}
-        for note, more in self.opened.read(lambda base: [*tables.read(base, self.kind, **words)]):
+        for note, row in self.opened.read(lambda base: [*tables.read(base, self.kind, **words)]):
             names = tuple(getattr(note, name) for name in self.names)
             key = names if len(names) > 1 else names[0]
-            things[key] = self.over(things.get(key), note, more)
+            things[key] = self.over(things.get(key), note, row)
         return things
 
     @cached_property

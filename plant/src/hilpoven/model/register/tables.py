@@ -177,8 +177,8 @@ def noted_of(row: Row) -> Noted:
 
 
 class Columns:
-    """How the members of a kind of note stand in its table: the columns for a query, and SQL that adds a row of a note's
-    number, its members, and of a judgement what else its table has."""
+    """How the members of a kind of note stand in its table: the columns for a query, and SQL that adds a row of a
+    note's number, its members, and of a judgement what else its table has."""
 
     def __init__(self, table: str, kind: type[Note]) -> None:
         self.table, self.members = table, tuple(member.name for member in fields(kind))
@@ -194,8 +194,8 @@ COLUMNS_OF = {kind: Columns(table, kind) for kind, table in TABLES.items()}
 def values_of(noted: Noted, note: Note) -> Row:
     """What stands of a note in its table, behind its number."""
     members = (getattr(note, member) for member in COLUMNS_OF[type(note)].members)
-    more = (isinstance(note, Held), noted.is_own) if isinstance(note, Judgement) else ()
-    return *(" ".join(value) if isinstance(value, tuple) else value for value in members), *more
+    judged = (isinstance(note, Held), noted.is_own) if isinstance(note, Judgement) else ()
+    return *(" ".join(value) if isinstance(value, tuple) else value for value in members), *judged
 
 
 def put(base: Base, id: int, kind: type[Note], rows: Iterable[Row]) -> None:

@@ -7,7 +7,8 @@ from typing import NamedTuple
 from ...model.answers import StockLine, rows_of
 from ...core.days import format_day, last_day_within
 from ...model.genealogy import Genealogy
-from ...model.rows import Lot, LotId, OpenTest, open_tests, read_lots, select
+from ...model import views
+from ...model.rows import Lot, LotId, read_lots, select
 from ...model.schema import Disposition
 from ...model import quality
 from ...model.below import MARK
@@ -48,6 +49,21 @@ class Waiting(NamedTuple):
     day: int = 0
 
 
+# The tests of quarantined lots whose latest result is out of the limits, or missing.
+OPEN_TESTS = f"""
+SELECT owner, lot, test, value IS NOT NULL, is_plants FROM lot_test
+WHERE disposition = {Disposition.QUARANTINED:d} AND passes IS NOT 1 ORDER BY owner, lot, test
+"""
+
+
+class OpenTest(NamedTuple):
+    """Such a test: its latest result is out of the limits, or else missing; and whether it is the plant's own."""
+
+    name: str
+    is_out: bool
+    is_plants: bool
+
+
 class Known(NamedTuple):
     """What is known of lots: the last days of those that expire soon or are past that day, the tests that are open of
     quarantined ones, what the plant's quality says, and what they contain by links."""
@@ -66,7 +82,7 @@ def lots(source: Source, owners: list[str]) -> Panel:
     select(source.base, [*known.days, *held])
     shown = [lot for lot in read_lots(source.base, CONCERNED) if lot.on_hand]
     check(source, owners, shown)
-    waiting = sorted((waiting_of(source, known, lot) for lot in shown), key=lambda lot: (rank(lot.why), lot.day))
+    waiting = sorted((waiting_of(known, lot) for lot in shown), key=lambda lot: (rank(lot.why), lot.day))
     counts = Counter(lot.why for lot in waiting)
     rows, count = [lot.row for lot in waiting[:MOST_ROWS]], len(waiting)
     legend = [Count(counts[why], why.value, why in ALARMS) for why in Wait if counts[why]]
@@ -81,8 +97,8 @@ def rank(why: Wait) -> int:
 def known_of(source: Source) -> Known:
     """What is known of the lots of an office."""
     tests: dict[LotId, list[OpenTest]] = defaultdict(list)
-    for test in open_tests(source.base):
-        tests[test.lot].append(test)
+    for owner, lot, *test in views.over(source.base, source.register).execute(OPEN_TESTS):
+        tests[LotId(owner, lot)].append(OpenTest(*test))
     last = last_day_within(SOON)
     days = {LotId(*name): last_day(facts) for name, facts in source.register.lots.items()}
     near = {lot: day for lot, day in days.items() if day and day <= last}
@@ -105,9 +121,9 @@ def check(source: Source, owners: list[str], shown: list[Lot]) -> None:
     )
 
 
-def waiting_of(source: Source, known: Known, lot: Lot) -> Waiting:
+def waiting_of(known: Known, lot: Lot) -> Waiting:
     """Why a lot is on the board, and its row."""
-    why, text = waits_for(source, known, lot)
+    why, text = waits_for(known, lot)
     day, status = known.days.get(lot.id), known.statuses.get(lot.id)
     if status and status.state == quality.State.HELD:
         return Waiting(Wait.HELD, Row(str(lot.id), f"held {MARK}", shortened(status.reason), is_alarm=True))
@@ -139,12 +155,12 @@ def why_linked(links: list[Link]) -> str:
     return f"{some_of(sorted({link.why.value for link in links}))} {MARK}" if links else ""
 
 
-def waits_for(source: Source, known: Known, lot: Lot) -> tuple[Wait, str]:
+def waits_for(known: Known, lot: Lot) -> tuple[Wait, str]:
     """What a lot waits for, and that in words: the first of its tests that are out of their limits, or without a
     result, and how many more there are."""
     own, is_signed = list[OpenTest](), True
     for test in known.tests.get(lot.id, []):
-        if quality.is_plants(source.register, test.name, test.low, test.high):
+        if test.is_plants:
             is_signed = False
         else:
             own.append(test)

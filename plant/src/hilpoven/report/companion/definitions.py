@@ -4,9 +4,18 @@ from collections import defaultdict
 from ... import HOUSE
 from ...model.gauge import OF_OWNER
 from ...model.schema import Role
-from .subject import Limits, Subject, Value, filled
+from .subject import Subject, Value, filled
 
-OWN = "SELECT material, measure FROM materials WHERE owner = ? ORDER BY material"
+OWN = "SELECT material, measure, name FROM material WHERE owner = :owner ORDER BY material"
+PARTIES = "SELECT party, name, address, contact, phone, roles FROM party WHERE owner = :owner ORDER BY party"
+TESTS = """
+SELECT material, test, low, high, name, unit, method, nullif(decimals, 0) FROM test
+WHERE owner = :owner AND NOT is_plants ORDER BY material, test
+"""
+LINES = """
+SELECT recipe, segment, role, source, material, amount FROM requirements WHERE owner = :owner
+ORDER BY recipe, segment, role, source, material
+"""
 # The materials of HOUSE that the owner's recipes or movements name.
 OF_HOUSE = f"""
 SELECT material, measure FROM materials WHERE owner = '{HOUSE}' AND material IN (
@@ -14,7 +23,7 @@ SELECT material, measure FROM materials WHERE owner = '{HOUSE}' AND material IN 
   UNION SELECT material FROM moves WHERE owner = :owner AND lot_owner = '{HOUSE}')
 ORDER BY material
 """
-RECIPES = "SELECT recipe, segments FROM recipes WHERE owner = ? ORDER BY recipe"
+RECIPES = "SELECT recipe, segments FROM recipes WHERE owner = :owner ORDER BY recipe"
 
 
 def gauges(subject: Subject) -> list[Value]:
@@ -29,49 +38,28 @@ def gauges(subject: Subject) -> list[Value]:
 def parties(subject: Subject) -> list[Value]:
     """Its customers, suppliers and carriers, as the plant noted them."""
     return [
-        filled(
-            party=party.party,
-            description=party.name,
-            address=party.address,
-            contact=party.contact,
-            phone=party.phone,
-            roles=[role.value for role in party.roles],
-        )
-        for _, party in sorted(subject.register.parties.items())
+        filled(party=party, description=name, address=address, contact=contact, phone=phone, roles=roles.split())
+        for party, name, address, contact, phone, roles in subject.rows(PARTIES)
     ]
 
 
 def materials(subject: Subject) -> list[Value]:
     """Its own materials with their tests, and of HOUSE's those that it has to do with, by name alone."""
-    facts = subject.register.materials
+    tests: defaultdict[str, list[Value]] = defaultdict(list)
+    for material, test, low, high, name, unit, method, decimals in subject.rows(TESTS):
+        noted = filled(description=name, unit=unit, method=method, decimals=decimals)
+        tests[material].append({"test": test, "low": low, "high": high, **noted})
     own = [
-        filled(
-            owner=subject.owner,
-            material=name,
-            measure=measure,
-            description=facts[subject.owner, name].name if (subject.owner, name) in facts else "",
-            tests=[test_of(subject, name, test) for test in subject.tests.get(name, []) if not test.is_plants],
-        )
-        for name, measure in subject.rows(OWN)
+        filled(owner=subject.owner, material=material, measure=measure, description=name, tests=tests.get(material))
+        for material, measure, name in subject.rows(OWN)
     ]
-    rows = subject.base.execute(OF_HOUSE, {"owner": subject.owner})
-    return own + [{"owner": HOUSE, "material": name, "measure": measure} for name, measure in rows]
-
-
-def test_of(subject: Subject, material: str, test: Limits) -> Value:
-    """A test with its limits, and what is noted of it."""
-    limits = {"test": test.test, "low": test.low, "high": test.high}
-    facts = subject.register.tests.get((subject.owner, material, test.test))
-    if not facts:
-        return limits
-    noted = filled(description=facts.name, unit=facts.unit, method=facts.method, decimals=facts.decimals or None)
-    return limits | noted
+    return own + [{"owner": HOUSE, "material": name, "measure": measure} for name, measure in subject.rows(OF_HOUSE)]
 
 
 def recipes(subject: Subject) -> list[Value]:
     """Its recipes, with what one batch consumes and produces."""
     lines: defaultdict[str, list[Value]] = defaultdict(list)
-    for recipe, segment, role, source, material, amount in subject.lines:
+    for recipe, segment, role, source, material, amount in subject.rows(LINES):
         place = {"segment": segment, "use": Role(role).word, "owner": source, "material": material}
         lines[recipe].append({**place, "amount": amount})
     return [

@@ -10,23 +10,44 @@ NAMES = {Kind.RECEIVE: "receipt", Kind.SPLIT: "split", Kind.SHIP: "shipment", Ki
 WORDS = {int(kind): (NAMES.get(kind, ACTUAL), kind.word) for kind in Kind}
 
 
+# In the order in which they were recorded, which is that of the table: what is sorted are its numbers alone. Only
+# receipts and actuals name their material.
+MOVES = """
+SELECT m.mkey, m.kind, m.lot_owner, m.lot, m.sublot, m.target, iif(m.material <> '', m.material, (SELECT l.material
+  FROM lots AS l WHERE l.owner = m.lot_owner AND l.lot = m.lot)), m.ord, m.number, m.segment, m.amount, m.day, m.party,
+  m.supplier_lot, m.document, EXISTS (SELECT 1 FROM voids AS v WHERE v.owner = m.owner AND v.mkey = m.mkey)
+FROM movement AS m WHERE m.rowid IN (SELECT rowid FROM moves WHERE owner = :owner) ORDER BY m.rowid
+"""
+
+
 def movements(subject: Subject) -> list[Value]:
     """Its movements, in the order in which they were recorded, with the parties and documents that were noted. Members
     that a kind doesn't have are left out."""
-    values, voided, facts = [], subject.voided, subject.register.facts
-    materials = {lot: material for lot, material, *_ in subject.lots}  # only receipts and actuals name theirs
-    for key, kind, lot_owner, lot, sublot, target, material, order, number, segment, amount, day in subject.moves:
+    values = []
+    for (
+        key,
+        kind,
+        lot_owner,
+        lot,
+        sublot,
+        target,
+        material,
+        order,
+        number,
+        segment,
+        amount,
+        day,
+        *noted,
+    ) in subject.rows(MOVES):
+        party, supplier_lot, document, is_void = noted
         name, use = WORDS.get(kind) or (NAMES[Kind(kind)], "")
         move = {"key": key, "kind": name, "day": day, "lot": lot, "lotOwner": lot_owner, "sublot": sublot}
-        move["amount"], move["material"] = amount, material or materials[lot]
+        move["amount"], move["material"] = amount, material
         if order:
             move["order"], move["batch"], move["segment"], move["use"] = order, number, segment, use
-        if target:
-            move["toSublot"] = target
-        if noted := facts.get((subject.owner, key)):
-            party = {"to" if kind == Kind.SHIP else "from": noted.party}
-            move |= filled(**party, supplierLot=noted.supplier_lot, document=noted.document)
-        if key in voided:
+        of_party = {"to" if kind == Kind.SHIP else "from": party}
+        move |= filled(toSublot=target, **of_party, supplierLot=supplier_lot, document=document)
+        if is_void:
             move["voided"] = True
         values.append(move)
     return values

@@ -1,15 +1,25 @@
 """An owner's orders and batches, with what each batch consumed and produced."""
 from collections import defaultdict
 
-from ...model.schema import ACTUAL_OF, Kind, Role, State
-from .subject import Row, Subject, Value
+from ...model.schema import ACTUAL_OF, IS_ACTUAL, STANDING, Kind, Role, State
+from .definitions import LINES
+from .subject import Subject, Value
 
-ORDERS = "SELECT ord, recipe, batches, cancelled FROM orders WHERE owner = ? ORDER BY ord"
+ORDERS = "SELECT ord, recipe, batches, cancelled FROM orders WHERE owner = :owner ORDER BY ord"
 BATCHES = """
 SELECT b.ord, b.number, o.recipe, b.unit, b.state, b.closed
-FROM batches AS b JOIN orders AS o USING (owner, ord) WHERE b.owner = ? ORDER BY b.ord, b.number
+FROM batches AS b JOIN orders AS o USING (owner, ord) WHERE b.owner = :owner ORDER BY b.ord, b.number
 """
-KINDS = {int(kind) for kind in ACTUAL_OF.values()}
+# The sums of standing actuals, and the lots that batches made.
+ACTUALS = f"""
+SELECT m.ord, m.number, m.segment, m.kind, m.lot_owner, m.material, sum(m.amount) FROM moves AS m
+WHERE m.owner = :owner AND {IS_ACTUAL} AND {STANDING}
+GROUP BY m.ord, m.number, m.segment, m.kind, m.lot_owner, m.material
+"""
+MADE = f"""
+SELECT DISTINCT m.ord, m.number, m.lot FROM moves AS m
+WHERE m.owner = :owner AND m.kind = {Kind.PRODUCED:d} AND {STANDING} ORDER BY m.lot
+"""
 
 
 def orders(subject: Subject) -> list[Value]:
@@ -22,9 +32,12 @@ def orders(subject: Subject) -> list[Value]:
 
 def batches(subject: Subject) -> list[Value]:
     """Its batches, each with what its recipe requires, what was recorded, and the lots that it made."""
-    recorded, produced = actuals(subject)
+    recorded = {tuple(actual): amount for *actual, amount in subject.rows(ACTUALS)}
+    produced: defaultdict[tuple[str, int], list[str]] = defaultdict(list)
+    for order, number, lot in subject.rows(MADE):
+        produced[order, number].append(lot)
     required: defaultdict[str, list[tuple[int, Role, str, str, int]]] = defaultdict(list)
-    for recipe, segment, role, owner, material, amount in subject.lines:
+    for recipe, segment, role, owner, material, amount in subject.rows(LINES):
         required[recipe].append((segment, Role(role), owner, material, amount))
     values = []
     for order, number, recipe, unit, state, is_closed in subject.rows(BATCHES):
@@ -42,19 +55,6 @@ def batches(subject: Subject) -> list[Value]:
             }
             for segment, role, owner, material, amount in required[recipe]
         ]
-        batch["lots"] = sorted(produced.get((order, number), ()))
+        batch["lots"] = produced[order, number]
         values.append(batch)
     return values
-
-
-def actuals(subject: Subject) -> tuple[dict[Row, int], dict[Row, set[str]]]:
-    """The sums of its standing actuals, by batch, segment, kind, owner and material, and the lots that batches made."""
-    recorded: defaultdict[Row, int] = defaultdict(int)
-    produced: defaultdict[Row, set[str]] = defaultdict(set)
-    voided = subject.voided
-    for key, kind, lot_owner, lot, _, _, material, order, number, segment, amount, _ in subject.moves:
-        if kind in KINDS and key not in voided:
-            recorded[order, number, segment, kind, lot_owner, material] += amount
-            if kind == Kind.PRODUCED:
-                produced[order, number].add(lot)
-    return recorded, produced

@@ -21,27 +21,27 @@ class Noted(NamedTuple):
 
 # By the names of the lists.
 NOTED = {
-    "owners": Noted("owner AS o", noted("names", name="o.name", address="o.address")),
-    "materials": Noted("material", noted("names", name="name")),
+    "owners": Noted("owner AS o", noted({"name": "o.name", "address": "o.address"})),
+    "materials": Noted("material", noted({"name": "name"})),
     "tests": Noted(
         "test AS t",
         {
             "low": measured("low", "decimals"),
             "high": measured("high", "decimals"),
-            **noted("facts", name="name", unit="unit", method="method"),
+            **noted({"name": "name", "unit": "unit", "method": "method"}),
         },
     ),
     "lots": Noted(
         "lot AS l JOIN materials AS m USING (owner, material) JOIN quality AS q ON q.owner = l.owner AND q.lot = l.lot",
         {
-            **noted("days", made="l.made", expires="l.expires", retest="l.retest"),
+            **noted({"made": "l.made", "expires": "l.expires", "retest": "l.retest"}),
             "quality": Column(("q.state", "q.day", "q.reason"), quality, "quality"),
         },
     ),
     "moves": Noted(
-        "movement AS m", noted("facts", party="m.party", supplier_lot="m.supplier_lot", document="m.document")
+        "movement AS m", noted({"party": "m.party", "supplier_lot": "m.supplier_lot", "document": "m.document"})
     ),
-    "results": Noted("result AS r", {"value": measured("value", "decimals", "sign"), **noted("unit", unit="unit")}),
+    "results": Noted("result AS r", {"value": measured("value", "decimals", "sign"), **noted({"unit": "unit"})}),
 }
 
 
@@ -49,9 +49,9 @@ def read(
     base: Base, name: str, asked: Mapping[str, Any], only_open: bool = False, also: Sequence[str] = ()
 ) -> tuple[list[str], list[Row]]:
     """The columns and the rows of a list, of tables that have the views. `also` is SQL of which rows alone."""
-    listing, more = LISTINGS[name], NOTED.get(name, Noted(LISTINGS[name].source, {}))
-    columns = {**{column: Column((sql,)) for column, sql in listing.columns.items()}, **more.columns}
-    return select(base, columns, listing.behind(more.source, asked, only_open, also), asked)
+    listing, with_notes = LISTINGS[name], NOTED.get(name, Noted(LISTINGS[name].source, {}))
+    columns = {**{column: Column((sql,)) for column, sql in listing.columns.items()}, **with_notes.columns}
+    return select(base, columns, listing.behind(with_notes.source, asked, only_open, also), asked)
 
 
 def read_of(

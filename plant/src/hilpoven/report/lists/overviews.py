@@ -121,7 +121,7 @@ TESTS = {
     "day": Column(("day",)),
     "results": Column(("results",)),
     "limits": Column((LIMITS,)),
-    **noted("unit", unit="unit"),
+    **noted({"unit": "unit"}),
 }
 RESULTS = {"test": TESTS["test"], "value": TESTS["latest"], "day": TESTS["day"]}
 RECIPIENTS = (
@@ -145,12 +145,12 @@ def lot(base: Base, owner: str, name: str, register: Register = NOTHING_NOTED) -
     if quality_text := quality.text_of(base, register, LotId(owner, name)):
         overview.facts[quality.COLUMN] = quality_text
     views.over(base, register)
-    tests = add_tests(overview, base, (owner, name))
+    tests = add_tests(overview, base, LotId(owner, name))
     overview.add("sublots", base.execute(SUBLOTS, (owner, name)))
     overview.select(
         "ledger", base, LEDGER, "FROM movement AS m WHERE m.lot_owner = ? AND m.lot = ? ORDER BY m.rowid", (owner, name)
     )
-    overview.add_filled("who has it", RECIPIENT_COLUMNS, recipients(base, (owner, name)))
+    overview.add_filled("who has it", RECIPIENT_COLUMNS, recipients(base, LotId(owner, name)))
     genealogy = Genealogy(base, register.links)
     overview.add_links(genealogy.links_about(LotId(owner, name)))
     overview.remarks = release_of(owner, name, str(facts["disposition"]), tests)
@@ -163,15 +163,21 @@ def days_of(facts: LotFacts | None) -> dict[str, Value]:
     return {f"noted {name}": day for name, day in facts.days.items()} if facts else {}
 
 
-def add_tests(overview: Overview, base: Base, lot: tuple[str, str]) -> list[Row]:
+OF_LOT = "FROM {} WHERE owner = ? AND lot = ? AND is_plants IS NOT 1 ORDER BY test"
+
+
+def results_of(base: Base, lot: LotId) -> tuple[list[str], list[Row]]:
+    """The columns and the rows of all results of a lot, as measured, without those of the plant's own test."""
+    return select(base, RESULTS, f"{OF_LOT.format('result')}, number", lot)
+
+
+def add_tests(overview: Overview, base: Base, lot: LotId) -> list[Row]:
     """Adds the tests of a lot, and all results if it has several of one, without the plant's own test; all tests, and
     whether each is the plant's own."""
-    of_lot = "FROM {} WHERE owner = ? AND lot = ? AND is_plants IS NOT 1 ORDER BY test"
-    overview.select("tests", base, TESTS, of_lot.format("lot_test"), lot)
-    heads, results = select(base, RESULTS, f"{of_lot.format('result')}, number", lot)
+    overview.select("tests", base, TESTS, OF_LOT.format("lot_test"), lot)
+    heads, results = results_of(base, lot)
     overview.add_filled("results", heads, results if len(results) > len(overview.tables["tests"][1]) else [])
-    all_tests = {**TESTS, "is_plants": Column(("is_plants",))}
-    del all_tests["noted_unit"]
+    all_tests = {**TESTS, "noted_unit": Column(("is_plants",))}
     return select(base, all_tests, "FROM lot_test WHERE owner = ? AND lot = ? ORDER BY test", lot)[1]
 
 
@@ -183,7 +189,7 @@ def add_origin(overview: Overview, base: Base, name: LotId) -> None:
         overview.facts["batch"] = f"{batch.id.name}, recipe {batch.recipe}, unit {unit}, {state}, {closed}"
 
 
-def recipients(base: Base, lot: tuple[str, str]) -> list[Row]:
+def recipients(base: Base, lot: LotId) -> list[Row]:
     """Who has what was shipped of a lot, as the plant noted it; a row without a party is of what nobody is known to
     have."""
     received: dict[Row, Received] = defaultdict(Received)

@@ -68,7 +68,11 @@ def stamp_of(lot: Lot, is_held: bool, past: str) -> str:
 
 def kind_of(described: DescribedLot) -> str:
     """What a certificate is: one without a result is no analysis."""
-    return "Certificate of analysis" if any(test.value for test in described.tests) else "Certificate of release"
+    return (
+        "Certificate of analysis"
+        if any(test.value is not None for test in described.tests)
+        else "Certificate of release"
+    )
 
 
 def facts_of(lot: Lot, described: DescribedLot) -> dict[str, str]:
@@ -87,9 +91,9 @@ def tests_sheet(described: DescribedLot) -> Sheet:
     """The tests, with limits and results as they were measured; without columns of what isn't noted of any of them."""
     rows: list[Row] = []
     for test in described.tests:
-        name, *numbers = test.numbers
-        noted = test.facts.name or None, test.facts.method or None
-        rows.append((name, *noted, *numbers, test.facts.unit or None, test.test.day, VERDICTS[test.test.limits]))
+        noted = test.full_name or None, test.method or None
+        numbers = test.low, test.high, test.value, test.unit or None, test.day
+        rows.append((test.name, *noted, *numbers, VERDICTS[test.passes]))
     sheet = Sheet("tests", TESTS, rows)
     for column in OF_NOTES:
         if not sheet.has(column):

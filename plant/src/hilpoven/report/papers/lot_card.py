@@ -3,9 +3,10 @@ from ... import HOUSE
 from ..lists import overviews
 from ...model.answers import recall_of, trace_of
 from ...model.balance import COUNTED, balances, require_closed
-from ...model.descriptions import describe_lot, shown_result
+from ...model import views
+from ...model.descriptions import describe_lot
 from ...model.genealogy import BACK, FORWARD, Genealogy
-from ...model.rows import Base, Lot, LotId, lots_of, moves_of, require_lot, results_of, sublots_of, tests_of
+from ...model.rows import Lot, LotId, lots_of, moves_of, require_lot, sublots_of
 from ...model.schema import Kind
 from ...model import quality
 from ...model.below import MARK
@@ -42,17 +43,17 @@ def documents(source: Source, asked: LotId) -> list[Document]:
     genealogy = Genealogy(source.base, source.register.links)
     beside = neighbours(source, genealogy, asked)
     register = source.register.of(asked.owner)
-    known = Register(plants_test=register.plants_test).having(tests=register.tests, bounds=register.bounds)
-    overview = overviews.lot(source.base, *asked, known)
+    views.over(source.base, source.register)
+    overview = overviews.lot(source.base, *asked, Register(plants_test=register.plants_test))
     sublots, ledger = (
-        [tuple(None if cell == "" else cell for cell in row) for row in overview.tables[name][1]]
+        [tuple(None if cell == "" else cell for cell in row[: len(LEDGER)]) for row in overview.tables[name][1]]
         for name in ("sublots", "ledger")
     )
     held = [*columns("sublot"), Column("amount", f"on hand, {lot.measure}", "number")]
     links = genealogy.links_about(asked)
     sheets = [
         tests_sheet("tests", test_rows(source.base, lot, register)),
-        Sheet("results", RESULTS, result_rows(source.base, lot, register)),
+        Sheet("results", RESULTS, [tuple(row) for row in overviews.results_of(source.base, asked)[1]]),
         Sheet("sublots", held, sublots),
         Sheet("ledger", LEDGER, ledger),
         beside_sheet(beside),
@@ -92,16 +93,6 @@ def beside_sheet(beside: dict[str, Beside]) -> Sheet:
     ]
     sheet = Sheet("beside", BESIDE, rows)
     return sheet if any(row[-1] for row in rows) else sheet.without("noted")
-
-
-def result_rows(base: Base, lot: Lot, register: Register) -> list[Row]:
-    """The results of a lot, as they were measured, without those of the plant's own test."""
-    names = {test.name for test in quality.own_tests(register, tests_of(base, lot))}
-    return [
-        (test, shown_result(register, lot.material, (*lot.id, test, value, day)), day)
-        for test, value, day in results_of(base, lot)
-        if test in names
-    ]
 
 
 def neighbours(source: Source, genealogy: Genealogy, asked: LotId) -> dict[str, Beside]:

@@ -8,7 +8,7 @@ from typing import TYPE_CHECKING, NamedTuple
 from ...core import exports
 from ...core.table import Shown
 from ...core.days import format_day
-from ...model.descriptions import describe_lot
+from ...model.descriptions import tests_of
 from ...model.rows import Base, Lot
 from ...model.register.store import Register
 
@@ -75,14 +75,14 @@ def percent(part: int, whole: int) -> str:
 TESTS = columns(
     "test low=from:number high=to:number value=result:number noted_unit=unit:text@beside day:day verdict:text"
 )
-VERDICTS = {"within": "pass", "out": "does not pass", "missing": "no result"}
+VERDICTS = {1: "pass", 0: "does not pass", None: "no result"}
 
 
 def test_rows(base: Base, lot: Lot, register: Register) -> list[Row]:
     """The rows of `TESTS` of a lot without the plant's own test, limits and results as they were measured."""
     return [
-        (*test.numbers, test.facts.unit or None, test.test.day, VERDICTS[test.test.limits])
-        for test in describe_lot(base, register.of(lot.id.owner), lot).tests
+        (test.name, test.low, test.high, test.value, test.unit or None, test.day, VERDICTS[test.passes])
+        for test in tests_of(base, register, lot.id)
     ]
 
 
