@@ -12,7 +12,7 @@ OWN = {"hilpoven", "hilpoven.cli", "hilpoven.cli.caller", "hilpoven.cli.groups",
        "hilpoven.core.files", "hilpoven.core.forms", "hilpoven.core.grammar", "hilpoven.core.journal", "hilpoven.core.journal.log", "hilpoven.core.lock", "hilpoven.core.office", "hilpoven.core.paths",
        "hilpoven.core.rights", "hilpoven.core.scanned", "hilpoven.core.scratch", "hilpoven.core.settings", "hilpoven.core.table", "hilpoven.core.timeline"}
 QUESTION = OWN | {"hilpoven.cli.answers", "hilpoven.cli.lines", "hilpoven.record", "hilpoven.record.asking", "hilpoven.core.meanings", "hilpoven.core.names"}
-NOTED = QUESTION | {"hilpoven.cli.line_notes", "hilpoven.model", "hilpoven.model.notes", "hilpoven.model.notes.kinds", "hilpoven.model.notes.likeness"}
+NOTED = QUESTION | {"hilpoven.cli.building", "hilpoven.cli.line_notes", "hilpoven.model", "hilpoven.model.notes", "hilpoven.model.notes.kinds", "hilpoven.model.notes.likeness"}
 DATED = NOTED | {"hilpoven.cli.day_checks"}
 TABLES = {"bz2", "csv", "lzma", "pathlib", "random", "shutil", "sqlite3", "tempfile", "urllib.parse", "zlib"}  # to read which days the office has
 HELP = {"bz2", "lzma", "shutil", "zlib"}  # click asks shutil how wide the terminal is

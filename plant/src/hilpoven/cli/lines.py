@@ -10,7 +10,8 @@ from ..core.context import Context
 from ..core.failure import WRONG_USE, Failure
 from . import answers
 from .output import tell
-from ..core.grammar import MOVEMENTS, NEXT, OWNER_ADD, TO, Line, in_capitals, in_days
+from ..core.grammar import LINES, MOVEMENTS, NEXT, OWNER_ADD, TO, Line, in_capitals, in_days
+from .table import ENTRIES, Entry
 from .words import at_terminal, quoted
 
 if TYPE_CHECKING:
@@ -20,22 +21,32 @@ TODAY, YES = "today", "yes"  # the flags that stand for DAY, and that say that i
 YES_ABOUT = "Takes a day that looks wrong: no date, in the future, or before the lot's first."
 
 
+ENTRIES_OF_LINES = {entry.name: entry for entry in ENTRIES if not entry.group and entry.name in LINES}
+
+
+def options_of(entry: Entry) -> list[click.Option]:
+    """The options of what may be noted beside a line."""
+    from . import building
+
+    return [building.option_of(value) for value in entry.values]
+
+
 class LineCommand(click.Command):
     """A line of `toll`, whose values stand in order, or behind their names: `--lot S-1`."""
 
     def __init__(self, line: Line, notes: "LineNotes | None" = None) -> None:
-        self.line, self.notes = line, notes
-        beside = notes.options() if notes else []
+        self.line, self.notes, entry = line, notes, ENTRIES_OF_LINES.get(line.name)
+        beside = options_of(entry) if entry else []
         self.names_beside = [str(option.name) for option in beside]
         options = [*(self.option(value_name) for value_name in line.values), *self.day_options(), *beside]
         words = click.Argument(
             ["words"], nargs=-1, type=click.UNPROCESSED, metavar=" ".join(line.values), shell_complete=self.completions
         )
-        examples = [line.example, *([notes.example] if notes and notes.example else [])]
+        examples = [line.example, *(entry.examples if entry else [])]
         asks = "" if line.name == OWNER_ADD else " At a terminal it asks for each value that is missing."
         about = [
             f"{line.about[0].upper()}{line.about[1:]}.{asks}",
-            notes.about if notes else "",
+            *(entry.paragraphs if entry else []),
             scanned.about(line.values),
         ]
         text = "\n\n".join([*filter(None, about), *(f"Example: hilpoven {example}" for example in examples)])

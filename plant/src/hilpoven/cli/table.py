@@ -54,6 +54,8 @@ SHARED_LINES = """
 .form
   --csv =form ~csv  As CSV, for a spreadsheet.
   --json =form ~json  As JSON, for a program.
+.why
+  --reason TEXT  Why; the journal keeps it, and papers show it.
 .in
   --in FILE =file :plain ~  Choose the lot in this file, if several lots have the name; the newest by default.
 .csv
@@ -61,6 +63,53 @@ SHARED_LINES = """
 """
 TABLE = """
 [Record]
+
+receive
+  --of LOT =of_lot  The lot that it contains some of.
+  --why :model.notes.kinds.Why  Why it does; with --of.
+  --of-owner OWNER  Whose that lot is: OWNER, or HOUSE.
+  --reason TEXT :text  What else there is to say; with --of.
+  --from PARTY =party :name  The supplier; of a return the customer.
+  --supplier-lot TEXT  The supplier's name of the lot.
+  --document TEXT  The document that goes with it, such as a delivery note.
+  > receive ACME K9 BRINE B-1R BAY1 400 261127 --of B-1 --why return
+
+ship
+  --to PARTY =party :name  The customer that gets it.
+  --document TEXT  The document that goes with it, such as a delivery note.
+  > ship ACME K7 B-1 TOTE2 480 261127 --to NORD --document 'LS 4711'
+
+scrap
+  +why
+  > scrap HOUSE K3 W-102 TANK 50 261127 --reason 'tank was rinsed'
+
+void
+  +why
+  > void ACME K2 --reason 'typed twice'
+
+reject
+  +why
+  > reject W-101 --reason 'wrong supplier'
+
+cancel
+  +why
+  > cancel C-1 --reason 'unit is down'
+
+do
+  +why
+  > do ACME O-1 1 abort --reason 'stirrer broke'
+
+test-add
+  --decimals N :1..9  How many decimals its values have: toll has 702 of 7.02 with two.
+  --unit TEXT  The unit of its values.
+  --method TEXT  The method by which it is measured.
+  With --decimals, LOW and HIGH may have decimals, and so may results: toll has 650 of 6.50.
+  > test-add ACME BRINE PH 6.50 8.50 --decimals 2 --unit pH --method 'ISO 10523'
+
+result
+  A test with decimals (`describe test`) takes 7.02, and toll gets 702. Of a value below or above what can be measured,
+  write <5 or >5: toll gets 5, and the sign is noted.
+  > result ACME B-1 PH '<5' 261127
 
 for OWNER order|cancel|release|reject=name:order|cancel|release|reject VALUE..=values : on_behalf.for_command
   --by TEXT =said_by !  Who asked for it, and how.

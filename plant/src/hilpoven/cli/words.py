@@ -251,19 +251,6 @@ NAME = Name()
 DATE, MONTH, PERCENT, MOMENT = Date(), Month(), Percent(), Moment()
 
 
-def decimals_type() -> click.IntRange:
-    """How many decimals the values of a test may have."""
-    from ..model.measures import MOST_DECIMALS
-
-    return click.IntRange(1, MOST_DECIMALS)
-
-
-def decimals_option() -> click.Option:
-    """The option that says how many decimals the values of a test have."""
-    about = "How many decimals its values have: toll has 702 of 7.02 with two."
-    return click.Option(["--decimals"], metavar="N", type=decimals_type(), help=about)
-
-
 DAY = Day()
 
 pass_context = click.make_pass_decorator(Context)
