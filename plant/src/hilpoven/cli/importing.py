@@ -63,4 +63,4 @@ def looked_at(context: Context, office: Office, sheet: Sheet, are_meant: bool) -
     """Looks at the days of a sheet, in a copy of the file; the rows that the file has already."""
     with earlier.tables_of(office) as bases:
         doubtful_days.check(bases, context.settings.time_zone, sheet, are_meant)
-        return known_rows(bases[0], sheet)
+        return known_rows(office, bases[0], sheet)

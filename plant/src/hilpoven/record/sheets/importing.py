@@ -237,10 +237,13 @@ def values_of(line: Line, record: Record) -> dict[str, str]:
     return {value: record.values[value.lower().replace("-", "_")] for value in line.values}
 
 
-def known_rows(base: sqlite3.Connection, sheet: Sheet) -> set[int]:
-    """The rows of a sheet whose movements tables have with the same key and the same values."""
-    line = LINES[GIVEN_BY[sheet.kind.name]]
-    return {record.row for record in sheet.records if earlier.is_repeated(base, line, values_of(line, record))}
+def known_rows(office: Office, base: sqlite3.Connection, sheet: Sheet) -> set[int]:
+    """The rows of a sheet whose movements tables have with the same key and the same values. What earlier files answer
+    goes first."""
+    line, has_earlier = LINES[GIVEN_BY[sheet.kind.name]], bool(earlier.files_of(office))
+    rows = [(record.row, values_of(line, record)) for record in sheet.records]
+    known = [(row, values) for row, values in rows if earlier.is_repeated(base, line, values)]
+    return {row for row, values in known if not (has_earlier and earlier.answer(office, line, list(values.values())))}
 
 
 def result_of(record: Record) -> ResultId:
