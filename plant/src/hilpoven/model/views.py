@@ -93,7 +93,7 @@ LEFT JOIN register.judgement_note AS j ON p.test IS NULL AND j.note = (SELECT x.
     # Lots with their measure, what is on hand, and the days that are noted.
     "lot": f"""
 SELECT l.*, m.measure, {ON_HAND} AS on_hand, {day('made')}, {day('expires')}, {day('retest')}
-FROM lots AS l JOIN materials AS m USING (owner, material)""",
+FROM lots AS l LEFT JOIN materials AS m USING (owner, material)""",
     # Movements with their party, the supplier's lot and their document.
     "movement": f"""
 SELECT m.rowid AS rowid, m.*, {last_of('party', 'movement_note', OF_MOVEMENT)},
