@@ -10,6 +10,12 @@ from hilpoven.core.failure import Failure
 from hilpoven.core.office import Office
 
 
+@pytest.fixture(autouse=True)
+def of_a_user(monkeypatch: pytest.MonkeyPatch) -> None:
+    """The office is that of a user, whoever runs the tests: of root's a copy is read."""
+    monkeypatch.setattr(snapshot, "is_roots", lambda file: False)
+
+
 def office_of(plant: Plant) -> Office:
     """The office, with little patience for its lock."""
     return Office(str(plant.db), plant.program, 0.2)
@@ -63,3 +69,15 @@ def test_the_day_of_a_line_and_its_next_key_copy_nothing(at_work, monkeypatch):
     done = at_work.run("scrap", "ACME", "next", "S-1", "BAY1", 5, 103)
     assert (done.status, done.out) == (0, "accepted\n"), done
     assert "is before the first day of lot" in at_work.run("scrap", "ACME", "K77", "S-1", "BAY1", 5, 99).err
+
+
+@pytest.mark.skipif(os.getuid() != 0, reason="only root has files of root's")
+def test_a_server_of_roots_office_does_not_open_it_anew(at_work, monkeypatch):
+    monkeypatch.undo()
+    log = at_work.db.with_name("office.db-wal")
+    with at_work.serve() as server:
+        assert server.tell("receive", "BOLT", "Z1", "PIGMENT", "P-1", "BAY2", 5, 102).out == "accepted\n"
+        before = log.stat().st_ctime_ns
+        with snapshot.read_briefly(office_of(at_work)) as base:
+            assert base.execute("SELECT mkey FROM moves ORDER BY rowid DESC LIMIT 1").fetchone() == ("Z1",)
+        assert log.stat().st_ctime_ns == before

@@ -8,6 +8,7 @@ from hilpoven.cli.caller import person
 from hilpoven.core.context import Context
 from hilpoven.core.settings import load
 from hilpoven.core.journal.log import Journal
+from hilpoven.core.table import formatted
 from hilpoven.model.descriptions import describe_lot
 from hilpoven.model.rows import LotId, require_lot
 from hilpoven.model.notes import facts
@@ -44,7 +45,7 @@ def described(plant: Plant, lot: str, owner: str = "ACME"):
 
 def values(plant: Plant) -> dict[str, str]:
     """The latest value of each test of lot B-1, as measured."""
-    return {test.test.name: test.value for test in described(plant, "B-1").tests}
+    return {test.name: formatted(test.value) for test in described(plant, "B-1").tests}
 
 
 def bound(value: int, sign: Bound = Bound.BELOW, day: int = 103) -> facts.ResultFacts:
@@ -59,14 +60,14 @@ def test_the_last_note_of_a_thing_counts_member_by_member(settled):
     lot = described(settled, "B-1")
     assert (lot.owner, lot.material) == (facts.OwnerFacts("ACME", "Acme Foods Ltd", "2 Road"), facts.MaterialFacts(*BRINE, "Brine, 10 %"))
     assert lot.lot == facts.LotFacts("ACME", "B-1", 261101, 271101, 270501)
-    assert [test.facts for test in lot.tests] == [facts.TestFacts(*BRINE, "DENSITY"), facts.TestFacts(*BRINE, "PH", "", "pH", 2, "ISO 10523")]
-    assert [(test.title, test.low, test.high, test.value) for test in lot.tests] == [("DENSITY", "1,100", "1,250", "1,180"), ("PH", "-0.05", "0.09", "")]
+    assert [(test.name, test.full_name, test.unit, test.method) for test in lot.tests] == [("DENSITY", "", "", ""), ("PH", "", "pH", "ISO 10523")]
+    assert [(test.name, *map(formatted, (test.low, test.high, test.value))) for test in lot.tests] == [("DENSITY", "1,100", "1,250", "1,180"), ("PH", "-0.05", "0.09", "")]
 
 
 def test_without_notes_all_is_as_toll_has_it(settled):
     settled.lay("result ACME B-1 PH M5 103\n")
     lot = described(settled, "B-1")
-    assert [(test.title, test.low, test.high, test.value) for test in lot.tests] == [("DENSITY", "1,100", "1,250", "1,180"), ("PH", "-5", "9", "-5")]
+    assert [(test.name, *map(formatted, (test.low, test.high, test.value))) for test in lot.tests] == [("DENSITY", "1,100", "1,250", "1,180"), ("PH", "-5", "9", "-5")]
     assert (lot.owner.name, lot.material.name, lot.lot.expires) == ("", "", None)
 
 

@@ -89,7 +89,14 @@ def opened(office: Office) -> Iterator[sqlite3.Connection]:
 @contextlib.contextmanager
 def read_briefly(office: Office) -> Iterator[sqlite3.Connection]:
     """The tables of the file itself, for few rows of one owner: a server refuses owners meanwhile. Nothing is written,
-    so a server need not open the file anew. SQLite's index of the log goes again, unless another program made it."""
+    so a server need not open the file anew. SQLite's index of the log goes again, unless another program made it.
+
+    Of a file of root's a copy is read: SQLite, as root, gives a log its owner again, and a server would take that for a
+    change."""
+    if is_roots(office.file):
+        with opened(office) as base:
+            yield base
+        return
     index = f"{office.file}-shm"
     with lock.held(office.file, office.wait):
         had_index = os.path.lexists(index)
@@ -101,6 +108,11 @@ def read_briefly(office: Office) -> Iterator[sqlite3.Connection]:
             if not had_index:
                 with contextlib.suppress(FileNotFoundError):
                     os.unlink(index)
+
+
+def is_roots(file: str) -> bool:
+    """Whether a file is root's."""
+    return os.path.lexists(file) and os.stat(file).st_uid == 0
 
 
 def require_office(base: sqlite3.Connection, file: str) -> None:
