@@ -341,7 +341,7 @@ def network() -> Iterator[list[str]]:
 def test_addresses_of_the_system_count_by_their_network(network: list[str]) -> None:
     words = [*network, sys.executable, "-B", "-m", "pytest", "-q", "-p", "no:cacheprovider"]
     words.append(f"{__file__}::test_addresses_in_a_network")
-    done = subprocess.run(words, capture_output=True, text=True, timeout=60, env={**os.environ, IN_A_NETWORK: "1"})
+    done = subprocess.run(words, capture_output=True, text=True, timeout=200, env={**os.environ, IN_A_NETWORK: "1"})
     assert done.returncode == 0 and "1 passed" in done.stdout, done.stdout + done.stderr
 
 
