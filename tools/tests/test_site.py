@@ -290,7 +290,7 @@ def slow_statuses(site: Proxy, stub: Stub, most: int, addresses: list[str], to: 
 ONE_NETWORK = [
     *(
         " ".join(form.format(f"{number + 1:x}") for number in range(8))
-        for form in ("2001:db8:1:2::{}", "2001:db8:1:2:3:4:5:{}", "2001:db8:7::{}")
+        for form in ("2001:db8:1:2::{}", "2001:db8:1:9:3:4:5:{}", "2001:db8:7::{}")
     ),
     "2001:db8::1 2001:db8::1:0:0:1 2001:db8:0:0:1::1 2001:db8:0:0:5:6:7:8 2001:0DB8:0000:0000:0:0:0:2 "
     "2001:db8::5:6:7:9",
