@@ -5,13 +5,13 @@ from typing import Any
 from ..core.failure import REFUSED
 from ..core.grammar import LINES
 from ..core.journal import query
-from ..core.journal.log import KNOWN, Journal
+from ..core.journal.log import KNOWN_KEYS, Journal
 from ..model.rows import Base, LotId
 from ..model.years.earlier import KINDS, lot_of
 
 # What a line has besides the lot's name that may say who recorded something of it: by a sheet, or by a void; and an
 # answer that a command was refused.
-OTHERS = ('"keys": [', f'"{KNOWN}": [', '"void"', f'"status": {REFUSED},')
+OTHERS = ('"keys": [', f'"{KNOWN_KEYS}": [', '"void"', f'"status": {REFUSED},')
 KEYS = "SELECT owner || ' ' || mkey FROM moves WHERE lot_owner = ? AND lot = ?"
 
 
@@ -21,8 +21,8 @@ def recorders(journal: Journal, bases: Iterable[Base], lot: LotId, plants_test: 
     keys = {str(key) for base in bases for key, in base.execute(KEYS, lot)}
     by_sheet, by_line = set[str](), dict[str, str]()  # the latter by the name of the journal's line
     for entry in query.entries(journal.path, journal.file, texts=[f'"{lot.name}"', *OTHERS]):
-        if (entry.get("event") == "asked" or KNOWN in entry) and is_about(entry, lot, keys, plants_test):
-            if "keys" in entry or KNOWN in entry:
+        if (entry.get("event") == "asked" or KNOWN_KEYS in entry) and is_about(entry, lot, keys, plants_test):
+            if "keys" in entry or KNOWN_KEYS in entry:
                 by_sheet.add(str(entry.get("login")))
             else:
                 by_line[str(entry.get("id"))] = str(entry.get("login"))
@@ -33,7 +33,7 @@ def recorders(journal: Journal, bases: Iterable[Base], lot: LotId, plants_test: 
 
 def is_about(entry: dict[str, Any], lot: LotId, keys: set[str], plants_test: str) -> bool:
     """Whether a command records something of a lot, which has movements of these keys."""
-    if isinstance(given := entry.get("keys", entry.get(KNOWN)), list):
+    if isinstance(given := entry.get("keys", entry.get(KNOWN_KEYS)), list):
         return not keys.isdisjoint(map(str, given))
     words = entry.get("words")
     return isinstance(words, list) and words_are_about([str(word) for word in words], lot, keys, plants_test)

@@ -74,7 +74,7 @@ class Import:
             self.advance(1)
         if known:
             words, keys = ["import", self.source["sheet"]], list(map(name_of, known))
-            self.context.journal().note(self.office.file, words, **self.source, **{journals.KNOWN: keys})
+            self.context.journal().note(self.office.file, words, **self.source, **{journals.KNOWN_KEYS: keys})
         return [record for record in self.sheet.records if record.row not in self.answered]
 
     def note(self, record: Record, outcome: str) -> None:
