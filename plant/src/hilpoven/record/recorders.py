@@ -22,7 +22,7 @@ def recorders(journal: Journal, bases: Iterable[Base], lot: LotId, plants_test: 
     by_sheet, by_line = set[str](), dict[str, str]()  # the latter by the name of the journal's line
     for entry in query.entries(journal.path, journal.file, texts=[f'"{lot.name}"', *OTHERS]):
         if (entry.get("event") == "asked" or KNOWN_KEYS in entry) and is_about(entry, lot, keys, plants_test):
-            if "keys" in entry or KNOWN_KEYS in entry:
+            if query.sheet_keys(entry):
                 by_sheet.add(str(entry.get("login")))
             else:
                 by_line[str(entry.get("id"))] = str(entry.get("login"))
@@ -33,8 +33,8 @@ def recorders(journal: Journal, bases: Iterable[Base], lot: LotId, plants_test: 
 
 def is_about(entry: dict[str, Any], lot: LotId, keys: set[str], plants_test: str) -> bool:
     """Whether a command records something of a lot, which has movements of these keys."""
-    if isinstance(given := entry.get("keys", entry.get(KNOWN_KEYS)), list):
-        return not keys.isdisjoint(map(str, given))
+    if given := query.sheet_keys(entry):
+        return not keys.isdisjoint(given)
     words = entry.get("words")
     return isinstance(words, list) and words_are_about([str(word) for word in words], lot, keys, plants_test)
 

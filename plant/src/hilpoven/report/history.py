@@ -4,7 +4,7 @@ from typing import Any
 
 from ..core.failure import Failure
 from ..core.journal import query, sitelog
-from ..core.journal.query import listed, who
+from ..core.journal.query import listed, sheet_keys, who
 from ..model.notes.notes import from_json
 
 COLUMNS = ["time", "who", "where", "what", "answer"]
@@ -73,7 +73,7 @@ def sentences(entry: dict[str, Any]) -> list[str]:
 
 def words_of(entry: dict[str, Any]) -> frozenset[str]:
     """The words of an entry, and those of the keys of a sheet that was imported."""
-    return words_in(f"{asked(entry)} {' '.join(map(str, listed(entry, 'keys')))}")
+    return words_in(f"{asked(entry)} {' '.join(sheet_keys(entry))}")
 
 
 def words_in(text: str) -> frozenset[str]:

@@ -10,7 +10,7 @@ from typing import Any
 from ..failure import Failure, printable
 from ..files import READ
 from ..rights import advice
-from .log import BEGINNING, entry_of, hash_of
+from .log import BEGINNING, KNOWN_KEYS, entry_of, hash_of
 
 
 @dataclass
@@ -162,3 +162,8 @@ def listed(entry: dict[str, Any], member: str) -> list[Any]:
     """A list of an entry; an empty one where the entry has something else."""
     value = entry.get(member)
     return value if isinstance(value, list) else []
+
+
+def sheet_keys(entry: dict[str, Any]) -> list[str]:
+    """Owner and key of each row of a sheet that was imported, whether `toll` was asked about it or had it already."""
+    return [str(key) for member in ("keys", KNOWN_KEYS) for key in listed(entry, member)]
