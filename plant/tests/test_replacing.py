@@ -163,3 +163,13 @@ def test_a_value_is_read_in_its_type():
 def test_a_value_of_another_type_is_refused(change):
     with pytest.raises(TypeError):
         typed(Outer, {"text": "a", "is_set": True, "inner": None, **change})
+
+
+def test_a_pipe_that_somebody_puts_in_its_place_holds_nothing_up(tmp_path):
+    def swap(_: int) -> None:
+        (tmp_path / "file.new").unlink()
+        os.mkfifo(tmp_path / "file.new")
+
+    with pytest.raises(OSError):
+        files.replace(str(tmp_path / "file"), b"new", temporary_name="file.new", prepare=swap)
+    assert os.listdir(tmp_path) == []

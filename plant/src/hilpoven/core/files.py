@@ -14,8 +14,8 @@ PART = 1 << 20  # bytes that are read or copied at a time
 
 
 def sync(path: str) -> None:
-    """Has a file, or the names in a folder, on the disk."""
-    descriptor = os.open(path, os.O_RDONLY | os.O_CLOEXEC)
+    """Has a file, or the names in a folder, on the disk. A pipe that somebody put in its place isn't waited for."""
+    descriptor = os.open(path, os.O_RDONLY | os.O_CLOEXEC | os.O_NONBLOCK)
     try:
         os.fsync(descriptor)
     except OSError as error:
