@@ -73,7 +73,7 @@ module _ (o : Bytes) (H : History) where
   one_answer : (q : Request) → IsOne (IsOwnerAnswer o H q)
   one_answer request.Orders = one_orders _
   one_answer (request.Order order) = one_order_or _
-  one_answer (request.Place order recipe batches) = one_written _ _ (one_order_or _)
+  one_answer (request.Place placing) = one_written _ _ (one_order_or _)
   one_answer (request.Cancel order) = one_written _ _ (one_order_or _)
   one_answer (request.Batch order number) = one_batch_or o H _ _ _
   one_answer request.Stock = one_stock _

@@ -11,6 +11,7 @@ use Rattle.toll_history.proofs.Own.{acts-part, part-own}
 use Rattle.toll_history.proofs.OwnFacts.{lot_row-part, sublot_row-part, tables-part}
 use Rattle.toll_base.specs.declared.request.Request.{Request}
 use Rattle.toll_base.specs.declared.request.Request.TheVariants as request
+use Rattle.toll_base.specs.declared.rows.Placing.{Placing}
 use Rattle.toll_answers.specs.OwnerReply.{OwnerReply, ReplyForbidden}
 use Rattle.toll_answers.specs.Replies.{has_owner_key, IsOrdersReply, IsStockReply, IsBatchReply, IsLotReply, IsOrderOr, IsLotOr, IsBatchOr, IsTraceOr, IsWritingReply, IsOrderAfter, IsLotAfter, IsOwnerAnswer, IsReply, after_answer, after_reply}
 use Rattle.toll_history.proofs.OwnAmounts.{on_hand-part, actual_amount-part}
@@ -59,9 +60,9 @@ module _ (o : Bytes) (not_house : same_bytes o house_name ≡ false) where
     verdict-part : (c : OwnerFacts → Checks) → judged_by (owner_known (part o H) o) (c (facts_given (part o H) o)) ≡ judged_by (owner_known H o) (c (facts_given H o))
     verdict-part c i = judged_by (owner_known-part H i) (c (tables-part o H lawful not_house i))
 
-    place-part : (order recipe : Bytes) (batches : ℕ) → verdict (part o H) (by o (PlaceOrder order recipe batches)) ≡ verdict H (by o (PlaceOrder order recipe batches))
+    place-part : (placing : Placing) → verdict (part o H) (by o (PlaceOrder placing)) ≡ verdict H (by o (PlaceOrder placing))
     unfolding checks
-    place-part order recipe batches = verdict-part (λ t. order_checks t order recipe batches)
+    place-part placing = verdict-part (λ t. order_checks t placing)
 
     cancel-part : (order : Bytes) → verdict (part o H) (by o (CancelOrder order)) ≡ verdict H (by o (CancelOrder order))
     unfolding checks
@@ -128,7 +129,7 @@ module _ (o : Bytes) (not_house : same_bytes o house_name ≡ false) where
     answer-part : (q : Request) (r : OwnerReply) → IsOwnerAnswer o (part o H) q r ≡ IsOwnerAnswer o H q r
     answer-part request.Orders r = λ i. IsOrdersReply (order_of (acts-part o H i)) r
     answer-part (request.Order order) r = λ i. IsOrderOr (order_of (acts-part o H i) order) r
-    answer-part (request.Place order recipe batches) r = order_after-part H lawful (PlaceOrder order recipe batches) order r (place-part H lawful order recipe batches)
+    answer-part (request.Place placing) r = order_after-part H lawful (PlaceOrder placing) placing.order r (place-part H lawful placing)
     answer-part (request.Cancel order) r = order_after-part H lawful (CancelOrder order) order r (cancel-part H lawful order)
     answer-part (request.Batch order number) r =
         (λ i. IsBatchOr (part o H) o (order_of (acts-part o H i) order) (batch_of (acts-part o H i) (order, number)) (verdict_of_checks (known_batch_checks (tables-part o H lawful not_house i) order number)) r)
@@ -147,7 +148,7 @@ module _ (o : Bytes) (not_house : same_bytes o house_name ≡ false) where
     reply-part key q r i = MatchBool (has_owner_key-part key H i) (answer-part q r i) (r ≡ ReplyForbidden)
 
     after_answer-part : (q : Request) → after_answer o (part o H) q ≡ part o (after_answer o H q)
-    after_answer-part (request.Place order recipe batches) = grow-part H lawful (PlaceOrder order recipe batches) (place-part H lawful order recipe batches)
+    after_answer-part (request.Place placing) = grow-part H lawful (PlaceOrder placing) (place-part H lawful placing)
     after_answer-part (request.Cancel order) = grow-part H lawful (CancelOrder order) (cancel-part H lawful order)
     after_answer-part (request.Release lot) = grow-part H lawful (Release lot) (release-part H lawful lot)
     after_answer-part (request.Reject lot) = grow-part H lawful (Reject lot) (reject-part H lawful lot)

@@ -21,7 +21,7 @@ recorded_command (cmd.MaterialAdd owner material measure) = Some (by owner (AddM
 recorded_command (cmd.TestAdd owner material test limits) = Some (by owner (AddTest (record { material = material; test = test; limits = limits })))
 recorded_command (cmd.RecipeAdd owner recipe segments) = Some (by owner (AddRecipe (record { recipe = recipe; segments = segments })))
 recorded_command (cmd.Require owner row) = Some (by owner (Require row))
-recorded_command (cmd.Order order recipe batches) = Some (by house_name (PlaceOrder order recipe batches))
+recorded_command (cmd.Order placing) = Some (by house_name (PlaceOrder placing))
 recorded_command (cmd.Cancel order) = Some (by house_name (CancelOrder order))
 recorded_command (cmd.Open owner order unit) = Some (by owner (OpenBatch order unit))
 recorded_command (cmd.Do owner order number command) = Some (by owner (CommandBatch order number command))

@@ -82,7 +82,7 @@ IsLotAfter H o action lot r = IsWritingReply (verdict H (by o action)) (IsLotOr 
 abbrev pub IsOwnerAnswer : Bytes → History → Request → OwnerReply → Type 0
 IsOwnerAnswer o H request.Orders r = IsOrdersReply (order_of (acts o H)) r
 IsOwnerAnswer o H (request.Order order) r = IsOrderOr (order_of (acts o H) order) r
-IsOwnerAnswer o H (request.Place order recipe batches) r = IsOrderAfter H o (PlaceOrder order recipe batches) order r
+IsOwnerAnswer o H (request.Place placing) r = IsOrderAfter H o (PlaceOrder placing) placing.order r
 IsOwnerAnswer o H (request.Cancel order) r = IsOrderAfter H o (CancelOrder order) order r
 IsOwnerAnswer o H (request.Batch order number) r = IsBatchOr H o (order_of (acts o H) order) (batch_of (acts o H) (order, number)) (verdict_of_checks (known_batch_checks (facts_given H o) order number)) r
 IsOwnerAnswer o H request.Stock r = IsStockReply (stock_line H o) r
@@ -100,7 +100,7 @@ IsReply o key H q r = MatchBool (has_owner_key o key H) (IsOwnerAnswer o H q r) 
 -- ---- what a request makes of the history
 
 abbrev pub after_answer : Bytes → History → Request → History
-after_answer o H (request.Place order recipe batches) = grow H (by o (PlaceOrder order recipe batches))
+after_answer o H (request.Place placing) = grow H (by o (PlaceOrder placing))
 after_answer o H (request.Cancel order) = grow H (by o (CancelOrder order))
 after_answer o H (request.Release lot) = grow H (by o (Release lot))
 after_answer o H (request.Reject lot) = grow H (by o (Reject lot))
@@ -113,7 +113,7 @@ after_reply o key H q = if has_owner_key o key H then after_answer o H q else H
 
 -- the count of batches that is asked for
 abbrev pub IsValidOwnerRequest : Request → Type 0
-IsValidOwnerRequest (request.Place order recipe batches) = IsValidAction (PlaceOrder order recipe batches)
+IsValidOwnerRequest (request.Place placing) = IsValidAction (PlaceOrder placing)
 IsValidOwnerRequest _ = Unit {0}
 
 -- the owner's own part of the history says the same of the reply as all of it

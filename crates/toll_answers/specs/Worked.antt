@@ -1,6 +1,7 @@
 -- Histories that worked examples of genealogy begin with.
 use Rattle.std.specs.Prelude.{List, [], ◌∷◌, codes}
 use Rattle.toll_answers.specs.Common.{Bytes, house_name, AddOwner, AddUnit, AddRecipe, PlaceOrder, OpenBatch, CommandBatch, Release, Command, by, moves, History, Edge, LotId, history_after, acme, material, require, receives, lot_id}
+use Rattle.toll_base.specs.Rows.{placing_of}
 use Rattle.toll_base.specs.declared.role.Role.TheVariants.{Consumed, Produced}
 use Rattle.toll_base.specs.declared.movement.Move.TheVariants.{Actual}
 use Rattle.toll_base.specs.declared.state_command.StateCommand.TheVariants.{Start}
@@ -46,8 +47,8 @@ consumed_in_a_circle =
     ∷ require acme (codes "R1") 1 Produced acme (codes "P") 10
     ∷ require acme (codes "R2") 1 Consumed acme (codes "P") 10
     ∷ require acme (codes "R2") 1 Produced acme (codes "Q") 10
-    ∷ by acme (PlaceOrder (codes "X") (codes "R1") 1)
-    ∷ by acme (PlaceOrder (codes "Y") (codes "R2") 1)
+    ∷ by acme (PlaceOrder (placing_of (codes "X") (codes "R1") 1))
+    ∷ by acme (PlaceOrder (placing_of (codes "Y") (codes "R2") 1))
     ∷ by acme (OpenBatch (codes "X") (codes "U1"))
     ∷ by acme (OpenBatch (codes "Y") (codes "U2"))
     ∷ by acme (CommandBatch (codes "X") 1 Start)
@@ -80,13 +81,13 @@ made_of_house_material =
     ∷ require acme (codes "R") 1 Produced acme (codes "P") 5
     ∷ receives house_name (codes "K1") (codes "V") (codes "H-1") (codes "S") 10 1
     ∷ by house_name (Release (codes "H-1"))
-    ∷ by house_name (PlaceOrder (codes "HO") (codes "RH") 1)
+    ∷ by house_name (PlaceOrder (placing_of (codes "HO") (codes "RH") 1))
     ∷ by house_name (OpenBatch (codes "HO") (codes "U1"))
     ∷ by house_name (CommandBatch (codes "HO") 1 Start)
     ∷ moves house_name (codes "K2") (Actual (codes "HO") 1 1 Consumed (codes "V") (of_house (codes "H-1")) (codes "S")) 10 2
     ∷ moves house_name (codes "K3") (Actual (codes "HO") 1 1 Produced (codes "W") (of_house (codes "H-2")) (codes "S")) 10 2
     ∷ by house_name (Release (codes "H-2"))
-    ∷ by acme (PlaceOrder (codes "O") (codes "R") 1)
+    ∷ by acme (PlaceOrder (placing_of (codes "O") (codes "R") 1))
     ∷ by acme (OpenBatch (codes "O") (codes "U2"))
     ∷ by acme (CommandBatch (codes "O") 1 Start)
     ∷ moves acme (codes "K1") (Actual (codes "O") 1 1 Consumed (codes "W") (of_house (codes "H-2")) (codes "S")) 4 3

@@ -4,8 +4,8 @@ ghost use Rattle.toll_answers.specs.PlantAnswers.{IsValidCommand, concerned};
 
 use crate::actual_row::ActualRow;
 use toll_base::{
-    Amount, BatchNo, Day, Limits, LotId, Measure, Name, OwnerKey, Refusal, RequirementRow, Segment,
-    StateCommand, Value,
+    Amount, BatchNo, Day, Limits, LotId, Measure, Name, OwnerKey, Placing, Refusal, RequirementRow,
+    Segment, StateCommand, Value,
 };
 use toll_trace::Way;
 
@@ -50,11 +50,7 @@ pub enum PlantCmd {
         row: RequirementRow,
     },
     /// Places an order of HOUSE, as [`toll_work::place_order`] says.
-    Order {
-        order: Name,
-        recipe: Name,
-        batches: BatchNo,
-    },
+    Order(Placing),
     /// Cancels an order of HOUSE, as [`toll_work::cancel_order`] says.
     Cancel {
         order: Name,
@@ -207,8 +203,8 @@ impl PlantCmd {
         ensures { IsValidCommand self.now }
     {
         match *self {
-            PlantCmd::Order { batches, .. } => {
-                let _within = batches.get();
+            PlantCmd::Order(placing) => {
+                let _within = placing.batches.get();
             }
             PlantCmd::Receive { amount, .. }
             | PlantCmd::Split { amount, .. }

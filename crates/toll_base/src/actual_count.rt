@@ -38,10 +38,12 @@ pub fn count_in(counts: &Table<ActualCount>, order: &Name, number: BatchNo) -> u
     }
 }
 
-/// Gives the batch of an actual a row with the count 0, if it has no row yet.
+/// Gives the batch of an actual a row with the count 0, if it has no row yet. No count changes. It fails
+/// only if memory runs out.
 pub fn add_row(counts: &mut Table<ActualCount>, what: &Move) -> Result<(), AllocError>
     ensures same { (order : Bytes) (number : ℕ) → count_of counts.new order number ≡ count_of counts.old order number }
-    ensures kept { (order : Bytes) (number : ℕ) → is_some (actual_count_at counts.old order number) ≡ true → is_some (actual_count_at counts.new order number) ≡ true }
+    ensures kept { (order : Bytes) (number : ℕ) → is_some (actual_count_at counts.old order number) ≡ true
+        → is_some (actual_count_at counts.new order number) ≡ true }
     ensures row { OnOk result (HasRowFor counts.new what.now) }
 {
     if let Move::Actual { order, number, .. } = what {

@@ -34,7 +34,7 @@ impl<const LEAST: u64, const MOST: u64> Bounded<LEAST, MOST> {
         }
     }
 
-    /// The number.
+    /// The number, from `LEAST` to `MOST`.
     pub fn get(self) -> u64
         ensures number { result ≡ self.entry }
         ensures bounds { (LEAST ≤ self.entry) × (self.entry ≤ MOST) }
@@ -43,10 +43,10 @@ impl<const LEAST: u64, const MOST: u64> Bounded<LEAST, MOST> {
     }
 }
 
-/// The greatest amount.
+/// The greatest amount of a movement or of a requirement.
 pub const MOST_AMOUNT: u64 = 1_000_000_000;
 
-/// The last day.
+/// The last day that can be recorded.
 pub const MOST_DAY: u64 = 9_999_999;
 
 /// The most segments of a recipe.

@@ -30,14 +30,14 @@ pub enum Decision {
 }
 
 impl Decision {
-    /// The command makes this change.
+    /// The command makes this change. It fails only if memory runs out.
     pub fn accept(alloc: Global, change: Change) -> Result<Self, AllocError>
         ensures { IfOk result (λ d. IsAccepted (change ∷ []) d) }
     {
         Ok(Decision::Accept(vec![in alloc; change]?))
     }
 
-    /// The command makes these changes, in order.
+    /// The command makes these changes, in order. It fails only if memory runs out.
     pub fn accept_all(alloc: Global, changes: &[Change]) -> Result<Self, AllocError>
         ensures { IfOk result (IsAccepted changes.now) }
     {

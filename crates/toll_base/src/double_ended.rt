@@ -41,7 +41,7 @@ impl<T: Copy> DoubleEnded<T> {
         }
     }
 
-    /// These items.
+    /// These items. It fails only if memory runs out.
     pub fn from_slice(alloc: Global, items: &[T]) -> Result<Self, AllocError>
         ensures { IfOk result (λ list. list ≡ items.now) }
     {

@@ -54,8 +54,8 @@ pub use refusal::Refusal;
 pub use request::Request;
 pub use role::Role;
 pub use rows::{
-    BatchRow, LotRow, MaterialRow, OrderRow, OwnerRow, RecipeRow, RequirementRow, ResultRow, Row,
-    SublotRow, TestRow, UnitRow, VoidRow,
+    BatchRow, LotRow, MaterialRow, OrderRow, OwnerRow, Placing, RecipeRow, RequirementRow,
+    ResultRow, Row, SublotRow, TestRow, UnitRow, VoidRow,
 };
 pub use slice::Slice;
 pub use state::State;

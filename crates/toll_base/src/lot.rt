@@ -20,7 +20,7 @@ pub enum Disposition {
 }
 
 impl Disposition {
-    /// The word.
+    /// How it is printed: `quarantined`, `released` or `rejected`.
     pub fn word(&self) -> &'static str
         ensures { result.now ≡ disposition_word self.now }
     {

@@ -7,11 +7,11 @@ use crate::refusal::Refusal;
 use crate::text::Text;
 use std::marker::Model;
 
-const MOST: usize = 8;
+const MOST_MEASURE_BYTES: usize = 8;
 
 /// The unit of measure of a material, such as `kg`: 1 to 8 ASCII letters.
 #[derive(Clone, Copy, Debug, PartialEq, Eq)]
-pub struct Measure(Text<MOST>);
+pub struct Measure(Text<MOST_MEASURE_BYTES>);
 
 impl Model for Measure {
     ghost use Rattle.std.specs.Prelude.{List, ℕ, IsTrue};
@@ -38,7 +38,7 @@ impl Measure {
         Ok(Measure(Text::new(bytes)))
     }
 
-    /// The bytes.
+    /// The measure as it is printed, in ASCII.
     pub fn as_bytes(&self) -> &[u8]
         ensures bytes { result.now ≡ self.now }
         ensures valid { IsTrue (value.is_measure self.now) }
@@ -50,7 +50,7 @@ impl Measure {
 fn is_measure(bytes: &[u8]) -> bool
     ensures { result ≡ value.is_measure bytes.now }
 {
-    (1..=MOST).contains(&bytes.len()) && all_letters(bytes)
+    (1..=MOST_MEASURE_BYTES).contains(&bytes.len()) && all_letters(bytes)
 }
 
 fn all_letters(bytes: &[u8]) -> bool

@@ -87,7 +87,7 @@ impl Moves {
         count_in(&self.actuals, order, number)
     }
 
-    /// A copy of the movements.
+    /// A copy of the movements. It fails only if memory runs out.
     pub fn copy(&self, alloc: Global) -> Result<Self, AllocError>
         ensures { IfOk result (λ copied. copied ≡ self.now) }
     {
@@ -96,7 +96,7 @@ impl Moves {
         Ok(Moves { rows, actuals })
     }
 
-    /// Adds the movement, or replaces the one with its key.
+    /// Adds the movement, or replaces the one with its key. If memory runs out, nothing changes.
     pub fn put(&mut self, row: MoveRow) -> Result<(), AllocError>
         requires { length self.old ≤ MOST_MOVEMENTS }
         ensures ok { OnOk result (self.new ≡ put_row bytes_cmp (λ row. row.key) self.old row) }

@@ -8,13 +8,13 @@ use crate::refusal::Refusal;
 use crate::text::Text;
 use std::marker::Model;
 
-const MOST: usize = 16;
+const MOST_NAME_BYTES: usize = 16;
 
 /// The name of an owner, a unit, a material, a test, a recipe, an order, a lot, a sublot or a
 /// movement: 1 to 16 bytes of `A` to `Z`, `0` to `9` and `-`, the first not `-`. Names are ordered
 /// by their bytes.
 #[derive(Clone, Copy, Debug, PartialEq, Eq, PartialOrd, Ord)]
-pub struct Name(Text<MOST>);
+pub struct Name(Text<MOST_NAME_BYTES>);
 
 impl Model for Name {
     ghost use Rattle.std.specs.Prelude.{List, ℕ, IsTrue};
@@ -48,7 +48,7 @@ impl Name {
         Name(Text::new(b"HOUSE"))
     }
 
-    /// The bytes.
+    /// The name as it is printed, in ASCII.
     pub fn as_bytes(&self) -> &[u8]
         ensures bytes { result.now ≡ self.now }
         ensures valid { IsTrue (value.is_name self.now) }
@@ -60,7 +60,7 @@ impl Name {
 fn is_name(bytes: &[u8]) -> bool
     ensures { result ≡ value.is_name bytes.now }
 {
-    (1..=MOST).contains(&bytes.len()) && all_name_bytes(bytes) && begins_well(bytes)
+    (1..=MOST_NAME_BYTES).contains(&bytes.len()) && all_name_bytes(bytes) && begins_well(bytes)
 }
 
 fn begins_well(bytes: &[u8]) -> bool

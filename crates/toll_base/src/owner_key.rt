@@ -7,13 +7,13 @@ use crate::refusal::Refusal;
 use crate::text::Text;
 use std::marker::Model;
 
-const LEAST: usize = 8;
+const LEAST_KEY_BYTES: usize = 8;
 
-const MOST: usize = 32;
+const MOST_KEY_BYTES: usize = 32;
 
 /// The key that an owner sends with each request: 8 to 32 ASCII letters or digits.
 #[derive(Clone, Copy, Debug, PartialEq, Eq)]
-pub struct OwnerKey(Text<MOST>);
+pub struct OwnerKey(Text<MOST_KEY_BYTES>);
 
 impl Model for OwnerKey {
     ghost use Rattle.std.specs.Prelude.{List, ℕ, IsTrue};
@@ -40,7 +40,7 @@ impl OwnerKey {
         Ok(OwnerKey(Text::new(bytes)))
     }
 
-    /// The bytes.
+    /// The key as it is sent, in ASCII.
     pub fn as_bytes(&self) -> &[u8]
         ensures bytes { result.now ≡ self.now }
         ensures valid { IsTrue (value.is_owner_key self.now) }
@@ -52,7 +52,7 @@ impl OwnerKey {
 fn is_owner_key(bytes: &[u8]) -> bool
     ensures { result ≡ value.is_owner_key bytes.now }
 {
-    (LEAST..=MOST).contains(&bytes.len()) && all_letters_or_digits(bytes)
+    (LEAST_KEY_BYTES..=MOST_KEY_BYTES).contains(&bytes.len()) && all_letters_or_digits(bytes)
 }
 
 fn all_letters_or_digits(bytes: &[u8]) -> bool

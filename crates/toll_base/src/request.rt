@@ -1,6 +1,7 @@
 //! Owners' requests.
 use crate::bounded::BatchNo;
 use crate::name::Name;
+use crate::rows::Placing;
 
 /// What an owner asks for.
 #[derive(Clone, Copy)]
@@ -10,19 +11,12 @@ pub enum Request {
     /// One order: `UnknownOrder` if there is none of this name.
     Order(Name),
     /// Placing an order, as `place_order` of `toll_work` says.
-    Place {
-        order: Name,
-        recipe: Name,
-        batches: BatchNo,
-    },
+    Place(Placing),
     /// Cancelling an order, as `cancel_order` of `toll_work` says.
     Cancel(Name),
     /// A batch, with the amounts it consumed or produced for each requirement:
     /// `UnknownOrder`, then `UnknownBatch`.
-    Batch {
-        order: Name,
-        number: BatchNo,
-    },
+    Batch { order: Name, number: BatchNo },
     /// All lots of the owner, by name, with the amount on hand of each.
     Stock,
     /// One lot: `UnknownLot` if the owner has none of this name.

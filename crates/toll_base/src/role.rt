@@ -16,7 +16,7 @@ pub enum Role {
 }
 
 impl Role {
-    /// The word.
+    /// How it is printed: `consumed` or `produced`.
     pub fn word(&self) -> &'static str
         ensures { result.now ≡ use_word self.now }
     {

@@ -165,7 +165,7 @@ impl RowTables {
         }
     }
 
-    /// A copy of the rows.
+    /// A copy of the rows. It fails only if memory runs out.
     pub fn copy(&self, alloc: Global) -> Result<Self, AllocError>
         ensures { IfOk result (λ copied. copied ≡ self.now) }
     {

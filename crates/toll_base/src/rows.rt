@@ -1,5 +1,6 @@
 //! Rows: what the office keeps of the plant and of each owner. The fields of a row's key come first.
 ghost use Rattle.std.specs.Prelude.{◌≡◌};
+ghost use Rattle.toll_base.specs.Rows.{placed_row};
 ghost use Rattle.toll_base.specs.ValueWords.{order_status};
 
 use crate::bounded::{Amount, BatchNo, Day, Segment};
@@ -61,6 +62,14 @@ pub struct RequirementRow {
     pub amount: Amount,
 }
 
+/// What places an order: that many batches by that recipe.
+#[derive(Clone, Copy)]
+pub struct Placing {
+    pub order: Name,
+    pub recipe: Name,
+    pub batches: BatchNo,
+}
+
 /// An order, which is an operations request (IEC 62264-2): that many batches by that recipe.
 #[derive(Clone, Copy)]
 pub struct OrderRow {
@@ -71,6 +80,18 @@ pub struct OrderRow {
 }
 
 impl OrderRow {
+    /// The order when it is placed, which is open.
+    pub fn placed(placing: &Placing) -> OrderRow
+        ensures { result ≡ placed_row placing.now }
+    {
+        OrderRow {
+            order: placing.order,
+            recipe: placing.recipe,
+            batches: placing.batches,
+            cancelled: false,
+        }
+    }
+
     /// Whether it is open or cancelled, as a word.
     pub fn status(&self) -> &'static str
         ensures { result.now ≡ order_status self.now.cancelled }

@@ -67,7 +67,7 @@ impl Slice {
         }
     }
 
-    /// The owner.
+    /// The owner whose rows these are.
     pub fn owner(&self) -> &Name
         ensures owner { result.now ≡ self.now.owner }
         ensures kept { KeepsRules self.now }
@@ -127,7 +127,7 @@ impl Slice {
 
 /// How copies share rows.
 impl Slice {
-    /// A copy of the slice. Shared rows aren't copied.
+    /// A copy of the slice. Shared rows aren't copied. It fails only if memory runs out.
     pub fn copy(&self, alloc: Global) -> Result<Self, AllocError>
         ensures { IfOk result (λ copied. copied ≡ self.now) }
     {
@@ -138,7 +138,7 @@ impl Slice {
         Ok(Slice { alloc, rows })
     }
 
-    /// Lets copies share the rows from now on.
+    /// Lets copies share the rows from now on. If memory runs out, it fails, and the rows stay as they are.
     pub fn share(&mut self, alloc: Global) -> Result<(), AllocError>
         ensures { self.new ≡ self.old }
     {

@@ -55,7 +55,7 @@ impl StateCommand {
         bytes.cmp(self.word().as_bytes()).is_eq()
     }
 
-    /// The word.
+    /// How the plant writes it, such as `start`.
     pub fn word(&self) -> &'static str
         ensures { result.now ≡ word_of_command self.now }
     {

@@ -14,7 +14,7 @@ pub trait Keyed: Copy {
 
     ghost key_of: { Self → Self.Key };
 
-    /// The key.
+    /// Its key: a table has one row of each key, in the order of the keys.
     fn key(&self) -> Self::Key
         ensures { result ≡ key_of self.now };
 }
@@ -74,7 +74,7 @@ impl<R: Keyed> Table<R> {
         self.get(&row.key()).is_some() || self.rows().len() < most
     }
 
-    /// Adds the row, or replaces the one with its key.
+    /// Adds the row, or replaces the one with its key. If memory runs out, nothing changes.
     pub fn put(&mut self, row: R) -> Result<(), AllocError>
         ensures ok { OnOk result (self.new ≡ put_row R.Key.cmp R.key_of self.old row) }
         ensures err { OnErr result (self.new ≡ self.old) }
@@ -96,7 +96,7 @@ impl<R: Keyed> Table<R> {
         }
     }
 
-    /// A copy of the rows.
+    /// A copy of the rows. It fails only if memory runs out.
     pub fn copy(&self, alloc: Global) -> Result<Self, AllocError>
         ensures { IfOk result (λ copied. copied ≡ self.now) }
     {

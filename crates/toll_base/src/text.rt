@@ -48,7 +48,7 @@ impl<const MOST: usize> Text<MOST> {
         }
     }
 
-    /// The bytes.
+    /// Its bytes, `MOST` at most.
     pub fn as_bytes(&self) -> &[u8]
         ensures bytes { result.now ≡ self.now }
         ensures short { length self.now ≤ MOST }

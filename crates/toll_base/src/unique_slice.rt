@@ -44,7 +44,7 @@ impl UniqueSlice {
         }
     }
 
-    /// The owner.
+    /// The owner whose rows these are.
     pub fn owner(&self) -> &Name
         ensures owner { result.now ≡ self.now.owner }
         ensures kept { KeepsRules self.now }
@@ -68,7 +68,7 @@ impl UniqueSlice {
         self.tables.fits(row)
     }
 
-    /// A copy of the rows.
+    /// A copy of the rows. It fails only if memory runs out.
     pub fn copy(&self, alloc: Global) -> Result<Self, AllocError>
         ensures { IfOk result (λ copied. copied ≡ self.now) }
     {

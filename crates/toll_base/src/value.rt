@@ -5,10 +5,10 @@ ghost use Rattle.toll_base.specs.Values.{IsValue};
 use crate::refusal::Refusal;
 use std::marker::Model;
 
-/// The least value.
+/// The least value of a test.
 pub const LEAST_VALUE: i64 = -1_000_000_000;
 
-/// The greatest value.
+/// The greatest value of a test.
 pub const MOST_VALUE: i64 = 1_000_000_000;
 
 /// The value of a test of a lot, or a limit of it: -1,000,000,000 to 1,000,000,000.
@@ -41,7 +41,7 @@ impl Value {
         }
     }
 
-    /// The number.
+    /// The value as an integer.
     pub fn get(self) -> i64
         ensures number { result ≡ self }
         ensures range { IsValue self }

@@ -78,7 +78,7 @@ unread_is_unknown c H o stands e = sym (represented_knows H c stands o) ∙ read
 
 -- an owner's request adds no owner and no unit
 same_answer : (o : Bytes) (H : History) (q : Request) → SamePlant H (after_answer o H q)
-same_answer o H (request.Place order recipe batches) = same_grown H o (PlaceOrder order recipe batches) refl
+same_answer o H (request.Place placing) = same_grown H o (PlaceOrder placing) refl
 same_answer o H (request.Cancel order) = same_grown H o (CancelOrder order) refl
 same_answer o H (request.Release lot) = same_grown H o (Release lot) refl
 same_answer o H (request.Reject lot) = same_grown H o (Reject lot) refl
@@ -96,7 +96,7 @@ plan_lift c H o q s reported changes stands lawful known is plan =
 
 -- a request that doesn't write leaves the history
 answer_stays : (o : Bytes) (H : History) (q : Request) → writes q ≡ false → after_answer o H q ≡ H
-answer_stays o H (request.Place order recipe batches) quiet = absurd (false≢true (sym quiet))
+answer_stays o H (request.Place placing) quiet = absurd (false≢true (sym quiet))
 answer_stays o H (request.Cancel order) quiet = absurd (false≢true (sym quiet))
 answer_stays o H (request.Release lot) quiet = absurd (false≢true (sym quiet))
 answer_stays o H (request.Reject lot) quiet = absurd (false≢true (sym quiet))
@@ -128,7 +128,7 @@ plan_forbidden c H o key q stands wrong = record { reply = rw wrong refl; leads 
 -- ---- lawful histories
 
 lawful_after_answer : (o : Bytes) (H : History) (q : Request) → IsLawful H → IsValidOwnerRequest q → IsLawful (after_answer o H q)
-lawful_after_answer o H (request.Place order recipe batches) lawful valid = lawful-grow H (by o (PlaceOrder order recipe batches)) lawful valid
+lawful_after_answer o H (request.Place placing) lawful valid = lawful-grow H (by o (PlaceOrder placing)) lawful valid
 lawful_after_answer o H (request.Cancel order) lawful valid = lawful-grow H (by o (CancelOrder order)) lawful tt
 lawful_after_answer o H (request.Release lot) lawful valid = lawful-grow H (by o (Release lot)) lawful tt
 lawful_after_answer o H (request.Reject lot) lawful valid = lawful-grow H (by o (Reject lot)) lawful tt

@@ -2,9 +2,10 @@
 use Rattle.std.proofs.Common.{◌≡◌, ℕ, Bool, true, false, not, ◌||◌, cond, Option, Some, None, is_some, is_none, List, [], ◌∷◌, refl, sym, ap, subst, ◌∙◌}
 use Rattle.toll_desk.proofs.Common.{list_any, option_map, false≢true, Bytes, same_bytes, result_cmp, pair_cmp, lot_id, AreRowsGiven, or_else, where_so, is_some_where, Action, PlaceOrder, CancelOrder, Release, Reject, by, History, acts, owner_known, Slice, order_at, result_of, disposition_of, Made, lot_made, order_of, cancels, added_row, order_placed, measure_of, IsRowsOf, lot_row, sublot_row, Verdict, Accepted, Repeated, Refused, verdict, grown, grow, is_quarantined, checks, IsLawful, changes_of, after_changes, verdict_of, Decision, Disposition, Refusal, UnknownOrder, LotRow, OrderRow, acts-own, accepted_passes, same_bytes-refl, IsLotViewOf, LotView, Request, OwnerReply, ReplyOrder, ReplyLot, ReplyRefused, IsOrderOr, IsLotOr, IsWritingReply, IsOwnerAnswer, after_answer}
 use Rattle.toll_base.specs.declared.lot.Disposition.TheVariants.{Released, Rejected}
+use Rattle.toll_base.specs.declared.rows.Placing.{Placing}
 use Rattle.toll_base.specs.declared.rows.ResultRow.{ResultRow}
 use Rattle.toll_base.specs.declared.rows.SublotRow.{SublotRow}
-use Rattle.toll_base.specs.Rows.{lot_row_of, sublot_row_of}
+use Rattle.toll_base.specs.Rows.{lot_row_of, placed_row, sublot_row_of}
 use Rattle.toll_history.specs.OwnerFacts.{lot_row_made}
 use Rattle.toll_history.proofs.Options.{none_of}
 use Rattle.toll_history.proofs.Uncancelled.{uncancelled}
@@ -36,13 +37,14 @@ first_placed : (b cancelled : Bool) (row : OrderRow) (rest : Option OrderRow) �
 first_placed true cancelled row rest is never = ap (λ c. Some (record row { cancelled = c })) never
 first_placed false cancelled row rest is never = absurd (false≢true is)
 
-pub placed_order : (H : History) (o order recipe : Bytes) (batches : ℕ) → IsLawful H → verdict H (by o (PlaceOrder order recipe batches)) ≡ Accepted →
-    order_of (acts o (by o (PlaceOrder order recipe batches) ∷ H)) order ≡ Some (record { order = order; recipe = recipe; batches = batches; cancelled = false })
-placed_order H o order recipe batches lawful accepted =
-    let absent : is_some (order_of (acts o H) order) ≡ false = accepted_passes H o (PlaceOrder order recipe batches) accepted 1 in
+pub placed_order : (H : History) (o : Bytes) (placing : Placing) → IsLawful H → verdict H (by o (PlaceOrder placing)) ≡ Accepted →
+    order_of (acts o (by o (PlaceOrder placing) ∷ H)) placing.order ≡ Some (placed_row placing)
+placed_order H o placing lawful accepted =
+    let order = placing.order in
+    let absent : is_some (order_of (acts o H) order) ≡ false = accepted_passes H o (PlaceOrder placing) accepted 1 in
     let never = uncancelled H o lawful order (ap is_none (none_of _ absent)) in
-    ap (λ own. order_of own order) (acts-own o (by o (PlaceOrder order recipe batches)) H (same_bytes-refl o))
-    ∙ first_placed (same_bytes order order) (list_any (cancels order) (acts o H)) (record { order = order; recipe = recipe; batches = batches; cancelled = false }) _ (same_bytes-refl order) never
+    ap (λ own. order_of own order) (acts-own o (by o (PlaceOrder placing)) H (same_bytes-refl o))
+    ∙ first_placed (same_bytes order order) (list_any (cancels order) (acts o H)) (placed_row placing) _ (same_bytes-refl order) never
 
 -- an order that is cancelled is as it stood, and cancelled
 now_cancelled : (b c : Bool) (row : OrderRow) (x : Option OrderRow) → b ≡ true → option_map {T = OrderRow} (λ r. record r { cancelled = c }) x ≡ Some row →
@@ -132,20 +134,17 @@ module _ (H : History) (s : Slice) (lawful : IsLawful H) (known : owner_known H 
   accepted_by a d own is = sym (own.right known there).verdict_is ∙ is
 
   -- an order to be placed
-  module _ (order recipe : Bytes) (batches : ℕ) (d : Decision) (own : IsOwnDecision H s (PlaceOrder order recipe batches) d) where
-    abbrev write_placed : OrderRow
-    write_placed = record { order = order; recipe = recipe; batches = batches; cancelled = false }
+  module _ (placing : Placing) (d : Decision) (own : IsOwnDecision H s (PlaceOrder placing) d) where
+    order_by : (v : Verdict) (reported : OwnerReply) → verdict_of d ≡ v → IsWritingReply v (IsOrderOr (order_of (acts s.owner (grown v H (by s.owner (PlaceOrder placing)))) placing.order) reported) reported → IsPlanOver H s (request.Place placing) reported (changes_of d)
+    order_by = decided_over H s (request.Place placing) (PlaceOrder placing) (λ G reported. IsOrderOr (order_of (acts s.owner G) placing.order) reported) (λ reported so. so) refl known there d own
 
-    order_by : (v : Verdict) (reported : OwnerReply) → verdict_of d ≡ v → IsWritingReply v (IsOrderOr (order_of (acts s.owner (grown v H (by s.owner (PlaceOrder order recipe batches)))) order) reported) reported → IsPlanOver H s (request.Place order recipe batches) reported (changes_of d)
-    order_by = decided_over H s (request.Place order recipe batches) (PlaceOrder order recipe batches) (λ G reported. IsOrderOr (order_of (acts s.owner G) order) reported) (λ reported so. so) refl known there d own
+    pub place_accepted : verdict_of d ≡ Accepted → IsPlanOver H s (request.Place placing) (ReplyOrder (placed_row placing)) (changes_of d)
+    place_accepted is = order_by Accepted (ReplyOrder (placed_row placing)) is (subst (λ known. IsOrderOr known (ReplyOrder (placed_row placing))) (sym (placed_order H s.owner placing lawful (accepted_by _ d own is))) refl)
 
-    pub place_accepted : verdict_of d ≡ Accepted → IsPlanOver H s (request.Place order recipe batches) (ReplyOrder write_placed) (changes_of d)
-    place_accepted is = order_by Accepted (ReplyOrder write_placed) is (subst (λ known. IsOrderOr known (ReplyOrder write_placed)) (sym (placed_order H s.owner order recipe batches lawful (accepted_by _ d own is))) refl)
-
-    pub place_repeated : (reported : OwnerReply) → verdict_of d ≡ Repeated → IsOrderOr (order_of (acts s.owner H) order) reported → IsPlanOver H s (request.Place order recipe batches) reported (changes_of d)
+    pub place_repeated : (reported : OwnerReply) → verdict_of d ≡ Repeated → IsOrderOr (order_of (acts s.owner H) placing.order) reported → IsPlanOver H s (request.Place placing) reported (changes_of d)
     place_repeated reported is so = order_by Repeated reported is so
 
-    pub place_refused : (why : Refusal) → verdict_of d ≡ Refused why → IsPlanOver H s (request.Place order recipe batches) (ReplyRefused why) (changes_of d)
+    pub place_refused : (why : Refusal) → verdict_of d ≡ Refused why → IsPlanOver H s (request.Place placing) (ReplyRefused why) (changes_of d)
     place_refused why is = order_by (Refused why) (ReplyRefused why) is refl
 
   -- an order to be cancelled

@@ -7,6 +7,7 @@ use Rattle.toll_trace.specs.declared.way.Way.TheVariants.{Forward}
 use Rattle.toll_answers.specs.Agreement.{IsPlantTrace}
 use Rattle.toll_answers.specs.Edges.{IsOwnJoined}
 use Rattle.toll_base.specs.declared.request.Request.TheVariants.{Place}
+use Rattle.toll_base.specs.declared.rows.Placing.{Placing}
 use Rattle.toll_history.specs.Command.{by}
 use Rattle.toll_history.specs.Decision.{Decides}
 use Rattle.toll_history.specs.Holders.{holder}
@@ -113,7 +114,7 @@ IsPlantPlanned c H q plan = IfOk (meaning_of_plant_reply plan.reply) (λ reporte
 
 -- this is so where an order is placed that is there already
 abbrev pub IfPlacedAgain : Slice → Request → Type 0 → Type 0
-IfPlacedAgain s q P = (order recipe : Bytes) (batches : ℕ) → q ≡ Place order recipe batches → is_some (order_at s order) ≡ true → P
+IfPlacedAgain s q P = (placing : Placing) → q ≡ Place placing → is_some (order_at s placing.order) ≡ true → P
 
 -- a plan that is not accepted makes no change
 abbrev pub ChangesIfAccepted : Plan PlantReply → Type 0

@@ -21,7 +21,7 @@ meaning_of_reply (reply.Fault fault) = Err fault
 
 -- a request that writes, and was not refused, may change rows; no other does
 abbrev pub writes : Request → Bool
-writes (request.Place order recipe batches) = true
+writes (request.Place placing) = true
 writes (request.Cancel order) = true
 writes (request.Release lot) = true
 writes (request.Reject lot) = true

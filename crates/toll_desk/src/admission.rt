@@ -52,7 +52,7 @@ fn admitted(rows: &[OwnerRow], owner: &[u8], key: &[u8]) -> Option<Name>
     }
 }
 
-/// The owner, if it was added with that key. HOUSE wasn't added.
+/// The owner, if it was added with that key. HOUSE wasn't added. It fails only if the keep's call does.
 pub fn admit<K: Keep>(
     alloc: Global,
     keep: &mut K,

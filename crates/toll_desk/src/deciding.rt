@@ -21,7 +21,8 @@ use toll_keep::{Keep, KeepFault, StagedChanges};
 use toll_work::open_batch;
 
 /// The decision on a command. [`Refusal::UnknownOwner`] comes before all other checks, except for
-/// adding owners and units.
+/// adding owners and units. It fails if a call of the keep does, or with [`KeepFault::Memory`] if memory runs
+/// out.
 pub fn decide<K: Keep>(
     alloc: Global,
     keep: &mut K,
@@ -99,7 +100,8 @@ fn decide_both<K: Keep>(
     }
 }
 
-/// The rows of the owner, if it is known, and HOUSE's: those of the keep with the pending changes put.
+/// The rows of the owner, if it is known, and HOUSE's: those of the keep with the pending changes put. It
+/// fails if a call of the keep does, or with [`KeepFault::Memory`] if memory runs out.
 pub fn both_over<K: Keep>(
     alloc: Global,
     keep: &mut K,

@@ -21,7 +21,7 @@ use toll_work::{
     void_actual,
 };
 
-/// The decision over the rows of the slice's owner.
+/// The decision over the rows of the slice's owner. It fails only if memory runs out.
 pub fn decide_own(alloc: Global, slice: &Slice, command: &PlantCmd) -> Result<Decision, AllocError>
     requires { IsCommandSuchThat ConcernsOwnRows (recorded_command command.now) }
     ensures decides { DecidesCommand slice.now (recorded_command command.now) result }
@@ -52,11 +52,7 @@ pub fn decide_own(alloc: Global, slice: &Slice, command: &PlantCmd) -> Result<De
             segments,
             ..
         } => add_recipe(alloc, slice, recipe, segments),
-        PlantCmd::Order {
-            order,
-            recipe,
-            batches,
-        } => place_order(alloc, slice, order, recipe, batches),
+        PlantCmd::Order(placing) => place_order(alloc, slice, &placing),
         PlantCmd::Cancel { order } => cancel_order(alloc, slice, order),
         PlantCmd::Do {
             order,
@@ -117,7 +113,8 @@ fn decide_lot(alloc: Global, slice: &Slice, command: &PlantCmd) -> Result<Decisi
     }
 }
 
-/// The decision on a command that looks at HOUSE's rows too. `house` has these rows.
+/// The decision on a command that looks at HOUSE's rows too. `house` has these rows. It fails only if memory
+/// runs out.
 pub fn decide_shared(
     alloc: Global,
     own: &Slice,

@@ -59,7 +59,7 @@ pub fn owner_do<K: Keep>(
 fn keeps_bounds(request: &Request)
     ensures { IsValidOwnerRequest request.now }
 {
-    if let Request::Place { batches, .. } = *request {
-        let _within = batches.get();
+    if let Request::Place(placing) = *request {
+        let _within = placing.batches.get();
     }
 }

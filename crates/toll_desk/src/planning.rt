@@ -55,11 +55,7 @@ fn plan_over<K: Keep>(
     match *request {
         Request::Orders => shown(alloc, orders_shown(alloc, slice)),
         Request::Order(order) => shown(alloc, Ok(order_shown(slice, &order))),
-        Request::Place {
-            order,
-            recipe,
-            batches,
-        } => plan_order(alloc, slice, order, recipe, batches),
+        Request::Place(placing) => plan_order(alloc, slice, &placing),
         Request::Cancel(order) => plan_cancelling(alloc, slice, order),
         Request::Batch { order, number } => shown(alloc, batch_shown(alloc, slice, &order, number)),
         Request::Stock => shown(alloc, stock_shown(alloc, slice)),

@@ -18,7 +18,7 @@ pub enum PlantReply {
     Accepted,
     Repeated,
     Refused(Refusal),
-    /// The requested text.
+    /// The text that answers a question.
     Text(Vec<u8>),
     Fault(KeepFault),
 }

@@ -13,7 +13,8 @@ use toll_trace::{Step, Way};
 
 /// The trace over the batches of all owners. It asks only for batches that can lead on from the lot. Forward
 /// from an owner's lot these are the owner's own. Back, they are HOUSE's too. Forward from a lot of HOUSE,
-/// they are all batches.
+/// they are all batches. It fails if a call of the keep does, or with [`KeepFault::Memory`] if memory runs
+/// out.
 pub fn trace_plant<K: Keep>(
     alloc: Global,
     keep: &mut K,

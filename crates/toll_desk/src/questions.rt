@@ -127,7 +127,8 @@ fn answer_trace<K: Keep>(alloc: Global, keep: &mut K, lot: &LotId, way: Way) -> 
 // The same for a known lot.
 fn show_trace<K: Keep>(alloc: Global, keep: &mut K, lot: &LotId, way: Way) -> PlantReply
     ensures reads { IsReading K.meaning keep.old keep.new (meaning_of_plant_reply result) }
-    ensures over { Over K.meaning keep.old keep.new (λ c H. is_known_lot H lot.now ≡ true → IfOk (meaning_of_plant_reply result) (IsPlantAnswer H (PlantCmd.Trace lot.now way))) }
+    ensures over { Over K.meaning keep.old keep.new (λ c H. is_known_lot H lot.now ≡ true
+        → IfOk (meaning_of_plant_reply result) (IsPlantAnswer H (PlantCmd.Trace lot.now way))) }
 {
     match trace_plant(alloc, keep, lot, way) {
         Ok(steps) => match trace_text(alloc, &steps) {
@@ -159,7 +160,8 @@ fn answer_recall<K: Keep>(alloc: Global, keep: &mut K, lot: &LotId) -> PlantRepl
 // The refusal of an unknown lot.
 fn refuse_lot<K: Keep>(alloc: Global, keep: &mut K, lot: &LotId) -> PlantReply
     ensures reads { IsReading K.meaning keep.old keep.new (meaning_of_plant_reply result) }
-    ensures over { Over K.meaning keep.old keep.new (λ c H. is_known_lot H lot.now ≡ false → IfOk (meaning_of_plant_reply result) (IsPlantAnswer H (PlantCmd.Recall lot.now))) }
+    ensures over { Over K.meaning keep.old keep.new (λ c H. is_known_lot H lot.now ≡ false
+        → IfOk (meaning_of_plant_reply result) (IsPlantAnswer H (PlantCmd.Recall lot.now))) }
 {
     match keep.slice(alloc, &lot.owner) {
         Ok(Some(_)) => PlantReply::Refused(Refusal::UnknownLot),

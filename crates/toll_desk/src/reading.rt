@@ -16,7 +16,7 @@ use toll_answers::{lot_view, stock_lines};
 use toll_base::{BatchNo, Name, OrderRow, Refusal, Slice};
 use toll_work::batch_view;
 
-/// The plan of a reply that changes nothing.
+/// The plan of a reply that changes nothing. It fails only if memory runs out.
 pub fn shown(alloc: Global, reply: Result<Reply, AllocError>) -> Result<Plan<Reply>, AllocError>
     ensures reported { IfOk reply (λ reply. is_ok (meaning_of_reply reply) ≡ true) → IfOk result (λ planned. is_ok (meaning_of_reply planned.reply) ≡ true) }
     ensures none { IfOk result (λ planned. planned.changes.items ≡ []) }
@@ -28,7 +28,7 @@ pub fn shown(alloc: Global, reply: Result<Reply, AllocError>) -> Result<Plan<Rep
     }
 }
 
-/// All orders.
+/// All orders. It fails only if memory runs out.
 pub fn orders_shown(alloc: Global, slice: &Slice) -> Result<Reply, AllocError>
     ensures reported { IfOk result (λ reply. is_ok (meaning_of_reply reply) ≡ true) }
     ensures over { OverRows slice.now (λ H. RowsAnswerOwner H slice.now.owner Orders result) }
@@ -56,7 +56,7 @@ pub fn order_shown(slice: &Slice, order: &Name) -> Reply
     }
 }
 
-/// The batch as it is now.
+/// The batch as it is now. It fails only if memory runs out.
 pub fn batch_shown(
     alloc: Global,
     slice: &Slice,
@@ -76,7 +76,7 @@ pub fn batch_shown(
     }
 }
 
-/// All lots, with the amount on hand of each.
+/// All lots, with the amount on hand of each. It fails only if memory runs out.
 pub fn stock_shown(alloc: Global, slice: &Slice) -> Result<Reply, AllocError>
     ensures reported { IfOk result (λ reply. is_ok (meaning_of_reply reply) ≡ true) }
     ensures over { OverRows slice.now (λ H. RowsAnswerOwner H slice.now.owner Stock result) }
@@ -87,7 +87,7 @@ pub fn stock_shown(alloc: Global, slice: &Slice) -> Result<Reply, AllocError>
     }
 }
 
-/// The lot as it is now.
+/// The lot as it is now. It fails only if memory runs out.
 pub fn lot_shown(alloc: Global, slice: &Slice, lot: &Name) -> Result<Reply, AllocError>
     ensures reported { IfOk result (λ reply. is_ok (meaning_of_reply reply) ≡ true) }
     ensures over { OverRows slice.now (λ H. IsLotShown H slice.now.owner lot.now result) }

@@ -26,7 +26,8 @@ use toll_trace::{Step, Way};
 
 /// The lots that a lot went into over the batches of all owners, with the amounts on hand and shipped
 /// of each. `None` if the lot or its owner isn't known. [`KeepFault::Damaged`] if one of these lots has
-/// no row. No history has such a lot, and the keep goes on after this fault.
+/// no row. No history has such a lot, and the keep goes on after this fault. It fails if a call of the keep
+/// does, or with [`KeepFault::Memory`] if memory runs out.
 pub fn recall<K: Keep>(
     alloc: Global,
     keep: &mut K,

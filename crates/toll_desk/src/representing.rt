@@ -38,7 +38,8 @@ pub fn a_unit_has_one_holder()
 /// The batch that holds a unit is the one that holds it in the history. If no batch holds it there, no
 /// batch holds it here.
 pub fn units_have_the_same_holders()
-    ensures { (H : History) (c : Content) (unit : Bytes) (answer : Option Holder) → IsLawful H → Represents c H → IsHolder c unit answer → IsOccupied H unit answer }
+    ensures { (H : History) (c : Content) (unit : Bytes) (answer : Option Holder) → IsLawful H → Represents c H → IsHolder c unit answer
+        → IsOccupied H unit answer }
 {}
 
 /// The edges of an owner's rows are the owner's edges in the history: none for an unknown owner.

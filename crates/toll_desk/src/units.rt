@@ -17,7 +17,8 @@ use toll_base::{
 };
 use toll_keep::{Keep, KeepFault};
 
-/// The decision on adding an owner.
+/// The decision on adding an owner. It fails if a call of the keep does, or with [`KeepFault::Memory`] if
+/// memory runs out.
 pub fn decide_owner<K: Keep>(
     alloc: Global,
     keep: &mut K,
@@ -51,7 +52,8 @@ fn judge_owner(alloc: Global, rows: &[OwnerRow], row: OwnerRow) -> Result<Decisi
     Decision::accept(alloc, Change::Owner(row))
 }
 
-/// The decision on adding a unit.
+/// The decision on adding a unit. It fails if a call of the keep does, or with [`KeepFault::Memory`] if
+/// memory runs out.
 pub fn decide_unit<K: Keep>(alloc: Global, keep: &mut K, unit: Name) -> Result<Decision, KeepFault>
     ensures reads { IsReading K.meaning keep.old keep.new result }
     ensures over { IsDecidedOver K.meaning keep.old keep.new (Some (by house_name (AddUnit unit))) result }

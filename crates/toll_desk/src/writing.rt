@@ -10,44 +10,37 @@ use crate::reading::{lot_shown, order_shown};
 use crate::request::Reply;
 use std::alloc::{AllocError, Global};
 use toll_answers::{LotView, lot_view};
-use toll_base::{BatchNo, Decision, Disposition, LotRow, Name, OrderRow, Refusal, Slice};
+use toll_base::{Decision, Disposition, LotRow, Name, OrderRow, Placing, Refusal, Slice};
 use toll_stock::{reject, release};
 use toll_work::{cancel_order, place_order};
 
 // ---- orders
 
-/// The plan of placing an order.
+/// The plan of placing an order. It fails only if memory runs out.
 pub fn plan_order(
     alloc: Global,
     slice: &Slice,
-    order: Name,
-    recipe: Name,
-    batches: BatchNo,
+    placing: &Placing,
 ) -> Result<Plan<Reply>, AllocError>
     ensures reported { IfOk result (λ planned. is_ok (meaning_of_reply planned.reply) ≡ true) }
-    ensures idle { IfOk result (ChangesIfMayWrite (OverSlice slice.now) (Place order recipe batches)) }
-    ensures over { OverOwnRows slice.now (λ H. IsPlannedOver H slice.now (Place order recipe batches) result) }
+    ensures idle { IfOk result (ChangesIfMayWrite (OverSlice slice.now) (Place placing.now)) }
+    ensures over { OverOwnRows slice.now (λ H. IsPlannedOver H slice.now (Place placing.now) result) }
 {
     // This names the bounds for the proof.
-    let _within = batches.get();
-    match place_order(alloc, slice, order, recipe, batches) {
+    let _within = placing.batches.get();
+    match place_order(alloc, slice, placing) {
         Ok(Decision::Accept(changes)) => Ok(Plan {
-            reply: Reply::Order(OrderRow {
-                order,
-                recipe,
-                batches,
-                cancelled: false,
-            }),
+            reply: Reply::Order(OrderRow::placed(placing)),
             changes,
         }),
         // The answer for a cancelled order is the order as it is now.
-        Ok(Decision::Repeated) => Ok(Plan::unchanged(alloc, order_shown(slice, &order))),
+        Ok(Decision::Repeated) => Ok(Plan::unchanged(alloc, order_shown(slice, &placing.order))),
         Ok(Decision::Refuse(why)) => Ok(Plan::unchanged(alloc, Reply::Refused(why))),
         Err(error) => Err(error),
     }
 }
 
-/// The plan of cancelling an order.
+/// The plan of cancelling an order. It fails only if memory runs out.
 pub fn plan_cancelling(alloc: Global, slice: &Slice, order: Name) -> Result<Plan<Reply>, AllocError>
     ensures reported { IfOk result (λ planned. is_ok (meaning_of_reply planned.reply) ≡ true) }
     ensures quiet { IfOk result (λ planned. is_granted (meaning_of_reply planned.reply) ≡ false → planned.changes.items ≡ []) }
@@ -72,7 +65,7 @@ pub fn plan_cancelling(alloc: Global, slice: &Slice, order: Name) -> Result<Plan
 
 // ---- lots
 
-/// The plan of releasing a lot.
+/// The plan of releasing a lot. It fails only if memory runs out.
 pub fn plan_release(alloc: Global, slice: &Slice, lot: Name) -> Result<Plan<Reply>, AllocError>
     ensures reported { IfOk result (λ planned. is_ok (meaning_of_reply planned.reply) ≡ true) }
     ensures quiet { IfOk result (λ planned. is_granted (meaning_of_reply planned.reply) ≡ false → planned.changes.items ≡ []) }
@@ -82,7 +75,7 @@ pub fn plan_release(alloc: Global, slice: &Slice, lot: Name) -> Result<Plan<Repl
     disposed(alloc, slice, &lot, Disposition::Released, decision)
 }
 
-/// The plan of rejecting a lot.
+/// The plan of rejecting a lot. It fails only if memory runs out.
 pub fn plan_rejection(alloc: Global, slice: &Slice, lot: Name) -> Result<Plan<Reply>, AllocError>
     ensures reported { IfOk result (λ planned. is_ok (meaning_of_reply planned.reply) ≡ true) }
     ensures quiet { IfOk result (λ planned. is_granted (meaning_of_reply planned.reply) ≡ false → planned.changes.items ≡ []) }

@@ -35,7 +35,7 @@ module _ (o : Bytes) where
   requirement_room H _ accepted is = absurd (false≢true is)
 
   order_room : (H : History) (a : Action) → verdict H (by o a) ≡ Accepted → is_some (order_placed a) ≡ true → nat_le MOST_ORDERS (count (λ a. is_some (order_placed a)) (acts o H)) ≡ false
-  order_room H (PlaceOrder order recipe batches) accepted is = accepted_passes H o (PlaceOrder order recipe batches) accepted 3
+  order_room H (PlaceOrder placing) accepted is = accepted_passes H o (PlaceOrder placing) accepted 3
   order_room H _ accepted is = absurd (false≢true is)
 
   result_room : (H : History) (a : Action) → verdict H (by o a) ≡ Accepted → is_some (value_recorded a) ≡ true → nat_le MOST_RESULTS (count (λ a. is_some (value_recorded a)) (acts o H)) ≡ false

@@ -13,8 +13,8 @@ abbrev pub IsUncancelled : List Action → Type 0
 IsUncancelled own = (k : Bytes) → is_none (order_of own k) ≡ true → list_any (cancels k) own ≡ false
 
 uncancelled_more : (o : Bytes) (H : History) (a : Action) → IsLawful H → IsValidAction a → verdict H (by o a) ≡ Accepted → IsUncancelled (acts o H) → IsUncancelled (a ∷ acts o H)
-uncancelled_more o H (PlaceOrder order recipe batches) lawful valid accepted before k absent =
-    before k (is_none_map _ _ ∙ second_none (where_so (same_bytes k order) _) _ (sym (is_none_map _ _) ∙ absent))
+uncancelled_more o H (PlaceOrder placing) lawful valid accepted before k absent =
+    before k (is_none_map _ _ ∙ second_none (where_so (same_bytes k placing.order) _) _ (sym (is_none_map _ _) ∙ absent))
 uncancelled_more o H (CancelOrder order) lawful valid accepted before k absent =
     let unknown : is_none (order_of (acts o H) k) ≡ true = is_none_map _ _ ∙ sym (is_none_map _ _) ∙ absent in
     elim (same_bytes order k) as (λ b. same_bytes order k ≡ b → (b || list_any (cancels k) (acts o H)) ≡ false) [

@@ -1,6 +1,6 @@
 -- The commands that the office records.
 use Rattle.std.specs.Prelude.{ℕ, ℤ}
-use Rattle.toll_history.specs.Common.{Bytes, MaterialRow, TestRow, RecipeRow, RequirementRow, Move, MoveRow, StateCommand}
+use Rattle.toll_history.specs.Common.{Bytes, MaterialRow, TestRow, RecipeRow, RequirementRow, Placing, Move, MoveRow, StateCommand}
 
 -- an action; all its names are within the owner that the command concerns
 pub data Action : Type 0 where
@@ -10,7 +10,7 @@ pub data Action : Type 0 where
   AddTest : (row : TestRow) → Action
   AddRecipe : (row : RecipeRow) → Action
   Require : (row : RequirementRow) → Action
-  PlaceOrder : (order recipe : Bytes) (batches : ℕ) → Action
+  PlaceOrder : (placing : Placing) → Action
   CancelOrder : (order : Bytes) → Action
   OpenBatch : (order unit : Bytes) → Action
   CommandBatch : (order : Bytes) (number : ℕ) (command : StateCommand) → Action

@@ -5,7 +5,7 @@ pub use Rattle.toll_base.specs.Bytes.{Bytes, same_bytes}
 pub use Rattle.toll_base.specs.Keys.{RequirementKey, requirement_cmp}
 pub use Rattle.toll_base.specs.Lots.{lot_id, same_lot}
 pub use Rattle.toll_base.specs.Roles.{same_role}
-pub use Rattle.toll_base.specs.Rows.{lot_row_of, sublot_row_of}
+pub use Rattle.toll_base.specs.Rows.{lot_row_of, placed_row, placing_of, sublot_row_of}
 pub use Rattle.toll_base.specs.Slice.{Slice, batch_at, lot_at, material_at, move_at, order_at, recipe_at, requirement_at, result_at, sublot_at, test_at, void_at}
 pub use Rattle.toll_base.specs.SliceRules.{KeepsRules, count_actuals, is_actual_of}
 pub use Rattle.toll_base.specs.States.{followed, is_idle, may_close, next_state}
@@ -29,6 +29,7 @@ pub use Rattle.toll_base.specs.declared.role.Role.TheVariants.{Consumed, Produce
 pub use Rattle.toll_base.specs.declared.rows.BatchRow.{BatchRow}
 pub use Rattle.toll_base.specs.declared.rows.MaterialRow.{MaterialRow}
 pub use Rattle.toll_base.specs.declared.rows.OrderRow.{OrderRow}
+pub use Rattle.toll_base.specs.declared.rows.Placing.{Placing}
 pub use Rattle.toll_base.specs.declared.rows.RecipeRow.{RecipeRow}
 pub use Rattle.toll_base.specs.declared.rows.RequirementRow.{RequirementRow}
 pub use Rattle.toll_base.specs.declared.rows.ResultRow.{ResultRow}

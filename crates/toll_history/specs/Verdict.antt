@@ -1,6 +1,6 @@
 -- The verdict on a command, as a list of checks in their order, and how a history grows.
 use Rattle.std.specs.Prelude.{◌≡◌, ℕ, Bool, true, false, not, ◌&&◌, ◌||◌, if◌then◌else◌, nat_le, nat_lt, ◌==◌, Option, Some, None, is_some, is_none, List, [], ◌∷◌, ◌++◌}
-use Rattle.toll_history.specs.Common.{option_map_or, Bytes, same_bytes, house_name, IsAmount, IsBatchNo, is_some_where, RequirementKey, next_state, may_close, is_idle, MOST_ACTUALS, MOST_LOTS, MOST_MATERIALS, MOST_MOVEMENTS, MOST_ORDERS, MOST_OWNERS, MOST_RECIPES, MOST_REQUIREMENTS, MOST_RESULTS, MOST_TESTS, MOST_UNITS, Refusal, MaterialRow, TestRow, RecipeRow, RequirementRow, OrderRow, MoveRow, Move, Receive, Split, Ship, Scrap, Actual, LotId, Origin, Receipts, Batch, Disposition, Quarantined, Released, Rejected as IsRejected, Role, Consumed, Produced, StateCommand}
+use Rattle.toll_history.specs.Common.{option_map_or, Bytes, same_bytes, house_name, IsAmount, IsBatchNo, is_some_where, RequirementKey, next_state, may_close, is_idle, MOST_ACTUALS, MOST_LOTS, MOST_MATERIALS, MOST_MOVEMENTS, MOST_ORDERS, MOST_OWNERS, MOST_RECIPES, MOST_REQUIREMENTS, MOST_RESULTS, MOST_TESTS, MOST_UNITS, Refusal, MaterialRow, TestRow, RecipeRow, RequirementRow, Placing, OrderRow, MoveRow, Move, Receive, Split, Ship, Scrap, Actual, LotId, Origin, Receipts, Batch, Disposition, Quarantined, Released, Rejected as IsRejected, Role, Consumed, Produced, StateCommand}
 use Rattle.toll_base.specs.Moves.{same_movement}
 use Rattle.toll_history.specs.Command.{Action, AddOwner, AddUnit, AddMaterial, AddTest, AddRecipe, Require, PlaceOrder, CancelOrder, OpenBatch, CommandBatch, CloseBatch, Record, RecordResult, Release, Reject, Void, Command}
 use Rattle.toll_history.specs.History.{History, owner_known, count_owners, unit_known, count_units}
@@ -99,14 +99,15 @@ requirement_checks o t source row =
 
 -- ---- orders and batches
 
-abbrev pub is_equal_order : Bytes → ℕ → OrderRow → Bool
-is_equal_order recipe batches row = same_bytes row.recipe recipe && row.batches == batches
+-- whether the order is by that recipe and of as many batches
+abbrev pub is_equal_order : Placing → OrderRow → Bool
+is_equal_order placing row = same_bytes row.recipe placing.recipe && row.batches == placing.batches
 
-abbrev pub order_checks : OwnerFacts → (order recipe : Bytes) → (batches : ℕ) → Checks
-order_checks t order recipe batches =
-    (is_some_where (is_equal_order recipe batches) (t.order order), None)
-    ∷ (is_some (t.order order), Some OrderExists)
-    ∷ (is_none (t.recipe recipe), Some UnknownRecipe)
+abbrev pub order_checks : OwnerFacts → Placing → Checks
+order_checks t placing =
+    (is_some_where (is_equal_order placing) (t.order placing.order), None)
+    ∷ (is_some (t.order placing.order), Some OrderExists)
+    ∷ (is_none (t.recipe placing.recipe), Some UnknownRecipe)
     ∷ (nat_le MOST_ORDERS t.orders, Some LimitReached)
     ∷ []
 
@@ -315,7 +316,7 @@ action_checks p o t house (AddMaterial row) = material_checks t row
 action_checks p o t house (AddTest row) = test_checks t row
 action_checks p o t house (AddRecipe row) = recipe_checks t row
 action_checks p o t house (Require row) = requirement_checks o t (tables_for o t house row.source) row
-action_checks p o t house (PlaceOrder order recipe batches) = order_checks t order recipe batches
+action_checks p o t house (PlaceOrder placing) = order_checks t placing
 action_checks p o t house (CancelOrder order) = cancel_checks t order
 action_checks p o t house (OpenBatch order unit) = open_checks t order (p.unit_known unit) (p.unit_busy unit)
 action_checks p o t house (CommandBatch order number command) = batch_command_checks t order number command
@@ -352,7 +353,7 @@ grow H c = grown (verdict H c) H c
 -- The amount of a movement is valid, and so is the number of an order's batches.
 abbrev pub IsValidAction : Action → Type 0
 IsValidAction (Record row) = IsAmount row.amount
-IsValidAction (PlaceOrder order recipe batches) = IsBatchNo batches
+IsValidAction (PlaceOrder placing) = IsBatchNo placing.batches
 IsValidAction _ = Unit {0}
 
 -- Each command was accepted over those before it.

@@ -1,6 +1,6 @@
 -- Materials, tests, recipes, orders and batches of one owner, by the owner's own actions.
 use Rattle.std.specs.Prelude.{ℕ, ◌+◌, Bool, false, ◌&&◌, ◌==◌, if◌then◌else◌, Option, Some, None, is_some, List, [], ◌∷◌}
-use Rattle.toll_history.specs.Common.{list_any, option_map, option_map_or, Bytes, same_bytes, RequirementKey, requirement_cmp, count, first_some, where_so, or_else, followed, State, MaterialRow, TestRow, RecipeRow, RequirementRow, OrderRow, BatchRow}
+use Rattle.toll_history.specs.Common.{placed_row, list_any, option_map, option_map_or, Bytes, same_bytes, RequirementKey, requirement_cmp, count, first_some, where_so, or_else, followed, State, MaterialRow, TestRow, RecipeRow, RequirementRow, OrderRow, BatchRow}
 use Rattle.std.specs.Ordering.{is_eq}
 use Rattle.toll_history.specs.Command.{Action, AddMaterial, AddTest, AddRecipe, Require, PlaceOrder, CancelOrder, OpenBatch, CommandBatch, CloseBatch}
 use Rattle.toll_base.specs.declared.state.State.TheVariants.{Idle}
@@ -70,7 +70,7 @@ count_requirements own = count_added required own
 -- ---- orders (IEC 62264-2, operations requests)
 
 abbrev pub order_placed : Action → Option OrderRow
-order_placed (PlaceOrder o r n) = Some (record { order = o; recipe = r; batches = n; cancelled = false })
+order_placed (PlaceOrder placing) = Some (placed_row placing)
 order_placed _ = None
 
 abbrev pub cancels : Bytes → Action → Bool
@@ -87,7 +87,7 @@ abbrev pub count_orders : List Action → ℕ
 count_orders own = count_added order_placed own
 
 abbrev pub names_recipe : Bytes → Action → Bool
-names_recipe recipe (PlaceOrder o r n) = same_bytes r recipe
+names_recipe recipe (PlaceOrder placing) = same_bytes placing.recipe recipe
 names_recipe recipe _ = false
 
 -- whether an order names the recipe, cancelled or not

@@ -1,6 +1,6 @@
 -- Histories that worked examples begin with, and the verdicts on further commands.
 use Rattle.std.specs.Prelude.{◌≡◌, ℕ, pos, negsuc, List, [], ◌∷◌, ◌++◌, map, codes}
-use Rattle.toll_history.specs.Common.{Bytes, house_name, lot_id, LotId, Role, Consumed, Produced, Receive, Split, Ship, Scrap, Actual, State, StateCommand}
+use Rattle.toll_history.specs.Common.{placing_of, Bytes, house_name, lot_id, LotId, Role, Consumed, Produced, Receive, Split, Ship, Scrap, Actual, State, StateCommand}
 use Rattle.toll_history.specs.Command.{Action, AddOwner, AddUnit, AddMaterial, AddTest, AddRecipe, Require, PlaceOrder, CancelOrder, OpenBatch, CommandBatch, CloseBatch, RecordResult, Release, Reject, Void, Command, by, moves}
 use Rattle.toll_history.specs.History.{History}
 use Rattle.toll_history.specs.Verdict.{Verdict, Accepted, Repeated, Refused, verdict, grow}
@@ -58,7 +58,7 @@ groundwork =
 abbrev pub batch_started : List Command
 batch_started =
     receives acme (codes "K1") (codes "M") (codes "A") (codes "S1") 100 10
-    ∷ by acme (PlaceOrder (codes "O") (codes "R") 1)
+    ∷ by acme (PlaceOrder (placing_of (codes "O") (codes "R") 1))
     ∷ by acme (Release (codes "A"))
     ∷ by acme (OpenBatch (codes "O") (codes "U1"))
     ∷ by acme (CommandBatch (codes "O") 1 Start)
@@ -94,7 +94,7 @@ setup_two =
     ∷ by house_name (Release (codes "H-1"))
     ∷ by acme (Release (codes "A"))
     ∷ by acme (Release (codes "B"))
-    ∷ by acme (PlaceOrder (codes "O") (codes "R") 1)
+    ∷ by acme (PlaceOrder (placing_of (codes "O") (codes "R") 1))
     ∷ by acme (OpenBatch (codes "O") (codes "U1"))
     ∷ by acme (CommandBatch (codes "O") 1 Start)
     ∷ actual (codes "K3") 1 Consumed (codes "M") (lot_id acme (codes "A")) (codes "S") 10 2
@@ -153,7 +153,7 @@ HaveVerdicts H reported = verdicts H (map (λ t. t.0) reported) ≡ map (λ t. t
 abbrev pub held_unit : List (Command × Verdict)
 held_unit =
     (by bolt (AddRecipe (record { recipe = codes "R"; segments = 1 })), Accepted)
-    ∷ (by bolt (PlaceOrder (codes "O") (codes "R") 1), Accepted)
+    ∷ (by bolt (PlaceOrder (placing_of (codes "O") (codes "R") 1)), Accepted)
     ∷ (by bolt (OpenBatch (codes "O") (codes "U1")), Refused UnitBusy)
     ∷ []
 
@@ -227,9 +227,9 @@ abbrev pub order_cancelled : List (Command × Verdict)
 order_cancelled =
     (by acme (AddOwner (codes "ACMEKEY1")), Accepted)
     ∷ (by acme (AddRecipe (record { recipe = codes "R-1"; segments = 2 })), Accepted)
-    ∷ (by acme (PlaceOrder (codes "O-1") (codes "R-1") 2), Accepted)
+    ∷ (by acme (PlaceOrder (placing_of (codes "O-1") (codes "R-1") 2)), Accepted)
     ∷ (by acme (CancelOrder (codes "O-1")), Accepted)
-    ∷ (by acme (PlaceOrder (codes "O-1") (codes "R-1") 2), Repeated)
+    ∷ (by acme (PlaceOrder (placing_of (codes "O-1") (codes "R-1") 2)), Repeated)
     ∷ (by acme (CancelOrder (codes "O-1")), Refused OrderCancelled)
     ∷ (by house_name (AddUnit (codes "U1")), Accepted)
     ∷ (by acme (OpenBatch (codes "O-1") (codes "U1")), Refused OrderCancelled)
@@ -238,9 +238,9 @@ order_cancelled =
 -- commands of the plant that are refused, and what they need
 abbrev pub plants_refusals : List (Command × Verdict)
 plants_refusals =
-    (by house_name (PlaceOrder (codes "HO") (codes "NONE") 1), Refused UnknownRecipe)
+    (by house_name (PlaceOrder (placing_of (codes "HO") (codes "NONE") 1)), Refused UnknownRecipe)
     ∷ (by house_name (AddRecipe (record { recipe = codes "HB"; segments = 1 })), Accepted)
-    ∷ (by house_name (PlaceOrder (codes "HO") (codes "HB") 1), Accepted)
+    ∷ (by house_name (PlaceOrder (placing_of (codes "HO") (codes "HB") 1)), Accepted)
     ∷ (by house_name (CancelOrder (codes "HO")), Accepted)
     ∷ (by house_name (CancelOrder (codes "HO")), Refused OrderCancelled)
     ∷ (require acme (codes "R") 1 Consumed bolt (codes "M") 1, Refused RecipeInUse)

@@ -14,7 +14,8 @@ use std::alloc::Global;
 use toll_base::{Change, Name, Slice};
 
 /// All rows of an owner, with these changes put: `None` for an unknown owner. No change adds an owner or a
-/// unit. It asks the keep for the rows once, as long as there is memory to remember them.
+/// unit. It asks the keep for the rows once, as long as there is memory to remember them. It fails if a call
+/// of the keep does, or with [`KeepFault::Memory`] if memory runs out.
 pub fn read_slice<K: Keep>(
     alloc: Global,
     keep: &mut K,
@@ -36,7 +37,8 @@ pub fn read_slice<K: Keep>(
     }
 }
 
-/// The owners, or the units.
+/// The owners, or the units. It fails if a call of the keep does, or with [`KeepFault::Memory`] if memory
+/// runs out.
 pub fn read_rows<R: PlantRow, K: Keep>(
     alloc: Global,
     keep: &mut K,

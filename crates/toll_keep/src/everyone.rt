@@ -6,7 +6,8 @@ use std::alloc::{AllocError, Global};
 use toll_base::{Edge, Slice};
 use toll_trace::edges_of;
 
-/// The edges of all of these slices, in no order. An edge of several slices comes several times.
+/// The edges of all of these slices, in no order. An edge of several slices comes several times. It fails
+/// only if memory runs out.
 pub fn edges_among(alloc: Global, slices: &[Slice]) -> Result<Vec<Edge>, AllocError>
     ensures { IfOk result (λ edges. AreGathered slices.now edges.items) }
 {

@@ -22,7 +22,7 @@ pub enum KeepFault {
 }
 
 impl KeepFault {
-    /// The word.
+    /// How it is printed: `Memory`, `Disk`, `Damaged` or `Closed`.
     pub fn name(&self) -> &'static str
         ensures { result.now ≡ fault_word self.now }
     {
@@ -35,7 +35,7 @@ impl KeepFault {
     }
 }
 
-/// Its word.
+/// Prints its name, as [`KeepFault::name`] gives it.
 impl fmt::Display for KeepFault {
     ghost use Rattle.std.specs.Prelude.{Some};
     ghost use Rattle.toll_keep.specs.Fault.{fault_word};

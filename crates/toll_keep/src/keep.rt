@@ -75,11 +75,13 @@ pub trait Keep {
     /// the rows from before or those after all changes, never some.
     fn apply(&mut self, alloc: Global, changes: &[Change]) -> Result<(), KeepFault>
         ensures goes { CallEffect meaning self.old self.new result }
-        ensures all { OverContent meaning self.old self.new (λ c. AllChangesFit c changes.now → OnOk result (meaning.holds self.new (content_after changes.now c))) }
+        ensures all { OverContent meaning self.old self.new (λ c. AllChangesFit c changes.now
+            → OnOk result (meaning.holds self.new (content_after changes.now c))) }
         ensures none { OverContent meaning self.old self.new (λ c. OnErr result (meaning.holds self.new c)) }
         ensures spared { result ≡ Err KeepFault.Memory → IsSpared meaning self.old self.new }
         ensures whole { OverContent meaning self.old self.new (λ c. ContentKeepsRules c → result ≢ Err KeepFault.Damaged) }
-        ensures crash { OverLive meaning self.old self.new (λ c. AllChangesFit c changes.now → meaning.leaves self.new (c ∷ content_after changes.now c ∷ [])) };
+        ensures crash { OverLive meaning self.old self.new (λ c. AllChangesFit c changes.now
+            → meaning.leaves self.new (c ∷ content_after changes.now c ∷ [])) };
 
     // While the store lives, a stop between two calls leaves the content and nothing else.
     ghost settled: { (k : Self) (c : Content) → meaning.is_honest k → meaning.is_store_open k → meaning.holds k c → meaning.leaves k (c ∷ []) };

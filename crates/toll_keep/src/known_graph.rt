@@ -28,7 +28,7 @@ impl Drop for KnownGraph {
 }
 
 impl KnownGraph {
-    /// The graph of the owner with these rows.
+    /// The graph of the owner with these rows. It fails only if memory runs out.
     pub fn of(alloc: Global, owner: &Name, slice: &Slice) -> Result<Self, AllocError>
         ensures owner { IfOk result (λ known. known.owner ≡ owner.now) }
         ensures named { IfOk result (λ known. known.named ≡ slice.now.owner) }

@@ -19,7 +19,8 @@ pub fn remembered<'a>(slices: &'a [Slice], owner: &Name) -> Option<&'a Slice>
 }
 
 /// The slice that was read for the owner, with the changes put. It is remembered if it is the owner's and
-/// there is memory. Then the two share their rows, without the spare room in which they were read.
+/// there is memory. Then the two share their rows, without the spare room in which they were read. It fails
+/// if memory runs out, or a row of the changes doesn't fit.
 pub fn remember(
     alloc: Global,
     slices: &mut Vec<Slice>,

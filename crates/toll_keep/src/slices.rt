@@ -13,7 +13,7 @@ pub fn index_of_slice(slices: &[Slice], owner: &Name) -> Option<usize>
     slices.iter().position(|slice| *slice.owner() == *owner)
 }
 
-/// A copy that shares the slice's rows.
+/// A copy that shares the slice's rows. It fails only if memory runs out.
 pub fn shared(alloc: Global, slice: &mut Slice) -> Result<Slice, AllocError>
     ensures copied { IfOk result (λ copied. copied ≡ slice.old) }
     ensures same { slice.new ≡ slice.old }
@@ -22,7 +22,8 @@ pub fn shared(alloc: Global, slice: &mut Slice) -> Result<Slice, AllocError>
     slice.copy(alloc)
 }
 
-/// A copy of the owner's slice that shares its rows. It is empty if there is no such slice.
+/// A copy of the owner's slice that shares its rows. It is empty if there is no such slice. It fails only if
+/// memory runs out.
 pub fn shared_of(alloc: Global, slices: &mut [Slice], owner: &Name) -> Result<Slice, AllocError>
     ensures copied { IfOk result (λ slice. slice ≡ rows_in slices.old owner.now) }
     ensures same { slices.new ≡ slices.old }
@@ -33,7 +34,7 @@ pub fn shared_of(alloc: Global, slices: &mut [Slice], owner: &Name) -> Result<Sl
     }
 }
 
-/// Copies that share the rows of these slices.
+/// Copies that share the rows of these slices. It fails only if memory runs out.
 pub fn shared_each(alloc: Global, slices: &mut [Slice]) -> Result<Vec<Slice>, AllocError>
     ensures copied { IfOk result (λ copied. copied.items ≡ slices.old) }
     ensures same { slices.new ≡ slices.old }

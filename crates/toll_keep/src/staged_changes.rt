@@ -45,7 +45,8 @@ impl StagedChanges {
     }
 
     /// All rows of an owner, as the keep will have them after the changes: `None` for an unknown owner.
-    /// It asks the keep for them once, as long as there is memory to remember them.
+    /// It asks the keep for them once, as long as there is memory to remember them. It fails if a call of the
+    /// keep does, or with [`KeepFault::Memory`] if memory runs out.
     pub fn slice<K: Keep>(
         &mut self,
         alloc: Global,

@@ -24,7 +24,8 @@ use toll_trace::{Graph, Step, Way, trace_among};
 const MOST_GRAPHS: usize = 64;
 
 /// The trace from the lot over the edges of these owners' batches. Each owner's graph is remembered. It is
-/// made of the remembered slice, or of a slice that is read and not remembered. The owners are remembered.
+/// made of the remembered slice, or of a slice that is read and not remembered. The owners are remembered. It
+/// fails if a call of the keep does, or with [`KeepFault::Memory`] if memory runs out.
 pub fn read_trace<K: Keep>(
     alloc: Global,
     keep: &mut K,
@@ -65,7 +66,8 @@ fn trace_read<K: Keep>(
     ensures reads { (first : K) → HaveRead K.meaning first keep.old → IsReading K.meaning first keep.new result }
     ensures kept { IsContentKept K.meaning keep.old keep.new }
     ensures own { OverContent K.meaning keep.old keep.new (λ c. IfOf c slices.now (AreGraphsOf c graphs.old.items → AreGraphsOf c graphs.new.items)) }
-    ensures reported { OverContent K.meaning keep.old keep.new (λ c. IfOf c slices.now (AreGraphsOf c graphs.old.items → GivesTrace c owners.now from.now way result)) }
+    ensures reported { OverContent K.meaning keep.old keep.new (λ c. IfOf c slices.now (AreGraphsOf c graphs.old.items
+        → GivesTrace c owners.now from.now way result)) }
 {
     read_graphs(alloc, keep, slices, graphs, owners)?;
     let reported = trace_known(alloc, graphs, owners, from, way);

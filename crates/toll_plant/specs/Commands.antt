@@ -3,6 +3,7 @@ use Rattle.std.specs.Prelude.{ℕ, ℤ, ◌≤ℤ◌, Bool, true, false, T, List
 use Rattle.std.specs.Int.Signed.{le_z, le_z_yes}
 use Rattle.toll_plant.specs.Common.{Bytes, BadAmount, PlantCmd}
 use Rattle.toll_base.specs.Lots.{lot_id}
+use Rattle.toll_base.specs.Rows.{placing_of}
 use Rattle.toll_base.specs.declared.movement.Move.TheVariants as move
 use Rattle.toll_base.specs.declared.limits.Limits.{Limits}
 use Rattle.toll_answers.specs.declared.actual_row.ActualRow.{ActualRow}
@@ -51,7 +52,7 @@ command_from called.MaterialAdd (Name owner ∷ Name material ∷ Measure measur
 command_from called.TestAdd (Name owner ∷ Name material ∷ Name test ∷ Value low ∷ Value high ∷ []) = Some (test_add owner material test (limits_of low high))
 command_from called.RecipeAdd (Name owner ∷ Name recipe ∷ Segment segments ∷ []) = Some (cmd.RecipeAdd owner recipe segments)
 command_from called.Require (Name owner ∷ Name recipe ∷ Segment segment ∷ Role role ∷ Name source ∷ Name material ∷ Amount amount ∷ []) = Some (cmd.Require owner (record { recipe = recipe; segment = segment; role = role; source = source; material = material; amount = amount }))
-command_from called.Order (Name order ∷ Name recipe ∷ BatchNo batches ∷ []) = Some (cmd.Order order recipe batches)
+command_from called.Order (Name order ∷ Name recipe ∷ BatchNo batches ∷ []) = Some (cmd.Order (placing_of order recipe batches))
 command_from called.Cancel (Name order ∷ []) = Some (cmd.Cancel order)
 command_from called.Open (Name owner ∷ Name order ∷ Name unit ∷ []) = Some (cmd.Open owner order unit)
 command_from called.Do (Name owner ∷ Name order ∷ BatchNo number ∷ StateCommand command ∷ []) = Some (cmd.Do owner order number command)

@@ -30,7 +30,8 @@ const HEADER: [&'static [u8]; 12] = [
 ];
 
 /// The commands of the records under the header of a file: `None` for a record whose number of fields isn't
-/// the number of values of an actual.
+/// the number of values of an actual. [`ImportFault::BadHeader`] if the first record isn't the header, or
+/// there is none, and [`ImportFault::Memory`] if memory runs out.
 pub fn actuals(alloc: Global, file: &[u8]) -> Result<Vec<Option<PlantCmd>>, ImportFault>
     ensures commands { IfOk result (λ commands. AreCommandsOf file.now commands.items) }
     ensures fault { IfErr result (IsNoActualsOf file.now) }

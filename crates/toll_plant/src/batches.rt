@@ -4,13 +4,21 @@ ghost use Rattle.toll_plant.specs.Commands.{command_from};
 ghost use Rattle.toll_plant.specs.declared.command.CommandName.TheVariants as called;
 
 use crate::argument::{ArgumentValue, from_values};
+use toll_base::Placing;
 use toll_desk::PlantCmd;
 
 /// An order of HOUSE.
 pub fn order(values: &[ArgumentValue]) -> Option<PlantCmd>
     ensures { result ≡ command_from called.Order values.now }
 {
-    from_values!(values => Order { order: Name, recipe: Name, batches: BatchNo })
+    from_values!(
+        values,
+        [order: Name, recipe: Name, batches: BatchNo] => PlantCmd::Order(Placing {
+            order,
+            recipe,
+            batches,
+        })
+    )
 }
 
 /// An order that is cancelled.

@@ -13,7 +13,8 @@ use std::alloc::{AllocError, Global};
 // The id of the one argument that `clap` is given, which has all values of a command.
 const VALUES: &str = "VALUES";
 
-/// The values of the words, which fit the line: the words after the first one.
+/// The values of the words, which fit the line: the words after the first one. It fails only if memory runs
+/// out.
 pub fn values_of<'a>(
     alloc: Global,
     line: &Line<'a>,

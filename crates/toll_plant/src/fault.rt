@@ -12,7 +12,7 @@ pub enum WordsFault {
     Usage(Vec<u8>),
 }
 
-/// Its word.
+/// Prints its name: `Memory` or `Usage`.
 impl fmt::Display for WordsFault {
     ghost use Rattle.std.specs.Prelude.{Some};
     ghost use Rattle.toll_plant.specs.FaultWords.{word_of_words_fault};

@@ -14,7 +14,7 @@ pub enum ImportFault {
     BadHeader,
 }
 
-/// Its word.
+/// Prints its name: `Memory`, `TooLong` or `BadHeader`.
 impl fmt::Display for ImportFault {
     ghost use Rattle.std.specs.Prelude.{Some};
     ghost use Rattle.toll_plant.specs.FaultWords.{word_of_import_fault};

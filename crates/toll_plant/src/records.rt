@@ -40,7 +40,7 @@ fn given(row: Result<ByteRecord, Error>) -> Result<ByteRecord, AllocError>
     }
 }
 
-/// The fields of a record.
+/// The fields of a record. It fails only if memory runs out.
 pub fn fields<'r>(alloc: Global, row: &'r ByteRecord) -> Result<Vec<&'r [u8]>, AllocError>
     ensures { IfOk result (λ fields. map (λ f. f.now) fields.items ≡ fields_of row.now) }
 {

@@ -8,7 +8,7 @@ use crate::line::Line;
 use std::alloc::{AllocError, Global};
 
 /// The usage of one command: how it is written after the program's name, and which words are none of its
-/// values.
+/// values. It fails only if memory runs out.
 pub fn usage_of_line(alloc: Global, line: &Line<'_>) -> Result<Vec<u8>, AllocError>
     ensures { IfOk result (λ text. text.items ≡ spec.usage_of_line (shown_line line.now)) }
 {
@@ -20,7 +20,7 @@ pub fn usage_of_line(alloc: Global, line: &Line<'_>) -> Result<Vec<u8>, AllocErr
     Ok(text)
 }
 
-/// The usage of all commands, a line for each.
+/// The usage of all commands, a line for each. It fails only if memory runs out.
 pub fn usage_of_all(alloc: Global, lines: &[Line<'_>]) -> Result<Vec<u8>, AllocError>
     ensures { IfOk result (λ text. text.items ≡ spec.usage_of_all (map shown_line lines.now)) }
 {

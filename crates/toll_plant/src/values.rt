@@ -21,7 +21,7 @@ pub enum ArgumentFault {
     Refused(Refusal),
 }
 
-/// The command of a line with these values.
+/// The command of a line with these values. It fails only if memory runs out.
 pub fn read<S: AsSlice<u8>>(
     alloc: Global,
     line: &Line<'_>,

@@ -1,11 +1,14 @@
 -- A prefix of a stream that settles it.
 use Rattle.std.proofs.Common.{◌≡◌, ◌∙◌, ℕ, ◌+◌, ◌≤◌, Bool, true, false, cond, List, [], ◌++◌, length, take, drop, map, refl, sym, ap, subst, arith, inl, inr, Option, Some, None, length-append, take-add, ◌↔◌, codes, nat_lt}
-use Rattle.toll_protocol.proofs.Common.{take-append-le, drop-append-le, name_and_value, Pair, fields_named, is_present, length_claimed, EndsHead, IsHeadLen, IsHeadOf, IsSearched, ParseResult, refused, IsParsedAs, IsSettled, HasBody, checked, by_length, host_fails}
+use Rattle.toll_protocol.proofs.Common.{take-append-le, drop-append-le, name_and_value, Pair, fields_named, is_present, length_claimed, IsHeadLen, IsHeadOf, IsRequestAt, IsRequestWithin, ParseResult, refused, IsParsedAs, IsSettled, HasBody, checked, by_length, host_fails}
 use Rattle.std.proofs.lemmas.Bool.Decides.{nat_tests}
 use Rattle.std.proofs.lemmas.Bool.{cases_lt}
 use Rattle.httparse.specs.Grammar.{RequestHead}
 use Rattle.httparse.proofs.GrammarLemmas.{request_unique}
 use Rattle.toll_protocol.specs.declared.http_messages.failure.Failure.TheVariants.{BadRequest, NotImplemented}
+use Rattle.toll_protocol.specs.declared.http_messages.settled.HeadSearch.{HeadSearch}
+use Rattle.toll_protocol.specs.declared.http_messages.settled.HeadSearch.TheVariants.{Searched, Read}
+use Rattle.toll_protocol.specs.Filled.{IsSearch}
 use Rattle.toll_protocol.specs.Limits.{body_limit}
 
 take_front : (text more : List ℕ) (n : ℕ) → n ≤ length text → take n (text ++ more) ≡ take n text
@@ -144,11 +147,22 @@ settled_by_body text front rest n h There is back body = (
         let P : ℕ → Type 0 = λ k. IsHeadOf text k h in
         body.1 (subst (HasBody h) (sym (back ∙ ap (λ k. drop k text) same)) (enough h (subst P same is)))
 
--- The searched part of a prefix stays searched when the prefix grows.
-pub searched_more : (old new : List ℕ) (m n searched : ℕ) → take m new ≡ take m old → searched ≤ length (take m old) + 1 → IsSearched (take m old) searched
-    → IsSearched (take (m + n) new) searched
-searched_more old new m n searched same within is k lt ends =
-    let rest = take n (drop m new) in
-    let whole : take (m + n) new ≡ take m old ++ rest = take-add m n new ∙ ap (λ t. t ++ rest) same in
-    let seen : take k (take (m + n) new) ≡ take k (take m old) = ap (take k) whole ∙ take_front (take m old) rest k (omega arith) in
-    is k lt (subst EndsHead seen ends)
+-- The search of a prefix has come as far when the prefix grows.
+pub search_more : (old new : List ℕ) (m n : ℕ) (search : HeadSearch) → take m new ≡ take m old → IsSearch (take m old) search → IsSearch (take (m + n) new) search
+search_more old new m n search same is =
+    let whole : take (m + n) new ≡ take m old ++ take n (drop m new) = take-add m n new ∙ ap (λ t. t ++ take n (drop m new)) same in
+    subst (λ (t : List ℕ). IsSearch t search) (sym whole) (behind (take m old) (take n (drop m new)) search is)
+  where
+    behind : (text more : List ℕ) (search : HeadSearch) → IsSearch text search → IsSearch (text ++ more) search
+    behind text more (Searched place) is = (
+      λ k lt ends. is.0 k lt (rw (take_front text more k (omega (arith, is.1, lt))) at ends),
+      omega (arith, is.1, length-append text more),
+    )
+    behind text more (Read head) is =
+        let front = take_front text more head.line.len is.is.shortest.within in
+        record {
+          parts = is.parts;
+          is = head_more text more head.line.len is.parts is.is;
+          places = subst (λ (t : List ℕ). IsRequestAt t head.fields head.line is.parts) (sym front) is.places;
+          within = subst (λ (t : List ℕ). IsRequestWithin t head.fields head.line) (sym front) is.within;
+        }

@@ -1,13 +1,18 @@
 -- What holds while connections are accepted.
 use Rattle.std.proofs.Common.{◌≡◌, ◌∙◌, ◌+◌, ◌≤◌, ◌⊎◌, ℕ, inl, inr, List, [], ◌∷◌, ◌++◌, length, ap, refl, sym, subst, arith}
-use Rattle.toll_server.proofs.Common.{Slab, HasAccepted, StandsStill, AddsConnection, AddsAll, AddsNext, MakesRoom, Accepts, Arrival, IsPausedAt, Lacks, NoneWaits, Tallies, Tally, after_accept, owners_at, Connection, Open, Backlogged, Connections, Listener}
-use Rattle.std.specs.Prelude.{None, Ok, OnOk, Option, Result, option_map, slice_index_or}
+use Rattle.toll_server.proofs.Common.{Slab, Accepting, Agrees, HasAccepted, IsStep, Server, ServerEvent, arrival_in, queue_event, server_at, wake_in, AddsConnection, AddsAll, AddsNext, MakesRoom, Accepts, Arrival, IsPausedAt, Lacks, NoneWaits, ShowsTime, Tallies, Tally, after_accept, owners_at, Connection, Open, Backlogged, Connections, Listener}
+use Rattle.std.specs.List.{cons_option}
+use Rattle.std.specs.Prelude.{Bool, None, Ok, OnOk, Option, Result, Some, option_map}
+use Rattle.toll_protocol.specs.declared.streams.sink.Sink as sink
+use Rattle.toll_protocol.specs.declared.streams.source.Source as source
+use Rattle.toll_server.specs.Networks.{arrived, owners_accepted}
+use Rattle.toll_server.specs.ServerEvents.{Comes, Evicts, IsLost}
 use Rattle.toll_server.specs.declared.connections.TheConstants.{MOST_ACCEPTS}
 use Rattle.toll_server.specs.declared.network.Accepted.{Accepted}
 use Rattle.toll_server.specs.declared.network.Accepted.TheVariants.{Connected, Aborted, NoResources}
 use Rattle.toll_server.specs.declared.network.NetworkFault.{NetworkFault}
-use Rattle.toll_server.proofs.StandLemmas.{room_new, same_new, stands_added, stands_fewer, stands_lost}
-use Rattle.toll_server.proofs.TallyLemmas.{tallies_both, tallies_more, tallies_weaker}
+use Rattle.toll_server.proofs.RoundLemmas.{RunsQuietly, quiet_then}
+use Rattle.toll_server.proofs.TallyLemmas.{tallies_begin, tallies_both, tallies_more, tallies_weaker}
 
 -- The accepted owners and those still to accept add up, and nothing else of the tally changed.
 pub record Counts {S : Type 0} (before left count : ℕ) (t u : Tally S) : Type 0 where
@@ -18,6 +23,17 @@ pub record Counts {S : Type 0} (before left count : ℕ) (t u : Tally S) : Type 
   pub unheard : u.unheard ≡ t.unheard
   pub missed : u.missed ≡ t.missed
   pub clock : t.clock ≤ u.clock
+
+pub counts_none : {S : Type 0} {before now : ℕ} (t u : Tally S) → ShowsTime now t u → Counts before before 0 t u
+counts_none {S} {before} {now} t u p = record {
+  owners = ap (λ x. x.owners + before) p.1;
+  accepts = omega (arith, ap (λ x. x.accepts) p.1);
+  waits = ap (λ x. x.waits) p.1;
+  wakes = ap (λ x. x.wakes) p.1;
+  unheard = ap (λ x. x.unheard) p.1;
+  missed = ap (λ x. x.missed) p.1;
+  clock = omega (arith, p.0, ap (λ x. x.clock) p.1);
+}
 
 pub counts_more : {S : Type 0} (before left count later : ℕ) (key : ℕ) (listener : Listener) (stream : S) (t u : Tally S) → Counts before left count t u → later + owners_at listener ≡ left
     → Counts before later (count + 1) t (after_accept {E = NetworkFault} key (Ok (Connected listener stream)) u)
@@ -44,6 +60,9 @@ module _ {S T P : Type 0} where
     pub arrivals : u.arrivals ≡ came ++ t.arrivals
     pub added : AddsAll most now came old new
     pub so_many : length came ≡ count
+
+  pub come_none : {most now : ℕ} {slots : Slab (Connection S T P)} (t u : Tally S) → ShowsTime now t u → HasCome most now slots 0 slots t u
+  come_none {most} {now} {slots} t u p = record { clock = ap (λ x. x.clock) p.1; came = []; arrivals = ap (λ x. x.arrivals) p.1; added = refl; so_many = refl }
 
   pub come_more : (most now : ℕ) (old : Slab (Connection S T P)) (count : ℕ) (middle new : Slab (Connection S T P)) (key : ℕ) (listener : Listener) (stream : S) (t u : Tally S)
       → HasCome most now old count middle t u → AddsConnection most now (record { key = key; listener = listener; stream = stream }) middle new
@@ -91,14 +110,6 @@ module _ {S T P : Type 0} where
       (after_accept {E = NetworkFault} key (Ok (Connected listener stream))) a b c is (λ t u q. ends_in_want {A = Unit {0}} {E = NetworkFault} (Ok tt) old new now count slots full t u
       (after_accept {E = NetworkFault} key (Ok (Connected listener stream)) u) q not refl same room (inr (record { key = key; listener = listener; stream = stream }, refl))) p
 
-  pub lost_stands : (unread : S → Option (List ℕ)) (old : Slab (Connection S T P)) (new : Connections S T P) (count now key : ℕ) (listener : Listener) (stream : S) (slots full : Slab (Connection S T P)) (a b c : Option (Tally S))
-      → c ≡ option_map (after_accept {E = NetworkFault} key (Ok (Connected listener stream))) b → full.slots ≡ slots.slots → MakesRoom count now full new.slots new.accept_state
-      → Tallies (StandsStill unread old slots) a b → Tallies (StandsStill unread old new.slots) a c
-  lost_stands unread old new count now key listener stream slots full a b c is same room p = tallies_more (StandsStill unread old slots) (StandsStill unread old new.slots)
-      (after_accept {E = NetworkFault} key (Ok (Connected listener stream))) a b c is (λ t u stands stood. let came : Arrival S = record { key = key; listener = listener; stream = stream } in
-      stands_fewer unread (came ∷ u.arrivals) full new.slots (room_new count now full new.slots new.accept_state room)
-      (stands_fewer unread (came ∷ u.arrivals) slots full (same_new slots full (λ k. ap (λ l. slice_index_or l k None) same)) (stands_lost unread u.arrivals came slots (stands stood)))) p
-
   -- There were no resources for the next connection.
   pub wanted : (old new : Connections S T P) (now count key : ℕ) (slots : Slab (Connection S T P)) (a b c : Option (Tally S))
       → c ≡ option_map (after_accept {E = NetworkFault} key (Ok NoResources)) b → ¬ (IsPausedAt now old.accept_state)
@@ -107,12 +118,6 @@ module _ {S T P : Type 0} where
       (after_accept {E = NetworkFault} key (Ok NoResources)) a b c is (λ t u q. ends_in_want {A = Unit {0}} {E = NetworkFault} (Ok tt) old new now count slots slots t u
       (after_accept {E = NetworkFault} key (Ok NoResources) u) q not refl refl room (inl (refl, refl))) p
 
-  pub wanted_stands : (unread : S → Option (List ℕ)) (old : Slab (Connection S T P)) (new : Connections S T P) (count now key : ℕ) (slots : Slab (Connection S T P)) (a b c : Option (Tally S))
-      → c ≡ option_map (after_accept {E = NetworkFault} key (Ok NoResources)) b → MakesRoom count now slots new.slots new.accept_state
-      → Tallies (StandsStill unread old slots) a b → Tallies (StandsStill unread old new.slots) a c
-  wanted_stands unread old new count now key slots a b c is room p = tallies_more (StandsStill unread old slots) (StandsStill unread old new.slots)
-      (after_accept {E = NetworkFault} key (Ok NoResources)) a b c is (λ t u stands stood. stands_fewer unread u.arrivals slots new.slots (room_new count now slots new.slots new.accept_state room) (stands stood)) p
-
   -- One more connection was accepted.
   pub more_come : (most now : ℕ) (old : Slab (Connection S T P)) (count key : ℕ) (listener : Listener) (stream : S) (middle new : Slab (Connection S T P)) (a b c : Option (Tally S))
       → c ≡ option_map (after_accept {E = NetworkFault} key (Ok (Connected listener stream))) b → key ≡ middle.vacant_key → AddsNext most now listener stream middle new
@@ -120,13 +125,6 @@ module _ {S T P : Type 0} where
   more_come most now old count key listener stream middle new a b c is at adds p = tallies_more (HasCome most now old count middle) (HasCome most now old (count + 1) new)
       (after_accept {E = NetworkFault} key (Ok (Connected listener stream))) a b c is (λ t u q. come_more most now old count middle new key listener stream t u q
       (subst (λ k. AddsConnection most now (record { key = k; listener = listener; stream = stream }) middle new) (sym at) adds)) p
-
-  pub more_stand : (unread : S → Option (List ℕ)) (most now : ℕ) (old : Slab (Connection S T P)) (key : ℕ) (listener : Listener) (stream : S) (middle new : Slab (Connection S T P)) (a b c : Option (Tally S))
-      → c ≡ option_map (after_accept {E = NetworkFault} key (Ok (Connected listener stream))) b → key ≡ middle.vacant_key → AddsNext most now listener stream middle new
-      → Tallies (StandsStill unread old middle) a b → Tallies (StandsStill unread old new) a c
-  more_stand unread most now old key listener stream middle new a b c is at adds p = tallies_more (StandsStill unread old middle) (StandsStill unread old new)
-      (after_accept {E = NetworkFault} key (Ok (Connected listener stream))) a b c is (λ t u stands stood. stands_added unread most now u.arrivals (record { key = key; listener = listener; stream = stream }) middle new
-      (subst (λ k. AddsConnection most now (record { key = k; listener = listener; stream = stream }) middle new) (sym at) adds) (stands stood)) p
 
   -- MOST_ACCEPTS connections were asked for, the most between two waits.
   pub all_asked : (old new : Connections S T P) (before left now count came : ℕ) (slots : Slab (Connection S T P)) (a b : Option (Tally S)) → count ≡ MOST_ACCEPTS
@@ -142,10 +140,6 @@ module _ {S T P : Type 0} where
       → c ≡ option_map (after_accept {E = NetworkFault} key (Ok Aborted)) b → Tallies (HasCome most now old came slots) a b → Tallies (HasCome most now old came slots) a c
   aborted most now old came key slots a b c is p = tallies_more (HasCome most now old came slots) (HasCome most now old came slots) (after_accept {E = NetworkFault} key (Ok Aborted)) a b c is
       (λ t u q. record { clock = q.clock; came = q.came; arrivals = q.arrivals; added = q.added; so_many = q.so_many }) p
-
-  pub aborted_stands : (unread : S → Option (List ℕ)) (old slots : Slab (Connection S T P)) (key : ℕ) (a b c : Option (Tally S))
-      → c ≡ option_map (after_accept {E = NetworkFault} key (Ok Aborted)) b → Tallies (StandsStill unread old slots) a b → Tallies (StandsStill unread old slots) a c
-  aborted_stands unread old slots key a b c is p = tallies_more (StandsStill unread old slots) (StandsStill unread old slots) (after_accept {E = NetworkFault} key (Ok Aborted)) a b c is (λ t u s. s) p
 
 pub aborted_counts : {S : Type 0} (before left count key : ℕ) (a b c : Option (Tally S)) → c ≡ option_map (after_accept {E = NetworkFault} key (Ok Aborted)) b
     → Tallies (Counts before left count) a b → Tallies (Counts before left (count + 1)) a c
@@ -165,18 +159,59 @@ pub more_counts : {S : Type 0} (before left count later key : ℕ) (listener : L
 more_counts before left count later key listener stream a b c is one p = tallies_more (Counts before left count) (Counts before later (count + 1))
     (after_accept {E = NetworkFault} key (Ok (Connected listener stream))) a b c is (λ t u q. counts_more before left count later key listener stream t u q one) p
 
-module _ {A E S T P : Type 0} where
-  grown_by : (r : Result A E) (old new : Connections S T P) (t u : Tally S) → HasAccepted r old new t u → (xs : List (Arrival S)) × (u.arrivals ≡ xs ++ t.arrivals)
-  grown_by r old new t u (inl paused) = ([], paused.2)
-  grown_by r old new t u (inr (came, middle, not, added, inl well)) = (came, well.0)
-  grown_by r old new t u (inr (came, middle, not, added, inr (full, same, room, inl want))) = (came, want.0)
-  grown_by r old new t u (inr (came, middle, not, added, inr (full, same, room, inr (lost, is)))) = (lost ∷ came, is)
+-- The network was asked for a connection, and none was accepted.
+pub no_arrival : {S T P : Type 0} (server : Server S T P) (key : ℕ) (r : Result (Accepted S) NetworkFault) (b c : Option (Tally S)) → owners_accepted r ≡ 0 → arrived key r ≡ []
+    → c ≡ option_map (after_accept key r) b → Tallies (Agrees server [] server) b c
+no_arrival server key r b c owners none is = tallies_more (λ t u. u ≡ t) (Agrees server [] server) (after_accept key r) b b c is (λ t u same. record {
+  owners = omega (arith, owners, ap (λ x. x.owners) same);
+  accepted = ap (λ l. l ++ u.arrivals) none ∙ ap (λ x. x.arrivals) same;
+  waited = ap (λ x. x.wakes) same;
+  none_missed = λ unheard. (ap (λ x. x.unheard) same ∙ unheard, ap (λ x. x.missed) same);
+}) (tallies_begin (λ t u. u ≡ t) b b refl (λ t. refl))
 
-  -- What accepting gives to the lemmas of rounds.
-  pub accepted_all : (r : Result A E) (unread : S → Option (List ℕ)) (old new : Connections S T P) (a b : Option (Tally S)) → Tallies (Accepts r old.accept_state old.owners_left new.owners_left) a b
-      → Tallies (HasAccepted r old new) a b → Tallies (StandsStill unread old.slots new.slots) a b
-      → Tallies (λ t u. ((u.wakes ≡ t.wakes) × (u.unheard ≡ t.unheard) × (u.missed ≡ t.missed) × ((xs : List (Arrival S)) × (u.arrivals ≡ xs ++ t.arrivals))) × StandsStill unread old.slots new.slots t u) a b
-  accepted_all r unread old new a b p q s = tallies_weaker (λ t u. Accepts r old.accept_state old.owners_left new.owners_left t u × (HasAccepted r old new t u × StandsStill unread old.slots new.slots t u)) _ a b
-      (tallies_both (Accepts r old.accept_state old.owners_left new.owners_left) (λ t u. HasAccepted r old new t u × StandsStill unread old.slots new.slots t u) a b p
-      (tallies_both (HasAccepted r old new) (StandsStill unread old.slots new.slots) a b q s))
-      (λ t u z. ((z.0.2, z.0.3, z.0.4, grown_by r old new t u z.1.0), z.1.1))
+module _ {S T P : Type 0} (same : P → P → Bool) (from : source.Ghosts S) (to : sink.Ghosts S) (most : ℕ) where
+  -- One connection was accepted: it is stored, or there was no memory for it.
+  came_then : (event : ServerEvent S T P) (a b c : Server S T P) (key : ℕ) (listener : Listener) (stream : S) (was reported is : Option (Tally S))
+      → arrival_in event ≡ Some (record { key = key; listener = listener; stream = stream }) → wake_in event ≡ None → queue_event event ≡ None → IsStep same from to most event b c
+      → c.owners_left + owners_at listener ≡ b.owners_left → is ≡ option_map (after_accept {E = NetworkFault} key (Ok (Connected listener stream))) reported
+      → RunsQuietly same from to most a b was reported → RunsQuietly same from to most a c was is
+  came_then event a b c key listener stream was reported is came wake queue step owners called p =
+      quiet_then same from to most a b c (event ∷ []) was reported is p (b, refl, step) (ap (λ o. cons_option o []) queue)
+      (tallies_more (λ t u. u ≡ t) (Agrees b (event ∷ []) c) (after_accept {E = NetworkFault} key (Ok (Connected listener stream))) reported reported is called (λ t u same. record {
+        owners = omega (arith, owners, ap (λ x. x.owners) same);
+        accepted = ap (λ l. record { key = key; listener = listener; stream = stream } ∷ l) (ap (λ x. x.arrivals) same) ∙ ap (λ o. cons_option o [] ++ t.arrivals) (sym came);
+        waited = ap (λ x. x.wakes) same ∙ ap (λ o. cons_option o [] ++ t.wakes) (sym wake);
+        none_missed = λ unheard. (ap (λ x. x.unheard) same ∙ unheard, ap (λ x. x.missed) same);
+      }) (tallies_begin (λ t u. u ≡ t) reported reported refl (λ t. refl)))
+
+  pub comes_then : (now : ℕ) (a : Server S T P) (old new : Connections S T P) (key : ℕ) (listener : Listener) (stream : S) (was reported is : Option (Tally S))
+      → AddsConnection most now (record { key = key; listener = listener; stream = stream }) old.slots new.slots → new.event_count ≡ old.event_count
+      → new.owners_left + owners_at listener ≡ old.owners_left → is ≡ option_map (after_accept {E = NetworkFault} key (Ok (Connected listener stream))) reported
+      → RunsQuietly same from to most a (server_at old Accepting) was reported → RunsQuietly same from to most a (server_at new Accepting) was is
+  comes_then now a old new key listener stream was reported is adds count owners =
+      came_then (Comes (record { key = key; listener = listener; stream = stream }) now) a (server_at old Accepting) (server_at new Accepting) key listener stream was reported is refl refl refl
+      (record { stage = (refl, refl); owners = owners; event_count = omega (arith, count); slots = adds }) owners
+
+  pub lost_then : (a : Server S T P) (old new : Connections S T P) (key : ℕ) (listener : Listener) (stream : S) (was reported is : Option (Tally S))
+      → new.slots.slots ≡ old.slots.slots → new.event_count ≡ old.event_count
+      → new.owners_left + owners_at listener ≡ old.owners_left → is ≡ option_map (after_accept {E = NetworkFault} key (Ok (Connected listener stream))) reported
+      → RunsQuietly same from to most a (server_at old Accepting) was reported → RunsQuietly same from to most a (server_at new Accepting) was is
+  lost_then a old new key listener stream was reported is kept count owners =
+      came_then (IsLost (record { key = key; listener = listener; stream = stream })) a (server_at old Accepting) (server_at new Accepting) key listener stream was reported is refl refl refl
+      (record { stage = (refl, refl); owners = owners; event_count = omega (arith, count); slots = kept }) owners
+
+  -- Resources lacked: one that is reading was closed, or none was.
+  pub room_then : (count now : ℕ) (a : Server S T P) (old new : Connections S T P) (was is : Option (Tally S)) → MakesRoom count now old.slots new.slots new.accept_state
+      → new.event_count ≡ old.event_count → new.owners_left ≡ old.owners_left → RunsQuietly same from to most a (server_at old Accepting) was is
+      → RunsQuietly same from to most a (server_at new Accepting) was is
+  room_then count now a old new was is room events owners p = each room where
+    kept : new.slots ≡ old.slots → RunsQuietly same from to most a (server_at new Accepting) was is
+    kept slots = subst (λ server. RunsQuietly same from to most a server was is)
+        (λ i. record { slots = sym slots i; event_count = sym events i; owners_left = sym owners i; stage = Accepting }) p
+
+    each : MakesRoom count now old.slots new.slots new.accept_state → RunsQuietly same from to most a (server_at new Accepting) was is
+    each (inl some) = kept some.1
+    each (inr (inl none)) = kept none.2
+    each (inr (inr one)) = quiet_then same from to most a (server_at old Accepting) (server_at new Accepting) (Evicts ∷ []) was is is p
+        (server_at old Accepting, refl, record { stage = (refl, refl); owners = omega (arith, owners); event_count = omega (arith, events); slots = one.1 }) refl
+        (tallies_begin (Agrees (server_at old Accepting) (Evicts ∷ []) (server_at new Accepting)) is is refl (λ t. record { owners = ap (λ n. t.owners + n) owners; accepted = refl; waited = refl; none_missed = λ none. (none, refl) }))

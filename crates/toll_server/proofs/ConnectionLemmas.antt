@@ -1,10 +1,13 @@
 -- One connection takes a step, and all others stay unchanged.
-use Rattle.std.proofs.Common.{◌≡◌, ◌+◌, ◌∙◌, ◌||◌, ℕ, zero, suc, arith, inl, inr, List, [], ◌∷◌, Bool, true, false, Option, None, Some, ap, refl, subst, sym, IfSome, IsSome, cond, count_by, is_some, option_and_then, option_map, slice_index_or, if◌then◌else◌}
-use Rattle.toll_server.proofs.Common.{eqb_tells, Slab, Updates, get, slab_len, ClosesExpired, JoinsAt, KeepsQueue, KeepsTasks, TakesTurn, connection_behind, queue_in, stays_after, tasks_in, unless_expired, IsNext, IsWhatWaits, Waiting, queued_behind, newly, queue_with, waits_on, Input, Request, Task, Yields, last_poll, pending_task, state_behind, task_of, ticket_after, ticket_behind, ticket_of, AnswersOrResumes, JoinsAs, event_count_after, waiting_of, waiting_with, Listener, Connection, Poll, Reading, Queued, Working, Writing}
+use Rattle.std.proofs.Common.{◌≡◌, ◌≢◌, ◌+◌, ◌∙◌, ◌||◌, ℕ, zero, suc, arith, inl, inr, List, [], ◌∷◌, Bool, true, false, Option, None, Some, ap, refl, subst, sym, IfSome, IsSome, cond, count_by, is_some, option_and_then, option_map, slice_index_or, if◌then◌else◌}
+use Rattle.toll_server.proofs.Common.{eqb_tells, Slab, Updates, get, slab_len, AddsConnection, Arrival, ClosesExpired, ClosesReaders, EvictsReader, GoesFirst, IsIncluded, KeepsQueue, KeepsTasks, MayJoin, TakesTurn, Turn, after_turn, queue_after, connection_behind, queue_in, stays_after, tasks_in, unless_expired, IsNext, IsWhatWaits, Waiting, queued_behind, newly, queue_with, waits_on, Input, Request, Task, Yields, last_poll, pending_task, state_behind, task_of, ticket_after, ticket_behind, ticket_of, AnswersOrResumes, JoinsAs, event_count_after, waiting_of, waiting_with, Listener, Connection, Poll, Reading, Queued, Working, Writing}
 use Rattle.std.proofs.lemmas.List.Sums.{sum_by_from}
+use Rattle.toll_protocol.specs.declared.streams.sink.Sink as sink
 use Rattle.toll_server.proofs.RunLemmas.{all_but}
+use Rattle.toll_server.proofs.StandLemmas.{the_some}
 use Rattle.toll_server.specs.RequestBuffers.{bytes_received, listener_of}
 use Rattle.toll_server.specs.declared.request_buffer.RequestBuffer.{RequestBuffer}
+use Rattle.toll_server.specs.declared.filter.Filter.{Filter}
 use Rattle.toll_server.specs.declared.poll.Poll.TheVariants.{Ready, Pending}
 use Rattle.toll_server.specs.declared.connection_state.ConnectionState.{ConnectionState}
 use Rattle.toll_server.specs.declared.step_result.StepResult.{StepResult}
@@ -53,20 +56,20 @@ module _ {T P : Type 0} (same : P → P → Bool) (party : P) (event_count : ℕ
 
 -- The input that a connection with a ticket hands over.
 module _ {T P : Type 0} where
-  abbrev handed_by : ConnectionState T P → RequestBuffer → Input T
+  abbrev pub handed_by : ConnectionState T P → RequestBuffer → Input T
   handed_by Reading request = Request (listener_of request) (bytes_received request)
   handed_by (Queued ticket) request = Request (listener_of request) (bytes_received request)
   handed_by (Working ticket task) request = Task task
   handed_by (Writing reply) request = Request (listener_of request) (bytes_received request)
 
-  what_waits : (state : ConnectionState T P) (request : RequestBuffer) (ticket : Ticket P) → ticket_of state ≡ Some ticket
+  pub what_waits : (state : ConnectionState T P) (request : RequestBuffer) (ticket : Ticket P) → ticket_of state ≡ Some ticket
       → IsWhatWaits (option_map (waiting_with request) (ticket_of state)) (task_of state) (handed_by state request)
   what_waits Reading request ticket is = absurd (cc)
   what_waits (Queued t) request ticket is = refl
   what_waits (Working t task) request ticket is = refl
   what_waits (Writing reply) request ticket is = absurd (cc)
 
-  comes_to : {O : Type 0} (answers : O → Listener → List ℕ → Poll T → O → Type 0) (resumes : O → T → Poll T → O → Type 0) (state : ConnectionState T P) (request : RequestBuffer)
+  pub comes_to : {O : Type 0} (answers : O → Listener → List ℕ → Poll T → O → Type 0) (resumes : O → T → Poll T → O → Type 0) (state : ConnectionState T P) (request : RequestBuffer)
       (poll : Poll T) (a b : O) → AnswersOrResumes answers resumes state request poll a b → Yields answers resumes a (handed_by state request) poll b
   comes_to answers resumes Reading request poll a b p = absurd p
   comes_to answers resumes (Queued t) request poll a b p = p
@@ -121,9 +124,9 @@ module _ {S T P : Type 0} where
 
   -- A connection that was read joins the queue, or all keep their places.
   pub joined_at : (is_by : Listener → List ℕ → P → Type 0) (event_count now : ℕ) (old new : Slab (Connection S T P)) (key : ℕ) (step : StepResult) (connection later : Connection S T P) → get old key ≡ Some connection
-      → Updates old new key (stays_after step later) → now ≡ event_count_after step event_count → JoinsAs is_by event_count connection later step → JoinsAt is_by key event_count now old new
+      → Updates old new key (stays_after step later) → now ≡ event_count_after step event_count → JoinsAs is_by event_count connection later step → MayJoin is_by key event_count now old new
   joined_at is_by event_count now old new key Joins connection later there back is joins = let (none, one) = joins in let (party, by, some) = one in
-      inr (listener_of later.request, bytes_received later.request, party, by, is, ap wait_at there ∙ none, each party some) where
+      (Some (record { whose = key; listener = listener_of later.request; request = bytes_received later.request; party = party }), (refl, ap wait_at there ∙ none, each party some), is, by) where
         each : (party : P) → waiting_of later ≡ Some (newly party (listener_of later.request) (bytes_received later.request) event_count) → (whose : ℕ)
             → queue_in new whose ≡ queue_with (queue_in old) key (newly party (listener_of later.request) (bytes_received later.request) event_count) whose
         each party some whose = elim (eqb_tells whose key) [
@@ -133,11 +136,11 @@ module _ {S T P : Type 0} where
               ∙ sym (ap (λ b. if b then Some (newly party (listener_of later.request) (bytes_received later.request) event_count) else queue_in old whose) differ)
         ]
   joined_at is_by event_count now old new key Waits connection later there back is joins =
-      inl (is, all_but key (queue_in new) (queue_in old) (ap wait_at back.changed ∙ (joins ∙ sym (ap wait_at there))) (λ other isnt. ap wait_at (back.others other isnt)))
+      (None, all_but key (queue_in new) (queue_in old) (ap wait_at back.changed ∙ (joins ∙ sym (ap wait_at there))) (λ other isnt. ap wait_at (back.others other isnt)), omega (arith, is), tt)
   joined_at is_by event_count now old new key Answered connection later there back is joins =
-      inl (is, all_but key (queue_in new) (queue_in old) (ap wait_at back.changed ∙ sym (ap wait_at there ∙ joins.1)) (λ other isnt. ap wait_at (back.others other isnt)))
+      (None, all_but key (queue_in new) (queue_in old) (ap wait_at back.changed ∙ sym (ap wait_at there ∙ joins.1)) (λ other isnt. ap wait_at (back.others other isnt)), omega (arith, is), tt)
   joined_at is_by event_count now old new key Failed connection later there back is joins =
-      inl (is, all_but key (queue_in new) (queue_in old) (ap wait_at back.changed ∙ sym (ap wait_at there ∙ joins.1)) (λ other isnt. ap wait_at (back.others other isnt)))
+      (None, all_but key (queue_in new) (queue_in old) (ap wait_at back.changed ∙ sym (ap wait_at there ∙ joins.1)) (λ other isnt. ap wait_at (back.others other isnt)), omega (arith, is), tt)
 
   unqueued : (connection : Connection S T P) → waiting_of connection ≡ None → task_of connection.state ≡ None
   unqueued connection none = idle_task connection.state (none_before_map (waiting_with connection.request) (ticket_of connection.state) none)
@@ -162,56 +165,81 @@ module _ {S T P : Type 0} where
   behind_wait same party event_count served its None = refl
   behind_wait same party event_count served its (Some connection) = state_waits_behind same party event_count served its connection.request connection.state
 
--- One turn: a connection is taken out, the service takes a turn for it, the others of its party are put behind, and it is put back if it
--- stays.
-pub record Turned {S T P O : Type 0} (answers : O → Listener → List ℕ → Poll T → O → Type 0) (resumes : O → T → Poll T → O → Type 0) (same : P → P → Bool) (event_count : ℕ)
-    (old new : Slab (Connection S T P)) (key : ℕ) (connection later : Connection S T P) (ticket : Ticket P) (poll : Poll T) (step : StepResult) (a b : O) : Type 0 where
-  pub there : get old key ≡ Some connection
-  pub changed : get new key ≡ stays_after step later
-  pub others : (other : ℕ) → ¬ (other ≡ key) → get new other ≡ option_map (connection_behind same ticket.party event_count) (get old other)
-  pub its : ticket_of connection.state ≡ Some ticket
-  pub asks : AnswersOrResumes answers resumes connection.state connection.request poll a b
-  pub reported : last_poll later.state ≡ Some poll
-  pub place : ticket_of later.state ≡ ticket_after poll event_count ticket
-  pub pending : IsSome (ticket_of later.state) → step ≡ Waits
-  pub request : later.request ≡ connection.request
+module _ {S T P : Type 0} (same : P → P → Bool) (to : sink.Ghosts S) (event_count : ℕ) (turn : Turn T) (old new : Slab (Connection S T P)) (t : TakesTurn same to event_count turn old new) where
+  -- The tasks left after a turn.
+  pub turn_tasks : (k : ℕ) → tasks_in new k ≡ after_turn (tasks_in old) turn k
+  turn_tasks k = elim (eqb_tells k turn.whose) [
+    | inl (same_key, at) ↦ ap (tasks_in new) at ∙ (task ∙ sym (ap (λ c. if c then pending_task turn.poll else tasks_in old k) same_key))
+    | inr (differ, isnt) ↦ ap task_in (t.others k isnt) ∙ (behind_task same t.ticket.party event_count (get old k) ∙ sym (ap (λ c. if c then pending_task turn.poll else tasks_in old k) differ))
+  ] where
+    task : tasks_in new turn.whose ≡ pending_task turn.poll
+    task = ap task_in t.stays ∙ ((stays_as t.step t.later t.pending).0 ∙ ap (option_and_then pending_task) t.reported)
 
-module _ {S T P O : Type 0} (answers : O → Listener → List ℕ → Poll T → O → Type 0) (resumes : O → T → Poll T → O → Type 0) (same : P → P → Bool) (event_count : ℕ) where
-  pub turn_taken : (old new : Slab (Connection S T P)) (key : ℕ) (connection later : Connection S T P) (ticket : Ticket P) (poll : Poll T) (step : StepResult) (a b : O)
-      → Turned answers resumes same event_count old new key connection later ticket poll step a b → IsNext (queue_in old) key → TakesTurn answers resumes same event_count old new a b
-  turn_taken old new key connection later ticket poll step a b t next = record {
-    turn = record { whose = key; input = handed_by connection.state connection.request; poll = poll };
-    next = next;
-    input = subst (λ (o : Option (Connection S T P)). IsWhatWaits (wait_at o) (task_in o) (handed_by connection.state connection.request)) (sym t.there) (what_waits connection.state connection.request ticket t.its);
-    comes = comes_to answers resumes connection.state connection.request poll a b t.asks;
-    includes = subst (λ (o : Option (Connection S T P)). IfSome o (λ q. last_poll q.state ≡ Some poll)) (sym t.changed) (includes step);
-    tasks = λ k. elim (eqb_tells k key) [
-      | inl (same_key, at) ↦ ap (tasks_in new) at ∙ (task ∙ sym (ap (λ c. if c then pending_task poll else tasks_in old k) same_key))
-      | inr (differ, isnt) ↦ ap task_in (t.others k isnt) ∙ (behind_task same ticket.party event_count (get old k) ∙ sym (ap (λ c. if c then pending_task poll else tasks_in old k) differ))
-    ];
-    queue = λ k. elim (eqb_tells k key) [
-      | inl (same_key, at) ↦ ap (queue_in new) at ∙ (place ∙ (sym (ap (λ j. option_and_then (waits_on poll event_count) (queue_in old j)) at)
-          ∙ sym (ap (λ c. if c then option_and_then (waits_on poll event_count) (queue_in old k) else option_map (queued_behind same (queue_in old key) event_count) (queue_in old k)) same_key)))
-      | inr (differ, isnt) ↦ ap wait_at (t.others k isnt) ∙ (behind_wait same ticket.party event_count (waiting_with connection.request ticket) refl (get old k)
-          ∙ (sym (ap (λ w. option_map (queued_behind same w event_count) (queue_in old k)) was)
-          ∙ sym (ap (λ c. if c then option_and_then (waits_on poll event_count) (queue_in old k) else option_map (queued_behind same (queue_in old key) event_count) (queue_in old k)) differ)))
-    ];
-  } where
-    was : queue_in old key ≡ Some (waiting_with connection.request ticket)
-    was = ap wait_at t.there ∙ ap (option_map (waiting_with connection.request)) t.its
+  -- The queue after a turn.
+  pub turn_queue : (k : ℕ) → queue_in new k ≡ queue_after same (queue_in old) turn event_count k
+  turn_queue k = elim (eqb_tells k turn.whose) [
+    | inl (same_key, at) ↦ ap (queue_in new) at ∙ (place ∙ (sym (ap (λ j. option_and_then (waits_on turn.poll event_count) (queue_in old j)) at)
+        ∙ sym (ap (λ c. if c then option_and_then (waits_on turn.poll event_count) (queue_in old k) else option_map (queued_behind same (queue_in old turn.whose) event_count) (queue_in old k)) same_key)))
+    | inr (differ, isnt) ↦ ap wait_at (t.others k isnt) ∙ (behind_wait same t.ticket.party event_count (waiting_with t.connection.request t.ticket) refl (get old k)
+        ∙ (sym (ap (λ w. option_map (queued_behind same w event_count) (queue_in old k)) was)
+        ∙ sym (ap (λ c. if c then option_and_then (waits_on turn.poll event_count) (queue_in old k) else option_map (queued_behind same (queue_in old turn.whose) event_count) (queue_in old k)) differ)))
+  ] where
+    was : queue_in old turn.whose ≡ Some (waiting_with t.connection.request t.ticket)
+    was = ap wait_at t.there ∙ ap (option_map (waiting_with t.connection.request)) t.queued
 
-    includes : (s : StepResult) → IfSome (stays_after s later) (λ q. last_poll q.state ≡ Some poll)
-    includes Waits = t.reported
-    includes Joins = t.reported
-    includes Answered = tt
-    includes Failed = tt
+    place : queue_in new turn.whose ≡ option_and_then (waits_on turn.poll event_count) (queue_in old turn.whose)
+    place = ap wait_at t.stays ∙ ((stays_as t.step t.later t.pending).1 ∙ (ap (λ r. option_map (waiting_with r) (ticket_of t.later.state)) t.request
+        ∙ (ap (option_map (waiting_with t.connection.request)) t.place ∙ (waits_after t.connection.request turn.poll event_count t.ticket ∙ sym (ap (option_and_then (waits_on turn.poll event_count)) was)))))
 
-    task : tasks_in new key ≡ pending_task poll
-    task = ap task_in t.changed ∙ ((stays_as step later t.pending).0 ∙ ap (option_and_then pending_task) t.reported)
+module _ {S T P : Type 0} where
+  -- Tasks and places in the queue stay as they are.
+  abbrev pub Keeps : Slab (Connection S T P) → Slab (Connection S T P) → Type 0
+  Keeps old new = KeepsQueue old new × KeepsTasks old new
 
-    place : queue_in new key ≡ option_and_then (waits_on poll event_count) (queue_in old key)
-    place = ap wait_at t.changed ∙ ((stays_as step later t.pending).1 ∙ (ap (λ r. option_map (waiting_with r) (ticket_of later.state)) t.request
-        ∙ (ap (option_map (waiting_with connection.request)) t.place ∙ (waits_after connection.request poll event_count ticket ∙ sym (ap (option_and_then (waits_on poll event_count)) was)))))
+  idle_reader : (connection : Connection S T P) → connection.state ≡ Reading → (waiting_of connection ≡ None) × (task_of connection.state ≡ None)
+  idle_reader connection is = (ap (λ state. option_map (waiting_with connection.request) (ticket_of state)) is, ap task_of is)
+
+  -- A connection that is reading was added or closed.
+  reader_keeps : (old new : Slab (Connection S T P)) (key : ℕ) → (wait_at (get new key) ≡ wait_at (get old key)) × (task_in (get new key) ≡ task_in (get old key))
+      → ((other : ℕ) → other ≢ key → get new other ≡ get old other) → Keeps old new
+  reader_keeps old new key at others = (
+    all_but key (queue_in new) (queue_in old) at.0 (λ other isnt. ap wait_at (others other isnt)),
+    all_but key (tasks_in new) (tasks_in old) at.1 (λ other isnt. ap task_in (others other isnt)),
+  )
+
+  pub evicted_keeps : (old new : Slab (Connection S T P)) → EvictsReader old new → Keeps old new
+  evicted_keeps old new e = let (filter, goes, first) = e.goes in
+      let (waits, task) = idle_reader first.connection (reads filter first.connection goes first.among_them) in
+      reader_keeps old new e.key (ap wait_at e.out.changed ∙ sym (ap wait_at first.there ∙ waits), ap task_in e.out.changed ∙ sym (ap task_in first.there ∙ task)) e.out.others where
+        reads : (filter : Filter) (connection : Connection S T P) → GoesFirst old filter → IsIncluded filter connection → connection.state ≡ Reading
+        reads filter connection (inl is) among = (subst (λ f. IsIncluded f connection) is among).0
+        reads filter connection (inr none) among = subst (λ f. IsIncluded f connection) none.1 among
+
+  pub added_keeps : (most now : ℕ) (came : Arrival S) (old new : Slab (Connection S T P)) → AddsConnection most now came old new → Keeps old new
+  added_keeps most now came old new adds = elim adds.shed [
+    | inl as_is ↦ subst (Keeps old) (sym as_is.1) with_it
+    | inr (_, inl none) ↦ let (readers, values, len) = none in (λ k. ap wait_at (values k) ∙ with_it.0 k, λ k. ap task_in (values k) ∙ with_it.1 k)
+    | inr (_, inr one) ↦ let (queue, tasks) = evicted_keeps adds.«with» new one in (λ k. queue k ∙ with_it.0 k, λ k. tasks k ∙ with_it.1 k)
+  ] where
+    with_it : Keeps old adds.«with»
+    with_it = let (stream, bytes, listener, state, deadline) = adds.newcomer in let (waits, task) = idle_reader adds.connection state in
+        reader_keeps old adds.«with» came.key (ap wait_at adds.added.changed ∙ (waits ∙ sym (ap wait_at adds.vacant)), ap task_in adds.added.changed ∙ (task ∙ sym (ap task_in adds.vacant)))
+        adds.added.others
+
+  pub closed_keeps : (old new : Slab (Connection S T P)) → ClosesReaders old new → Keeps old new
+  closed_keeps old new closes = (λ k. (each k (get old k) (get new k) refl refl).0, λ k. (each k (get old k) (get new k) refl refl).1) where
+    each : (k : ℕ) (o n : Option (Connection S T P)) → get old k ≡ o → get new k ≡ n → (wait_at n ≡ wait_at o) × (task_in n ≡ task_in o)
+    each k o (Some c) was is = let (none, keeps, fewer) = closes in let e = sym (the_some (get new k) _ c is (fewer k)) ∙ was in (ap wait_at e, ap task_in e)
+    each k None None was is = (refl, refl)
+    each k (Some c) None was is = let (none, keeps, fewer) = closes in by_state c.state refl where
+      stays : c.state ≢ Reading → (None ≡ wait_at (Some c)) × (None ≡ task_in (Some c))
+      stays not = let (none, keeps, fewer) = closes in let e : None ≡ Some c = sym is ∙ the_some (get old k) _ c was (keeps k) not in absurd (cc)
+
+      by_state : (state : ConnectionState T P) → c.state ≡ state → (None ≡ wait_at (Some c)) × (None ≡ task_in (Some c))
+      by_state Reading at = let (waits, task) = idle_reader c at in (sym waits, sym task)
+      by_state (Queued ticket) at = stays (λ reads. let e = sym at ∙ reads in absurd (cc))
+      by_state (Working ticket task) at = stays (λ reads. let e = sym at ∙ reads in absurd (cc))
+      by_state (Writing reply) at = stays (λ reads. let e = sym at ∙ reads in absurd (cc))
 
 module _ {S T P : Type 0} where
   pub no_connection : (connections : Slab (Connection S T P)) → slab_len connections ≡ 0 → (key : ℕ) → get connections key ≡ None

@@ -1,12 +1,12 @@
 pub mod Common
-pub mod ConnectionLemmas
-pub mod ExpiryLemmas
 pub mod RunLemmas
 pub mod QueueLemmas
 pub mod TallyLemmas
-pub mod TurnTimes
 pub mod StandLemmas
+pub mod ConnectionLemmas
+pub mod ExpiryLemmas
+pub mod TurnTimes
+pub mod RoundLemmas
 pub mod AcceptLemmas
 pub mod ListenLemmas
-pub mod RoundLemmas
-pub mod ClosingLemmas
+pub mod ServingLemmas

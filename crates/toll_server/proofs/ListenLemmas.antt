@@ -1,6 +1,6 @@
 -- How long a network listens.
 use Rattle.std.proofs.Common.{◌≡◌, ◌∙◌, ◌+◌, ◌≤◌, ◌<◌, ℕ, arith, List, [], ◌∷◌, ◌++◌, Bool, false, Option, ap, refl, subst, sym, ◌-◌, All, Result}
-use Rattle.toll_server.proofs.Common.{Accepts, BreaksDown, ListensFor, Tallies, Tally, Wake, HasWaited, ListensTill, Connections, Listener}
+use Rattle.toll_server.proofs.Common.{Accepts, BreaksDown, ListensFor, Tallies, Tally, Wake, HasWaited, ListensTill, Connections, Listener, Poll}
 use Rattle.std.proofs.lemmas.List.Elements.{All-cons, All-nil}
 use Rattle.toll_protocol.specs.declared.streams.sink.Sink as sink
 use Rattle.toll_protocol.specs.declared.streams.source.Source as source
@@ -84,15 +84,15 @@ module _ {S : Type 0} where
 
   -- The network failed.
   pub broken_listening : (count left accepts : ℕ) (a b c : Option (Tally S)) → Tallies BreaksDown b c → Tallies (ListensSoFar count left accepts) a b → Tallies (ListensSoFar count left accepts) a c
-  broken_listening count left accepts a b c breaks p = tallies_then (ListensSoFar count left accepts) BreaksDown (ListensSoFar count left accepts) a b c p breaks (λ t u v q r.
-      let (failed, arrivals, wakes, missed, owners, listens, accepts) = r in record {
-        owners = omega (arith, owners, q.owners);
+  broken_listening count left accepts a b c breaks p = tallies_then (ListensSoFar count left accepts) BreaksDown (ListensSoFar count left accepts) a b c p breaks
+      (λ t u v q r. subst (ListensSoFar count left accepts t) (sym r) (record {
+        owners = q.owners;
         wakes = q.wakes;
-        waited = wakes ∙ q.waited;
+        waited = q.waited;
         meanwhile = q.meanwhile;
-        opened = λ some. listens ∙ q.opened some;
-        closed = λ often none. listens ∙ q.closed often none;
-      })
+        opened = q.opened;
+        closed = q.closed;
+      }))
 
   pub clocked_listening : (count left accepts : ℕ) (a b c : Option (Tally S)) → Tallies OnlyClock b c → Tallies (ListensSoFar count left accepts) a b → Tallies (ListensSoFar count left accepts) a c
   clocked_listening count left accepts a b c clock p = tallies_then (ListensSoFar count left accepts) OnlyClock (ListensSoFar count left accepts) a b c p clock
@@ -105,17 +105,18 @@ module _ {S : Type 0} where
         closed = q.closed;
       }))
 
-module _ {S T P : Type 0} (same : P → P → Bool) (is_by : Listener → List ℕ → P → Type 0) (from : source.Ghosts S) (to : sink.Ghosts S) where
+module _ {S T P O : Type 0} (same : P → P → Bool) (is_by : Listener → List ℕ → P → Type 0) (answers : O → Listener → List ℕ → Poll T → O → Type 0)
+    (resumes : O → T → Poll T → O → Type 0) (from : source.Ghosts S) (to : sink.Ghosts S) where
   -- One more wait.
-  pub waited_listening : (now count left later accepts : ℕ) (old new : Connections S T P) (a b c : Option (Tally S)) → 0 < accepts → later ≡ left → HasWaited same is_by from to now old new b c
-      → Tallies (ListensSoFar count left accepts) a b → Tallies (ListensSoFar count later accepts) a c
+  pub waited_listening : (now count left later accepts : ℕ) (old new : Connections S T P) (a b c : Option (Tally S)) → 0 < accepts → later ≡ left
+      → HasWaited same is_by answers resumes from to now old new b c → Tallies (ListensSoFar count left accepts) a b → Tallies (ListensSoFar count later accepts) a c
   waited_listening now count left later accepts old new a b c some same_left w p = tallies_then (ListensSoFar count left accepts) _ (ListensSoFar count later accepts) a b c p
-      (tallies_both _ _ b c w.door w.known) (λ t u v q r. record {
-        owners = omega (arith, same_left, q.owners, ap (λ x. x.owners) r.1.2);
+      w.known (λ t u v q r. let (clock, order, owners, listens, is) = r in record {
+        owners = omega (arith, same_left, q.owners, ap (λ x. x.owners) is);
         wakes = w.wake ∷ q.wakes;
-        waited = ap (λ x. x.wakes) r.1.2 ∙ ap (λ l. w.wake ∷ l) q.waited;
+        waited = ap (λ x. x.wakes) is ∙ ap (λ l. w.wake ∷ l) q.waited;
         meanwhile = All-cons (λ x. ListensFor (t.owners + count - x.owners) t.is_listening x.is_listening) w.wake q.wakes
-            (now_of count left t u w.wake.owners w.wake.is_listening q.owners r.0.0 (λ n. r.0.1 ∙ q.opened n) (λ n. r.0.1 ∙ q.closed some n)) q.meanwhile;
-        opened = λ n. ap (λ x. x.is_listening) r.1.2 ∙ q.opened (omega (arith, n, same_left));
-        closed = λ _ n. ap (λ x. x.is_listening) r.1.2 ∙ q.closed some (omega (arith, n, same_left));
+            (now_of count left t u w.wake.owners w.wake.is_listening q.owners owners (λ n. listens ∙ q.opened n) (λ n. listens ∙ q.closed some n)) q.meanwhile;
+        opened = λ n. ap (λ x. x.is_listening) is ∙ q.opened (omega (arith, n, same_left));
+        closed = λ _ n. ap (λ x. x.is_listening) is ∙ q.closed some (omega (arith, n, same_left));
       })

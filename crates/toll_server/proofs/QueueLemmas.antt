@@ -1,7 +1,9 @@
 -- The queue, event after event. No party has two turns while another one is queued.
-use Rattle.std.proofs.Common.{◌≡◌, ◌∙◌, ◌+◌, ◌<◌, ◌==◌, ℕ, arith, inl, inr, List, [], ◌∷◌, length, Bool, true, false, Option, None, Some, ap, refl, subst, sym, IfSome, option_and_then, option_map, if◌then◌else◌}
-use Rattle.toll_server.proofs.Common.{eqb_tells, Slab, KeepsQueue, KeepsTasks, queue_in, tasks_in, AreInTurn, HasWaitedLonger, QueueEvent, IsHistory, IsNext, IsPassedOver, IsWhatWaits, Joins, NoneTwice, Queue, Takes, Waiting, queued_behind, is_of, newly, queue_after, queue_of, waits_on, Input, IsOwnInput, Turn, Listener, Connection, Poll}
+use Rattle.std.proofs.Common.{◌≡◌, ◌∙◌, ◌+◌, ◌<◌, ◌==◌, ℕ, arith, inl, inr, List, [], ◌∷◌, ◌++◌, length, Bool, true, false, Option, None, Some, ap, refl, subst, sym, IfSome, option_and_then, option_map, if◌then◌else◌}
+use Rattle.toll_server.proofs.Common.{eqb_tells, Slab, KeepsQueue, KeepsTasks, queue_in, tasks_in, AreInTurn, HasWaitedLonger, QueueEvent, IsHistory, IsNext, IsPassedOver, IsWhatWaits, Joins, NoneTwice, Queue, Takes, Waiting, queued_behind, is_of, newly, queue_after, queue_of, tasks_of, turns_taken, waits_on, AreOwn, Input, IsOwnInput, IsServiceRun, Serves, TakesTurns, Tasks, Turn, after_turns, no_tasks, Listener, Connection, Poll}
 use Rattle.std.specs.Cmp.{IsEquivalence}
+use Rattle.std.specs.Prelude.{⊤}
+use Rattle.toll_server.proofs.RunLemmas.{Agree, TakesTurns-append, after_same, own_append, turns_append}
 use Rattle.toll_server.specs.declared.poll.Poll.TheVariants.{Ready, Pending}
 
 some_more : {A : Type 0} (o : Option A) (B C : A → Type 0) → ((x : A) → B x → C x) → IfSome o B → IfSome o C
@@ -179,4 +181,47 @@ module _ {S T P : Type 0} (same : P → P → Bool) (is_by : Listener → List �
     waits = λ k. queue k ∙ p.waits k;
     tasks = λ k. tasks k ∙ p.tasks k;
     in_turn = p.in_turn;
+  }
+
+module _ {T P : Type 0} where
+  -- The tasks left follow from the turns.
+  pub turns_leave : (h : List (QueueEvent T P)) → Agree (after_turns no_tasks (turns_taken h)) (tasks_of h)
+  turns_leave [] whose = refl
+  turns_leave (Joins joins listener request party ∷ before) whose = turns_leave before whose
+  turns_leave (Takes turn ∷ before) whose = turns_append no_tasks (turns_taken before) (turn ∷ []) whose
+      ∙ after_same (after_turns no_tasks (turns_taken before)) (tasks_of before) turn (turns_leave before) whose
+
+  pub turns_own : (same : P → P → Bool) (is_by : Listener → List ℕ → P → Type 0) (h : List (QueueEvent T P)) → AreInTurn same is_by h → AreOwn no_tasks (turns_taken h)
+  turns_own same is_by [] turns = tt
+  turns_own same is_by (Joins joins listener request party ∷ before) turns = let (by, free, rest) = turns in turns_own same is_by before rest
+  turns_own same is_by (Takes turn ∷ before) turns = let (next, input, rest) = turns in
+      own_append no_tasks (turns_taken before) (turn ∷ []) (turns_own same is_by before rest)
+      (subst (λ left. IsOwnInput left turn.input) (sym (turns_leave before turn.whose)) (own_of (queue_of same before turn.whose) (tasks_of before turn.whose) turn.input input), tt)
+
+module _ {O T P : Type 0} (is_by : Listener → List ℕ → P → Type 0) (answers : O → Listener → List ℕ → Poll T → O → Type 0) (resumes : O → T → Poll T → O → Type 0) where
+  pub serves_then : (a b c : O) (h g : List (QueueEvent T P)) → Serves is_by answers resumes a h b → Serves is_by answers resumes b g c → Serves is_by answers resumes a (g ++ h) c
+  serves_then a b c h [] p q = subst (Serves is_by answers resumes a h) (sym q) p
+  serves_then a b c h (Joins joins listener request party ∷ before) p q = (q.0, serves_then a b c h before p q.1)
+  serves_then a b c h (Takes turn ∷ before) p q = let (middle, some, one) = q in (middle, serves_then a b middle h before p some, one)
+
+  pub serves_turns : (a b : O) (h : List (QueueEvent T P)) → Serves is_by answers resumes a h b → TakesTurns answers resumes a (turns_taken h) b
+  serves_turns a b [] p = p
+  serves_turns a b (Joins joins listener request party ∷ before) p = serves_turns a b before p.1
+  serves_turns a b (Takes turn ∷ before) p = let (middle, some, one) = p in
+      TakesTurns-append answers resumes a middle b (turns_taken before) (turn ∷ []) (serves_turns a middle before some) (b, one, refl)
+
+  -- The parties are those that the service named.
+  pub named : (same : P → P → Bool) (a b : O) (h : List (QueueEvent T P)) → AreInTurn same (λ listener request party. ⊤) h → Serves is_by answers resumes a h b → AreInTurn same is_by h
+  named same a b [] turns p = tt
+  named same a b (Joins joins listener request party ∷ before) turns p = let (by, free, rest) = turns in (p.0, free, named same a b before rest p.1)
+  named same a b (Takes turn ∷ before) turns p = let (next, input, rest) = turns in let (middle, some, one) = p in (next, input, named same a middle before rest some)
+
+  -- The service changed by the turns of these events alone.
+  abbrev pub service_ran : (same : P → P → Bool) (a b : O) (h : List (QueueEvent T P)) (left : Tasks T) → ((k : ℕ) → left k ≡ tasks_of h k) → AreInTurn same is_by h
+      → Serves is_by answers resumes a h b → IsServiceRun answers resumes a b no_tasks left
+  service_ran same a b h left tasks turns p = record {
+    turns = turns_taken h;
+    runs = serves_turns a b h p;
+    own = turns_own same is_by h turns;
+    rest = λ k. turns_leave h k ∙ sym (tasks k);
   }

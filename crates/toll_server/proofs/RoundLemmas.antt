@@ -1,449 +1,275 @@
--- Rounds, one after another.
-use Rattle.std.proofs.Common.{◌≡◌, ◌∙◌, ◌+◌, ◌≤◌, ◌==◌, ℕ, arith, inl, inr, List, [], ◌∷◌, ◌++◌, length, map, Bool, false, Option, None, Some, ap, refl, subst, sym, append-nil, append_assoc, length-append}
-use Rattle.toll_server.proofs.Common.{eqb_tells, Slab, get, StandsStill, ClosesExpired, Hears, HearsAll, IsDueAt, IsDueTo, IsInTime, JoinsAt, KeepsQueue, KeepsRequests, KeepsTasks, NoneNew, StandsByKey, TakesNext, TakesTurn, queue_in, tasks_in, pending_task, Arrival, BreaksDown, HandsOut, ShowsTime, Tallies, Tally, WaitsOnce, HasWaitedLonger, QueueEvent, IsNext, IsServedInTurn, IsWhatWaits, Waiting, queued_behind, newly, queue_after, queue_of, queue_with, waits_on, tasks_of, turns_taken, AreSentBySome, AreRounds, HasGrown, HasHeard, HasWaited, IsSentBySome, IsServedInRounds, Joining, Round, happenings_of, with_joined, IsServiceRun, Turn, no_tasks, Connection, Connections, Listener, Poll}
-use Rattle.std.specs.Prelude.{◌⊎◌, All, IfSome, Ok, option_and_then, option_map, if◌then◌else◌}
+-- What holds of a server's run, by its events.
+use Rattle.std.proofs.Common.{◌≡◌, ◌∙◌, ◌+◌, ◌≤◌, ◌==◌, ◌++◌, ℕ, arith, inl, inr, List, [], ◌∷◌, length, map, Bool, Option, None, Some, ap, refl, subst, sym, append-nil, append_assoc, length-append}
+use Rattle.toll_server.proofs.Common.{eqb_tells, Slab, get, Accepting, Agrees, AreRounds, Arrival, BreaksDown, Changes, Connection, Connections, HandsOut, HasHeard, HasRun, HasWaited, HasWaitedLonger, Hearing, Hears, IsDueAt, IsDueTo, IsInTime, IsNew, IsNext, IsSentBySome, IsServedInTurn, IsServerRun, IsServiceRun, IsStep, IsWhatWaits, Joining, KeepsTasks, Listener, MayJoin, Passes, Poll, QueueEvent, Server, ServerEvent, Serves, ServesFrom, Serving, ShowsTime, Stage, TakesTurn, Tallies, Tally, Turn, Waiting, WaitsOnce, Wake, ClosesExpired, advanced_in, arrival_in, expired_in, joined_in, last_poll, newly, no_tasks, pending_task, queue_after, queue_event, queue_events, queue_in, queue_of, queue_with, queued_behind, server_at, task_of, tasks_in, tasks_of, waiting_of, waits_on, wake_in}
+use Rattle.slab.proofs.SlabLemmas.{Contains-cons_cases}
 use Rattle.std.specs.Cmp.{IsEquivalence}
 use Rattle.std.specs.List.{Contains}
-use Rattle.std.proofs.lemmas.List.Elements.{All-cons, All-nil, All-weaker, Contains-append_left, Contains-append_right, Contains-push}
+use Rattle.std.specs.Prelude.{◌⊎◌, ⊤, All, IfSome, Ok, filter_map, flat_map, option_and_then, option_map, option_to_list, reverse, slice_index_or, if◌then◌else◌}
+use Rattle.std.proofs.lemmas.List.{reverse-append}
+use Rattle.std.proofs.lemmas.List.Elements.{All-cons, All-nil, All-weaker, Contains-append_right, filter_map-append}
 use Rattle.toll_protocol.specs.declared.streams.sink.Sink as sink
 use Rattle.toll_protocol.specs.declared.streams.source.Source as source
-use Rattle.toll_server.proofs.ConnectionLemmas.{expired_closed, expired_queue}
-use Rattle.toll_server.proofs.QueueLemmas.{IsHistoryIn, none_twice, own_of, same_history}
-use Rattle.toll_server.proofs.RunLemmas.{run_kept, run_more}
-use Rattle.toll_server.proofs.StandLemmas.{asked_at, closed_new, each_some, heard_more, stands_fewer, stands_heard, stands_kept}
-use Rattle.toll_server.proofs.TallyLemmas.{OnlyClock, OnlyListening, tallies_begin, tallies_then, tallies_weaker}
+use Rattle.toll_server.proofs.ConnectionLemmas.{Keeps, added_keeps, closed_keeps, evicted_keeps, expired_closed, expired_queue, turn_queue, turn_tasks}
+use Rattle.toll_server.proofs.QueueLemmas.{IsHistoryIn, named, none_twice, same_history, service_ran}
+use Rattle.toll_server.proofs.StandLemmas.{StandsByKey, asked_at, closed_new, each_some, removed_new, same_new, stands_added, stands_fewer, stands_heard, stands_kept, stands_lost, turn_requests}
+use Rattle.toll_server.proofs.TallyLemmas.{tallies_begin, tallies_then, tallies_weaker}
+use Rattle.toll_server.specs.ServerEvents.{Advances, Comes, Ends, Evicts, Expires, IsLost, Takes, Waits}
 use Rattle.toll_server.specs.declared.network.NetworkFault.{NetworkFault}
 use Rattle.toll_server.specs.declared.network.TheConstants.{MOST_READY}
 
-empty_if_no_longer : {A : Type 0} (xs : List A) → length xs ≤ 0 → xs ≡ []
-empty_if_no_longer [] le = refl
-empty_if_no_longer (x ∷ xs) le = absurd (omega (arith, le))
+-- The keys that are still to advance, the first of them last, and when the wait was over that isn't dealt with yet.
+abbrev still : Stage → List ℕ
+still Accepting = []
+still (Hearing keys at) = reverse keys
+still Serving = []
 
-pub turns_joined : {T P : Type 0} (joined : List (Joining P)) (h : List (QueueEvent T P)) → turns_taken (with_joined joined h) ≡ turns_taken h
-turns_joined [] h = refl
-turns_joined (j ∷ joined) h = turns_joined joined h
+abbrev due : Stage → List ℕ
+due Accepting = []
+due (Hearing keys at) = at ∷ []
+due Serving = []
 
--- the number of owners' connections in a tally, and whether its network listens
-module _ {S : Type 0} where
-  abbrev owners_in : Option (Tally S) → ℕ
-  owners_in None = 0
-  owners_in (Some t) = t.owners
+module _ {S T P : Type 0} where
+  -- All that were ready advanced, but for those that still are to; and each wait was dealt with, but for that which isn't yet.
+  abbrev Keeps_pace : List (ServerEvent S T P) → Stage → Type 0
+  Keeps_pace events stage = (still stage ++ filter_map advanced_in events ≡ flat_map (λ wake. reverse wake.ready) (filter_map wake_in events))
+      × (due stage ++ filter_map expired_in events ≡ map (λ wake. wake.at) (filter_map wake_in events))
 
-  abbrev listening_in : Option (Tally S) → Bool
-  listening_in None = false
-  listening_in (Some t) = t.is_listening
+  paced : (event : ServerEvent S T P) (before : List (ServerEvent S T P)) (old new : Stage) → Passes event old new → Keeps_pace before old → Keeps_pace (event ∷ before) new
+  paced (Comes came at) before old new p q = subst (Keeps_pace before) (p.0 ∙ sym p.1) q
+  paced (IsLost came) before old new p q = subst (Keeps_pace before) (p.0 ∙ sym p.1) q
+  paced Evicts before old new p q = subst (Keeps_pace before) (p.0 ∙ sym p.1) q
+  paced Ends before old new p q = subst (Keeps_pace before) (p.0 ∙ sym p.1) q
+  paced (Waits wake) before old new p q = let pace = subst (Keeps_pace before) p.0 q in
+      subst (Keeps_pace (Waits wake ∷ before)) (sym p.1) (ap (λ l. reverse wake.ready ++ l) pace.0, ap (λ l. wake.at ∷ l) pace.1)
+  paced (Advances whose joined) before old new p q = let (keys, at, was, is) = p in let pace = subst (Keeps_pace before) was q in
+      subst (Keeps_pace (Advances whose joined ∷ before)) (sym is) (sym (append_assoc (reverse keys) (whose ∷ []) (filter_map advanced_in before)) ∙ (ap (λ l. l ++ filter_map advanced_in before) (sym (reverse-append (whose ∷ []) keys)) ∙ pace.0), pace.1)
+  paced (Expires at) before old new p q = let pace = subst (Keeps_pace before) p.0 q in subst (Keeps_pace (Expires at ∷ before)) (sym p.1) (pace.0, pace.1)
+  paced (Takes turn) before old new p q = let pace = subst (Keeps_pace before) p.0 q in subst (Keeps_pace (Takes turn ∷ before)) (sym p.1) (pace.0, pace.1)
 
-module _ {S T P : Type 0} (same : P → P → Bool) (is_by : Listener → List ℕ → P → Type 0) (from : source.Ghosts S) (to : sink.Ghosts S) where
-  pub not_grown : (h : List (QueueEvent T P)) (event_count : ℕ) (slots : Slab (Connection S T P)) → IsHistoryIn same is_by h event_count slots → HasGrown same is_by from to h [] slots event_count slots
-  not_grown h event_count slots p = record {
-    joined = [];
-    is = p;
-    reported = All-nil (λ (j : Joining P). Contains [] j.whose);
-    requested = λ arrivals stands. (All-nil (IsSentBySome {P = P} from.unread arrivals), stands);
+module _ {S P : Type 0} where
+  sent_more : (unread : S → Option (List ℕ)) (xs : List (Arrival S)) (arrivals : List (Arrival S)) (j : Joining P) → IsSentBySome unread arrivals j → IsSentBySome unread (xs ++ arrivals) j
+  sent_more unread xs arrivals j p = record {
+    came = p.came;
+    among = Contains-append_right xs arrivals p.came p.among;
+    key = p.key;
+    listener = p.listener;
+    rest = p.rest;
+    begins = p.begins;
   }
 
-  -- One more connection was read.
-  pub grown_more : (most : ℕ) (h : List (QueueEvent T P)) (keys : List ℕ) (key later now : ℕ) (old middle new : Slab (Connection S T P)) → HasGrown same is_by from to h keys old later middle
-      → JoinsAt is_by key later now middle new → KeepsTasks middle new → Hears same most from to key middle new → HasGrown same is_by from to h (keys ++ key ∷ []) old now new
-  grown_more most h keys key later now old middle new p (inl none) tasks heard = record {
-    joined = p.joined;
-    is = same_history same is_by (with_joined p.joined h) later now middle new none.0 none.1 tasks p.is;
-    reported = All-weaker (λ (j : Joining P). Contains keys j.whose) (λ j. Contains (keys ++ key ∷ []) j.whose) (λ j. Contains-append_left keys (key ∷ []) j.whose) p.joined p.reported;
-    requested = λ arrivals stands. let (all, stand) = p.requested arrivals stands in (all, stands_heard from to same most arrivals key middle new heard stand);
+module _ {S T P : Type 0} (same : P → P → Bool) where
+  renamed : (s : Slab (Connection S T P)) (turn : Turn T) (m : ℕ) (h : List (QueueEvent T P)) → ((k : ℕ) → queue_in s k ≡ queue_of same h k) → (k : ℕ)
+      → queue_after same (queue_in s) turn m k ≡ queue_after same (queue_of same h) turn m k
+  renamed s turn m h agree k =
+      ap (λ o. if k == turn.whose then option_and_then (waits_on turn.poll m) o else option_map (queued_behind same (queue_in s turn.whose) m) o) (agree k)
+      ∙ ap (λ w. if k == turn.whose then option_and_then (waits_on turn.poll m) (queue_of same h k) else option_map (queued_behind same w m) (queue_of same h k)) (agree turn.whose)
+
+  next_in : (s : Slab (Connection S T P)) (whose : ℕ) (h : List (QueueEvent T P)) → ((k : ℕ) → queue_in s k ≡ queue_of same h k) → IsNext (queue_in s) whose → IsNext (queue_of same h) whose
+  next_in s whose h agree next = record {
+    waiting = next.waiting;
+    there = sym (agree whose) ∙ next.there;
+    longest = λ other. subst (λ (o : Option (Waiting P)). IfSome o (λ w. ¬ (HasWaitedLonger w next.waiting))) (agree other) (next.longest other);
   }
-  grown_more most h keys key later now old middle new p (inr one) tasks heard = let (listener, request, party, by, is, free, queue) = one in record {
-    joined = record { whose = key; listener = listener; request = request; party = party } ∷ p.joined;
-    is = record {
-      moment_is = omega (arith, is, p.is.moment_is);
-      waits = λ k. queue k ∙ (ap (λ m. queue_with (queue_in middle) key (newly party listener request m) k) p.is.moment_is
-          ∙ ap (λ o. if k == key then Some (newly party listener request (length (with_joined p.joined h))) else o) (p.is.waits k));
-      tasks = λ k. tasks k ∙ p.is.tasks k;
-      in_turn = (by, sym (p.is.waits key) ∙ free, p.is.in_turn);
-    };
-    reported = All-cons (λ (j : Joining P). Contains (keys ++ key ∷ []) j.whose) (record { whose = key; listener = listener; request = request; party = party }) p.joined (Contains-push keys key)
-        (All-weaker (λ (j : Joining P). Contains keys j.whose) (λ j. Contains (keys ++ key ∷ []) j.whose) (λ j. Contains-append_left keys (key ∷ []) j.whose) p.joined p.reported);
-    requested = λ arrivals stands. let (all, stand) = p.requested arrivals stands in let after = stands_heard from to same most arrivals key middle new heard stand in (
-      All-cons (IsSentBySome from.unread arrivals) (record { whose = key; listener = listener; request = request; party = party }) p.joined
-          (asked_at from.unread arrivals new key listener request party later after (queue key ∙ joins_at later listener request party)) all,
-      after,
+
+module _ {S T P : Type 0} (same : P → P → Bool) (from : source.Ghosts S) (to : sink.Ghosts S) (most : ℕ) where
+  -- The queue and the tasks are those of the events; whose party each request is of is left open.
+  abbrev At : List (QueueEvent T P) → Server S T P → Type 0
+  At h server = IsHistoryIn same (λ listener request party. ⊤) h server.event_count server.slots
+
+  kept : (h : List (QueueEvent T P)) (old new : Server S T P) → new.event_count ≡ old.event_count + 0 → Keeps old.slots new.slots → At h old → At h new
+  kept h old new is both q = same_history same (λ listener request party. ⊤) h old.event_count new.event_count old.slots new.slots (omega (arith, is)) both.0 both.1 q
+
+  stepped : (event : ServerEvent S T P) (before : List (ServerEvent S T P)) (old new : Server S T P) → IsStep same from to most event old new
+      → At (queue_events before) old → At (queue_events (event ∷ before)) new
+  stepped (Comes came at) before old new p q = kept (queue_events before) old new p.event_count (added_keeps most at came old.slots new.slots p.slots) q
+  stepped (IsLost came) before old new p q = kept (queue_events before) old new p.event_count
+      (λ k. ap (λ l. option_and_then waiting_of (slice_index_or l k None)) p.slots, λ k. ap (λ l. option_and_then (λ c. task_of c.state) (slice_index_or l k None)) p.slots) q
+  stepped Evicts before old new p q = kept (queue_events before) old new p.event_count (evicted_keeps old.slots new.slots p.slots) q
+  stepped Ends before old new p q = let (none, owners, closes) = p.slots in kept (queue_events before) old new p.event_count (closed_keeps old.slots new.slots closes) q
+  stepped (Waits wake) before old new p q = kept (queue_events before) old new p.event_count (λ k. ap (λ s. queue_in s k) p.slots, λ k. ap (λ s. tasks_in s k) p.slots) q
+  stepped (Advances whose None) before old new p q = let (hears, tasks, queue) = p.slots in kept (queue_events before) old new p.event_count (queue, tasks) q
+  stepped (Advances whose (Some j)) before old new p q = let (hears, tasks, joins) = p.slots in let (own, free, queue) = joins in record {
+    moment_is = omega (arith, p.event_count, q.moment_is);
+    waits = λ k. queue k ∙ (ap (λ m. queue_with (queue_in old.slots) whose (newly j.party j.listener j.request m) k) q.moment_is
+        ∙ (ap (λ w. queue_with (queue_in old.slots) w (newly j.party j.listener j.request (length (queue_events before))) k) (sym own)
+        ∙ ap (λ o. if k == j.whose then Some (newly j.party j.listener j.request (length (queue_events before))) else o) (q.waits k)));
+    tasks = λ k. tasks k ∙ q.tasks k;
+    in_turn = (tt, sym (q.waits j.whose) ∙ subst (λ w. queue_in old.slots w ≡ None) (sym own) free, q.in_turn);
+  }
+  stepped (Expires at) before old new p q = kept (queue_events before) old new p.event_count
+      (expired_queue at old.slots new.slots p.slots, expired_closed at old.slots new.slots p.slots) q
+  stepped (Takes None) before old new p q = kept (queue_events before) old new p.event_count (λ k. ap (λ s. queue_in s k) p.slots.1, λ k. ap (λ s. tasks_in s k) p.slots.1) q
+  stepped (Takes (Some turn)) before old new p q = record {
+    moment_is = omega (arith, p.event_count, q.moment_is);
+    waits = λ k. turn_queue same to old.event_count turn old.slots new.slots p.slots k
+        ∙ (ap (λ m. queue_after same (queue_in old.slots) turn m k) q.moment_is ∙ renamed same old.slots turn (length (queue_events before)) (queue_events before) q.waits k);
+    tasks = λ k. turn_tasks same to old.event_count turn old.slots new.slots p.slots k ∙ ap (λ o. if k == turn.whose then pending_task turn.poll else o) (q.tasks k);
+    in_turn = (
+      next_in same old.slots turn.whose (queue_events before) q.waits p.slots.next,
+      subst (λ o. IsWhatWaits (queue_of same (queue_events before) turn.whose) o turn.input) (q.tasks turn.whose)
+          (subst (λ o. IsWhatWaits o (tasks_in old.slots turn.whose) turn.input) (q.waits turn.whose) p.slots.input),
+      q.in_turn,
     );
-  } where
-    joins_at : (m : ℕ) (listener : Listener) (request : List ℕ) (party : P) → queue_with (queue_in middle) key (newly party listener request m) key ≡ Some (newly party listener request m)
-    joins_at m listener request party = elim (eqb_tells key key) [
-      | inl (equal, at) ↦ ap (λ b. if b then Some (newly party listener request m) else queue_in middle key) equal
-      | inr (differ, isnt) ↦ absurd (isnt refl)
-    ]
-
-  pub grown_kept : (h : List (QueueEvent T P)) (keys : List ℕ) (later now : ℕ) (old middle new : Slab (Connection S T P)) → HasGrown same is_by from to h keys old later middle → now ≡ later
-      → KeepsQueue middle new → KeepsTasks middle new → NoneNew middle new → HasGrown same is_by from to h keys old now new
-  grown_kept h keys later now old middle new p is queue tasks none = record {
-    joined = p.joined;
-    is = same_history same is_by (with_joined p.joined h) later now middle new is queue tasks p.is;
-    reported = p.reported;
-    requested = λ arrivals stands. let (all, stand) = p.requested arrivals stands in (all, stands_fewer from.unread arrivals middle new none stand);
   }
 
-  -- This many ready connections were read, one after another.
-  pub record Hearing (old new : Connections S T P) (count : ℕ) (was is : Option (Tally S)) : Type 0 where
-    pub keys : List ℕ
-    pub so_many : length keys ≡ count
-    pub heard : HearsAll same old.most_open from to keys old.slots new.slots
-    pub grown : (h : List (QueueEvent T P)) → IsHistoryIn same is_by h old.event_count old.slots → HasGrown same is_by from to h keys old.slots new.event_count new.slots
-    pub handed : Tallies (λ t u. (t.unheard ≡ keys ++ u.unheard) × (u ≡ record t { unheard = u.unheard })) was is
+  history_from : (first last : Server S T P) (events : List (ServerEvent S T P)) → IsServerRun same from to most first events last → At [] first → At (queue_events events) last
+  history_from first last [] run base = subst (At []) (sym run) base
+  history_from first last (event ∷ before) run base = let (middle, some, step) = run in stepped event before middle last step (history_from first middle before some base)
 
-  pub none_heard : (connections : Connections S T P) (was is : Option (Tally S)) → is ≡ was → Hearing connections connections 0 was is
-  none_heard connections was is same = record {
-    keys = [];
-    so_many = refl;
-    heard = refl;
-    grown = λ h p. not_grown h connections.event_count connections.slots p;
-    handed = tallies_begin (λ t u. (t.unheard ≡ u.unheard) × (u ≡ record t { unheard = u.unheard })) was is same (λ t. (refl, refl));
-  }
+  -- The queue and the tasks follow from the events.
+  pub history : (count : ℕ) (first last : Server S T P) (events : List (ServerEvent S T P)) → IsNew count first → IsServerRun same from to most first events last → At (queue_events events) last
+  history count first last events new run = history_from first last events run (record {
+    moment_is = new.event_count;
+    waits = λ k. ap (λ o. option_and_then waiting_of o) (new.none k);
+    tasks = λ k. ap (λ o. option_and_then (λ c. task_of c.state) o) (new.none k);
+    in_turn = tt;
+  })
 
-  pub one_heard : (old middle new : Connections S T P) (count key : ℕ) (was reported is : Option (Tally S)) → Hearing old middle count was reported → Tallies (HandsOut (Some key)) reported is
-      → JoinsAt is_by key middle.event_count new.event_count middle.slots new.slots → KeepsTasks middle.slots new.slots → middle.most_open ≡ old.most_open → Hears same middle.most_open from to key middle.slots new.slots → Hearing old new (count + 1) was is
-  one_heard old middle new count key was reported is p out joins tasks most heard = record {
-    keys = p.keys ++ key ∷ [];
-    so_many = length-append p.keys (key ∷ []) ∙ ap (λ n. n + 1) p.so_many;
-    heard = heard_more from to same old.most_open p.keys key old.slots middle.slots new.slots p.heard (subst (λ m. Hears same m from to key middle.slots new.slots) most heard);
-    grown = λ h is. grown_more middle.most_open h p.keys key middle.event_count new.event_count old.slots middle.slots new.slots (p.grown h is) joins tasks heard;
-    handed = tallies_then (λ t u. (t.unheard ≡ p.keys ++ u.unheard) × (u ≡ record t { unheard = u.unheard })) (HandsOut (Some key))
-        (λ t u. (t.unheard ≡ (p.keys ++ key ∷ []) ++ u.unheard) × (u ≡ record t { unheard = u.unheard })) was reported is p.handed out (λ t u v q r. let (rest, front, next) = r in (
-          q.0 ∙ (ap (λ l. p.keys ++ l) (front ∙ ap (λ l. key ∷ l) (sym (ap (λ x. x.unheard) next))) ∙ sym (append_assoc p.keys (key ∷ []) v.unheard)),
-          next ∙ (ap (λ (x : Tally S). record x { unheard = rest }) q.1 ∙ ap (λ l. record t { unheard = l }) (sym (ap (λ x. x.unheard) next))),
-        ));
-  }
+  -- Each request came from an accepted connection, and each open connection stands under the key of its arrival.
+  abbrev Stands : List (ServerEvent S T P) → Slab (Connection S T P) → Type 0
+  Stands events slots = All (IsSentBySome from.unread (filter_map arrival_in events)) (filter_map joined_in events) × StandsByKey from.unread (filter_map arrival_in events) slots
 
-  -- No ready connection is left.
-  pub all_heard : (old new : Connections S T P) (count : ℕ) (was reported is : Option (Tally S)) → Hearing old new count was reported → Tallies (HandsOut None) reported is
-      → HasHeard same is_by from to old new was is
-  all_heard old new count was reported is p out = record {
-    keys = p.keys;
-    heard = p.heard;
-    grown = p.grown;
-    all = tallies_then (λ t u. (t.unheard ≡ p.keys ++ u.unheard) × (u ≡ record t { unheard = u.unheard })) (HandsOut None)
-        (λ t u. length t.unheard ≤ MOST_READY → (p.keys ≡ t.unheard) × (u ≡ record t { unheard = [] })) was reported is p.handed out (λ t u v q r le.
-        (sym (q.0 ∙ (ap (λ l. p.keys ++ l) r.0 ∙ append-nil p.keys)), r.1 ∙ (q.1 ∙ ap (λ l. record t { unheard = l }) r.0)));
-  }
+  more_came : (came : Arrival S) (events : List (ServerEvent S T P)) → All (IsSentBySome from.unread (filter_map arrival_in events)) (filter_map joined_in events)
+      → All (IsSentBySome from.unread (came ∷ filter_map arrival_in events)) (filter_map joined_in events)
+  more_came came events = All-weaker (IsSentBySome from.unread (filter_map arrival_in events)) (IsSentBySome from.unread (came ∷ filter_map arrival_in events))
+      (sent_more from.unread (came ∷ []) (filter_map arrival_in events)) (filter_map joined_in events)
 
-  -- MOST_READY connections were read, and there can't be more.
-  pub most_heard : (old new : Connections S T P) (count : ℕ) (was is : Option (Tally S)) → MOST_READY ≤ count → Hearing old new count was is → HasHeard same is_by from to old new was is
-  most_heard old new count was is most p = record {
-    keys = p.keys;
-    heard = p.heard;
-    grown = p.grown;
-    all = tallies_weaker (λ t u. (t.unheard ≡ p.keys ++ u.unheard) × (u ≡ record t { unheard = u.unheard })) (λ t u. length t.unheard ≤ MOST_READY → (p.keys ≡ t.unheard) × (u ≡ record t { unheard = [] }))
-        was is p.handed (λ t u q le.
-        let none : u.unheard ≡ [] = empty_if_no_longer u.unheard (omega (arith, le, most, p.so_many, ap length q.0, length-append p.keys u.unheard)) in
-        (sym (q.0 ∙ (ap (λ l. p.keys ++ l) none ∙ append-nil p.keys)), q.1 ∙ ap (λ l. record t { unheard = l }) none));
-  }
+  stood : (event : ServerEvent S T P) (before : List (ServerEvent S T P)) (old new : Server S T P) → IsStep same from to most event old new → Stands before old.slots → Stands (event ∷ before) new.slots
+  stood (Comes came at) before old new p q = (more_came came before q.0, stands_added from.unread most at (filter_map arrival_in before) came old.slots new.slots p.slots q.1)
+  stood (IsLost came) before old new p q = (
+    more_came came before q.0,
+    stands_fewer from.unread (came ∷ filter_map arrival_in before) old.slots new.slots
+        (same_new old.slots new.slots (λ k. ap (λ l. slice_index_or l k None) p.slots)) (stands_lost from.unread (filter_map arrival_in before) came old.slots q.1),
+  )
+  stood Evicts before old new p q = (q.0, stands_fewer from.unread (filter_map arrival_in before) old.slots new.slots (removed_new old.slots new.slots p.slots.key p.slots.out) q.1)
+  stood Ends before old new p q = let (none, owners, closes) = p.slots in let (readers, keeps, fewer) = closes in
+      (q.0, stands_fewer from.unread (filter_map arrival_in before) old.slots new.slots fewer q.1)
+  stood (Waits wake) before old new p q = subst (Stands before) (sym p.slots) q
+  stood (Advances whose None) before old new p q = let (hears, tasks, queue) = p.slots in (q.0, stands_heard from to same most (filter_map arrival_in before) whose old.slots new.slots hears q.1)
+  stood (Advances whose (Some j)) before old new p q = let (hears, tasks, joins) = p.slots in let (own, free, queue) = joins in
+      let after = stands_heard from to same most (filter_map arrival_in before) whose old.slots new.slots hears q.1 in (
+        All-cons (IsSentBySome from.unread (filter_map arrival_in before)) j (filter_map joined_in before)
+            (subst (λ k. IsSentBySome from.unread (filter_map arrival_in before) (record { whose = k; listener = j.listener; request = j.request; party = j.party })) (sym own)
+            (asked_at from.unread (filter_map arrival_in before) new.slots whose j.listener j.request j.party old.event_count after (queue whose ∙ joins_at old.slots whose j old.event_count))) q.0,
+        after,
+      ) where
+        joins_at : (slots : Slab (Connection S T P)) (whose : ℕ) (j : Joining P) (m : ℕ) → queue_with (queue_in slots) whose (newly j.party j.listener j.request m) whose ≡ Some (newly j.party j.listener j.request m)
+        joins_at slots whose j m = elim (eqb_tells whose whose) [
+          | inl (equal, at) ↦ ap (λ b. if b then Some (newly j.party j.listener j.request m) else queue_in slots whose) equal
+          | inr (differ, isnt) ↦ absurd (isnt refl)
+        ]
+  stood (Expires at) before old new p q = (q.0, stands_fewer from.unread (filter_map arrival_in before) old.slots new.slots (closed_new at old.slots new.slots p.slots) q.1)
+  stood (Takes None) before old new p q = subst (Stands before) (sym p.slots.1) q
+  stood (Takes (Some turn)) before old new p q = let t = p.slots in (
+    q.0,
+    stands_kept from.unread (filter_map arrival_in before) old.slots new.slots
+        (turn_requests same t.ticket.party old.event_count old.slots new.slots turn.whose t.connection t.later t.step t.there t.stays t.others t.request
+        (λ reads. let none = sym t.reported ∙ ap last_poll reads in absurd (cc))) q.1,
+  )
 
-  -- Every ready connection advanced since the wait, and then those whose deadline was over were closed.
-  pub waited_so : (now : ℕ) (limit : Option ℕ) (began : ℕ) (old middle new : Connections S T P) (a b c d : Option (Tally S)) → Tallies (ShowsTime began) a b → Tallies (WaitsOnce {E = NetworkFault} limit (Ok now)) b c
-      → IsInTime limit began old.slots → IfSome limit (λ most. IsDueAt old.accept_state began most ⊎ IsDueTo old.slots began most)
-      → HasHeard same is_by from to old middle c d → ClosesExpired now middle.slots new.slots → new.event_count ≡ middle.event_count → HasWaited same is_by from to now old new a d
-  waited_so now limit began old middle new a b c d shows waits in_time due p closed event_count = record {
-    wake = record { limit = limit; at = now; ready = p.keys; owners = owners_in a; is_listening = listening_in a };
-    at = refl;
-    began = began;
-    in_time = in_time;
-    due = due;
-    middle = middle.slots;
-    heard = p.heard;
-    closed = closed;
-    grown = λ h is. grown_kept h p.keys middle.event_count new.event_count old.slots middle.slots new.slots (p.grown h is) event_count (expired_queue now middle.slots new.slots closed)
-        (expired_closed now middle.slots new.slots closed) (closed_new now middle.slots new.slots closed);
-    door = door a d all;
-    known = named a d all;
-  } where
-    After : Tally S → Tally S → Type 0
-    After t u = length t.unheard ≤ MOST_READY → (p.keys ≡ t.unheard) × (u ≡ record t { unheard = [] })
+  abbrev Has : List (ServerEvent S T P) → Server S T P → Type 0
+  Has events server = Keeps_pace events server.stage × Stands events server.slots × (Contains events Ends → server.owners_left ≡ 0)
 
-    Begun : Tally S → Tally S → Type 0
-    Begun t u = (t.clock ≤ began) × (began ≤ now) × ((ready : List ℕ) × (length ready ≤ MOST_READY) × (u ≡ record t {
-      waits = t.waits + 1;
-      wakes = record { limit = limit; at = now; ready = ready; owners = t.owners; is_listening = t.is_listening } ∷ t.wakes;
-      unheard = ready;
-      missed = t.missed + length t.unheard;
-      clock = now;
-    }))
+  has : (first last : Server S T P) (events : List (ServerEvent S T P)) → IsServerRun same from to most first events last → Has [] first → Has events last
+  has first last [] run base = subst (Has []) (sym run) base
+  has first last (event ∷ before) run base = let (middle, some, step) = run in let (pace, stands, ended) = has first middle before some base in (
+    paced event before middle.stage last.stage step.stage pace,
+    stood event before middle last step stands,
+    λ among. elim (Contains-cons_cases event Ends before among) [
+      | inl is ↦ let none = (subst (λ e. Changes same from to most e middle last.slots) is step.slots).0 in omega (arith, none, step.owners)
+      | inr earlier ↦ let none = ended earlier in omega (arith, none, step.owners)
+    ],
+  )
 
-    Known : Tally S → Tally S → Type 0
-    Known t u = (t.clock ≤ began) × (began ≤ now) × (u ≡ record t {
-      waits = t.waits + 1;
-      wakes = record { limit = limit; at = now; ready = p.keys; owners = t.owners; is_listening = t.is_listening } ∷ t.wakes;
-      unheard = [];
-      missed = t.missed + length t.unheard;
-      clock = now;
-    })
+  pub rounds : IsEquivalence same → {O : Type 0} (is_by : Listener → List ℕ → P → Type 0) (answers : O → Listener → List ℕ → Poll T → O → Type 0) (resumes : O → T → Poll T → O → Type 0)
+      (count : ℕ) (first last : Server S T P) (events : List (ServerEvent S T P)) (old new : O) → IsNew count first → IsServerRun same from to most first events last → last.stage ≡ Accepting
+      → Serves is_by answers resumes old (queue_events events) new → AreRounds same is_by from.unread events last.owners_left
+  rounds laws is_by answers resumes count first last events old new fresh run rests served =
+      let in_turn = named is_by answers resumes same old new (queue_events events) (history count first last events fresh run).in_turn served in
+      let (pace, stands, ended) = has first last events run begins in
+      let even = subst (Keeps_pace events) rests pace in record {
+        in_turn = in_turn;
+        none_twice = none_twice same laws is_by (queue_events events) in_turn;
+        requested = stands.0;
+        advanced = even.0;
+        expired = even.1;
+        ended = ended;
+      } where
+        begins : Has [] first
+        begins = (
+          subst (Keeps_pace {S = S} {T = T} {P = P} []) (sym fresh.stage) (refl, refl),
+          (All-nil (IsSentBySome {P = P} from.unread []), λ key. each_some (get first.slots key) _ (λ connection there. let e : None ≡ Some connection = sym (fresh.none key) ∙ there in absurd (cc))),
+          λ among. absurd (omega (arith, among.1)),
+        )
 
-    begun : (t u v : Tally S) → ShowsTime began t u → WaitsOnce {E = NetworkFault} limit (Ok now) u v → Begun t v
-    begun t u v q r = (
-      q.0,
-      subst (λ (x : Tally S). x.clock ≤ now) q.1 r.0,
-      (
-        r.1.0,
-        r.1.1,
-        r.1.2 ∙ ap (λ (x : Tally S). record x {
-          waits = x.waits + 1;
-          wakes = record { limit = limit; at = now; ready = r.1.0; owners = x.owners; is_listening = x.is_listening } ∷ x.wakes;
-          unheard = r.1.0;
-          missed = x.missed + length x.unheard;
-          clock = now;
-        }) q.1,
-      ),
-    )
+  -- The service changed by turns alone, each in order.
+  pub turned : IsEquivalence same → {O : Type 0} (is_by : Listener → List ℕ → P → Type 0) (answers : O → Listener → List ℕ → Poll T → O → Type 0) (resumes : O → T → Poll T → O → Type 0)
+      (count : ℕ) (first last : Server S T P) (events : List (ServerEvent S T P)) (old new : O) → IsNew count first → IsServerRun same from to most first events last
+      → Serves is_by answers resumes old (queue_events events) new → IsServedInTurn same is_by answers resumes old new
+      × IsServiceRun answers resumes old new no_tasks (tasks_in last.slots)
+  turned laws is_by answers resumes count first last events old new fresh run served =
+      let past = history count first last events fresh run in
+      let in_turn = named is_by answers resumes same old new (queue_events events) past.in_turn served in
+      let ran = service_ran is_by answers resumes same old new (queue_events events) (tasks_in last.slots) past.tasks in_turn served in (
+        record {
+          history = queue_events events;
+          left = tasks_in last.slots;
+          run = ran;
+          its = refl;
+          in_turn = in_turn;
+          none_twice = none_twice same laws is_by (queue_events events) in_turn;
+        },
+        ran,
+      )
 
-    known : (t u v : Tally S) → Begun t u → After u v → Known t v
-    known t u v q r = let (clock, order, more) = q in let (ready, most, is) = more in
-        let (keys, next) = r (subst (λ (x : Tally S). length x.unheard ≤ MOST_READY) (sym is) most) in
-        let all : ready ≡ p.keys = sym (keys ∙ ap (λ (x : Tally S). x.unheard) is) in
-        (clock, order, next ∙ (ap (λ (x : Tally S). record x { unheard = [] }) is ∙ ap (λ (l : List ℕ). record t { waits = t.waits + 1; wakes = record { limit = limit; at = now; ready = l; owners = t.owners; is_listening = t.is_listening } ∷ t.wakes; unheard = []; missed = t.missed + length t.unheard; clock = now }) all))
+  pub run_then : (a b c : Server S T P) (es fs : List (ServerEvent S T P)) → IsServerRun same from to most a es b → IsServerRun same from to most b fs c → IsServerRun same from to most a (fs ++ es) c
+  run_then a b c es [] p q = subst (IsServerRun same from to most a es) (sym q) p
+  run_then a b c es (event ∷ fs) p q = let (middle, some, step) = q in (middle, run_then a b middle es fs p some, step)
 
-    all : Tallies Known a d
-    all = tallies_then Begun After Known a c d (tallies_then (ShowsTime began) (WaitsOnce {E = NetworkFault} limit (Ok now)) Begun a b c shows waits begun) p.all known
-
-    door : (a d : Option (Tally S)) → Tallies Known a d → Tallies (λ t u. (owners_in a ≡ t.owners) × (listening_in a ≡ t.is_listening)) a d
-    door None d q = tt
-    door (Some t) None q = absurd q
-    door (Some t) (Some u) q = (refl, refl)
-
-    named : (a d : Option (Tally S)) → Tallies Known a d → Tallies (λ t u. (t.clock ≤ began) × (began ≤ now) × (u ≡ record t {
-      waits = t.waits + 1;
-      wakes = record { limit = limit; at = now; ready = p.keys; owners = owners_in a; is_listening = listening_in a } ∷ t.wakes;
-      unheard = [];
-      missed = t.missed + length t.unheard;
-      clock = now;
-    })) a d
-    named None d q = tt
-    named (Some t) None q = absurd q
-    named (Some t) (Some u) q = q
-
--- The network's tally agrees with these rounds: the waits are theirs, each request came from an accepted connection, no ready connection
--- was passed over, and each connection stands under the key of its arrival.
-pub record IsNet {S T P : Type 0} (unread : S → Option (List ℕ)) (rounds : List (Round T P)) (slots : Slab (Connection S T P)) (t u : Tally S) : Type 0 where
-  pub waited : u.wakes ≡ map (λ r. r.wake) rounds ++ t.wakes
-  pub requested : AreSentBySome unread u.arrivals rounds
-  pub passed_over : t.unheard ≡ [] → (u.unheard ≡ []) × (u.missed ≡ t.missed)
-  pub stands : StandsByKey unread u.arrivals slots
-
-sent_more : {S P : Type 0} (unread : S → Option (List ℕ)) (xs : List (Arrival S)) (arrivals : List (Arrival S)) (j : Joining P) → IsSentBySome unread arrivals j → IsSentBySome unread (xs ++ arrivals) j
-sent_more unread xs arrivals j p = record {
-  came = p.came;
-  among = Contains-append_right xs arrivals p.came p.among;
-  key = p.key;
-  listener = p.listener;
-  rest = p.rest;
-  begins = p.begins;
+-- The tally agrees with the events before and then with those after.
+pub agrees_then : {S T P : Type 0} (a b c : Server S T P) (es fs : List (ServerEvent S T P)) (t u v : Tally S) → Agrees a es b t u → Agrees b fs c u v → Agrees a (fs ++ es) c t v
+agrees_then a b c es fs t u v p q = record {
+  owners = omega (arith, p.owners, q.owners);
+  accepted = q.accepted ∙ (ap (λ l. filter_map arrival_in fs ++ l) p.accepted ∙ (sym (append_assoc (filter_map arrival_in fs) (filter_map arrival_in es) t.arrivals)
+      ∙ ap (λ l. l ++ t.arrivals) (sym (filter_map-append arrival_in fs es))));
+  waited = q.waited ∙ (ap (λ l. filter_map wake_in fs ++ l) p.waited ∙ (sym (append_assoc (filter_map wake_in fs) (filter_map wake_in es) t.wakes)
+      ∙ ap (λ l. l ++ t.wakes) (sym (filter_map-append wake_in fs es))));
+  none_missed = λ none. let (unheard, missed) = p.none_missed none in let (later, more) = q.none_missed unheard in (later, more ∙ missed);
 }
 
-module _ {S T P : Type 0} (unread : S → Option (List ℕ)) where
-  all_asked_more : (xs : List (Arrival S)) (arrivals : List (Arrival S)) (rounds : List (Round T P)) → AreSentBySome unread arrivals rounds → AreSentBySome unread (xs ++ arrivals) rounds
-  all_asked_more xs arrivals [] p = tt
-  all_asked_more xs arrivals (r ∷ before) p = (All-weaker (IsSentBySome unread arrivals) (IsSentBySome unread (xs ++ arrivals)) (sent_more unread xs arrivals) r.joined p.0, all_asked_more xs arrivals before p.1)
-
-  -- Connections were accepted.
-  pub net_accepted : (rounds : List (Round T P)) (slots later : Slab (Connection S T P)) (t u v : Tally S) → IsNet unread rounds slots t u → v.wakes ≡ u.wakes → v.unheard ≡ u.unheard → v.missed ≡ u.missed
-      → (xs : List (Arrival S)) × (v.arrivals ≡ xs ++ u.arrivals) → StandsStill unread slots later u v → IsNet unread rounds later t v
-  net_accepted rounds slots later t u v p wakes unheard missed more stands = let (xs, is) = more in record {
-    waited = wakes ∙ p.waited;
-    requested = subst (λ arrivals. AreSentBySome unread arrivals rounds) (sym is) (all_asked_more xs u.arrivals rounds p.requested);
-    passed_over = λ none. let (all, same) = p.passed_over none in (unheard ∙ all, missed ∙ same);
-    stands = stands p.stands;
+module _ {S T P : Type 0} (same : P → P → Bool) (from : source.Ghosts S) (to : sink.Ghosts S) where
+  -- These events came after the run.
+  abbrev pub ran_then : (most : ℕ) (a b c : Server S T P) (fs : List (ServerEvent S T P)) (was reported is : Option (Tally S)) → HasRun same from to most a b was reported
+      → IsServerRun same from to most b fs c → Tallies (Agrees b fs c) reported is → HasRun same from to most a c was is
+  ran_then most a b c fs was reported is p run net = record {
+    events = fs ++ p.events;
+    run = run_then same from to most a b c p.events fs p.run run;
+    net = tallies_then (Agrees a p.events b) (Agrees b fs c) (Agrees a (fs ++ p.events) c) was reported is p.net net (agrees_then a b c p.events fs);
   }
 
-  -- One more round.
-  pub net_waited : (round : Round T P) (rounds : List (Round T P)) (slots middle later : Slab (Connection S T P)) (now : ℕ) (t u v : Tally S) → IsNet unread rounds slots t u
-      → v ≡ record u { waits = u.waits + 1; wakes = round.wake ∷ u.wakes; unheard = []; missed = u.missed + length u.unheard; clock = now }
-      → ((arrivals : List (Arrival S)) → StandsByKey unread arrivals slots → All (IsSentBySome unread arrivals) round.joined × StandsByKey unread arrivals middle) → KeepsRequests middle later
-      → IsNet unread (round ∷ rounds) later t v
-  net_waited round rounds slots middle later now t u v p is requested keeps = subst (IsNet unread (round ∷ rounds) later t) (sym is) (record {
-    waited = ap (λ l. round.wake ∷ l) p.waited;
-    requested = ((requested u.arrivals p.stands).0, p.requested);
-    passed_over = λ none. let (all, same) = p.passed_over none in (refl, omega (arith, same, ap length all));
-    stands = stands_kept unread u.arrivals middle later keeps (requested u.arrivals p.stands).1;
-  })
-
-module _ {S T P O : Type 0} (same : P → P → Bool) (is_by : Listener → List ℕ → P → Type 0) (answers : O → Listener → List ℕ → Poll T → O → Type 0)
-    (resumes : O → T → Poll T → O → Type 0) (from : source.Ghosts S) (to : sink.Ghosts S) where
-  -- The rounds so far.
-  pub record IsServedSoFar (old new : O) (event_count : ℕ) (connections : Slab (Connection S T P)) (was is : Option (Tally S)) : Type 0 where
-    pub rounds : List (Round T P)
-    pub history : IsHistoryIn same is_by (happenings_of rounds) event_count connections
-    pub run : IsServiceRun answers resumes old new no_tasks (tasks_in connections)
-    pub its : run.turns ≡ turns_taken (happenings_of rounds)
-    pub regular : AreRounds same rounds
-    pub net : Tallies (IsNet from.unread rounds connections) was is
-
-  pub begins : (service same_office : O) (event_count : ℕ) (connections : Slab (Connection S T P)) (was : Option (Tally S)) → same_office ≡ service → event_count ≡ 0 → ((key : ℕ) → get connections key ≡ None)
-      → ((key : ℕ) → queue_in connections key ≡ None) → ((key : ℕ) → tasks_in connections key ≡ None) → IsServedSoFar service same_office event_count connections was was
-  begins service same_office event_count connections was is none empty queue tasks = record {
-    rounds = [];
-    history = record { moment_is = none; waits = queue; tasks = tasks; in_turn = tt };
-    run = record { turns = []; runs = is; own = tt; rest = λ k. sym (tasks k) };
-    its = refl;
-    regular = tt;
-    net = tallies_begin (IsNet from.unread [] connections) was was refl (λ t. record {
-      waited = refl;
-      requested = tt;
-      passed_over = λ unheard. (unheard, refl);
-      stands = λ key. each_some (get connections key) _ (λ connection there. let e : None ≡ Some connection = sym (empty key) ∙ there in absurd (cc));
-    });
+  -- Nothing was done yet.
+  abbrev pub ran_none : (most : ℕ) (a : Server S T P) (was : Option (Tally S)) → HasRun same from to most a a was was
+  ran_none most a was = record {
+    events = [];
+    run = refl;
+    net = tallies_begin (Agrees a [] a) was was refl (λ t. record { owners = refl; accepted = refl; waited = refl; none_missed = λ none. (none, refl) });
   }
 
-  pub accepted_so : (old new : O) (event_count now : ℕ) (connections later : Slab (Connection S T P)) (was reported is : Option (Tally S)) → now ≡ event_count → KeepsQueue connections later → KeepsTasks connections later
-      → Tallies (λ t u. ((u.wakes ≡ t.wakes) × (u.unheard ≡ t.unheard) × (u.missed ≡ t.missed) × ((xs : List (Arrival S)) × (u.arrivals ≡ xs ++ t.arrivals))) × StandsStill from.unread connections later t u) reported is
-      → IsServedSoFar old new event_count connections was reported → IsServedSoFar old new now later was is
-  accepted_so old new event_count now connections later was reported is at queue tasks accepts p = record {
-    rounds = p.rounds;
-    history = same_history same is_by (happenings_of p.rounds) event_count now connections later at queue tasks p.history;
-    run = run_kept answers resumes old new no_tasks (tasks_in connections) (tasks_in later) p.run tasks;
-    its = p.its;
-    regular = p.regular;
-    net = tallies_then (IsNet from.unread p.rounds connections) (λ t u. ((u.wakes ≡ t.wakes) × (u.unheard ≡ t.unheard) × (u.missed ≡ t.missed)
-        × ((xs : List (Arrival S)) × (u.arrivals ≡ xs ++ t.arrivals))) × StandsStill from.unread connections later t u) (IsNet from.unread p.rounds later) was reported is p.net accepts
-        (λ t u v q r. net_accepted from.unread p.rounds connections later t u v q r.0.0 r.0.1 r.0.2 r.0.3 r.1);
-  }
+  -- The same with events that don't change the queue.
+  abbrev pub RunsQuietly : ℕ → Server S T P → Server S T P → Option (Tally S) → Option (Tally S) → Type 0
+  RunsQuietly most a b was is = (ran : HasRun same from to most a b was is) × (queue_events ran.events ≡ [])
 
-  pub fewer_so : (old new : O) (event_count now : ℕ) (connections later : Slab (Connection S T P)) (was is : Option (Tally S)) → now ≡ event_count → KeepsQueue connections later → KeepsTasks connections later
-      → NoneNew connections later → IsServedSoFar old new event_count connections was is → IsServedSoFar old new now later was is
-  fewer_so old new event_count now connections later was is at queue tasks none p = record {
-    rounds = p.rounds;
-    history = same_history same is_by (happenings_of p.rounds) event_count now connections later at queue tasks p.history;
-    run = run_kept answers resumes old new no_tasks (tasks_in connections) (tasks_in later) p.run tasks;
-    its = p.its;
-    regular = p.regular;
-    net = tallies_weaker (IsNet from.unread p.rounds connections) (IsNet from.unread p.rounds later) was is p.net (λ t u q. record {
-      waited = q.waited;
-      requested = q.requested;
-      passed_over = q.passed_over;
-      stands = stands_fewer from.unread u.arrivals connections later none q.stands;
-    });
-  }
+  pub quiet_then : (most : ℕ) (a b c : Server S T P) (fs : List (ServerEvent S T P)) (was reported is : Option (Tally S)) → RunsQuietly most a b was reported
+      → IsServerRun same from to most b fs c → queue_events fs ≡ [] → Tallies (Agrees b fs c) reported is → RunsQuietly most a c was is
+  quiet_then most a b c fs was reported is p run none net = (
+    ran_then most a b c fs was reported is p.0 run net,
+    filter_map-append queue_event fs p.0.events ∙ (ap (λ l. l ++ queue_events p.0.events) none ∙ p.1),
+  )
 
-  pub round_so : (old middle new : O) (now event_count : ℕ) (connections heard : Connections S T P) (later : Slab (Connection S T P)) (was reported is : Option (Tally S))
-      → HasWaited same is_by from to now connections heard reported is → KeepsTasks connections.slots heard.slots
-      → TakesNext answers resumes same heard.event_count event_count heard.slots later middle new → KeepsRequests heard.slots later
-      → IsServedSoFar old middle connections.event_count connections.slots was reported → IsServedSoFar old new event_count later was is
-  round_so old middle new now event_count connections heard later was reported is w tasks (inl none) keeps p = let (nobody, at, kept, service) = none in
-      let q = w.grown (happenings_of p.rounds) p.history in
-      let round : Round T P = record { wake = w.wake; joined = q.joined; turn = None } in subst (λ o. IsServedSoFar old o event_count later was is) (sym service) (record {
-        rounds = round ∷ p.rounds;
-        history = same_history same is_by (with_joined q.joined (happenings_of p.rounds)) heard.event_count event_count heard.slots later at (λ k. ap (λ s. queue_in s k) kept) (λ k. ap (λ s. tasks_in s k) kept) q.is;
-        run = run_kept answers resumes old middle no_tasks (tasks_in connections.slots) (tasks_in later) p.run (λ k. ap (λ s. tasks_in s k) kept ∙ tasks k);
-        its = p.its ∙ sym (turns_joined q.joined (happenings_of p.rounds));
-        regular = (q.reported, (λ _ whose. sym (q.is.waits whose) ∙ nobody whose), p.regular);
-        net = tallies_then (IsNet from.unread p.rounds connections.slots) _ (IsNet from.unread (round ∷ p.rounds) later) was reported is p.net w.known
-            (λ t u v n r. net_waited from.unread round p.rounds connections.slots heard.slots later now t u v n r.2 q.requested keeps);
-      })
-  round_so old middle new now event_count connections heard later was reported is w tasks (inr one) keeps p = let (at, t) = one in
-      let q = w.grown (happenings_of p.rounds) p.history in
-      let round : Round T P = record { wake = w.wake; joined = q.joined; turn = Some t.turn } in
-      let h = with_joined q.joined (happenings_of p.rounds) in record {
-        rounds = round ∷ p.rounds;
-        history = record {
-          moment_is = omega (arith, at, q.is.moment_is);
-          waits = λ k. t.queue k ∙ (ap (λ m. queue_after same (queue_in heard.slots) t.turn m k) q.is.moment_is ∙ renamed t.turn (length h) h q.is.waits k);
-          tasks = λ k. t.tasks k ∙ ap (λ o. if k == t.turn.whose then pending_task t.turn.poll else o) (q.is.tasks k);
-          in_turn = (next_in t.turn.whose h q.is.waits t.next, what_in t.turn h q.is.waits q.is.tasks t.input, q.is.in_turn);
-        };
-        run = run_more answers resumes old middle new no_tasks (tasks_in heard.slots) (tasks_in later)
-            (run_kept answers resumes old middle no_tasks (tasks_in connections.slots) (tasks_in heard.slots) p.run tasks) (run_of t);
-        its = ap (λ ts. ts ++ t.turn ∷ []) (p.its ∙ sym (turns_joined q.joined (happenings_of p.rounds)));
-        regular = (q.reported, (λ none. absurd (cc none)), p.regular);
-        net = tallies_then (IsNet from.unread p.rounds connections.slots) _ (IsNet from.unread (round ∷ p.rounds) later) was reported is p.net w.known
-            (λ t u v n r. net_waited from.unread round p.rounds connections.slots heard.slots later now t u v n r.2 q.requested keeps);
-      } where
-        run_of : TakesTurn answers resumes same heard.event_count heard.slots later middle new → IsServiceRun answers resumes middle new (tasks_in heard.slots) (tasks_in later)
-        run_of t = record {
-          turns = t.turn ∷ [];
-          runs = (new, t.comes, refl);
-          own = (own_of (queue_in heard.slots t.turn.whose) (tasks_in heard.slots t.turn.whose) t.turn.input t.input, tt);
-          rest = λ k. sym (t.tasks k);
-        }
+  -- The network did something that is no event.
+  pub quiet_call : (most : ℕ) (a b : Server S T P) (was reported is : Option (Tally S)) → RunsQuietly most a b was reported → Tallies (Agrees b [] b) reported is → RunsQuietly most a b was is
+  quiet_call most a b was reported is p net = quiet_then most a b b [] was reported is p refl refl net
 
-        renamed : (turn : Turn T) (m : ℕ) (h : List (QueueEvent T P)) → ((k : ℕ) → queue_in heard.slots k ≡ queue_of same h k) → (k : ℕ)
-            → queue_after same (queue_in heard.slots) turn m k ≡ queue_after same (queue_of same h) turn m k
-        renamed turn m h agree k =
-            ap (λ o. if k == turn.whose then option_and_then (waits_on turn.poll m) o else option_map (queued_behind same (queue_in heard.slots turn.whose) m) o) (agree k)
-            ∙ ap (λ s. if k == turn.whose then option_and_then (waits_on turn.poll m) (queue_of same h k) else option_map (queued_behind same s m) (queue_of same h k)) (agree turn.whose)
-
-        next_in : (whose : ℕ) (h : List (QueueEvent T P)) → ((k : ℕ) → queue_in heard.slots k ≡ queue_of same h k) → IsNext (queue_in heard.slots) whose → IsNext (queue_of same h) whose
-        next_in whose h agree next = record {
-          waiting = next.waiting;
-          there = sym (agree whose) ∙ next.there;
-          longest = λ other. subst (λ (o : Option (Waiting P)). IfSome o (λ w. ¬ (HasWaitedLonger w next.waiting))) (agree other) (next.longest other);
-        }
-
-        what_in : (turn : Turn T) (h : List (QueueEvent T P)) → ((k : ℕ) → queue_in heard.slots k ≡ queue_of same h k) → ((k : ℕ) → tasks_in heard.slots k ≡ tasks_of h k)
-            → IsWhatWaits (queue_in heard.slots turn.whose) (tasks_in heard.slots turn.whose) turn.input
-            → IsWhatWaits (queue_of same h turn.whose) (tasks_of h turn.whose) turn.input
-        what_in turn h agree tasks what =
-            subst (λ o. IsWhatWaits (queue_of same h turn.whose) o turn.input) (tasks turn.whose)
-            (subst (λ o. IsWhatWaits o (tasks_in heard.slots turn.whose) turn.input) (agree turn.whose) what)
-
-  -- The rounds so far still agree with the tally after a call that changes nothing they depend on.
-  quiet_so : (Quiet : Tally S → Tally S → Type 0) → (old new : O) (event_count : ℕ) (connections : Slab (Connection S T P)) (was reported is : Option (Tally S))
-      → ((rounds : List (Round T P)) (t u v : Tally S) → IsNet from.unread rounds connections t u → Quiet u v → IsNet from.unread rounds connections t v)
-      → Tallies Quiet reported is → IsServedSoFar old new event_count connections was reported → IsServedSoFar old new event_count connections was is
-  quiet_so Quiet old new event_count connections was reported is keeps quiet p = record {
-    rounds = p.rounds;
-    history = p.history;
-    run = p.run;
-    its = p.its;
-    regular = p.regular;
-    net = tallies_then (IsNet from.unread p.rounds connections) Quiet (IsNet from.unread p.rounds connections) was reported is p.net quiet (keeps p.rounds);
-  }
-
-  pub clocked_so : (old new : O) (event_count : ℕ) (connections : Slab (Connection S T P)) (was reported is : Option (Tally S)) → Tallies OnlyClock reported is
-      → IsServedSoFar old new event_count connections was reported → IsServedSoFar old new event_count connections was is
-  clocked_so old new event_count connections was reported is = quiet_so OnlyClock old new event_count connections was reported is
-      (λ rounds t u v q r. subst (IsNet from.unread rounds connections t) (sym r) (record { waited = q.waited; requested = q.requested; passed_over = q.passed_over; stands = q.stands }))
-
-  pub stopped_so : (old new : O) (event_count : ℕ) (connections : Slab (Connection S T P)) (was reported is : Option (Tally S)) → Tallies OnlyListening reported is
-      → IsServedSoFar old new event_count connections was reported → IsServedSoFar old new event_count connections was is
-  stopped_so old new event_count connections was reported is = quiet_so OnlyListening old new event_count connections was reported is
-      (λ rounds t u v q r. subst (IsNet from.unread rounds connections t) (sym r) (record { waited = q.waited; requested = q.requested; passed_over = q.passed_over; stands = q.stands }))
-
-  pub in_turn : IsEquivalence same → (old new : O) (event_count : ℕ) (connections : Slab (Connection S T P)) (was is : Option (Tally S)) → IsServedSoFar old new event_count connections was is
-      → IsServedInTurn same is_by answers resumes old new
-  in_turn laws old new event_count connections was is p = record {
-    history = happenings_of p.rounds;
-    left = tasks_in connections;
-    run = p.run;
-    its = p.its;
-    in_turn = p.history.in_turn;
-    none_twice = none_twice same laws is_by (happenings_of p.rounds) p.history.in_turn;
-  }
-
-  pub in_rounds : IsEquivalence same → (old new : O) (event_count : ℕ) (connections : Slab (Connection S T P)) (was is : Option (Tally S)) → IsServedSoFar old new event_count connections was is
-      → Tallies (IsServedInRounds same is_by answers resumes from.unread old new) was is
-  in_rounds laws old new event_count connections was is p = tallies_weaker (IsNet from.unread p.rounds connections) (IsServedInRounds same is_by answers resumes from.unread old new) was is p.net (λ t u q. record {
-    rounds = p.rounds;
-    left = tasks_in connections;
-    run = p.run;
-    its = p.its;
-    in_turn = p.history.in_turn;
-    none_twice = none_twice same laws is_by (happenings_of p.rounds) p.history.in_turn;
-    regular = p.regular;
-    waited = q.waited;
-    requested = q.requested;
-    passed_over = λ none. (q.passed_over none).1;
-  })
-
-  -- The network failed.
-  pub broken_rounds : (old new : O) (was reported is : Option (Tally S)) → Tallies BreaksDown reported is → Tallies (IsServedInRounds same is_by answers resumes from.unread old new) was reported
-      → Tallies (IsServedInRounds same is_by answers resumes from.unread old new) was is
-  broken_rounds old new was reported is breaks p = tallies_then (IsServedInRounds same is_by answers resumes from.unread old new) BreaksDown (IsServedInRounds same is_by answers resumes from.unread old new)
-      was reported is p breaks (λ t u v q r. let (failed, arrivals, wakes, missed, owners, listening, accepts) = r in record {
-        rounds = q.rounds;
-        left = q.left;
-        run = q.run;
-        its = q.its;
-        in_turn = q.in_turn;
-        none_twice = q.none_twice;
-        regular = q.regular;
-        waited = wakes ∙ q.waited;
-        requested = subst (λ (l : List (Arrival S)). AreSentBySome from.unread l q.rounds) (sym arrivals) q.requested;
-        passed_over = λ none. missed ∙ q.passed_over none;
-      })
+  -- So many connections are admitted.
+  pub quiet_within : (most more : ℕ) (a b : Server S T P) (was is : Option (Tally S)) → most ≡ more → RunsQuietly most a b was is → RunsQuietly more a b was is
+  quiet_within most more a b was is same_most p = subst (λ m. RunsQuietly m a b was is) same_most p

@@ -1,6 +1,6 @@
 -- Each connection stands under the key of its arrival.
 use Rattle.std.proofs.Common.{◌≡◌, ◌≢◌, ◌∙◌, ◌++◌, ℕ, inl, inr, List, [], ◌∷◌, Option, None, Some, ap, refl, subst, sym}
-use Rattle.toll_server.proofs.Common.{eqb_tells, SameValues, Slab, Updates, get, state_behind, ticket_of, AddsConnection, EvictsOldest, Hears, HearsAll, IsConnectionOf, StaysOrGoes, KeepsRequests, MakesRoom, NoneNew, StandsByKey, connection_behind, queue_in, stays_after, unless_expired, ClosesExpired, Arrival, Waiting, newly, IsSentBySome, Advances, waiting_of, waiting_with, Connection, Reading, Queued, Working, Writing, Listener}
+use Rattle.toll_server.proofs.Common.{eqb_tells, SameValues, Slab, Updates, get, state_behind, ticket_of, AddsConnection, EvictsOldest, Hears, StaysOrGoes, NoneNew, connection_behind, queue_in, stays_after, unless_expired, ClosesExpired, Arrival, Joining, Waiting, newly, IsSentBySome, Advances, waiting_of, waiting_with, Connection, Reading, Queued, Working, Writing, Listener}
 use Rattle.std.specs.Prelude.{Bool, true, false, if◌then◌else◌, IfSome, IsSome, option_and_then, option_map, slice_set}
 use Rattle.std.specs.List.{Contains}
 use Rattle.std.specs.Io.KnownBytes.{Consumes}
@@ -11,9 +11,27 @@ use Rattle.toll_protocol.specs.declared.streams.sink.Sink as sink
 use Rattle.toll_protocol.specs.declared.streams.source.Source as source
 use Rattle.toll_server.specs.RequestBuffers.{bytes_received, listener_of}
 use Rattle.toll_server.specs.declared.connection_state.ConnectionState.{ConnectionState}
-use Rattle.toll_server.specs.declared.connections.AcceptState.{AcceptState}
 use Rattle.toll_server.specs.declared.step_result.StepResult.{StepResult}
 use Rattle.toll_server.specs.declared.step_result.StepResult.TheVariants.{Waits, Joins, Answered, Failed}
+
+module _ {S T P : Type 0} where
+  -- The connection is this arrival: it came at its listener, and its request began its stream. While it is reading, the rest of the stream
+  -- is unread.
+  pub record IsConnectionOf (unread : S → Option (List ℕ)) (came : Arrival S) (connection : Connection S T P) : Type 0 where
+    pub listener : came.listener ≡ listener_of connection.request
+    pub rest : Option (List ℕ)
+    pub begins : Consumes (unread came.stream) rest (bytes_received connection.request)
+    pub reads : connection.state ≡ Reading → unread connection.stream ≡ rest
+
+  -- Each connection's key is the key of its arrival.
+  abbrev pub StandsByKey : (S → Option (List ℕ)) → List (Arrival S) → Slab (Connection S T P) → Type 0
+  StandsByKey unread arrivals connections =
+      (key : ℕ) → IfSome (get connections key) (λ connection. (came : Arrival S) × Contains arrivals came × (came.key ≡ key) × IsConnectionOf unread came connection)
+
+  -- Each connection was there before with the same request. One that is reading is unchanged.
+  abbrev pub KeepsRequests : Slab (Connection S T P) → Slab (Connection S T P) → Type 0
+  KeepsRequests old new = (key : ℕ) → IfSome (get new key) (λ later.
+      (connection : Connection S T P) × (get old key ≡ Some connection) × (later.request ≡ connection.request) × (later.state ≡ Reading → later ≡ connection))
 
 pub each_some : {A : Type 0} (o : Option A) (P : A → Type 0) → ((x : A) → o ≡ Some x → P x) → IfSome o P
 each_some None P p = tt
@@ -43,11 +61,6 @@ module _ {S T P : Type 0} where
   pub evicted_new : (old new : Slab (Connection S T P)) → EvictsOldest old new → NoneNew old new
   evicted_new old new (inl none) = same_new old new none.1
   evicted_new old new (inr one) = removed_new old new one.key one.out
-
-  pub room_new : (count now : ℕ) (old new : Slab (Connection S T P)) (state : AcceptState) → MakesRoom count now old new state → NoneNew old new
-  room_new count now old new state (inl some) = same_new old new (λ key. ap (λ s. get s key) some.1)
-  room_new count now old new state (inr (inl none)) = same_new old new (λ key. ap (λ s. get s key) none.2)
-  room_new count now old new state (inr (inr one)) = removed_new old new one.1.key one.1.out
 
   unless_new : (now : ℕ) (o : Option (Connection S T P)) (connection : Connection S T P) → unless_expired now o ≡ Some connection → o ≡ Some connection
   unless_new now None connection is = is
@@ -204,8 +217,3 @@ module _ {S T P : Type 0} (from : source.Ghosts S) (to : sink.Ghosts S) where
     nobody = λ none. let e : Some connection ≡ None = sym there ∙ none in absurd (cc);
     others = back.others;
   }
-
-  pub heard_more : (same : P → P → Bool) (most : ℕ) (keys : List ℕ) (key : ℕ) (old middle new : Slab (Connection S T P)) → HearsAll same most from to keys old middle → Hears same most from to key middle new
-      → HearsAll same most from to (keys ++ key ∷ []) old new
-  heard_more same most [] key old middle new all one = (new, subst (λ s. Hears same most from to key s new) all one, refl)
-  heard_more same most (k ∷ keys) key old middle new all one = let (next, first, rest) = all in (next, first, heard_more same most keys key next middle new rest one)

@@ -1,6 +1,6 @@
--- The tally, step by step; and which connections stay meanwhile.
-use Rattle.std.proofs.Common.{◌≡◌, ◌∙◌, ◌≢◌, ℕ, inl, inr, ap, true, false, Option, None, Some, refl, sym, subst, Err, IfSome, Ok, OnErr, OnOk, Result, is_err, option_map}
-use Rattle.toll_server.proofs.Common.{Slab, get, KeepsSubmitted, TimesReply, ShowsTime, Tallies, Tally, Connection, Reading}
+-- The tally, step by step.
+use Rattle.std.proofs.Common.{◌≡◌, ◌∙◌, ℕ, List, [], inl, inr, ap, true, false, Option, None, Some, refl, sym, subst, Err, Ok, OnErr, OnOk, Result, is_err, option_map}
+use Rattle.toll_server.proofs.Common.{Slab, Agrees, BreaksDown, Connection, Server, ShowsTime, Tallies, Tally, TimesReply}
 
 pub tallies_begin : {S : Type 0} (P : Tally S → Tally S → Type 0) (a b : Option (Tally S)) → b ≡ a → ((t : Tally S) → P t t) → Tallies P a b
 tallies_begin P None b is p = tt
@@ -28,6 +28,10 @@ tallies_both P Q None b p q = tt
 tallies_both P Q (Some t) None p q = absurd p
 tallies_both P Q (Some t) (Some u) p q = (p, q)
 
+-- The same, of an equal number.
+pub tallies_at : {S : Type 0} (P : ℕ → Tally S → Tally S → Type 0) (n m : ℕ) (a b : Option (Tally S)) → n ≡ m → Tallies (P n) a b → Tallies (P m) a b
+tallies_at P n m a b is p = subst (λ k. Tallies (P k) a b) is p
+
 -- At most the clock went on; nothing else changed.
 abbrev pub OnlyClock : {S : Type 0} → Tally S → Tally S → Type 0
 OnlyClock t u = u ≡ record t { clock = u.clock }
@@ -36,10 +40,12 @@ OnlyClock t u = u ≡ record t { clock = u.clock }
 abbrev pub OnlyListening : {S : Type 0} → Tally S → Tally S → Type 0
 OnlyListening t u = u ≡ record t { is_listening = u.is_listening }
 
+pub time_shown : {S : Type 0} (now : ℕ) (a b : Option (Tally S)) → Tallies (ShowsTime now) a b → Tallies OnlyClock a b
+time_shown now a b p = tallies_weaker (ShowsTime now) OnlyClock a b p (λ t u p. p.1 ∙ ap (λ n. record t { clock = n }) (sym (ap (λ x. x.clock) p.1)))
+
 pub clock_went_on : {S T P : Type 0} (old new : Slab (Connection S T P)) (a b : Option (Tally S)) → TimesReply old new a b → Tallies OnlyClock a b
 clock_went_on old new a b (now, inl none, times) = tallies_begin OnlyClock a b none.1 (λ t. refl)
-clock_went_on old new a b (now, inr shows, times) =
-    tallies_weaker (ShowsTime now) OnlyClock a b shows (λ t u p. p.1 ∙ ap (λ n. record t { clock = n }) (sym (ap (λ x. x.clock) p.1)))
+clock_went_on old new a b (now, inr shows, times) = time_shown now a b shows
 
 pub on_err : {A E X : Type 0} (r : Result A E) → is_err r ≡ true → OnErr r X → X
 on_err (Ok x) is p = absurd (cc)
@@ -49,12 +55,16 @@ pub on_ok_holds : {A E X : Type 0} (r : Result A E) → is_err r ≡ false → O
 on_ok_holds (Ok x) is p = p
 on_ok_holds (Err e) is p = absurd (cc)
 
-module _ {S T P : Type 0} where
-  keep_more : (key : ℕ) (old middle new : Option (Connection S T P)) → IfSome old (λ connection. connection.state ≢ Reading → middle ≡ Some connection)
-      → IfSome middle (λ connection. connection.state ≢ Reading → new ≡ Some connection) → IfSome old (λ connection. connection.state ≢ Reading → new ≡ Some connection)
-  keep_more key None middle new p q = tt
-  keep_more key (Some connection) middle new p q = λ some.
-      let stays = subst (λ (o : Option (Connection S T P)). IfSome o (λ connection. connection.state ≢ Reading → new ≡ Some connection)) (p some) q in stays some
+-- What a server sees of a call that is no event: its tally agrees still.
+module _ {S T P : Type 0} (server : Server S T P) (a b : Option (Tally S)) where
+  pub clock_agrees : Tallies OnlyClock a b → Tallies (Agrees server [] server) a b
+  clock_agrees p = tallies_weaker OnlyClock (Agrees server [] server) a b p
+      (λ t u r. subst (Agrees server [] server t) (sym r) (record { owners = refl; accepted = refl; waited = refl; none_missed = λ none. (none, refl) }))
 
-  pub keeps_more : (old middle new : Slab (Connection S T P)) → KeepsSubmitted old middle → KeepsSubmitted middle new → KeepsSubmitted old new
-  keeps_more old middle new p q key = keep_more key (get old key) (get middle key) (get new key) (p key) (q key)
+  pub listening_agrees : Tallies OnlyListening a b → Tallies (Agrees server [] server) a b
+  listening_agrees p = tallies_weaker OnlyListening (Agrees server [] server) a b p
+      (λ t u r. subst (Agrees server [] server t) (sym r) (record { owners = refl; accepted = refl; waited = refl; none_missed = λ none. (none, refl) }))
+
+  pub broken_agrees : Tallies BreaksDown a b → Tallies (Agrees server [] server) a b
+  broken_agrees p = tallies_weaker BreaksDown (Agrees server [] server) a b p
+      (λ t u r. subst (Agrees server [] server t) (sym r) (record { owners = refl; accepted = refl; waited = refl; none_missed = λ none. (none, refl) }))

@@ -1,16 +1,12 @@
 -- What accepting the connections that wait at the listeners does.
 use Rattle.std.specs.Prelude.{◌≡◌, ◌⊎◌, ◌+◌, ◌++◌, ◌∷◌, ℕ, List, length, OnOk, Option, Result}
 use Rattle.slab.specs.Slab.{Slab}
-use Rattle.toll_server.specs.Connections.{AddsAll, MakesRoom, StandsByKey}
+use Rattle.toll_server.specs.Connections.{AddsAll, MakesRoom}
 use Rattle.toll_server.specs.Networks.{Arrival, IsPausedAt, Lacks, NoneWaits, Tally}
 use Rattle.toll_server.specs.declared.connection.Connection.{Connection}
 use Rattle.toll_server.specs.declared.connections.AcceptState.TheVariants.{Open, Backlogged}
 use Rattle.toll_server.specs.declared.connections.Connections.{Connections}
 use Rattle.toll_server.specs.declared.connections.TheConstants.{MOST_ACCEPTS}
-
--- If each old connection stands under its key, so does each new one, including those just accepted.
-abbrev pub StandsStill : {S T P : Type 0} → (S → Option (List ℕ)) → Slab (Connection S T P) → Slab (Connection S T P) → Tally S → Tally S → Type 0
-StandsStill unread old new t u = StandsByKey unread t.arrivals old → StandsByKey unread u.arrivals new
 
 module _ {S T P : Type 0} where
   -- Accepting stopped because there were no resources for the next connection, or no memory for one that was accepted.

@@ -1,16 +1,14 @@
 -- The open connections, by their keys.
-use Rattle.std.specs.Prelude.{◌≡◌, ◌≢◌, ◌≤◌, ◌<◌, ◌+◌, ◌-◌, ◌*◌, ◌^◌, ◌⊎◌, ◌||◌, ◌&&◌, ℕ, Bool, true, false, count_by, max, List, [], ◌∷◌, min, Option, None, Some, IfSome, IsSome, ⊤, is_some, is_none, nat_lt, not, slice_set, option_and_then, if◌then◌else◌}
+use Rattle.std.specs.Prelude.{◌≡◌, ◌≢◌, ◌≤◌, ◌<◌, ◌+◌, ◌-◌, ◌*◌, ◌^◌, ◌⊎◌, ◌||◌, ◌&&◌, ℕ, Bool, true, false, count_by, max, List, [], ◌∷◌, min, Option, None, Some, IfSome, IsSome, ⊤, is_some, is_none, nat_lt, not, length, slice_set, option_and_then, option_map, option_to_list, if◌then◌else◌}
 use Rattle.slab.specs.Slab.{SameValues, Slab, Updates, get, slab_len}
-use Rattle.std.specs.List.{Contains}
-use Rattle.std.specs.Io.KnownBytes.{Consumes}
 use Rattle.toll_protocol.specs.declared.streams.sink.Sink as sink
 use Rattle.toll_protocol.specs.declared.streams.source.Source as source
 use Rattle.toll_server.specs.RequestBuffers.{bytes_received, listener_of}
 use Rattle.toll_server.specs.Networks.{Arrival, ShowsTime, Tallies, Tally}
-use Rattle.toll_server.specs.Queues.{IsNext, IsWhatWaits, Queue, Waiting, is_of, newly, queue_after, queue_with}
-use Rattle.toll_server.specs.Runs.{Tasks, Turn, Yields, after_turn}
-use Rattle.toll_server.specs.ConnectionStates.{is_reading, last_poll, reply_in_state, state_behind, task_of, ticket_of}
-use Rattle.toll_server.specs.Steps.{Advances, deadline_after, deadline_from, waiting_of}
+use Rattle.toll_server.specs.Queues.{IsNext, IsWhatWaits, Joining, Queue, Waiting, is_of, newly, queue_with}
+use Rattle.toll_server.specs.Runs.{Tasks, Turn}
+use Rattle.toll_server.specs.ConnectionStates.{is_reading, last_poll, reply_in_state, state_behind, task_of, ticket_after, ticket_of}
+use Rattle.toll_server.specs.Steps.{Advances, Writes, deadline_after, deadline_from, handed_over, waiting_of}
 use Rattle.toll_server.specs.declared.filter.Filter.{Filter}
 use Rattle.toll_server.specs.declared.filter.Filter.TheVariants.{Reading, ReadingAt, Submitted, Queued, Timed, Owners}
 use Rattle.toll_server.specs.declared.listener.Listener.{Listener}
@@ -23,9 +21,9 @@ use Rattle.toll_server.specs.declared.connection.Connection.{Connection}
 use Rattle.toll_server.specs.declared.expiry.Earliest.{Earliest}
 use Rattle.toll_server.specs.declared.expiry.Next.{Next}
 use Rattle.toll_server.specs.declared.expiry.Wait.{Wait}
-use Rattle.toll_server.specs.declared.poll.Poll.{Poll}
 use Rattle.toll_server.specs.declared.connection_state.ConnectionState.TheVariants.{Reading as ReadingState}
 use Rattle.toll_server.specs.declared.step_result.StepResult.{StepResult}
+use Rattle.toll_server.specs.declared.ticket.Ticket.{Ticket}
 use Rattle.toll_server.specs.declared.step_result.StepResult.TheVariants.{Waits, Joins, Answered, Failed}
 
 -- The wait may last this long; None means without an end.
@@ -187,11 +185,15 @@ module _ {S T P : Type 0} where
 
   -- The request of the connection with this key became whole and joined the queue, and all others keep their places; or nothing joined the
   -- queue.
-  abbrev pub JoinsAt : (Listener → List ℕ → P → Type 0) → ℕ → ℕ → ℕ → Slab (Connection S T P) → Slab (Connection S T P) → Type 0
-  JoinsAt is_by key event_count later old new =
-      ((later ≡ event_count) × KeepsQueue old new)
-      ⊎ ((listener : Listener) × (request : List ℕ) × (party : P) × is_by listener request party × (later ≡ event_count + 1) × (queue_in old key ≡ None)
-      × ((whose : ℕ) → queue_in new whose ≡ queue_with (queue_in old) key (newly party listener request event_count) whose))
+  abbrev pub JoinsAt : ℕ → Option (Joining P) → ℕ → Slab (Connection S T P) → Slab (Connection S T P) → Type 0
+  JoinsAt key None event_count old new = KeepsQueue old new
+  JoinsAt key (Some j) event_count old new = (j.whose ≡ key) × (queue_in old key ≡ None)
+      × ((whose : ℕ) → queue_in new whose ≡ queue_with (queue_in old) key (newly j.party j.listener j.request event_count) whose)
+
+  -- The connection with this key joined the queue, for a party that the request is of, and so there is one event more; or it didn't.
+  abbrev pub MayJoin : (Listener → List ℕ → P → Type 0) → ℕ → ℕ → ℕ → Slab (Connection S T P) → Slab (Connection S T P) → Type 0
+  MayJoin is_by key event_count later old new = (joined : Option (Joining P)) × JoinsAt key joined event_count old new
+      × (later ≡ event_count + length (option_to_list joined)) × IfSome joined (λ j. is_by j.listener j.request j.party)
 
   -- The connection was just accepted: it is reading, and nothing of its request was received.
   abbrev pub IsNewcomer : Listener → S → ℕ → Connection S T P → Type 0
@@ -225,24 +227,6 @@ module _ {S T P : Type 0} where
       ((0 < count) × (new ≡ old) × (state ≡ Backlogged))
       ⊎ ((count ≡ 0) × NoneIncluded Reading old × (new ≡ old) × (state ≡ Paused (min (now + PAUSE_MILLISECONDS) (2 ^ 64 - 1))))
       ⊎ ((count ≡ 0) × EvictsReader old new × (state ≡ Backlogged))
-
-  -- The connection is this arrival: it came at its listener, and its request began its stream. While it is reading, the rest of the stream
-  -- is unread.
-  pub record IsConnectionOf (unread : S → Option (List ℕ)) (came : Arrival S) (connection : Connection S T P) : Type 0 where
-    pub listener : came.listener ≡ listener_of connection.request
-    pub rest : Option (List ℕ)
-    pub begins : Consumes (unread came.stream) rest (bytes_received connection.request)
-    pub reads : connection.state ≡ ReadingState → unread connection.stream ≡ rest
-
-  -- Each connection's key is the key of its arrival.
-  abbrev pub StandsByKey : (S → Option (List ℕ)) → List (Arrival S) → Slab (Connection S T P) → Type 0
-  StandsByKey unread arrivals connections =
-      (key : ℕ) → IfSome (get connections key) (λ connection. (came : Arrival S) × Contains arrivals came × (came.key ≡ key) × IsConnectionOf unread came connection)
-
-  -- Each connection was there before with the same request. One that is reading is unchanged.
-  abbrev pub KeepsRequests : Slab (Connection S T P) → Slab (Connection S T P) → Type 0
-  KeepsRequests old new = (key : ℕ) → IfSome (get new key) (λ later.
-      (connection : Connection S T P) × (get old key ≡ Some connection) × (later.request ≡ connection.request) × (later.state ≡ ReadingState → later ≡ connection))
 
   -- A connection stays after a step in which it waits or joins the queue.
   abbrev pub stays_after : StepResult → Connection S T P → Option (Connection S T P)
@@ -283,34 +267,30 @@ module _ {S T P : Type 0} where
     pub nobody : get old key ≡ None → get new key ≡ None
     pub others : OnlyAt key old new
 
-  -- The same for each of these keys, one after another.
-  abbrev pub HearsAll : (P → P → Bool) → ℕ → source.Ghosts S → sink.Ghosts S → List ℕ → Slab (Connection S T P) → Slab (Connection S T P) → Type 0
-  HearsAll same most from to [] old new = new ≡ old
-  HearsAll same most from to (key ∷ keys) old new = (middle : Slab (Connection S T P)) × Hears same most from to key old middle × HearsAll same most from to keys middle new
-
   -- There is a connection, and its deadline is over.
   abbrev pub IsExpired : ℕ → Option (Connection S T P) → Type 0
   IsExpired now None = ⊥
   IsExpired now (Some connection) = ¬ (IsSome (ticket_of connection.state)) × (connection.deadline ≤ now)
 
-  -- One turn of the service. It was of the connection that had waited longest, which handed over its request or its task once. If that
-  -- connection stays, it has the turn's outcome.
-  pub record TakesTurn {O : Type 0} (answers : O → Listener → List ℕ → Poll T → O → Type 0) (resumes : O → T → Poll T → O → Type 0) (same : P → P → Bool)
-      (event_count : ℕ) (connections later : Slab (Connection S T P)) (old new : O) : Type 0 where
-    pub turn : Turn T
-    pub next : IsNext (queue_in connections) turn.whose
-    pub input : IsWhatWaits (queue_in connections turn.whose) (tasks_in connections turn.whose) turn.input
-    pub comes : Yields answers resumes old turn.input turn.poll new
-    pub includes : IfSome (get later turn.whose) (λ connection. last_poll connection.state ≡ Some turn.poll)
-    pub tasks : (key : ℕ) → tasks_in later key ≡ after_turn (tasks_in connections) turn key
-    pub queue : (key : ℕ) → queue_in later key ≡ queue_after same (queue_in connections) turn event_count key
-
-  -- The service took a turn; or no connection is queued, and nothing was done.
-  abbrev pub TakesNext : {O : Type 0} → (O → Listener → List ℕ → Poll T → O → Type 0) → (O → T → Poll T → O → Type 0) → (P → P → Bool) → ℕ → ℕ
-      → Slab (Connection S T P) → Slab (Connection S T P) → O → O → Type 0
-  TakesNext answers resumes same event_count now_moment connections later old new =
-      (NobodyWaits connections × (now_moment ≡ event_count) × (later ≡ connections) × (new ≡ old))
-      ⊎ ((now_moment ≡ event_count + 1) × TakesTurn answers resumes same event_count connections later old new)
+  -- One turn of the service. It was of the connection that had waited longest, which handed over its request or its task once. That
+  -- connection has the turn's outcome. It is closed if its reply was written, or couldn't be, and no other is: those of its party begin to
+  -- wait anew.
+  pub record TakesTurn (same : P → P → Bool) (to : sink.Ghosts S) (event_count : ℕ) (turn : Turn T) (old new : Slab (Connection S T P)) : Type 0 where
+    pub next : IsNext (queue_in old) turn.whose
+    pub input : IsWhatWaits (queue_in old turn.whose) (tasks_in old turn.whose) turn.input
+    pub connection : Connection S T P
+    pub ticket : Ticket P
+    pub later : Connection S T P
+    pub step : StepResult
+    pub there : get old turn.whose ≡ Some connection
+    pub queued : ticket_of connection.state ≡ Some ticket
+    pub request : later.request ≡ connection.request
+    pub reported : last_poll later.state ≡ Some turn.poll
+    pub place : ticket_of later.state ≡ ticket_after turn.poll event_count ticket
+    pub pending : IsSome (ticket_of later.state) → step ≡ Waits
+    pub writes : Writes to (handed_over connection) later step
+    pub stays : get new turn.whose ≡ stays_after step later
+    pub others : (other : ℕ) → other ≢ turn.whose → get new other ≡ option_map (connection_behind same ticket.party event_count) (get old other)
 
   -- The deadline of a reply begins at a millisecond that the clock shows, and no other deadline changes. If no connection is queued, the
   -- clock isn't read.

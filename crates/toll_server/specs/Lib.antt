@@ -6,5 +6,5 @@ pub mod Steps
 pub mod Networks
 pub mod Connections
 pub mod Accepting
-pub mod Closings
+pub mod ServerEvents
 pub mod Rounds

@@ -69,10 +69,9 @@ module _ {S : Type 0} where
   abbrev pub ShowsTime : ℕ → Tally S → Tally S → Type 0
   ShowsTime now t u = (t.clock ≤ now) × (u ≡ record t { clock = now })
 
--- The network failed. No connection was accepted, and there was no other wait.
+-- The network failed: no connection was accepted, and there was no wait that it knows the end of.
 abbrev pub BreaksDown : {S : Type 0} → Tally S → Tally S → Type 0
-BreaksDown t u = (u.failed ≡ true) × (u.arrivals ≡ t.arrivals) × (u.wakes ≡ t.wakes) × (u.missed ≡ t.missed) × (u.owners ≡ t.owners)
-    × (u.is_listening ≡ t.is_listening) × (u.accepts ≡ t.accepts)
+BreaksDown t u = u ≡ record t { waits = u.waits; failed = true; clock = u.clock }
 
 abbrev pub owners_at : Listener → ℕ
 owners_at Owners = 1

@@ -1,9 +1,16 @@
 -- The queue for the service, and whose turn is next: a function of the events so far, newest first.
 use Rattle.std.specs.Prelude.{◌≡◌, ◌==◌, ◌<◌, ◌⊎◌, ℕ, Bool, false, List, [], ◌∷◌, ◌++◌, length, ⊤, Option, None, Some, IfSome, IsTrue, option_map, option_and_then, if◌then◌else◌}
-use Rattle.toll_server.specs.Runs.{Input, IsServiceRun, Request, Task, Tasks, Turn, after_turn, no_tasks}
+use Rattle.toll_server.specs.Runs.{Input, IsServiceRun, Request, Task, Tasks, Turn, Yields, after_turn, no_tasks}
 use Rattle.toll_server.specs.declared.listener.Listener.{Listener}
 use Rattle.toll_server.specs.declared.poll.Poll.{Poll}
 use Rattle.toll_server.specs.declared.poll.Poll.TheVariants.{Ready, Pending}
+
+-- a request that became whole: its connection's key, its listener, its bytes, and its party
+pub record Joining (P : Type 0) : Type 0 where
+  pub whose : ℕ
+  pub listener : Listener
+  pub request : List ℕ
+  pub party : P
 
 -- an event: a connection's request became whole and joins the queue, with its listener and party; or the service takes a turn
 pub data QueueEvent (T P : Type 0) : Type 0 where
@@ -57,6 +64,14 @@ module _ {T P : Type 0} where
   tasks_of [] = no_tasks
   tasks_of (Joins whose listener request party ∷ before) = tasks_of before
   tasks_of (Takes turn ∷ before) = after_turn (tasks_of before) turn
+
+-- The service named the party of each request, and took each turn; it did nothing else.
+abbrev pub Serves : {O T P : Type 0} → (Listener → List ℕ → P → Type 0) → (O → Listener → List ℕ → Poll T → O → Type 0) → (O → T → Poll T → O → Type 0)
+    → O → List (QueueEvent T P) → O → Type 0
+Serves is_by answers resumes old [] new = new ≡ old
+Serves is_by answers resumes old (Joins whose listener request party ∷ before) new = is_by listener request party × Serves is_by answers resumes old before new
+Serves {O} is_by answers resumes old (Takes turn ∷ before) new =
+    (middle : O) × Serves is_by answers resumes old before middle × Yields answers resumes middle turn.input turn.poll new
 
 module _ {P : Type 0} (same : P → P → Bool) where
   -- whether the place in the queue belongs to this party

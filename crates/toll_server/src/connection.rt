@@ -70,7 +70,7 @@ impl<S: Stream, T: Drop, P: Drop> Connection<S, T, P> {
             ReadStatus::Waiting => StepResult::Waits,
             ReadStatus::Failed => StepResult::Failed,
             ReadStatus::Complete => {
-                let party = O::party(self.request.listener(), self.request.bytes());
+                let party = O::party(&self.request);
                 self.state = ConnectionState::Queued(Ticket::new(party, event_count));
                 StepResult::Joins
             }
@@ -91,8 +91,7 @@ impl<S: Stream, T: Drop, P: Drop> Connection<S, T, P> {
     {
         match mem::replace(&mut self.state, ConnectionState::Reading) {
             ConnectionState::Queued(ticket) => {
-                let listener = self.request.listener();
-                let poll = service.answer(alloc, listener, self.request.bytes());
+                let poll = service.answer(alloc, &self.request);
                 Some(TurnOutcome { ticket, poll })
             }
             ConnectionState::Working(ticket, task) => {

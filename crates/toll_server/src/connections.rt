@@ -1,8 +1,7 @@
 //! The open connections.
-ghost use Rattle.std.specs.Prelude.{◌≡◌, ◌↔◌, ◌≤◌, ◌<◌, ◌+◌, ◌⊎◌, ◌^◌, None, IfSome, IsTrue, OnErr, OnOk};
+ghost use Rattle.std.specs.Prelude.{◌≡◌, ◌↔◌, ◌≤◌, ◌<◌, ◌+◌, ◌⊎◌, ◌^◌, [], None, IfSome, IsTrue, OnErr, OnOk};
 ghost use Rattle.slab.specs.Slab.{HasRoomFor, Updates, get, slab_len};
-ghost use Rattle.toll_server.specs.Connections.{AddsNext, ClosesExpired, Hears, IsDueAt, IsDueTo, IsInTime, IsOverShare, IsShed, JoinsAt, KeepsQueue, KeepsRequests, KeepsSubmitted, KeepsTasks, MakesRoom, NoneNew, TakesNext, TimesReply, WindsDown, most_submitted, stays_after};
-ghost use Rattle.toll_server.specs.Closings.{GivesTurn};
+ghost use Rattle.toll_server.specs.Connections.{AddsNext, ClosesExpired, Hears, IsDueAt, IsDueTo, IsInTime, IsOverShare, IsShed, KeepsTasks, MakesRoom, MayJoin, TimesReply, WindsDown, most_submitted, stays_after};
 ghost use Rattle.toll_server.specs.Steps.{waiting_of};
 ghost use Rattle.toll_server.specs.Networks.{Accepts, IsPaused, IsPausedAt, ListensFor, Tallies, owners_at};
 ghost use Rattle.toll_server.specs.declared.listener.Listener.{Listener};
@@ -60,7 +59,9 @@ pub struct Connections<S, T, P> {
 }
 
 impl<S: Stream, T: Drop, P: Eq + Drop> Connections<S, T, P> {
-    ghost use Rattle.toll_server.specs.Accepting.{HasAccepted, StandsStill};
+    ghost use Rattle.toll_server.specs.Accepting.{HasAccepted};
+    ghost use Rattle.toll_server.specs.Rounds.{TakesNext};
+    ghost use Rattle.toll_server.specs.ServerEvents.{Accepting, HasRun, queue_events, server_at};
 
     /// No connection is open yet, as many may be at once as this network admits, and this number of owners is
     /// to be accepted.
@@ -121,10 +122,8 @@ impl<S: Stream, T: Drop, P: Eq + Drop> Connections<S, T, P> {
         ensures fails { OnErr result (0 < self.new.owners_left) }
         ensures listens { Tallies (λ t u. u.is_listening ≡ t.is_listening) (W.tally network.old) (W.tally network.new) }
         ensures added { Tallies (HasAccepted result self.old self.new) (W.tally network.old) (W.tally network.new) }
-        ensures stands { Tallies (StandsStill S.Source.unread self.old.slots self.new.slots) (W.tally network.old) (W.tally network.new) }
-        ensures submitted { KeepsSubmitted self.old.slots self.new.slots }
-        ensures tasks { KeepsTasks self.old.slots self.new.slots }
-        ensures queue { KeepsQueue self.old.slots self.new.slots }
+        ensures ran { (ran : HasRun P.eq S.Source S.Sink self.old.most_open (server_at self.old Accepting) (server_at self.new Accepting)
+            (W.tally network.old) (W.tally network.new)) × (queue_events ran.events ≡ []) }
         ensures event_count { self.new.event_count ≡ self.old.event_count }
         ensures most_open { self.new.most_open ≡ self.old.most_open }
     {
@@ -192,9 +191,6 @@ impl<S: Stream, T: Drop, P: Eq + Drop> Connections<S, T, P> {
         ensures owners_left { self.new.owners_left + owners_at listener ≡ self.old.owners_left }
         ensures added { OnOk result (AddsNext self.old.most_open now listener stream self.old.slots self.new.slots) }
         ensures same { OnErr result (self.new.slots.slots ≡ self.old.slots.slots) }
-        ensures submitted { KeepsSubmitted self.old.slots self.new.slots }
-        ensures tasks { KeepsTasks self.old.slots self.new.slots }
-        ensures queue { KeepsQueue self.old.slots self.new.slots }
         ensures event_count { self.new.event_count ≡ self.old.event_count }
         ensures most_open { self.new.most_open ≡ self.old.most_open }
         ensures accept_state { self.new.accept_state ≡ self.old.accept_state }
@@ -247,7 +243,7 @@ impl<S: Stream, T: Drop, P: Eq + Drop> Connections<S, T, P> {
     /// queue, and leaves room for those that have less.
     pub fn advance<O: Service<Task = T, Party = P>>(&mut self, key: usize)
         requires { self.old.event_count + 1 < 2 ^ 128 }
-        ensures joins { JoinsAt O.is_by key self.old.event_count self.new.event_count self.old.slots self.new.slots }
+        ensures joins { MayJoin O.is_by key self.old.event_count self.new.event_count self.old.slots self.new.slots }
         ensures more { self.new.event_count ≤ self.old.event_count + 1 }
         ensures most_open { self.new.most_open ≡ self.old.most_open }
         ensures tasks { KeepsTasks self.old.slots self.new.slots }
@@ -297,12 +293,10 @@ impl<S: Stream, T: Drop, P: Eq + Drop> Connections<S, T, P> {
         service: &mut O,
     )
         requires { self.old.event_count + 1 < 2 ^ 128 }
-        ensures gives { (self.new.slots ≡ self.old.slots) ⊎ GivesTurn P.eq S.Sink self.old.slots self.new.slots }
-        ensures turn { TakesNext O.answers O.resumes P.eq self.old.event_count self.new.event_count self.old.slots self.new.slots service.old service.new }
+        ensures turn { TakesNext P.eq O.is_by O.answers O.resumes S.Source S.Sink self.old self.new service.old service.new }
         ensures more { self.new.event_count ≤ self.old.event_count + 1 }
         ensures most_open { self.new.most_open ≡ self.old.most_open }
         ensures deadline { TimesReply self.old.slots self.new.slots (W.tally network.old) (W.tally network.new) }
-        ensures requests { KeepsRequests self.old.slots self.new.slots }
         ensures fewer { slab_len self.new.slots ≤ slab_len self.old.slots }
         ensures owners_left { self.new.owners_left ≡ self.old.owners_left }
     {
@@ -325,9 +319,6 @@ impl<S: Stream, T: Drop, P: Eq + Drop> Connections<S, T, P> {
     /// idle client of the plant doesn't delay the end.
     pub fn wind_down(&mut self)
         ensures readers { WindsDown self.old.owners_left self.old.slots self.new.slots }
-        ensures none_new { NoneNew self.old.slots self.new.slots }
-        ensures tasks { KeepsTasks self.old.slots self.new.slots }
-        ensures queue { KeepsQueue self.old.slots self.new.slots }
         ensures owners_left { self.new.owners_left ≡ self.old.owners_left }
         ensures event_count { self.new.event_count ≡ self.old.event_count }
         ensures most_open { self.new.most_open ≡ self.old.most_open }

@@ -7,6 +7,7 @@ mod connection_state;
 mod connections;
 mod expiry;
 mod filter;
+mod laws;
 mod listener;
 mod network;
 mod poll;
@@ -18,6 +19,7 @@ mod ticket;
 
 pub use connection::{Connection, MOST_MILLISECONDS, TurnOutcome};
 pub use connection_state::ConnectionState;
+pub use laws::what_is_served_is_served_in_rounds;
 pub use listener::Listener;
 pub use network::{Accepted, MOST_CONNECTIONS, MOST_READY, Network, NetworkFault};
 pub use poll::Poll;

@@ -1,10 +1,11 @@
 //! The service that answers requests.
 ghost use Rattle.std.specs.Prelude.{ℕ, List};
+ghost use Rattle.toll_server.specs.RequestBuffers.{bytes_received, listener_of};
 ghost use Rattle.toll_server.specs.declared.listener.Listener.{Listener};
 ghost use Rattle.toll_server.specs.declared.poll.Poll.{Poll};
 
-use crate::listener::Listener;
 use crate::poll::Poll;
+use crate::request_buffer::RequestBuffer;
 use std::alloc::Global;
 
 /// Answers requests, one turn after another. A reply may take several turns, and other requests are answered
@@ -27,12 +28,12 @@ pub trait Service {
     ghost resumes: { Self → Self.Task → Poll Self.Task → Self → Type 0 };
 
     /// The party of a request.
-    fn party(listener: Listener, request: &[u8]) -> Self::Party
-        ensures { is_by listener request.now result };
+    fn party(request: &RequestBuffer) -> Self::Party
+        ensures { is_by (listener_of request.now) (bytes_received request.now) result };
 
-    /// The reply to the bytes of a request, or what is left to do before there is one.
-    fn answer(&mut self, alloc: Global, listener: Listener, request: &[u8]) -> Poll<Self::Task>
-        ensures { answers self.old listener request.now result self.new };
+    /// The reply to a request, or what is left to do before there is one.
+    fn answer(&mut self, alloc: Global, request: &RequestBuffer) -> Poll<Self::Task>
+        ensures { answers self.old (listener_of request.now) (bytes_received request.now) result self.new };
 
     /// Resumes the task that a turn left.
     fn resume(&mut self, alloc: Global, task: Self::Task) -> Poll<Self::Task>

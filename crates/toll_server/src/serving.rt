@@ -1,11 +1,12 @@
 //! Serving connections side by side.
 ghost use Rattle.std.specs.Prelude.{◌≡◌, ◌≤◌, ◌<◌, ◌+◌, ◌^◌, ℕ, OnErr, OnOk};
-ghost use Rattle.toll_server.specs.Closings.{AreClosedForCause};
-ghost use Rattle.toll_server.specs.Connections.{KeepsTasks};
+ghost use Rattle.slab.specs.Slab.{slab_len};
 ghost use Rattle.toll_server.specs.Queues.{IsServedInTurn};
-ghost use Rattle.toll_server.specs.Rounds.{HasHeard, HasWaited, IsServedInRounds, ListensTill};
+ghost use Rattle.toll_server.specs.Rounds.{HasHeard, HasWaited, ListensTill, ServesFrom};
 ghost use Rattle.toll_server.specs.Runs.{IsWholeRun};
+ghost use Rattle.toll_server.specs.ServerEvents.{Accepting, IsServed, server_at};
 ghost use Rattle.toll_server.specs.Networks.{BreaksDown, EndsSo, Tallies};
+ghost use Rattle.toll_server.specs.declared.connections.AcceptState.{AcceptState};
 
 use crate::connections::Connections;
 use crate::network::{MOST_READY, Network, NetworkFault};
@@ -41,17 +42,34 @@ pub fn serve<W: Network, O: Service>(
     service: &mut O,
     count: u64,
 ) -> ServingEnd
+    ensures events { (most : ℕ) × IsServed O.Party.eq W.Stream.Source W.Stream.Sink most O.is_by O.answers O.resumes (W.limit network.old) count
+        (result ≡ ServingEnd.All) service.old service.new (W.tally network.old) (W.tally network.new) }
     ensures run { IsWholeRun O.answers O.resumes service.old service.new (result ≡ ServingEnd.All) }
     ensures in_turn { IsServedInTurn O.Party.eq O.is_by O.answers O.resumes service.old service.new }
-    ensures rounds { Tallies (IsServedInRounds O.Party.eq O.is_by O.answers O.resumes W.Stream.Source.unread service.old service.new)
-        (W.tally network.old) (W.tally network.new) }
     ensures end { Tallies (EndsSo result count) (W.tally network.old) (W.tally network.new) }
     ensures listens { Tallies (ListensTill count) (W.tally network.old) (W.tally network.new) }
-    ensures closes { Tallies (AreClosedForCause O.Task O.Party.eq (W.limit network.old) W.Stream.Source W.Stream.Sink count (result ≡ ServingEnd.All))
-        (W.tally network.old) (W.tally network.new) }
     ensures asks { Tallies (λ t u. 0 < count → t.accepts < u.accepts) (W.tally network.old) (W.tally network.new) }
 {
     let mut connections = Connections::new(alloc, network, count);
+    serve_all(alloc, network, service, &mut connections)
+}
+
+// Serves the owners that are still to be accepted, over connections that are none yet.
+fn serve_all<W: Network, O: Service>(
+    alloc: Global,
+    network: &mut W,
+    service: &mut O,
+    connections: &mut Connections<W::Stream, O::Task, O::Party>,
+) -> ServingEnd
+    requires fresh { connections.old.event_count ≡ 0 }
+    requires open { connections.old.accept_state ≡ AcceptState.Open }
+    ensures served { ServesFrom O.Party.eq O.is_by O.answers O.resumes W.Stream.Source W.Stream.Sink connections.old.most_open
+        (server_at connections.old Accepting) (server_at connections.new Accepting) service.old service.new (W.tally network.old) (W.tally network.new) }
+    ensures over { result ≡ ServingEnd.All → slab_len connections.new.slots ≡ 0 }
+    ensures end { Tallies (EndsSo result connections.old.owners_left) (W.tally network.old) (W.tally network.new) }
+    ensures listens { Tallies (ListensTill connections.old.owners_left) (W.tally network.old) (W.tally network.new) }
+    ensures asks { Tallies (λ t u. 0 < connections.old.owners_left → t.accepts < u.accepts) (W.tally network.old) (W.tally network.new) }
+{
     for _ in 0..u64::MAX {
         if connections.accept(alloc, network).is_err() {
             return ServingEnd::Fault;
@@ -61,7 +79,7 @@ pub fn serve<W: Network, O: Service>(
         if connections.is_over() {
             return ServingEnd::All;
         }
-        match wait_and_advance::<W, O>(network, &mut connections) {
+        match wait_and_advance::<W, O>(network, connections) {
             Ok(()) => connections.take_turn(alloc, network, service),
             Err(_) => return ServingEnd::Fault,
         }
@@ -76,10 +94,10 @@ fn wait_and_advance<W: Network, O: Service>(
     connections: &mut Connections<W::Stream, O::Task, O::Party>,
 ) -> Result<(), NetworkFault>
     requires { connections.old.event_count + MOST_READY < 2 ^ 128 }
-    ensures waited { OnOk result ((now : ℕ) × HasWaited O.Party.eq O.is_by W.Stream.Source W.Stream.Sink now connections.old connections.new
+    ensures waited { OnOk result ((now : ℕ) × HasWaited O.Party.eq O.is_by O.answers O.resumes W.Stream.Source W.Stream.Sink now connections.old connections.new
         (W.tally network.old) (W.tally network.new)) }
     ensures fails { OnErr result (Tallies BreaksDown (W.tally network.old) (W.tally network.new)) }
-    ensures tasks { KeepsTasks connections.old.slots connections.new.slots }
+    ensures unheard { OnErr result (connections.new ≡ connections.old) }
     ensures event_count { connections.new.event_count ≤ connections.old.event_count + MOST_READY }
     ensures owners_left { connections.new.owners_left ≡ connections.old.owners_left }
     ensures most_open { connections.new.most_open ≡ connections.old.most_open }
@@ -97,8 +115,8 @@ fn advance_all<W: Network, O: Service>(
     connections: &mut Connections<W::Stream, O::Task, O::Party>,
 )
     requires { connections.old.event_count + MOST_READY < 2 ^ 128 }
-    ensures heard { HasHeard O.Party.eq O.is_by W.Stream.Source W.Stream.Sink connections.old connections.new (W.tally network.old) (W.tally network.new) }
-    ensures tasks { KeepsTasks connections.old.slots connections.new.slots }
+    ensures heard { HasHeard O.Party.eq O.is_by O.answers O.resumes W.Stream.Source W.Stream.Sink
+        connections.old connections.new (W.tally network.old) (W.tally network.new) }
     ensures event_count { connections.new.event_count ≤ connections.old.event_count + MOST_READY }
     ensures owners_left { connections.new.owners_left ≡ connections.old.owners_left }
     ensures most_open { connections.new.most_open ≡ connections.old.most_open }

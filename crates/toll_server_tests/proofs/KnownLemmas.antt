@@ -1,12 +1,18 @@
 -- What the clauses of serving say of a network to which one owner connects.
 use Rattle.std.proofs.Common.{append-nil, arith, ◌+◌, ◌-◌, ◌≡◌, ◌∙◌, ◌==◌, ◌++◌, ℕ, inl, inr, List, [], ◌∷◌, length, Bool, true, false, Option, None, Some, ap, refl, subst, sym}
-use Rattle.std.specs.Prelude.{All, IfSome, ⊤, option_and_then, option_map, if◌then◌else◌}
+use Rattle.std.specs.Cmp.{IsEquivalence}
+use Rattle.std.specs.Prelude.{All, IfSome, ⊤, filter_map, option_and_then, option_map, if◌then◌else◌}
 use Rattle.std.specs.Io.KnownBytes.{Consumes}
 use Rattle.std.proofs.lemmas.Bool.Decides.{eqb_tells}
 use Rattle.std.proofs.lemmas.List.Elements.{All-cons, All-contains, All-head, All-nil, All-push, All-tail, All-weaker}
 use Rattle.toll_server.specs.Networks.{Arrival, ListensFor, Tallies, Tally, Wake}
-use Rattle.toll_server.specs.Queues.{AreInTurn, QueueEvent, IsWhatWaits, Joins, Takes, Waiting, queued_behind, newly, queue_of, waits_on, tasks_of, turns_taken}
-use Rattle.toll_server.specs.Rounds.{AreSentBySome, IsSentBySome, IsServedInRounds, Joining, ListensTill, Round, happenings_of, with_joined, with_turn}
+use Rattle.toll_server.specs.Queues.{AreInTurn, QueueEvent, IsWhatWaits, Joining, Joins, Takes, Waiting, queued_behind, newly, queue_of, waits_on, tasks_of, turns_taken}
+use Rattle.toll_server.specs.Rounds.{IsSentBySome, ListensTill}
+use Rattle.toll_server.specs.ServerEvents.{Advances, Agrees, Comes, Ends, Evicts, Expires, IsLost, IsServed, ServerEvent, Takes as TakesTurn, Waits, arrival_in, joined_in, queue_events}
+use Rattle.toll_protocol.specs.declared.streams.sink.Sink as sink
+use Rattle.toll_protocol.specs.declared.streams.source.Source as source
+use Rattle.toll_server.proofs.QueueLemmas.{serves_turns}
+use Rattle.toll_server.proofs.RoundLemmas.{rounds}
 use Rattle.toll_server.specs.Runs.{Input, Turn}
 use Rattle.toll_server.specs.declared.listener.Listener.{Listener}
 use Rattle.toll_server.specs.declared.listener.Listener.TheVariants.{Owners}
@@ -88,29 +94,41 @@ module _ (owner : Option ℕ) (bytes : List ℕ) where
         All-push IsTheirs (turns_taken before) turn (turns_are is_by before turns.2 p)
         (input_is turn.whose (queue_of same before turn.whose) (tasks_of before turn.whose) turn.input (known_waits_at before p turn.whose) turns.1)
 
-    joins_more : (joined : List (Joining P)) (before : List (QueueEvent T P)) → All IsJoinedSo joined → Join before → Join (with_joined joined before)
-    joins_more [] before requested p = p
-    joins_more (j ∷ joined) before requested p = (All-head IsJoinedSo j joined requested, joins_more joined before (All-tail IsJoinedSo j joined requested) p)
-
-    turn_more : (turn : Option (Turn T)) (before : List (QueueEvent T P)) → Join before → Join (with_turn turn before)
-    turn_more None before p = p
-    turn_more (Some turn) before p = p
-
     module _ {S : Type 0} (unread : S → Option (List ℕ)) (stream : S) (its : unread stream ≡ Some bytes) where
-      all_joined : (rounds : List (Round T P)) → AreSentBySome unread (arrivals_of stream owner) rounds → Join (happenings_of rounds)
+      all_joined : (events : List (ServerEvent S T P)) → All (IsSentBySome unread (arrivals_of stream owner)) (filter_map joined_in events) → Join (queue_events events)
       all_joined [] p = tt
-      all_joined (r ∷ before) p =
-          turn_more r.turn (with_joined r.joined (happenings_of before)) (joins_more r.joined (happenings_of before)
-          (All-weaker (IsSentBySome unread (arrivals_of stream owner)) IsJoinedSo (joins unread stream its) r.joined p.0) (all_joined before p.1))
+      all_joined (Comes came at ∷ before) p = all_joined before p
+      all_joined (IsLost came ∷ before) p = all_joined before p
+      all_joined (Evicts ∷ before) p = all_joined before p
+      all_joined (Ends ∷ before) p = all_joined before p
+      all_joined (Waits wake ∷ before) p = all_joined before p
+      all_joined (Advances whose None ∷ before) p = all_joined before p
+      all_joined (Advances whose (Some j) ∷ before) p = (joins unread stream its j (All-head (IsSentBySome unread (arrivals_of stream owner)) j (filter_map joined_in before) p),
+        all_joined before (All-tail (IsSentBySome unread (arrivals_of stream owner)) j (filter_map joined_in before) p))
+      all_joined (Expires at ∷ before) p = all_joined before p
+      all_joined (TakesTurn None ∷ before) p = all_joined before p
+      all_joined (TakesTurn (Some turn) ∷ before) p = all_joined before p
 
-      pub serves_owner : {O : Type 0} (is_by : Listener → List ℕ → P → Type 0) (answers : O → Listener → List ℕ → Poll T → O → Type 0) (resumes : O → T → Poll T → O → Type 0)
-          (old new : O) (t u : Tally S) → u.arrivals ≡ arrivals_of stream owner → IsServedInRounds same is_by answers resumes unread old new t u
-          → ServesOwner answers resumes owner bytes old new
-      serves_owner is_by answers resumes old new t u is p = (
-        p.run.turns,
-        p.run.runs,
-        subst (All IsTheirs) (sym p.its)
-            (turns_are is_by (happenings_of p.rounds) p.in_turn (all_joined p.rounds (subst (λ (a : List (Arrival S)). AreSentBySome unread a p.rounds) is p.requested))),
+module _ {S T P O : Type 0} (same : P → P → Bool) (from : source.Ghosts S) (to : sink.Ghosts S) (is_by : Listener → List ℕ → P → Type 0)
+    (answers : O → Listener → List ℕ → Poll T → O → Type 0) (resumes : O → T → Poll T → O → Type 0) (limit : Option ℕ) (count : ℕ) (IsOver : Type 0) (most : ℕ) (old new : O)
+    (was : Option (Tally S)) (u : Tally S) (begins : was ≡ Some new_tally) (served : IsServed same from to most is_by answers resumes limit count IsOver old new was (Some u)) where
+  agrees : Agrees served.first served.ran.events served.last new_tally u
+  agrees = subst (λ o. Tallies (Agrees served.first served.ran.events served.last) o (Some u)) begins served.ran.net
+
+  -- No connection that was ready was passed over.
+  pub none_missed : u.missed ≡ 0
+  none_missed = (agrees.none_missed refl).1
+
+  pub serves_owner : IsEquivalence same → (owner : Option ℕ) (bytes : List ℕ) (stream : S) → from.unread stream ≡ Some bytes → u.arrivals ≡ arrivals_of stream owner
+      → ServesOwner answers resumes owner bytes old new
+  serves_owner laws owner bytes stream its is =
+      let events = served.ran.events in
+      let all = rounds same from to most laws is_by answers resumes count served.first served.last events old new served.fresh served.ran.run served.rests served.served in
+      let arrivals : filter_map arrival_in events ≡ arrivals_of stream owner = sym (append-nil (filter_map arrival_in events)) ∙ (sym agrees.accepted ∙ is) in (
+        turns_taken (queue_events events),
+        serves_turns is_by answers resumes old new (queue_events events) served.served,
+        turns_are owner bytes same is_by (queue_events events) all.in_turn
+            (all_joined owner bytes same from.unread stream its events (subst (λ a. All (IsSentBySome from.unread a) (filter_map joined_in events)) arrivals all.requested)),
       )
 
 -- At each wait of a new network, it listened while owners of this number were still to be accepted, and no longer.

@@ -10,7 +10,9 @@ use std::cell::Cell;
 use std::io;
 use std::io::{Read, Write};
 use toll_protocol::Stream;
-use toll_server::{Accepted, Listener, Network, NetworkFault, Poll, Service, ServingEnd, serve};
+use toll_server::{
+    Accepted, Listener, Network, NetworkFault, Poll, RequestBuffer, Service, ServingEnd, serve,
+};
 
 const REQUEST: &[u8] = b"GET / HTTP/1.1\r\nHost: x\r\n\r\n";
 
@@ -227,11 +229,11 @@ impl Service for Echo {
 
     ghost resumes = { λ old task poll new. ⊤ };
 
-    fn party(_listener: Listener, _request: &[u8]) {}
+    fn party(_request: &RequestBuffer) {}
 
-    fn answer(&mut self, alloc: Global, _listener: Listener, request: &[u8]) -> Poll<()> {
+    fn answer(&mut self, alloc: Global, request: &RequestBuffer) -> Poll<()> {
         self.answered = self.answered.saturating_add(1);
-        Poll::Ready(request.to_vec(alloc).unwrap_or(Vec::new(alloc)))
+        Poll::Ready(request.bytes().to_vec(alloc).unwrap_or(Vec::new(alloc)))
     }
 
     fn resume(&mut self, alloc: Global, _task: ()) -> Poll<()> {

@@ -1,22 +1,13 @@
 -- The damage that a server knows of.
-use Rattle.std.proofs.Common.{◌≡◌, ◌⊎◌, ℕ, Bool, List, [], Option, None, Some, true, Contains, sym, ◌∙◌, ap, subst, inl, inr, arith}
+use Rattle.std.proofs.Common.{◌≡◌, ◌⊎◌, ℕ, Bool, List, [], Option, None, Some, true, Contains, sym, subst, inl, inr, arith}
 use Rattle.std.specs.Prelude.{⊤, IfSome}
-use Rattle.std.specs.List.{list_any}
 use Rattle.std.specs.Global.{Vec}
 use Rattle.toll_keep.specs.declared.fault.KeepFault.{KeepFault}
 use Rattle.toll_keep.specs.declared.fault.KeepFault.TheVariants.{Memory, Disk, Damaged, Closed}
 use Rattle.toll_service.specs.Common.{Bytes, Meaning, Listener, Owners, Plant, Poll, ImportState}
-use Rattle.toll_service.specs.Damages.{AreOwnersFound, HasFoundDamage, IsKnown, IsNoted, StaysWhere, is_owner}
+use Rattle.toll_service.specs.Damages.{AreOwnersFound, HasFoundDamage, IsNoted, StaysWhere}
 use Rattle.toll_service.specs.Listeners.{IsTurnFault, ReportsFault}
-use Rattle.toll_service.specs.Parties.{IsBy}
 use Rattle.toll_service.specs.declared.damage.Damage.{Damage}
-use Rattle.toll_service.specs.declared.party.Party.{Party}
-use Rattle.toll_service.specs.declared.party.Party.TheVariants.{Owner}
-
-pub known_owner : (known : Damage) (listener : Listener) (requested : Bytes) (party : Party) (owner : Bytes) (b : Bool) → listener ≡ Owners → IsBy listener requested party → party ≡ Owner owner
-    → b ≡ list_any (is_owner owner) known.owners.items → b ≡ true → IsKnown known listener requested
-known_owner known Owners requested party owner b is by its found holds = (owner, subst (λ p. IsBy Owners requested p) its by, sym found ∙ holds)
-known_owner known Plant requested party owner b is by its found holds = absurd (cc is)
 
 -- A turn of the plant that met damage reports it.
 pub reports_damage : {K : Type 0} (meaning : Meaning K) (old new : K) (listener : Listener) (poll : Poll ImportState) (met : Option KeepFault)
@@ -58,17 +49,6 @@ module _ {K : Type 0} (meaning : Meaning K) (is_opened : K → Type 0) (is_probe
   noted_none IsSo IsMet before behind listener requested (inr (owners, sound, calls)) = record {
     owners = λ owner there. absurd (none_in_empty behind.owners.items owner owners there);
     calls = λ call there. absurd (none_in_empty behind.calls.items call calls there);
-  }
-
-  -- The owner of the request was noted.
-  pub noted_owner : (IsMet : Type 0) (before behind : Damage) (listener : Listener) (requested owner : Bytes) → listener ≡ Owners → IsBy listener requested (Owner owner)
-      → AreOwnersFound meaning is_opened is_probed before behind owner → behind.calls ≡ before.calls → IsNoted meaning is_opened is_probed ⊤ IsMet before behind listener requested
-  noted_owner IsMet before behind listener requested owner is by found same = record {
-    owners = λ name there. elim (found.found name there) [
-      | inl known ↦ inl (known, tt)
-      | inr (its, so) ↦ inr (is, subst (λ n. IsBy listener requested (Owner n)) (sym its) by, so)
-    ];
-    calls = λ call there. inl (subst (λ calls. Contains calls.items call) same there, tt);
   }
 
   -- The call is noted because it met damage.

@@ -1,13 +1,15 @@
 -- Serving an office in a file.
-use Rattle.std.specs.Prelude.{◌≡◌, ℕ, Bool, List, Option, Result}
+use Rattle.std.specs.Prelude.{◌≡◌, ℕ, Bool, Option, Result}
 use Rattle.toll_files.specs.declared.fault_log.ServingFault.{ServingFault}
 use Rattle.toll_files.specs.declared.file_stamps.LeftFiles.{LeftFiles}
 use Rattle.toll_files.specs.declared.office_fault.OfficeFault.{OfficeFault}
 use Rattle.toll_service.specs.Common.{Bytes, Meaning, Listener, Poll, ImportState}
-use Rattle.toll_server.specs.Networks.{Tallies, Tally}
+use Rattle.toll_protocol.specs.declared.streams.sink.Sink as sink
+use Rattle.toll_protocol.specs.declared.streams.source.Source as source
+use Rattle.toll_server.specs.Networks.{Tally}
 use Rattle.toll_server.specs.Queues.{IsServedInTurn}
-use Rattle.toll_server.specs.Rounds.{IsServedInRounds}
 use Rattle.toll_server.specs.Runs.{IsWholeRun}
+use Rattle.toll_server.specs.ServerEvents.{IsServed}
 use Rattle.toll_service.specs.Damages.{KnowsNothing}
 use Rattle.toll_service.specs.Openings.{Openings}
 use Rattle.toll_service.specs.Parties.{IsBy}
@@ -41,12 +43,14 @@ module _ {K O : Type 0} (meaning : Meaning K) (is_opened : K → Type 0) (is_fou
   abbrev pub Resumes : OfficeService K O → ImportState → Poll ImportState → OfficeService K O → Type 0
   Resumes = ResumesBy meaning is_opened is_found is_probed (λ service. service.session) (openings_of openings) logged_by
 
-  -- The service had answered nothing at first and changed by turns alone: in order, and in rounds over the network. Each import was
+  -- The service had answered nothing at first and changed by turns alone, in order, among the events of a server over the network. Each import was
   -- continued for the client that began it, and once everything is over, none is left.
-  pub record IsFileServed {S : Type 0} (same : Party → Party → Bool) (unread : S → Option (List ℕ)) (opener : O) (before behind : Option (Tally S)) (IsOver : Type 0) : Type 0 where
+  pub record IsFileServed {S : Type 0} (same : Party → Party → Bool) (from : source.Ghosts S) (to : sink.Ghosts S) (limit : Option ℕ) (count : ℕ) (opener : O)
+      (before behind : Option (Tally S)) (IsOver : Type 0) : Type 0 where
     pub first : OfficeService K O
     pub last : OfficeService K O
     pub fresh : IsFresh meaning is_opened openings (openings opener) first
     pub run : IsWholeRun Answers Resumes first last IsOver
     pub in_turn : IsServedInTurn same IsBy Answers Resumes first last
-    pub rounds : Tallies (IsServedInRounds same IsBy Answers Resumes unread first last) before behind
+    pub most : ℕ
+    pub events : IsServed same from to most IsBy Answers Resumes limit count IsOver first last before behind

@@ -1,6 +1,6 @@
 //! Answering requests at the two listeners.
 ghost use Rattle.std.specs.Prelude.{◌≡◌, IfOk, IfSome, OnErr, is_none};
-ghost use Rattle.toll_server.specs.declared.listener.Listener.{Listener};
+ghost use Rattle.toll_server.specs.RequestBuffers.{bytes_received, listener_of};
 ghost use Rattle.toll_service.specs.Listeners.{IsOwnerServed, IsReadyWith, IsInputServed, IsTurnFault};
 ghost use Rattle.toll_wire.specs.Steps.{IsFaultMet};
 
@@ -8,13 +8,14 @@ use crate::plant::answer_plant;
 use crate::turn_result::TurnResult;
 use std::alloc::{AllocError, Global};
 use toll_keep::Keep;
-use toll_server::{Listener, Poll};
+use toll_protocol::RequestReader;
+use toll_server::{Poll, RequestBuffer};
 use toll_wire::{OfficeRouter, Out, answer_with_router};
 
-/// Answers the bytes that a client sent to a listener, over a keep.
+/// Answers a request that a client sent to a listener, over a keep.
 ///
-/// At the owners' listener, the bytes are an HTTP request, and the reply is that of
-/// [`answer`](toll_wire::answer), by the router. At the plant's listener, the bytes are a frame as
+/// At the owners' listener, its bytes are an HTTP request, and the reply is that of
+/// [`answer`](toll_wire::answer), by the router. At the plant's listener, they are a frame as
 /// [`Call`](toll_protocol::Call) packs it. The reply is a frame as [`Response`](toll_protocol::Response)
 /// packs it: what the program itself would have printed, and its exit status. If the first word is `import`
 /// and a file came with the words, the call is an import of that file. All other calls are a command or a
@@ -31,16 +32,16 @@ pub fn answer_at<K: Keep>(
     alloc: Global,
     router: &mut OfficeRouter,
     keep: &mut K,
-    listener: Listener,
-    bytes: &[u8],
+    request: &RequestBuffer,
 ) -> Result<TurnResult, AllocError>
     ensures err { OnErr result (keep.new ≡ keep.old) }
-    ensures served { IfOk result (λ reply. IsInputServed K.meaning keep.old keep.new listener bytes.now reply.poll (is_none reply.fault)) }
-    ensures met { IfOk result (λ reply. IfSome reply.fault (IsTurnFault K.meaning keep.old keep.new listener reply.poll)) }
+    ensures served { IfOk result (λ reply. IsInputServed K.meaning keep.old keep.new (listener_of request.now) (bytes_received request.now)
+        reply.poll (is_none reply.fault)) }
+    ensures met { IfOk result (λ reply. IfSome reply.fault (IsTurnFault K.meaning keep.old keep.new (listener_of request.now) reply.poll)) }
 {
-    match listener {
-        Listener::Owners => answer_owner(alloc, router, keep, bytes),
-        Listener::Plant => answer_plant(alloc, keep, bytes),
+    match request {
+        RequestBuffer::Owner(http) => answer_owner(alloc, router, keep, http),
+        RequestBuffer::Plant(frame) => answer_plant(alloc, keep, &frame.bytes),
     }
 }
 
@@ -49,15 +50,15 @@ fn answer_owner<K: Keep>(
     alloc: Global,
     router: &mut OfficeRouter,
     keep: &mut K,
-    bytes: &[u8],
+    http: &RequestReader,
 ) -> Result<TurnResult, AllocError>
     ensures err { OnErr result (keep.new ≡ keep.old) }
     ensures served { IfOk result (λ reply. IsReadyWith reply.poll
-        (λ reported. IsOwnerServed K.meaning keep.old keep.new bytes.now reported (is_none reply.fault))) }
+        (λ reported. IsOwnerServed K.meaning keep.old keep.new http.now reported (is_none reply.fault))) }
     ensures met { IfOk result (λ reply. IfSome reply.fault (IsFaultMet K.meaning keep.old keep.new)) }
 {
     let unavailable = Vec::from_slice(alloc, Out::Unavailable.bytes())?;
-    match answer_with_router(alloc, router, keep, bytes) {
+    match answer_with_router(alloc, router, keep, http.parsed()) {
         Ok(text) => Ok(TurnResult {
             poll: Poll::Ready(text),
             fault: None,

@@ -3,12 +3,13 @@ ghost use Rattle.std.specs.Global.{Vec as Held};
 ghost use Rattle.std.specs.List.{list_any};
 ghost use Rattle.std.specs.Prelude.{◌≡◌, ◌⊎◌, ◌++◌, ◌||◌, ℕ, [], ◌∷◌, false, true, Contains};
 ghost use Rattle.toll_base.specs.Bytes.{Bytes};
+ghost use Rattle.toll_server.specs.RequestBuffers.{bytes_received, listener_of};
 ghost use Rattle.toll_service.specs.Damages.{IsKnown, KnowsNothing, is_call, is_owner};
 
 use crate::party::Party;
 use std::alloc::Global;
 use toll_base::Name;
-use toll_server::Listener;
+use toll_server::RequestBuffer;
 
 /// How many owners are remembered, and how many calls.
 const MOST_REMEMBERED: usize = 100;
@@ -49,18 +50,18 @@ impl Damage {
         self.calls.clear();
     }
 
-    /// Whether a request or call at a listener is known to meet damage: a request of an owner whose rows are
-    /// damaged, or a call that met damage.
-    pub fn is_known(&self, listener: Listener, bytes: &[u8]) -> bool
-        ensures { result ≡ true → IsKnown self.now listener bytes.now }
+    /// Whether a request or call is known to meet damage: a request of an owner whose rows are damaged, or a call
+    /// that met damage.
+    pub fn is_known(&self, request: &RequestBuffer) -> bool
+        ensures { result ≡ true → IsKnown self.now (listener_of request.now) (bytes_received request.now) }
     {
-        match listener {
-            Listener::Owners if self.owners.is_empty() => false,
-            Listener::Owners => match Party::of(listener, bytes) {
+        match request {
+            RequestBuffer::Owner(_) if self.owners.is_empty() => false,
+            RequestBuffer::Owner(_) => match Party::of(request) {
                 Party::Owner(owner) => has(&self.owners, &owner),
                 Party::Plant | Party::Nobody => false,
             },
-            Listener::Plant => self.has_call(bytes),
+            RequestBuffer::Plant(frame) => self.has_call(&frame.bytes),
         }
     }
 

@@ -1,5 +1,6 @@
 //! An office over a keep.
 ghost use Rattle.std.specs.Prelude.{◌≡◌};
+ghost use Rattle.toll_server.specs.RequestBuffers.{bytes_received, listener_of};
 ghost use Rattle.toll_service.specs.Parties.{IsBy};
 ghost use Rattle.toll_service.specs.Serving.{AnswersOver, ResumesOver};
 
@@ -8,7 +9,7 @@ use crate::party::Party;
 use crate::pending_import::PendingImport;
 use std::alloc::{AllocError, Global};
 use toll_keep::Keep;
-use toll_server::{Listener, Poll, Service};
+use toll_server::{Poll, RequestBuffer, Service};
 use toll_wire::OfficeRouter;
 
 /// A keep that answers clients at both listeners.
@@ -41,15 +42,15 @@ impl<K: Keep> Service for KeepService<K> {
 
     ghost resumes = { ResumesOver K.meaning (λ service. service.keep) };
 
-    fn party(listener: Listener, bytes: &[u8]) -> Party
-        ensures { IsBy listener bytes.now result }
+    fn party(request: &RequestBuffer) -> Party
+        ensures { IsBy (listener_of request.now) (bytes_received request.now) result }
     {
-        Party::of(listener, bytes)
+        Party::of(request)
     }
 
     /// The reply, or the import that is left. No bytes if there was no memory; nothing was done then.
-    fn answer(&mut self, alloc: Global, listener: Listener, bytes: &[u8]) -> Poll<PendingImport> {
-        match answer_at(alloc, &mut self.router, &mut self.keep, listener, bytes) {
+    fn answer(&mut self, alloc: Global, request: &RequestBuffer) -> Poll<PendingImport> {
+        match answer_at(alloc, &mut self.router, &mut self.keep, request) {
             Ok(reply) => reply.poll,
             Err(AllocError) => Poll::Ready(Vec::new(alloc)),
         }

@@ -1,5 +1,6 @@
 //! The office in a file, as the clients of a server ask it.
 ghost use Rattle.std.specs.Prelude.{◌≡◌, None, Some, is_none, if◌then◌else◌};
+ghost use Rattle.toll_server.specs.RequestBuffers.{bytes_received, listener_of};
 ghost use Rattle.toll_service.specs.Parties.{IsBy};
 ghost use Rattle.toll_service.specs.FileServing.{Answers, IsFresh, Resumes};
 ghost use Rattle.toll_service.specs.Sessions.{IsNewSession};
@@ -14,7 +15,7 @@ use std::alloc::Global;
 use std::fs;
 use toll_files::{FaultLog, OfficeFault, ServingFault};
 use toll_keep::Keep;
-use toll_server::{Listener, Poll, Service};
+use toll_server::{Listener, Poll, RequestBuffer, Service};
 
 /// The office in a file as a service. It answers requests and calls by its session, and reports the faults
 /// that it meets to the operator.
@@ -110,45 +111,42 @@ impl<K: Keep + Drop, O: KeepOpener<K>> Service for OfficeService<'_, K, O> {
 
     ghost resumes = { Resumes K.meaning O.is_opened O.is_found O.is_probed O.openings };
 
-    fn party(listener: Listener, bytes: &[u8]) -> Party
-        ensures { IsBy listener bytes.now result }
+    fn party(request: &RequestBuffer) -> Party
+        ensures { IsBy (listener_of request.now) (bytes_received request.now) result }
     {
-        Party::of(listener, bytes)
+        Party::of(request)
     }
 
     // A client of the plant's listener that asked nothing only looked whether a server is there. Memory for a
     // refusal is taken before anything else is done. A request or call that is known to meet damage gets that
     // reply without asking the keep.
-    fn answer(&mut self, alloc: Global, listener: Listener, bytes: &[u8]) -> Poll<PendingImport> {
-        if listener == Listener::Plant && bytes.is_empty() {
+    fn answer(&mut self, alloc: Global, request: &RequestBuffer) -> Poll<PendingImport> {
+        if request.listener() == Listener::Plant && request.bytes().is_empty() {
             return Poll::Ready(Vec::new(alloc));
         }
         let Ok(reserved) = ReservedRefusal::new(alloc) else {
             self.log_closed(OfficeFault::Memory);
             return Poll::Ready(Vec::new(alloc));
         };
-        match self
-            .session
-            .is_damaged(&mut self.office_path, listener, bytes)
-        {
-            Ok(true) => return Poll::Ready(reserved.write(listener, OfficeFault::Damaged)),
+        match self.session.is_damaged(&mut self.office_path, request) {
+            Ok(true) => return Poll::Ready(reserved.write(request, OfficeFault::Damaged)),
             Ok(false) => {}
             Err(fault) => {
                 self.log_closed(fault);
-                return Poll::Ready(reserved.write(listener, fault));
+                return Poll::Ready(reserved.write(request, fault));
             }
         }
-        match self.session.answer(&mut self.office_path, listener, bytes) {
+        match self.session.answer(&mut self.office_path, request) {
             Ok(reply) => {
                 if let Some(fault) = reply.fault {
                     self.session
-                        .note_damage(&mut self.office_path, listener, bytes, fault);
+                        .note_damage(&mut self.office_path, request, fault);
                 }
                 self.logged(reply)
             }
             Err(fault) => {
                 self.log_closed(fault);
-                Poll::Ready(reserved.write(listener, fault))
+                Poll::Ready(reserved.write(request, fault))
             }
         }
     }

@@ -1,5 +1,6 @@
 //! An office that stays open between requests, while other programs may use its file.
 ghost use Rattle.std.specs.Prelude.{◌≡◌, ◌⊎◌, ◌-◌, None, Some, IfErr, IfOk, IfSome, IsSome, OnErr, OnOk};
+ghost use Rattle.toll_server.specs.RequestBuffers.{bytes_received, listener_of};
 ghost use Rattle.toll_server.specs.Runs.{Request, Task};
 ghost use Rattle.toll_service.specs.Damages.{KnowsNoMore, StaysWhere};
 ghost use Rattle.toll_service.specs.Listeners.{IsServedIfRoom, IsTurnFault, ReportsFault};
@@ -20,7 +21,7 @@ use crate::turn_result::TurnResult;
 use std::alloc::{AllocError, Global};
 use toll_files::{Lease, LeftFiles, Notes, OfficeFault};
 use toll_keep::{Keep, KeepFault};
-use toll_server::{Listener, Poll};
+use toll_server::{Listener, Poll, RequestBuffer};
 use toll_wire::OfficeRouter;
 
 /// Serves requests over a file. It is opened for the first one, and stays open as long as no other program
@@ -87,18 +88,19 @@ impl<K: Keep + Drop> OfficeSession<K> {
         Ok(())
     }
 
-    /// The answer at a listener to these bytes, over the office in the file, or the import that they begin.
+    /// The answer to a request, over the office in the file, or the import that they begin.
     /// No bytes if there is no memory. An `Err` if the lock isn't taken or the file isn't opened. After an
     /// answer that reports a fault, the file is opened anew.
     pub fn answer<O: KeepOpener<K>>(
         &mut self,
         office_path: &mut OfficePath<'_, O>,
-        listener: Listener,
-        bytes: &[u8],
+        request: &RequestBuffer,
     ) -> Result<TurnResult, OfficeFault>
-        ensures ok { IfOk result (λ reply. TakesInput K.meaning O.is_opened O.is_found self.old (Request listener bytes.now) reply.poll self.new) }
+        ensures ok { IfOk result (λ reply. TakesInput K.meaning O.is_opened O.is_found self.old
+            (Request (listener_of request.now) (bytes_received request.now)) reply.poll self.new) }
         ensures closed { IfOk result (λ reply. IsSome reply.fault → self.new.opened ≡ None) }
-        ensures reports { IfOk result (λ reply. listener ≡ Listener.Plant → reply.fault ≡ Some KeepFault.Damaged → ReportsFault KeepFault.Damaged reply.poll) }
+        ensures reports { IfOk result (λ reply. listener_of request.now ≡ Listener.Plant → reply.fault ≡ Some KeepFault.Damaged
+            → ReportsFault KeepFault.Damaged reply.poll) }
         ensures imports { IfOk result (λ reply. self.new.imports ≡ imports_if_begun reply.poll self.old.imports) }
         ensures err { OnErr result (IsSessionIdle (state_of_session self.old) (state_of_session self.new) × (self.new.imports ≡ self.old.imports)) }
         ensures refused { IfErr result (λ fault. IsWithheld O.is_found fault self.old
@@ -112,8 +114,7 @@ impl<K: Keep + Drop> OfficeSession<K> {
             office_path.rt.alloc(),
             &mut self.router,
             &mut opened.keep,
-            listener,
-            bytes,
+            request,
         );
         if let Poll::Pending(_) = &reply.poll {
             self.imports = self.imports.saturating_add(1);
@@ -180,13 +181,12 @@ fn reply_over<K: Keep>(
     alloc: Global,
     router: &mut OfficeRouter,
     keep: &mut K,
-    listener: Listener,
-    bytes: &[u8],
+    request: &RequestBuffer,
 ) -> TurnResult
-    ensures served { IsServedIfRoom K.meaning keep.old keep.new listener bytes.now result.poll }
-    ensures met { IfSome result.fault (IsTurnFault K.meaning keep.old keep.new listener result.poll) }
+    ensures served { IsServedIfRoom K.meaning keep.old keep.new (listener_of request.now) (bytes_received request.now) result.poll }
+    ensures met { IfSome result.fault (IsTurnFault K.meaning keep.old keep.new (listener_of request.now) result.poll) }
 {
-    match answer_at(alloc, router, keep, listener, bytes) {
+    match answer_at(alloc, router, keep, request) {
         Ok(reply) => reply,
         Err(AllocError) => TurnResult {
             poll: Poll::Ready(Vec::new(alloc)),

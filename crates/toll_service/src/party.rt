@@ -1,11 +1,12 @@
 //! The party whose turn a request takes.
 ghost use Rattle.std.specs.Prelude.{◌≡◌, option_map};
-ghost use Rattle.toll_protocol.specs.Parsing.{IsParsedAs, ParseResult};
+ghost use Rattle.toll_protocol.specs.Parsed.{parse_outcome};
+ghost use Rattle.toll_server.specs.RequestBuffers.{bytes_received, listener_of};
 ghost use Rattle.toll_service.specs.Parties.{IsBy, claimed_owner, party_named};
 
 use toll_base::Name;
-use toll_protocol::parse_http;
-use toll_server::Listener;
+use toll_protocol::{Failure, HttpRequest};
+use toll_server::RequestBuffer;
 
 /// The parties whose requests a server answers in turn: the plant, each owner that a request claims, and all
 /// clients that claim no owner.
@@ -17,24 +18,24 @@ pub enum Party {
 }
 
 impl Party {
-    /// The party whose turn a request takes that came in by this listener. The owner that a request claims is
-    /// believed here: its key is checked in the turn.
-    pub fn of(listener: Listener, bytes: &[u8]) -> Self
-        ensures { IsBy listener bytes.now result }
+    /// The party whose turn a request takes. The owner that a request claims is believed here: its key is checked in
+    /// the turn.
+    pub fn of(request: &RequestBuffer) -> Self
+        ensures { IsBy (listener_of request.now) (bytes_received request.now) result }
     {
-        match listener {
-            Listener::Plant => Party::Plant,
-            Listener::Owners => claimed_by(bytes),
+        match request {
+            RequestBuffer::Plant(_) => Party::Plant,
+            RequestBuffer::Owner(http) => claimed_in(http.parsed()),
         }
     }
 }
 
 // The party of the owner that a request claims.
-fn claimed_by(bytes: &[u8]) -> Party
-    ensures { (o : ParseResult) × IsParsedAs bytes.now o × (result ≡ party_named (claimed_owner o)) }
+fn claimed_in(parsed: Result<HttpRequest<'_>, Failure>) -> Party
+    ensures { result ≡ party_named (claimed_owner (parse_outcome parsed.entry)) }
 {
-    match parse_http(bytes) {
-        Ok(arrival) => named(arrival.owner),
+    match parsed {
+        Ok(http) => named(http.owner),
         Err(_) => Party::Nobody,
     }
 }

@@ -4,11 +4,12 @@ ghost use Rattle.toll_files.specs.Faults.{fault_text};
 ghost use Rattle.toll_programs.specs.Statuses.{exit_code};
 ghost use Rattle.toll_programs.specs.declared.status.Status.TheVariants.{Failed};
 ghost use Rattle.toll_protocol.specs.PlantMessages.{IsResponse};
+ghost use Rattle.toll_server.specs.RequestBuffers.{listener_of};
 ghost use Rattle.toll_service.specs.declared.reserved_refusal.TheConstants.{MOST_REFUSAL_BYTES};
 
 use std::alloc::{AllocError, Global};
 use toll_files::OfficeFault;
-use toll_server::Listener;
+use toll_server::RequestBuffer;
 use toll_wire::Out;
 
 /// The length limit in bytes of a refusal.
@@ -32,14 +33,14 @@ impl ReservedRefusal {
         Ok(ReservedRefusal { bytes })
     }
 
-    /// The reply at a listener that no office is available because of this fault. It takes no more memory.
-    pub fn write(self, listener: Listener, fault: OfficeFault) -> Vec<u8>
-        ensures { IsRefusal fault listener result.items }
+    /// The reply to a request that no office is available because of this fault. It takes no more memory.
+    pub fn write(self, request: &RequestBuffer, fault: OfficeFault) -> Vec<u8>
+        ensures { IsRefusal fault (listener_of request.now) result.items }
     {
         let ReservedRefusal { mut bytes } = self;
-        let _ = match listener {
-            Listener::Owners => bytes.extend_from_slice(Out::Unavailable.bytes()),
-            Listener::Plant => bytes.extend_from_slice(fault_response(fault)),
+        let _ = match request {
+            RequestBuffer::Owner(_) => bytes.extend_from_slice(Out::Unavailable.bytes()),
+            RequestBuffer::Plant(_) => bytes.extend_from_slice(fault_response(fault)),
         };
         bytes
     }

@@ -1,10 +1,9 @@
 //! Serving over a keep, and over an office in a file.
-ghost use Rattle.std.specs.Prelude.{◌≡◌, ◌<◌, IfOk, OnErr, OnOk};
-ghost use Rattle.toll_server.specs.Closings.{AreClosedForCause};
+ghost use Rattle.std.specs.Prelude.{◌≡◌, ◌<◌, ℕ, IfOk, OnErr, OnOk};
 ghost use Rattle.toll_server.specs.Networks.{EndsSo, Tallies};
 ghost use Rattle.toll_server.specs.Queues.{IsServedInTurn};
-ghost use Rattle.toll_server.specs.Rounds.{IsServedInRounds, ListensTill};
-ghost use Rattle.toll_service.specs.Common.{ImportState};
+ghost use Rattle.toll_server.specs.Rounds.{ListensTill};
+ghost use Rattle.toll_server.specs.ServerEvents.{IsServed};
 ghost use Rattle.toll_service.specs.Parties.{IsBy};
 ghost use Rattle.toll_service.specs.FileServing.{IsFileServed};
 ghost use Rattle.toll_service.specs.Serving.{AnswersOver, HasServed, ResumesOver};
@@ -31,14 +30,12 @@ pub fn serve_keep<W: Network, K: Keep>(
 ) -> ServingEnd
     ensures in_turn { IsServedInTurn ⟦<Party as PartialEq>⟧.eq IsBy
         (AnswersOver K.meaning (λ service. service.keep)) (ResumesOver K.meaning (λ service. service.keep)) service.old service.new }
-    ensures rounds { Tallies (IsServedInRounds ⟦<Party as PartialEq>⟧.eq IsBy
-        (AnswersOver K.meaning (λ service. service.keep)) (ResumesOver K.meaning (λ service. service.keep))
-        W.Stream.Source.unread service.old service.new) (W.tally world.old) (W.tally world.new) }
+    ensures events { (most : ℕ) × IsServed ⟦<Party as PartialEq>⟧.eq W.Stream.Source W.Stream.Sink most IsBy
+        (AnswersOver K.meaning (λ service. service.keep)) (ResumesOver K.meaning (λ service. service.keep)) (W.limit world.old) count
+        (result ≡ ServingEnd.All) service.old service.new (W.tally world.old) (W.tally world.new) }
     ensures served { HasServed K.meaning service.old.keep service.new.keep (result ≡ ServingEnd.All) }
     ensures end { Tallies (EndsSo result count) (W.tally world.old) (W.tally world.new) }
     ensures listens { Tallies (ListensTill count) (W.tally world.old) (W.tally world.new) }
-    ensures closes { Tallies (AreClosedForCause ImportState ⟦<Party as PartialEq>⟧.eq (W.limit world.old)
-        W.Stream.Source W.Stream.Sink count (result ≡ ServingEnd.All)) (W.tally world.old) (W.tally world.new) }
     ensures asks { Tallies (λ t u. 0 < count → t.accepts < u.accepts) (W.tally world.old) (W.tally world.new) }
 {
     serve(alloc, world, service, count)
@@ -61,11 +58,10 @@ pub fn serve_file<W: Announcing, K: Keep + Drop, O: KeepOpener<K>>(
     count: u64,
 ) -> io::Result<ServingEnd>
     ensures served { IfOk result (λ end. IsFileServed K.meaning O.is_opened O.is_found O.is_probed O.openings
-        ⟦<Party as PartialEq>⟧.eq W.Stream.Source.unread office_path.entry.opener (W.tally world.old) (W.tally world.new) (end ≡ ServingEnd.All)) }
+        ⟦<Party as PartialEq>⟧.eq W.Stream.Source W.Stream.Sink (W.limit world.old) count office_path.entry.opener
+        (W.tally world.old) (W.tally world.new) (end ≡ ServingEnd.All)) }
     ensures end { IfOk result (λ end. Tallies (EndsSo end count) (W.tally world.old) (W.tally world.new)) }
     ensures listens { OnOk result (Tallies (ListensTill count) (W.tally world.old) (W.tally world.new)) }
-    ensures closes { IfOk result (λ end. Tallies (AreClosedForCause ImportState ⟦<Party as PartialEq>⟧.eq (W.limit world.old)
-        W.Stream.Source W.Stream.Sink count (end ≡ ServingEnd.All)) (W.tally world.old) (W.tally world.new)) }
     ensures asks { OnOk result (Tallies (λ t u. 0 < count → t.accepts < u.accepts) (W.tally world.old) (W.tally world.new)) }
     ensures err { OnErr result (world.new ≡ world.old) }
 {

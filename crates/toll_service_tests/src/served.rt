@@ -10,7 +10,7 @@ use crate::served::fake_network::{FakeNetwork, Log};
 use std::alloc::{AllocError, Global};
 use toll_keep::{Keep, KeepFault, MemKeep};
 use toll_protocol::Response;
-use toll_server::{Listener, Poll, ServingEnd};
+use toll_server::{Listener, Poll, RequestBuffer, ServingEnd};
 use toll_service::{KeepService, TurnResult, answer_at, serve_keep};
 use toll_stories::{Refused, Refusing};
 use toll_wire::OfficeRouter;
@@ -97,6 +97,14 @@ fn resume<K: Keep>(alloc: Global, keep: &mut K, reply: TurnResult) -> TurnResult
     }
 }
 
+// The request that has come if a client sent these bytes, and no more.
+fn received(alloc: Global, listener: Listener, bytes: &[u8]) -> Result<RequestBuffer, AllocError> {
+    let mut request = RequestBuffer::new(alloc, listener)?;
+    let mut unread = bytes;
+    let _ = request.read_on(&mut unread);
+    Ok(request)
+}
+
 // The answer by a router of its own.
 fn answer_alone<K: Keep>(
     alloc: Global,
@@ -104,7 +112,8 @@ fn answer_alone<K: Keep>(
     listener: Listener,
     requested: &[u8],
 ) -> Result<TurnResult, AllocError> {
-    answer_at(alloc, &mut OfficeRouter::new(), keep, listener, requested)
+    let request = received(alloc, listener, requested)?;
+    answer_at(alloc, &mut OfficeRouter::new(), keep, &request)
 }
 
 // The answer to what comes so, with all turns that it takes.

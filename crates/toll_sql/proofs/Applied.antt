@@ -1,8 +1,8 @@
 -- Changes put in one transaction.
 use Rattle.std.proofs.Common.{◌≡◌, List, Ok, Err, Result, None, OnOk, IsTrue, refl, sym, subst}
-use Rattle.toll_sql.proofs.Common.{survives_weaker, State, Survives, Error, Change, IsWholeOrNothing, begin, Applies, HasApplied, IsApplied, IsOurs, IsReady, LeavesPut, MakesAll, PutsAll}
+use Rattle.toll_sql.proofs.Common.{survives_weaker, State, Survives, Error, Change, IsWholeOrNothing, begin, Applies, HasApplied, IsApplied, IsOurs, IsReady, LeavesPut, MakesPuts, PutsAll}
 
-pub applied_all : (changes : List Change) (old new : State) → MakesAll changes old new → IsApplied changes old.now new.now
+pub applied_all : (changes : List Change) (old new : State) → MakesPuts (PutsAll changes) old new → IsApplied changes old.now new.now
 applied_all changes old new h = record { put = h.put; ours = h.ready.ours; schema = h.schema }
 
 module _ (changes : List Change) (old new : State) {X : Type 0} (r : Result X Error) (w : IsWholeOrNothing IsReady (IsApplied changes old.now) old new r) where
@@ -10,7 +10,7 @@ module _ (changes : List Change) (old new : State) {X : Type 0} (r : Result X Er
   apply_ready ours free = record { ours = ours; unlimited = free; inside = refl }
 
   has : (q : Result X Error) → OnOk q (IsApplied changes old.now new.now) → OnOk q (IsTrue new.is_open × (new.now ≡ new.committed)) → OnOk q (HasApplied changes old new)
-  has (Ok x) it shown = record { put = it.put; ours = it.ours; schema = it.schema; settled = sym shown.1; is_open = shown.0 }
+  has (Ok x) it shown = (it, shown.0, shown.1)
   has (Err e) it shown = tt
 
   pub change_applies : Applies changes old new r

@@ -97,12 +97,12 @@ pub use Rattle.toll_sql.specs.Bag.{NeverFalls, Rises, SameBag, all_cells, owned_
 pub use Rattle.toll_sql.specs.Causes.{IsErrorCaused, Reason, is_disk_fault}
 pub use Rattle.toll_sql.specs.Cells.{cells_of, columns_from, fill, fit, is_of_kind, key_cells, key_order}
 pub use Rattle.toll_sql.specs.Common.{Actual, AllByRecursion, BatchRow, Binary, Bytes, Closed, Column, Compiled, Content, Damaged, Database, Disk, Error, HasCleanDisk, Held, Index, Int, IsAscending, IsClean, IsShaped, KeepFault, KeepsCommit, LotRow, MaterialRow, Memory, Move, MoveRow, Null, OrderRow, OwnerRow, Receive, RecipeRow, RefusesToRead, RequirementRow, ResultRow, Role, Row, Schema, Scrap, Ship, Slice, Split, SqliteFailure, State, SublotRow, Survives, Table, TestRow, Text, Trees, UnitRow, VoidRow, agree, bytes_cmp, column, guards, is_eq, is_lt, is_name, match_ordering, empty_content, on, plain, row_cmp, same_bytes, with_row}
-pub use Rattle.toll_sql.specs.Create.{AreEmpty, IsMaking, IsNewDatabase, IsShapedAs, IsTransactionStep, IsWholeOrNothing, LeavesMade, MakesAllTables, MakesTable, WritesVersion, begin}
+pub use Rattle.toll_sql.specs.Create.{AreEmpty, IsMaking, IsNewDatabase, IsShapedAs, IsWholeOrNothing, LeavesMade, MakesAllTables, MakesTable, WritesVersion, begin}
 pub use Rattle.toll_sql.specs.EdgeRows.{AreEdgesOf, AreEdgesReadFrom, AreOwnersEdges, HasNoEdge, IsNamedEdge, ShowEdges, ShowsEdge, draws_edges, edge_cells}
 pub use Rattle.toll_sql.specs.Encode.{actual_kind, batch_cells, disposition_number, flag, kind_number, lot_cells, material_cells, meta_cells, move_cells, move_lot, move_material, move_number, move_order, move_segment, move_sublot, move_target, order_cells, origin_number, origin_order, owner_cells, recipe_cells, requirement_cells, result_cells, state_number, sublot_cells, test_cells, unit_cells, void_cells}
 pub use Rattle.toll_sql.specs.First.{AreFirst, HasVersion, HasVersionRow, HaveNeitherVersion, IsFirst, IsVersionIn, Raised, as_second, first_ours, first_version, meta_rows}
 pub use Rattle.toll_sql.specs.FromFiles.{IsLeftIn, IsUnclosed, fault_of_files}
-pub use Rattle.toll_sql.specs.Fronts.{IsStoredAs, front_slice, slice_past_table}
+pub use Rattle.toll_sql.specs.Fronts.{IsStoredAs, front_slice}
 pub use Rattle.toll_sql.specs.Given.{IsGiven}
 pub use Rattle.toll_sql.specs.HolderRows.{AreBatchRows, HasNoBatch, IsHolderOf, IsRowOfBatch, IsShownIn, ReportsHolder, ShowHolders, batch_columns, open_on}
 pub use Rattle.toll_sql.specs.Holds.{HasRows, Holds, HoldsAll, HoldsEach, HoldsPart, HoldsSlice, NamesOwner, version}
@@ -114,13 +114,13 @@ pub use Rattle.toll_sql.specs.Others.{GuardsNone, HasOurs, RefersToNone}
 pub use Rattle.toll_sql.specs.Plain.{no_schema}
 pub use Rattle.toll_sql.specs.PlantRows.{ForOwners, ShowsRow}
 pub use Rattle.toll_sql.specs.Put.{IsRowAdded, Puts, ReplacesOrAdds}
-pub use Rattle.toll_sql.specs.Reading.{AreAllTaken, AreTaken, FitsSlice, LacksRoom, LacksRoomIn, OverIdle, ReadsKind, ReadsNext, ReadsOn, ReportsOwnerAlone, TakesRows, next_of}
+pub use Rattle.toll_sql.specs.Reading.{AreAllTaken, AreTaken, FitsSlice, LacksRoom, LacksRoomIn, ReadsNext, ReadsOn, ReportsOwnerAlone, TakesRows, next_of}
 pub use Rattle.toll_sql.specs.Rows.{AreAll, AreOfOwner, AreSorted}
 pub use Rattle.toll_sql.specs.Schema.{create_text, earlier, every_table, is_owned, key_columns, made_all, made_before, put_text, select_text, table_of, tree_of, width_of, with_tables}
 pub use Rattle.toll_sql.specs.Select.{AreShown, plain_query}
 pub use Rattle.toll_sql.specs.Shown.{AreOwnedBy, AreReported, AreRowsIn, AreRowsOf, FirstIs, IsReportedUnknown, IsRowOfOwner, IsUnknownOwner, ShowsOwnRows, tables_of_owners}
 pub use Rattle.toll_sql.specs.StoredLaws.{AreStoredOfOwner, AreStoredOfPlant}
-pub use Rattle.toll_sql.specs.Stores.{Applies, HasApplied, HoldsIn, HoldsPartIn, IsApplied, IsOurs, IsReady, IsValidChange, IsWriting, LeavesIn, LeavesPut, LiesIdle, LiesOpen, MakesAll, MakesPut, MakesRow, PutsAll, PutsChange, PutsRow, cells_of_change, has_row_key, table_of_change}
+pub use Rattle.toll_sql.specs.Stores.{Applies, HasApplied, HoldsIn, HoldsPartIn, IsApplied, IsOurs, IsReady, IsTransactionStep, IsValidChange, LeavesIn, LeavesPut, LiesIdle, LiesOpen, MakesPuts, PutsAll, PutsChange, PutsRow, WritesRow, cells_of_change, has_row_key, table_of_change}
 pub use Rattle.toll_sql.specs.Valid.{IsBatch, IsLot, IsMaterial, IsMove, IsMovement, IsOrder, IsOrigin, IsOwner, IsRecipe, IsRequirement, IsResult, IsStorable, IsSublot, IsTest, IsUnit, IsVoid}
 pub use Rattle.toll_sql.specs.declared.open_fault.OpenFault.{OpenFault}
 pub use Rattle.toll_sql.specs.declared.table_kind.TableKind.{TableKind}

@@ -14,7 +14,7 @@ use Rattle.toll_sql.specs.declared.sql_keep.SqlKeep.{SqlKeep}
 -- ---- the store
 
 applied_holds : (old new : State) (changes : List Change) (c : Content) → HoldsIn old c → HasApplied changes old new → HoldsIn new (content_after changes c)
-applied_holds old new changes c h a = record { ours = a.ours; idle = sym a.settled; rows = holds_all changes c old.now.trees new.now.trees h.rows a.put }
+applied_holds old new changes c h a = record { ours = a.0.ours; idle = a.2; rows = holds_all changes c old.now.trees new.now.trees h.rows a.0.put }
 
 same_holds : (old new : State) (c : Content) → (new.now ≡ old.now) × (new.committed ≡ old.committed) → HoldsIn old c → HoldsIn new c
 same_holds old new c same h = record {

@@ -42,16 +42,6 @@ more_shown cells show rows i lt row is listed x so_far read =
     ∙ sym (map_push show (take i rows) (get_or rows i row))
     ∙ ap (map show) (sym (take_more rows i row lt))
 
-pub more_valid : {X : Type 0} (P : X → Type 0) (xs : List X) (x : X) → AllByRecursion P xs → P x → AllByRecursion P (xs ++ x ∷ [])
-more_valid P [] x all it = (it, tt)
-more_valid P (y ∷ ys) x all it = (all.0, more_valid P ys x all.1 it)
-
-pub take_past : {X : Type 0} (xs : List X) (i : ℕ) → length xs ≤ i → take i xs ≡ xs
-take_past [] zero past = refl
-take_past [] (suc i) past = refl
-take_past (x ∷ xs) zero past = absurd (omega (arith, past))
-take_past (x ∷ xs) (suc i) past = ap (λ ys. x ∷ ys) (take_past xs i (omega (arith, past)))
-
 -- ---- a row with the key is there
 
 is_some_cond_rest : {R : Type 0} (b : Bool) (row : R) (rest : Option R) (there : Bool) → is_some rest ≡ there → is_some (cond b (Some row) rest) ≡ (b || there)

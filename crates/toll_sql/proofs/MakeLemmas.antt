@@ -1,13 +1,13 @@
 -- The effect of making one more table, and of the row of the version.
 use Rattle.std.proofs.Common.{◌≡◌, ℕ, suc, ◌+◌, ◌<◌, false, List, [], ◌∷◌, take, get_or, arith, Ok, Result, IsTrue, ap, subst, ◌∙◌, sym, refl}
-use Rattle.toll_sql.proofs.Common.{AllByRecursion, State, ExecutesInside, Survives, HasCleanDisk, Table, Trees, Error, IsShaped, AreEmpty, IsTransactionStep, IsMaking, MakesTable, IsShapedAs, WritesVersion, meta_cells, version, HasOurs, IsReady, MakesRow, no_schema, every_table, with_tables, made_before, made_all, create_text, TableKind, Meta}
+use Rattle.toll_sql.proofs.Common.{AllByRecursion, State, ExecutesInside, Survives, HasCleanDisk, Table, Trees, Error, IsShaped, AreEmpty, IsTransactionStep, IsMaking, MakesTable, IsShapedAs, WritesVersion, meta_cells, version, HasOurs, IsReady, MakesPuts, PutsRow, no_schema, every_table, with_tables, made_before, made_all, create_text, TableKind, Meta}
 use Rattle.sqlite_catalog.specs.Change.{KeepsRows, next_tree}
 use Rattle.sqlite_trees.specs.declared.store.Shape.TheVariants as shape
 use Rattle.toll_sql.proofs.CreateLemmas.{adds}
 use Rattle.toll_sql.proofs.CreateTexts.{unplaced, create_is, create_defines, create_uncounted, create_place, earlier_is, next_is, number_at}
 use Rattle.toll_sql.proofs.PutTexts.{table_number}
 use Rattle.toll_sql.proofs.StepLemmas.{step_in_turn, one_step}
-use Rattle.toll_sql.proofs.ListLemmas.{more_valid}
+use Rattle.toll_sql.proofs.SoFar.{all_append}
 
 pub table_step : (k : TableKind) (old new : State) (r : Result ℕ Error) → (old.in_transaction ≡ false → new ≡ old) → (HasCleanDisk new → IsTrue old.in_transaction → ExecutesInside 0 (create_text k) [] old new r) → Survives old new (λ _. ⊥)
     → IsTransactionStep (IsMaking (made_before k)) (MakesTable k) old new r
@@ -36,7 +36,7 @@ make_ready s h = record {
   inside = h.making.inside;
 }
 
-pub version_written : (old new : State) → IsShapedAs made_all old → MakesRow Meta (meta_cells version) old new → WritesVersion old new
+pub version_written : (old new : State) → IsShapedAs made_all old → MakesPuts (PutsRow Meta (meta_cells version)) old new → WritesVersion old new
 version_written old new before put = record { put = put.put; ours = put.ready.ours; alone = put.schema ∙ before.making.schema }
 
 -- ---- the tables, one after another
@@ -63,8 +63,8 @@ next_ready n k at first now h = subst (λ s. IsMaking s now) (sym (before_is n k
 next_made : (n : ℕ) (k : TableKind) → table_number k ≡ n → (first now next : State) → MakesFirst n first now → MakesTable k now next → MakesFirst (n + 1) first next
 next_made n k at first now next h one =
     let were : AreEmpty (made_before k) now.now.trees = subst (λ s. AreEmpty s now.now.trees) (sym (before_is n k at)) h.empty in
-    let are = more_valid (λ t. next.now.trees t.tree ≡ []) (made_before k).tables (record (unplaced k) { tree = next_tree (made_before k) }) (all_kept (made_before k).tables _ _ one.others were)
-    (subst (λ tree. next.now.trees tree ≡ []) (sym (create_place k)) one.empty) in
+    let are = all_append (λ t. next.now.trees t.tree ≡ []) (made_before k).tables (record (unplaced k) { tree = next_tree (made_before k) } ∷ []) (all_kept (made_before k).tables _ _ one.others were)
+    (subst (λ tree. next.now.trees tree ≡ []) (sym (create_place k)) one.empty, tt) in
     let more : suc (table_number k) ≡ n + 1 = omega (arith, at) in
     let all : with_tables (made_before k) (k ∷ []) ≡ with_tables no_schema (take (n + 1) every_table) = next_is k ∙ ap (λ m. with_tables no_schema (take m every_table)) more in
     record { making = subst (λ s. IsMaking s next) all one.making; empty = subst (λ s. AreEmpty s next.now.trees) all are }

@@ -1,12 +1,13 @@
 -- The puts of sublots that later ones overwrite may be left out.
 use Rattle.std.proofs.Common.{◌≡◌, inl, inr, ◌&&◌, ◌||◌, not, Bool, true, false, List, [], ◌∷◌, ◌++◌, reverse, length, drop, ◌+◌, ◌-◌, ◌≤◌, ℕ, get_or, Some, None, cond, Result, IsTrue, nat_lt, ◌<◌, ◌^◌, refl, sym, ap, subst, ◌∙◌, arith, if◌then◌else◌}
-use Rattle.toll_sql.proofs.Common.{false≢true, and_parts, cases_Bool, is_eq, is_eq-then, nat_tests, on_total, tied_itself, nat_list_cmp_total, IsTotalOrder, equal, first_key, plain, same_bytes-exact, same_bytes-refl, AllByRecursion, Bytes, Change, Error, Put, Row, State, on_ok_weaker, SublotRow, Text, Trees, Value, column, is_name, reverse-append, cells_of, sublot_cells, IsSublotValid, are_putting, is_put_again, is_same, key_for, last_puts, sublot_cmp, sublot_put, IsWriting, MakesAll, PutsAll, PutsChange, cells_of_change, has_row_key, table_of_change, made_all, tree_of, IsStorable, IsSublot, Sublots, then_total}
+use Rattle.toll_sql.proofs.Common.{false≢true, and_parts, cases_Bool, is_eq, is_eq-then, nat_tests, on_total, tied_itself, nat_list_cmp_total, IsTotalOrder, equal, first_key, plain, same_bytes-exact, same_bytes-refl, AllByRecursion, Bytes, Change, Error, Put, Row, State, SublotRow, Text, Trees, Value, column, is_name, reverse-append, cells_of, sublot_cells, IsSublotValid, are_putting, is_put_again, is_same, key_for, last_puts, sublot_cmp, sublot_put, IsReady, IsTransactionStep, MakesPuts, PutsAll, PutsChange, cells_of_change, has_row_key, table_of_change, made_all, tree_of, IsStorable, IsSublot, Sublots, then_total}
 use Rattle.toll_keep.proofs.Changed.{next_left}
 use Rattle.toll_base.specs.declared.rows.Row.TheVariants as of
 use Rattle.toll_sql.specs.declared.last_puts.SublotKey.{SublotKey}
 use Rattle.toll_sql.proofs.HoldsAfter.{trees_apart, other_tree}
 use Rattle.toll_sql.proofs.PutCommon.{key_equals, equal_text_only, texts_equal}
 use Rattle.toll_sql.proofs.PutTexts.{table_number}
+use Rattle.toll_sql.proofs.StepLemmas.{makes_more}
 use Rattle.toll_sql.proofs.TreePuts.{put_aside, put_before, tree_put_first}
 
 -- ---- the name of a sublot
@@ -157,16 +158,11 @@ module _ (change : Change) (later : List Change) (b : Bool) (is : b ≡ not (is_
 
 -- ---- the last puts alone may be made
 
-pub made_all_of : {X : Type 0} (changes last : List Change) → last ≡ last_puts changes → AllByRecursion IsSublotValid changes → (old new : State) (r : Result X Error) → IsWriting (MakesAll last) old new r → IsWriting (MakesAll changes) old new r
-made_all_of changes last is valid old new r w = record {
-  makes = λ clean ready. on_ok_weaker r (λ (h : MakesAll last old new). record {
-    put = last_puts_suffice changes old.now.trees new.now.trees valid (subst (λ l. PutsAll l old.now.trees new.now.trees) is h.put);
-    ready = h.ready;
-    schema = h.schema;
-    committed = h.committed;
-  }) (w.makes clean ready);
-  inside = w.inside;
-  fault = w.fault;
-  kept = w.kept;
-  survives = w.survives;
-}
+pub made_all_of : {X : Type 0} (changes last : List Change) → last ≡ last_puts changes → AllByRecursion IsSublotValid changes → (old new : State) (r : Result X Error) → IsTransactionStep IsReady (MakesPuts (PutsAll last)) old new r
+    → IsTransactionStep IsReady (MakesPuts (PutsAll changes)) old new r
+made_all_of changes last is valid old new r = makes_more IsReady (MakesPuts (PutsAll last)) (MakesPuts (PutsAll changes)) old new r (λ _ h. record {
+  put = last_puts_suffice changes old.now.trees new.now.trees valid (subst (λ l. PutsAll l old.now.trees new.now.trees) is h.put);
+  ready = h.ready;
+  schema = h.schema;
+  committed = h.committed;
+})

@@ -8,13 +8,13 @@ use Rattle.toll_sql.proofs.Fresh.{IsNotMeta, written_holds}
 use Rattle.toll_sql.proofs.MakeLemmas.{shaped_still}
 use Rattle.toll_sql.proofs.MetaLemmas.{put_told}
 use Rattle.toll_sql.proofs.Orders.{key_order_total}
-use Rattle.toll_sql.proofs.ListLemmas.{more_valid}
+use Rattle.toll_sql.proofs.SoFar.{all_append}
 
 pub raised_shaped : (old new : State) → IsShapedAs first_ours old → MakesTable Voids old new → IsShapedAs made_all new
 raised_shaped old new before h = record {
   making = h.making;
-  shaped = more_valid (λ t. IsShaped shape.Table (new.now.trees t.tree)) first_ours.tables (record (unplaced Voids) { tree = next_tree first_ours }) (shaped_still first_ours.tables old.now.trees new.now.trees h.others before.shaped)
-      (subst (IsShaped shape.Table) (sym h.empty) (tt, tt));
+  shaped = all_append (λ t. IsShaped shape.Table (new.now.trees t.tree)) first_ours.tables (record (unplaced Voids) { tree = next_tree first_ours } ∷ []) (shaped_still first_ours.tables old.now.trees new.now.trees h.others before.shaped)
+      (subst (IsShaped shape.Table) (sym h.empty) (tt, tt), tt);
 }
 
 -- The tables are as version 2 has them, except for the version.

@@ -1,8 +1,9 @@
 -- Reading calls in a row.
 use Rattle.std.proofs.Common.{◌≡◌, ◌<◌, ℕ, suc, ◌+◌, true, List, [], ◌∷◌, ◌++◌, take, drop, length, get_or, inl, inr, Ok, Err, Result, OnOk, IsTrue, refl, sym, ap, subst, subst₂, ◌∙◌, arith}
-use Rattle.toll_sql.proofs.Common.{false≢true, length-map, on_ok_weaker, AllByRecursion, Database, State, HasCleanDisk, Survives, Trees, Bytes, Slice, KeepFault, Disk, Damaged, Closed, Memory, LeavesStore, IsLooking, rows_for, front_slice, slice_past_table, HasOurs, AreAllTaken, LacksRoomIn, OverIdle, ReadsKind, ReadsNext, ReadsOn, next_of, AreRowsIn, ShowsOwnRows, tables_of_owners, AreStoredOfOwner, RowKind, is_owned, TableKind, Meta, Owners, Units, Materials}
+use Rattle.toll_sql.proofs.Common.{false≢true, length-map, take-length, on_ok_weaker, AllByRecursion, Database, State, HasCleanDisk, Survives, Trees, Bytes, Slice, KeepFault, Disk, Damaged, Closed, Memory, LeavesStore, ForIdle, IsLooking, rows_for, front_slice, HasOurs, AreAllTaken, LacksRoomIn, ReadsNext, ReadsOn, next_of, AreRowsIn, ShowsOwnRows, tables_of_owners, is_owned, TableKind, Meta, Owners, Units, Materials}
 use Rattle.toll_sql.proofs.CauseLemmas.{reason_before}
 use Rattle.toll_sql.proofs.LookLemmas.{held_on}
+use Rattle.toll_sql.proofs.SoFar.{all_append}
 use Rattle.toll_sql.proofs.Taken.{all_taken_then, lacks_in_before, lacks_in_then}
 
 -- ---- two reading calls in a row are one
@@ -63,10 +64,6 @@ looks_as a b r t p shown disk closed damaged = record {
 
 -- ---- tables one after another
 
-all_append : {X : Type 0} (P : X → Type 0) (xs ys : List X) → AllByRecursion P xs → AllByRecursion P ys → AllByRecursion P (xs ++ ys)
-all_append P [] ys all more = more
-all_append P (x ∷ xs) ys all more = (all.0, all_append P xs ys all.1 more)
-
 pub shows_then : {X Y : Type 0} (kinds others : List TableKind) (o : Bytes) (a b c : State) (x : X) (r : Result Y KeepFault) → IsLooking {X = X} a b (Ok x) → ShowsOwnRows {X = X} kinds o a b (Ok x) → IsLooking b c r → ShowsOwnRows others o b c r → ShowsOwnRows (kinds ++ others) o a c r
 shows_then kinds others o a b c x r p shown q more = λ clean has idle.
     let before = clean_before a b c q.asks.survives clean in
@@ -75,11 +72,11 @@ shows_then kinds others o a b c x r p shown q more = λ clean has idle.
     on_ok_weaker r (λ all. all_append (AreRowsIn o a.now.trees) kinds others (shown before has idle) (subst (λ (db : Database). AllByRecursion (AreRowsIn o db.trees) others) same.0 all)) behind
 
 -- What the tables had before reading that succeeded, they still have after it.
-over_then : {X Y : Type 0} (a b c : State) (x : X) (r : Result Y KeepFault) (P : Trees → Type 0) → IsLooking {X = X} a b (Ok x) → IsLooking b c r → OverIdle b c P → OverIdle a c P
+over_then : {X Y : Type 0} (a b c : State) (x : X) (r : Result Y KeepFault) (P : Database → Type 0) → IsLooking {X = X} a b (Ok x) → IsLooking b c r → ForIdle b c P → ForIdle a c P
 over_then a b c x r P p q over = λ clean has idle.
     let before = clean_before a b c q.asks.survives clean in
     let same = p.asks.same before has (p.asks.shown before) idle in
-    subst (λ (db : Database). P db.trees) same.0 (over clean (subst (λ (db : Database). HasOurs db.schema) (sym same.0) has) (same.0 ∙ idle ∙ sym same.1))
+    subst P same.0 (over clean (subst (λ (db : Database). HasOurs db.schema) (sym same.0) has) (same.0 ∙ idle ∙ sym same.1))
 
 module _ (f g h : Slice → Slice) {kinds others : List TableKind} (o : Bytes) where
   pub read_then : {X Y : Type 0} (a b c : State) (s t u : Slice) (x : X) (r : Result Y KeepFault) → ReadsOn f g kinds o {X = X} a b s t (Ok x) → ReadsOn g h others o b c t u r → ReadsOn f h (kinds ++ others) o a c s u r
@@ -94,10 +91,10 @@ module _ (f g h : Slice → Slice) {kinds others : List TableKind} (o : Bytes) w
         q.whole clean slice (held_on is_owned a b x o slice p.looks.asks before held) keeps (p.reads before slice held first);
     taken = λ clean has idle.
         let so_far = p.taken (clean_before a b c q.looks.asks.survives clean) has idle in
-        on_ok_weaker r (λ all. all_taken_then o a.now.trees kinds others s t u so_far all) (over_then a b c x r (λ db. OnOk r (AreAllTaken others o db t u)) p.looks q.looks q.taken clean has idle);
+        on_ok_weaker r (λ all. all_taken_then o a.now.trees kinds others s t u so_far all) (over_then a b c x r (λ db. OnOk r (AreAllTaken others o db.trees t u)) p.looks q.looks q.taken clean has idle);
     lacks = λ clean has idle is.
         let so_far = p.taken (clean_before a b c q.looks.asks.survives clean) has idle in
-        lacks_in_then o a.now.trees kinds others s t u so_far (over_then a b c x r (λ db. r ≡ Err Memory → LacksRoomIn others o db t u) p.looks q.looks q.lacks clean has idle is);
+        lacks_in_then o a.now.trees kinds others s t u so_far (over_then a b c x r (λ db. r ≡ Err Memory → LacksRoomIn others o db.trees t u) p.looks q.looks q.lacks clean has idle is);
   }
 
   -- A call that failed read nothing.
@@ -121,27 +118,13 @@ module _ (f g h : Slice → Slice) {kinds others : List TableKind} (o : Bytes) w
 
 -- ---- a table that was read completely is done
 
-take_all : {X : Type 0} (xs : List X) → take (length xs) xs ≡ xs
-take_all [] = refl
-take_all (x ∷ xs) = ap (λ ys. x ∷ ys) (take_all xs)
-
-front_of_next : (k : TableKind) (s : Slice) → is_owned k ≡ true → front_slice k (length (rows_for k s)) s ≡ front_slice (next_of k) 0 s
+pub front_of_next : (k : TableKind) (s : Slice) → is_owned k ≡ true → front_slice k (length (rows_for k s)) s ≡ front_slice (next_of k) 0 s
 front_of_next Meta s owned = absurd (false≢true owned)
 front_of_next Owners s owned = absurd (false≢true owned)
 front_of_next Units s owned = absurd (false≢true owned)
-front_of_next _ s owned = simp (length-map, take_all) refl
-
--- What was read up to one place was read up to an equal one.
-pub reads_up_to : {X : Type 0} (f g h : Slice → Slice) {kinds : List TableKind} (o : Bytes) (a b : State) (s t : Slice) (r : Result X KeepFault) → ((s : Slice) → g s ≡ h s) → ReadsOn f g kinds o a b s t r → ReadsOn f h kinds o a b s t r
-reads_up_to f g h {kinds} o a b s t r same p = subst (λ (g : Slice → Slice). ReadsOn f g kinds o a b s t r) (λ i. λ s. same s i) p
+front_of_next _ s owned = simp (length-map, take-length) refl
 
 -- ---- each table after the one before it
-
-pub read_next : {X Y : Type 0} (table : TableKind) (kind : RowKind X) (o : Bytes) (a b : State) (s t : Slice) (r : Result Y KeepFault) → AreStoredOfOwner kind → table ≡ kind.table → ReadsKind kind o a b s t r → ReadsNext table o a b s t r
-read_next table kind o a b s t r stand is reads = subst (λ k. ReadsNext k o a b s t r) (sym is) (reads_up_to _ (slice_past_table kind) (front_slice (next_of kind.table) 0) o a b s t r all (reads stand))
-  where
-    all : (s : Slice) → slice_past_table kind s ≡ front_slice (next_of kind.table) 0 s
-    all s = ap (λ n. front_slice kind.table n s) (sym (ap length (stand.its_rows s) ∙ length-map (kind.listed s) (kind.cells s.owner))) ∙ front_of_next kind.table s stand.owned
 
 -- the table with this number, and the first tables
 abbrev pub kind_at : ℕ → TableKind

@@ -1,18 +1,16 @@
 -- Rows that are checked one after another.
-use Rattle.std.proofs.Common.{◌≡◌, ◌<◌, ◌≤◌, ◌+◌, ◌∙◌, ℕ, zero, suc, cond, inl, inr, List, [], ◌∷◌, length, take, map, get_or, refl, sym, subst, arith, Ok, Err, Result, OnOk}
-use Rattle.toll_sql.proofs.Common.{cases_Bool, IsPermutation-sym, AllByRecursion, is_eq, Row, column, value_cmp, Trees, Text, all-permutation, Bytes, owned_by, columns_from, AreOwnedBy, AreRowsOf, FirstIs, IsRowOfOwner, RowKind, AreOfOwner, tree_of, width_of, TableKind, Meta}
+use Rattle.std.proofs.Common.{◌≡◌, ◌<◌, ◌≤◌, ◌+◌, ◌∙◌, ℕ, zero, suc, cond, inl, inr, List, [], ◌∷◌, ◌++◌, length, take, map, get_or, refl, sym, subst, arith, Ok, Err, Result, OnOk}
+use Rattle.toll_sql.proofs.Common.{cases_Bool, take_more, IsPermutation-sym, AllByRecursion, is_eq, Row, column, value_cmp, Trees, Text, all-permutation, Bytes, owned_by, columns_from, AreOwnedBy, AreRowsOf, FirstIs, IsRowOfOwner, RowKind, AreOfOwner, tree_of, width_of, TableKind, Meta}
 use Rattle.toll_sql.proofs.PutCommon.{compares_text_only}
 
--- With the next row, the fact holds of one more.
-next_too : {X : Type 0} (P : X → Type 0) (xs : List X) (i : ℕ) (x : X) → i < length xs → x ≡ get_or xs i x → AllByRecursion P (take i xs) → P x → AllByRecursion P (take (suc i) xs)
-next_too P [] i x lt is all it = tt
-next_too P (y ∷ ys) zero x lt is all it = (subst P is it, tt)
-next_too P (y ∷ ys) (suc i) x lt is all it = (all.0, next_too P ys i x (omega (arith, lt)) is all.1 it)
+-- A fact of each item of two lists holds of those of both, one after the other.
+pub all_append : {X : Type 0} (P : X → Type 0) (xs ys : List X) → AllByRecursion P xs → AllByRecursion P ys → AllByRecursion P (xs ++ ys)
+all_append P [] ys all more = more
+all_append P (x ∷ xs) ys all more = (all.0, all_append P xs ys all.1 more)
 
+-- With the next row, the fact holds of one more.
 pub all_with_one_more : {X : Type 0} (P : X → Type 0) (xs : List X) (i : ℕ) (x : X) → i < length xs → x ≡ get_or xs i x → AllByRecursion P (take i xs) → P x → AllByRecursion P (take (i + 1) xs)
-all_with_one_more P xs i x lt is all it =
-    let one : suc i ≡ i + 1 = omega arith in
-    subst (λ n. AllByRecursion P (take n xs)) one (next_too P xs i x lt is all it)
+all_with_one_more P xs i x lt is all it = subst (AllByRecursion P) (sym (take_more xs i x lt)) (all_append P (take i xs) (get_or xs i x ∷ []) all (subst P is it, tt))
 
 -- P holds of the first item if it holds of each so far and of the next one.
 pub first_good : {X : Type 0} (P : X → Type 0) (xs : List X) (i : ℕ) (x : X) → i < length xs → x ≡ get_or xs i x → (1 ≤ i → FirstIs P xs) → P x → FirstIs P xs
@@ -30,14 +28,7 @@ first_item [] i lt = absurd (omega (arith, lt))
 first_item (x ∷ xs) i lt = x
 
 pub value_there : {X : Type 0} (P : X → Type 0) (xs : List X) (i : ℕ) (x : X) → i < length xs → x ≡ get_or xs i x → AllByRecursion P xs → P x
-value_there P [] i x lt is all = absurd (omega (arith, lt))
-value_there P (y ∷ ys) zero x lt is all = subst P (sym is) all.0
-value_there P (y ∷ ys) (suc i) x lt is all = value_there P ys i x (omega (arith, lt)) is all.1
-
-pub all_behind : {X : Type 0} (P : X → Type 0) (xs : List X) (i : ℕ) → length xs ≤ i → AllByRecursion P (take i xs) → AllByRecursion P xs
-all_behind P [] i end all = tt
-all_behind P (y ∷ ys) zero end all = absurd (omega (arith, end))
-all_behind P (y ∷ ys) (suc i) end all = (all.0, all_behind P ys i (omega (arith, end)) all.1)
+value_there P xs i x lt is all = subst P (sym is) (value_at P xs i x all lt)
 
 -- ---- the cells of the owner's rows
 

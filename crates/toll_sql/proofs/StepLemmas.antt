@@ -1,6 +1,6 @@
 -- Calls within a transaction that write, one and several.
 use Rattle.std.proofs.Common.{◌≡◌, inl, inr, ℕ, false, List, Ok, Err, Result, IfErr, OnOk, IsTrue, ap, sym, subst, arith}
-use Rattle.toll_sql.proofs.Common.{cases_Bool, on_ok_weaker, inside_keeps, keeps_then, survives_then, Row, State, ExecutesInside, KeepsCommit, Survives, HasCleanDisk, Error, IsErrorCaused, IsTransactionStep, IsReady, IsWriting}
+use Rattle.toll_sql.proofs.Common.{cases_Bool, on_ok_weaker, inside_keeps, keeps_then, survives_then, Row, State, ExecutesInside, KeepsCommit, Survives, HasCleanDisk, Error, IsErrorCaused, IsTransactionStep}
 use Rattle.toll_sql.proofs.CauseLemmas.{exec_fault, reason_before}
 
 -- one statement
@@ -29,10 +29,6 @@ module _ (Before : State → Type 0) (Makes : State → State → Type 0) (sql :
     kept = λ clean. step_kept r outside (runs clean);
     survives = survives;
   }
-
--- a row that is put
-pub put_step : {X : Type 0} (Makes : State → State → Type 0) (old new : State) (r : Result X Error) → IsWriting Makes old new r → IsTransactionStep IsReady Makes old new r
-put_step Makes old new r w = record { makes = λ clean before within. w.makes clean before; inside = w.inside; fault = w.fault; kept = w.kept; survives = w.survives }
 
 -- The first call stopped, so the second is not made.
 pub stopped_at_first : {X Y : Type 0} (Before : State → Type 0) (First Makes : State → State → Type 0) (a b : State) (e : Error) (r : Result X Error) (q : Result Y Error) → r ≡ Err e → q ≡ Err e → IsTransactionStep Before First a b r → IsTransactionStep Before Makes a b q

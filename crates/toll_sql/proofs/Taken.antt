@@ -1,6 +1,6 @@
 -- Stored rows that fit into a slice, one after another.
-use Rattle.std.proofs.Common.{◌≡◌, ◌<◌, ◌≤◌, ◌+◌, ◌∙◌, ℕ, zero, suc, inl, inr, List, [], ◌∷◌, ◌++◌, length, take, get_or, sym, ap, subst, arith, Result, Ok, Err, OnOk}
-use Rattle.toll_sql.proofs.Common.{Row, Bytes, Slice, with_row, KeepsRules, Trees, KeepFault, Memory, columns_from, cells_for, table_for, AreAllTaken, AreTaken, FitsSlice, LacksRoom, LacksRoomIn, TakesRows, AreStoredOfOwner, RowKind, width_of, IsRow, TableKind}
+use Rattle.std.proofs.Common.{◌≡◌, ◌<◌, ◌+◌, ◌∙◌, ℕ, inl, inr, List, [], ◌∷◌, ◌++◌, length, take, drop, get_or, sym, ap, subst, Result, Ok, Err, OnOk}
+use Rattle.toll_sql.proofs.Common.{take_more, take-append-drop, Row, Bytes, Slice, with_row, KeepsRules, Trees, KeepFault, Memory, columns_from, cells_for, table_for, AreAllTaken, AreTaken, FitsSlice, LacksRoom, LacksRoomIn, TakesRows, AreStoredOfOwner, RowKind, width_of, IsRow, TableKind}
 use Rattle.toll_base.specs.declared.rows.Row.{Row as OfficeRow}
 
 -- The row with these cells, which is put in or not.
@@ -38,32 +38,19 @@ module _ (k : TableKind) (o : Bytes) where
   lacks_before (row ∷ rows) more a b (fits, inl is) = (fits, inl is)
   lacks_before (row ∷ rows) more a b (fits, inr later) = (fits, inr (lacks_before rows more _ b later))
 
--- a list up to a place, the item there, and the rest
-parted_at_place : {X : Type 0} (xs : List X) (i : ℕ) (x : X) → i < length xs → x ≡ get_or xs i x → (rest : List X) × (xs ≡ (take i xs ++ x ∷ []) ++ rest) × (take (suc i) xs ≡ take i xs ++ x ∷ [])
-parted_at_place [] i x lt is = absurd (omega (arith, lt))
-parted_at_place (y ∷ ys) zero x lt is = (ys, ap (λ z. z ∷ ys) (sym is), ap (λ z. z ∷ []) (sym is))
-parted_at_place (y ∷ ys) (suc i) x lt is =
-    let more = parted_at_place ys i x (omega (arith, lt)) is in
-    (more.0, ap (λ zs. y ∷ zs) more.1, ap (λ zs. y ∷ zs) more.2)
-
 module _ (k : TableKind) (o : Bytes) (rows : List Row) (i : ℕ) (row : Row) (lt : i < length rows) (is : row ≡ get_or rows i row) (a b c : Slice) where
+  up_to : take i rows ++ row ∷ [] ≡ take (i + 1) rows
+  up_to = ap (λ r. take i rows ++ r ∷ []) is ∙ sym (take_more rows i row lt)
+
   -- With the next row, one more is in.
   pub one_more_taken : AreTaken k o (take i rows) a b → AreTaken k o (row ∷ []) b c → AreTaken k o (take (i + 1) rows) a c
-  one_more_taken all next =
-      let one : suc i ≡ i + 1 = omega arith in
-      subst (λ n. AreTaken k o (take n rows) a c) one (subst (λ found. AreTaken k o found a c) (sym (parted_at_place rows i row lt is).2) (taken_then k o (take i rows) (row ∷ []) a b c all next))
+  one_more_taken all next = subst (λ found. AreTaken k o found a c) up_to (taken_then k o (take i rows) (row ∷ []) a b c all next)
 
   -- There was no memory for the next row.
   pub lacks_here : AreTaken k o (take i rows) a b → LacksRoom k o (row ∷ []) b c → LacksRoom k o rows a c
   lacks_here all next =
-      let parts = parted_at_place rows i row lt is in
-      subst (λ found. LacksRoom k o found a c) (sym parts.1) (lacks_before k o (take i rows ++ row ∷ []) parts.0 a c (lacks_then k o (take i rows) (row ∷ []) a b c all next))
-
-pub all_taken : (k : TableKind) (o : Bytes) (rows : List Row) (i : ℕ) → length rows ≤ i → (a b : Slice) → AreTaken k o (take i rows) a b → AreTaken k o rows a b
-all_taken k o [] zero end a b all = all
-all_taken k o [] (suc i) end a b all = all
-all_taken k o (row ∷ rows) zero end a b all = absurd (omega (arith, end))
-all_taken k o (row ∷ rows) (suc i) end a b all = (all.0, all_taken k o rows i (omega (arith, end)) _ b all.1)
+      let rest = drop (i + 1) rows in
+      subst (λ found. LacksRoom k o found a c) (ap (λ front. front ++ rest) up_to ∙ take-append-drop (i + 1) rows) (lacks_before k o (take i rows ++ row ∷ []) rest a c (lacks_then k o (take i rows) (row ∷ []) a b c all next))
 
 -- ---- tables one after another
 

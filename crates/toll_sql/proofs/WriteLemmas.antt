@@ -1,11 +1,11 @@
 -- One row put within a transaction.
-use Rattle.std.proofs.Common.{◌≡◌, ◌≢◌, ◌⊎◌, inl, inr, ℕ, true, false, List, [], ◌∷◌, Ok, Err, Result, OnOk, IsTrue, sym, ap, subst, ◌∙◌, nat_eq}
-use Rattle.toll_sql.proofs.Common.{AllByRecursion, cases_Bool, eqb-true, eq-eqb, inside_keeps, Row, State, ExecutesInside, KeepsCommit, Survives, HasCleanDisk, Table, Trees, Error, IsShaped, columns_from, fill, HasOurs, IsReady, IsWriting, MakesRow, PutsRow, made_all, table_of, tree_of, width_of, put_text, TableKind}
+use Rattle.std.proofs.Common.{◌≡◌, ◌≢◌, ◌⊎◌, inl, inr, ℕ, true, false, List, [], ◌∷◌, Ok, Err, Result, IsTrue, sym, ap, subst, ◌∙◌, nat_eq}
+use Rattle.toll_sql.proofs.Common.{AllByRecursion, cases_Bool, eqb-true, eq-eqb, Row, State, ExecutesInside, Survives, HasCleanDisk, Table, Trees, Error, IsShaped, columns_from, fill, HasOurs, IsReady, IsTransactionStep, MakesPuts, PutsRow, made_all, table_of, tree_of, width_of, put_text, TableKind}
 use Rattle.sqlite_trees.specs.declared.store.Shape.TheVariants as shape
-use Rattle.toll_sql.proofs.CauseLemmas.{exec_fault}
 use Rattle.toll_sql.proofs.CellLemmas.{every_column, fit_length}
 use Rattle.toll_sql.proofs.OthersLemmas.{at_listed}
 use Rattle.toll_sql.proofs.PutRows.{puts_at}
+use Rattle.toll_sql.proofs.StepLemmas.{one_step}
 use Rattle.toll_sql.proofs.PutTexts.{table_listed, tree_is, columns_are, table_number}
 
 -- each of our tables
@@ -35,49 +35,29 @@ shaped_after tree old new (t ∷ ts) here others shaped =
 pub whole_row : (k : TableKind) (cells : Row) → fill k cells ≡ true → columns_from 0 (width_of k) cells ≡ cells
 whole_row k cells fits = ap (λ n. columns_from 0 n cells) (sym (columns_are k) ∙ sym (fit_length (table_of k).columns cells fits)) ∙ every_column cells
 
-module _ (k : TableKind) (cells : Row) (fits : fill k cells ≡ true) (old new : State) where
-  write_makes : (r : Result ℕ Error) → new.step_limit ≡ old.step_limit → IsReady old → ExecutesInside 0 (put_text k) cells old new r → OnOk r (MakesRow k cells old new)
-  write_makes (Err e) limit ready h = tt
-  write_makes (Ok count) limit ready h =
-      let is = whole_row k cells fits in
-      let shaped = at_table (λ tree. IsShaped shape.Table (old.now.trees tree)) k ready.ours.shaped in
-      let p0 = puts_at k cells (subst (λ c. fill k c ≡ true) (sym is) fits) old new count ready.ours.schema ready.unlimited shaped (subst (λ c. ExecutesInside 0 (put_text k) c old new (Ok count)) (sym is) h).0 in
-      let put : PutsRow k cells old.now.trees new.now.trees = subst (λ c. PutsRow k c old.now.trees new.now.trees) is p0.0 in
-      record {
-        put = put;
-        ready = record {
-          ours = record { schema = subst HasOurs (sym p0.1) ready.ours.schema; shaped = shaped_after (tree_of k) old.now.trees new.now.trees made_all.tables put.shaped put.others ready.ours.shaped };
-          unlimited = limit ∙ ready.unlimited;
-          inside = h.1.mode;
-        };
-        schema = p0.1;
-        committed = h.1.committed_is;
-      }
-
-  write_inside : (r : Result ℕ Error) → ExecutesInside 0 (put_text k) cells old new r → OnOk r (IsTrue new.in_transaction)
-  write_inside (Err e) h = tt
-  write_inside (Ok count) h = h.1.mode
-
-  write_kept : (r : Result ℕ Error) → (old.in_transaction ≡ false → new ≡ old) → (IsTrue old.in_transaction → ExecutesInside 0 (put_text k) cells old new r) → KeepsCommit old new
-  write_kept r outside runs = elim (cases_Bool old.in_transaction) [
-    | inl within ↦ inside_keeps old new 0 false (put_text k) cells r (runs within)
-    | inr without ↦ (let same = outside without in record { was_open = λ live. subst (λ s. IsTrue s.is_open) same live; committed = λ live. ap (λ (s : State). s.committed) same })
-  ]
-
-  pub writes_row : (r : Result ℕ Error) → (old.in_transaction ≡ false → new ≡ old) → (HasCleanDisk new → IsTrue old.in_transaction → ExecutesInside 0 (put_text k) cells old new r) → Survives old new (λ _. ⊥) → IsWriting (MakesRow k cells) old new r
-  writes_row r outside runs survives = record {
-    makes = λ clean ready. write_makes r survives.limit ready (runs clean ready.inside);
-    inside = λ clean within. write_inside r (runs clean within);
-    fault = λ clean within. exec_fault old new (put_text k) cells r (runs clean within);
-    kept = λ clean. write_kept r outside (runs clean);
-    survives = survives;
-  }
+pub writes_row : (k : TableKind) (cells : Row) → fill k cells ≡ true → (old new : State) (r : Result ℕ Error) → (old.in_transaction ≡ false → new ≡ old)
+    → (HasCleanDisk new → IsTrue old.in_transaction → ExecutesInside 0 (put_text k) cells old new r) → Survives old new (λ _. ⊥) → IsTransactionStep IsReady (MakesPuts (PutsRow k cells)) old new r
+writes_row k cells fits old new r outside runs survives = one_step IsReady (MakesPuts (PutsRow k cells)) (put_text k) cells old new r (λ count limit ready h.
+    let is = whole_row k cells fits in
+    let shaped = at_table (λ tree. IsShaped shape.Table (old.now.trees tree)) k ready.ours.shaped in
+    let p0 = puts_at k cells (subst (λ c. fill k c ≡ true) (sym is) fits) old new count ready.ours.schema ready.unlimited shaped (subst (λ c. ExecutesInside 0 (put_text k) c old new (Ok count)) (sym is) h).0 in
+    let put : PutsRow k cells old.now.trees new.now.trees = subst (λ c. PutsRow k c old.now.trees new.now.trees) is p0.0 in
+    record {
+      put = put;
+      ready = record {
+        ours = record { schema = subst HasOurs (sym p0.1) ready.ours.schema; shaped = shaped_after (tree_of k) old.now.trees new.now.trees made_all.tables put.shaped put.others ready.ours.shaped };
+        unlimited = limit ∙ ready.unlimited;
+        inside = h.1.mode;
+      };
+      schema = p0.1;
+      committed = h.1.committed_is;
+    }) outside runs survives
 
 -- the result without the number of rows written
 abbrev pub uncounted : Result ℕ Error → Result (Unit {0}) Error
 uncounted (Ok count) = Ok tt
 uncounted (Err e) = Err e
 
-pub writes_uncounted : {Makes : State → State → Type 0} {old new : State} (r : Result ℕ Error) → IsWriting Makes old new r → IsWriting Makes old new (uncounted r)
+pub writes_uncounted : {Before : State → Type 0} {Makes : State → State → Type 0} {old new : State} (r : Result ℕ Error) → IsTransactionStep Before Makes old new r → IsTransactionStep Before Makes old new (uncounted r)
 writes_uncounted (Ok count) w = record { makes = w.makes; inside = w.inside; fault = λ clean within. tt; kept = w.kept; survives = w.survives }
-writes_uncounted (Err e) w = record { makes = λ clean ready. tt; inside = λ clean within. tt; fault = w.fault; kept = w.kept; survives = w.survives }
+writes_uncounted (Err e) w = record { makes = λ _ _ _. tt; inside = λ _ _. tt; fault = w.fault; kept = w.kept; survives = w.survives }

@@ -1,6 +1,6 @@
 -- Making tables, within a transaction.
 use Rattle.std.specs.Prelude.{◌≡◌, None, [], ◌∷◌, IsTrue, Result, IfErr, OnOk, false, true}
-use Rattle.toll_sql.specs.Common.{AllByRecursion, Database, Schema, State, HasCleanDisk, KeepsCommit, Survives, Trees, Error, KeepsRows, IsShaped, empty_content}
+use Rattle.toll_sql.specs.Common.{AllByRecursion, Database, Schema, State, HasCleanDisk, Survives, Trees, Error, KeepsRows, IsShaped, empty_content}
 use Rattle.sqlite_trees.specs.declared.store.Shape.TheVariants as shape
 use Rattle.toll_sql.specs.Causes.{IsErrorCaused}
 use Rattle.toll_sql.specs.Encode.{meta_cells}
@@ -48,14 +48,6 @@ pub record IsNewDatabase (db : Database) : Type 0 where
   pub ours : IsOurs db
   pub alone : IsJustOurs db.schema
   pub rows : Holds db.trees empty_content
-
--- A call that writes within a transaction. If Before holds of the state that it starts from, Makes holds after it.
-pub record IsTransactionStep (Before : State → Type 0) (Makes : State → State → Type 0) {X : Type 0} (old new : State) (result : Result X Error) : Type 0 where
-  pub makes : HasCleanDisk new → Before old → IsTrue old.in_transaction → OnOk result (Makes old new)
-  pub inside : HasCleanDisk new → IsTrue old.in_transaction → OnOk result (IsTrue new.in_transaction)
-  pub fault : HasCleanDisk new → IsTrue old.in_transaction → IfErr result (IsErrorCaused old new)
-  pub kept : HasCleanDisk new → KeepsCommit old new
-  pub survives : Survives old new (λ _. ⊥)
 
 -- the state after a transaction began
 abbrev pub begin : State → State

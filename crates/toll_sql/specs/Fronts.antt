@@ -1,9 +1,9 @@
 -- A slice while its tables are read, one after another.
-use Rattle.std.specs.Prelude.{◌≡◌, ℕ, List, [], length, take}
+use Rattle.std.specs.Prelude.{◌≡◌, ℕ, List, [], take}
 use Rattle.toll_sql.specs.Common.{Row, Slice}
 use Rattle.toll_sql.specs.Bag.{Rises}
 use Rattle.toll_sql.specs.Cells.{key_order}
-use Rattle.toll_sql.specs.Kinds.{RowKind, rows_for, AreValidIn}
+use Rattle.toll_sql.specs.Kinds.{rows_for, AreValidIn}
 use Rattle.toll_sql.specs.declared.table_kind.TableKind.{TableKind}
 use Rattle.toll_sql.specs.declared.table_kind.TableKind.TheVariants.{Meta, Owners, Units, Materials, Tests, Recipes, Requirements, Orders, Batches, Lots, Sublots, Moves, Results, Voids}
 
@@ -23,10 +23,6 @@ front_slice Sublots n s = record s { sublots = take n s.sublots; moves = []; res
 front_slice Moves n s = record s { moves = take n s.moves; results = []; voids = [] }
 front_slice Results n s = record s { results = take n s.results; voids = [] }
 front_slice Voids n s = record s { voids = take n s.voids }
-
--- the slice after the tables before this one and all rows of this one were read
-abbrev pub slice_past_table : {X : Type 0} → RowKind X → Slice → Slice
-slice_past_table kind s = front_slice kind.table (length (kind.listed s)) s
 
 -- These are the rows of the slice that belong in the table, in the order of its key, and their values are valid.
 pub record IsStoredAs (k : TableKind) (s : Slice) (rows : List Row) : Type 0 where

@@ -1,13 +1,12 @@
 -- An owner's rows, read table by table.
 use Rattle.std.specs.Prelude.{◌≡◌, ◌≢◌, ◌↔◌, ◌⊎◌, Option, None, List, [], ◌∷◌, Result, Err, OnOk, IfOk, IfSome}
-use Rattle.toll_sql.specs.Common.{HasCleanDisk, Row, State, Trees, Bytes, Slice, with_row, KeepFault, Damaged, Memory}
+use Rattle.toll_sql.specs.Common.{Row, State, Trees, Bytes, Slice, with_row, KeepFault, Damaged, Memory}
 use Rattle.toll_base.specs.SliceRules.{KeepsRules}
 use Rattle.toll_base.specs.declared.rows.Row.{Row as OfficeRow}
-use Rattle.toll_sql.specs.Asking.{ForSlice, IsLooking}
+use Rattle.toll_sql.specs.Asking.{ForIdle, ForSlice, IsLooking}
 use Rattle.toll_sql.specs.Cells.{columns_from}
-use Rattle.toll_sql.specs.Fronts.{IsStoredAs, front_slice, slice_past_table}
+use Rattle.toll_sql.specs.Fronts.{IsStoredAs, front_slice}
 use Rattle.toll_sql.specs.Kinds.{RowKind, cells_for, table_for, IsRow}
-use Rattle.toll_sql.specs.Others.{HasOurs}
 use Rattle.toll_sql.specs.PlantRows.{ForOwners}
 use Rattle.toll_sql.specs.Rows.{AreOfOwner}
 use Rattle.toll_sql.specs.Shown.{AreOwnedBy, IsUnknownOwner, ShowsOwnRows}
@@ -59,10 +58,6 @@ LacksRoomIn [] o db before after = ⊥
 LacksRoomIn (k ∷ kinds) o db before after =
     (after ≡ before) ⊎ ((rows : List Row) × AreOfOwner k o db rows × (LacksRoom k o rows before after ⊎ ((between : Slice) × AreTaken k o rows before between × LacksRoomIn kinds o db between after)))
 
--- If the tables were ours and nothing was pending, P holds of their rows.
-abbrev pub OverIdle : State → State → (Trees → Type 0) → Type 0
-OverIdle old new P = HasCleanDisk new → HasOurs old.now.schema → old.now ≡ old.committed → P old.now.trees
-
 -- More of the owner's slice is read, from where it was, out of these tables. If the slice keeps the rules, no damage is reported.
 pub record ReadsOn (from to : Slice → Slice) (kinds : List TableKind) (o : Bytes) {X : Type 0} (old new : State) (before after : Slice) (result : Result X KeepFault) : Type 0 where
   pub looks : IsLooking old new result
@@ -70,8 +65,8 @@ pub record ReadsOn (from to : Slice → Slice) (kinds : List TableKind) (o : Byt
   pub reads : ForSlice o old new (λ s. before ≡ from s → OnOk result (after ≡ to s))
   pub whole : ForSlice o old new (λ s. KeepsRules s → before ≡ from s → result ≢ Err Damaged)
   -- Whatever the tables have, each row that was read fits, and Memory is reported only for a row that fits.
-  pub taken : OverIdle old new (λ db. OnOk result (AreAllTaken kinds o db before after))
-  pub lacks : OverIdle old new (λ db. result ≡ Err Memory → LacksRoomIn kinds o db before after)
+  pub taken : ForIdle old new (λ db. OnOk result (AreAllTaken kinds o db.trees before after))
+  pub lacks : ForIdle old new (λ db. result ≡ Err Memory → LacksRoomIn kinds o db.trees before after)
 
 -- the table that is read after this one; after the last it is `Meta`, which has no row of a slice
 abbrev pub next_of : TableKind → TableKind
@@ -90,10 +85,6 @@ next_of _ = Meta
 -- The table's rows are read, after those of the tables before it.
 abbrev pub ReadsNext : {X : Type 0} → TableKind → Bytes → State → State → Slice → Slice → Result X KeepFault → Type 0
 ReadsNext {X} k o old new before after result = ReadsOn (front_slice k 0) (front_slice (next_of k) 0) (k ∷ []) o {X = X} old new before after result
-
--- All rows of one kind are read after those of the tables before its own.
-abbrev pub ReadsKind : {X Y : Type 0} → RowKind X → Bytes → State → State → Slice → Slice → Result Y KeepFault → Type 0
-ReadsKind kind o old new before after result = AreStoredOfOwner kind → ReadsOn (front_slice kind.table 0) (slice_past_table kind) (kind.table ∷ []) o old new before after result
 
 -- P holds of the slice that has these rows of one kind, if the tables before theirs were read.
 abbrev pub ForStored : {X : Type 0} → RowKind X → List Row → Slice → (Slice → Type 0) → Type 0

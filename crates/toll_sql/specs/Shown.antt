@@ -1,13 +1,13 @@
 -- Stored rows that are rows of the office.
 use Rattle.std.specs.Prelude.{◌≡◌, ◌≢◌, ◌||◌, ℕ, pos, false, Option, is_some, List, [], ◌∷◌, map, Result, OnOk, IfOk, IfSome}
-use Rattle.toll_sql.specs.Common.{AllByRecursion, Database, Row, column, State, HasCleanDisk, Trees, Int, Text, Bytes, bytes_cmp, same_bytes, house_name, Origin, OwnerRow, KeepFault}
+use Rattle.toll_sql.specs.Common.{AllByRecursion, Database, Row, column, State, Trees, Int, Text, Bytes, bytes_cmp, same_bytes, house_name, Origin, OwnerRow, KeepFault}
 use Rattle.toll_base.specs.Table.{row_at}
 use Rattle.toll_sql.specs.Asked.{AreReadBy}
+use Rattle.toll_sql.specs.Asking.{ForIdle}
 use Rattle.toll_sql.specs.Bag.{owned_by}
 use Rattle.toll_sql.specs.Cells.{columns_from}
 use Rattle.toll_sql.specs.Encode.{origin_order, origin_number}
 use Rattle.toll_sql.specs.Kinds.{PlantKind, RowKind, of_table, owner_kind}
-use Rattle.toll_sql.specs.Others.{HasOurs}
 use Rattle.toll_sql.specs.Schema.{select_text, tree_of, width_of}
 use Rattle.toll_sql.specs.Valid.{IsOrigin}
 use Rattle.toll_sql.specs.declared.table_kind.TableKind.{TableKind}
@@ -36,8 +36,7 @@ tables_of_owners = Materials ∷ Tests ∷ Recipes ∷ Requirements ∷ Orders �
 
 -- If the tables are ours, nothing was pending and an answer was given, each stored row of the owner in these tables is a row of the office.
 abbrev pub ShowsOwnRows : {X : Type 0} → List TableKind → Bytes → State → State → Result X KeepFault → Type 0
-ShowsOwnRows kinds o old new result =
-    HasCleanDisk new → HasOurs old.now.schema → old.now ≡ old.committed → OnOk result (AllByRecursion (AreRowsIn o old.now.trees) kinds)
+ShowsOwnRows kinds o old new result = ForIdle old new (λ db. OnOk result (AllByRecursion (AreRowsIn o db.trees) kinds))
 
 -- The reported rows are exactly those that the table's text reads, by the definitions of crate sqlite, and their values are valid.
 pub record AreReported {X : Type 0} (kind : PlantKind X) (db : Database) (reported : List X) : Type 0 where
@@ -56,9 +55,7 @@ AreOwnedBy o rows = AllByRecursion (λ row. column row 0 ≡ Text o) rows
 
 -- If the tables are ours, nothing was pending and a slice was returned, each stored row of the owner is a row of the office.
 abbrev pub ShowsSlice : {X E : Type 0} → Bytes → State → State → Result (Option X) E → Type 0
-ShowsSlice o old new result =
-    HasCleanDisk new → HasOurs old.now.schema → old.now ≡ old.committed
-    → IfOk result (λ slice. IfSome slice (λ _. AllByRecursion (AreRowsIn o old.now.trees) tables_of_owners))
+ShowsSlice o old new result = ForIdle old new (λ db. IfOk result (λ slice. IfSome slice (λ _. AllByRecursion (AreRowsIn o db.trees) tables_of_owners)))
 
 -- The owner is not HOUSE, and none of the rows that the text of the table of owners reads names it, by the definitions of crate sqlite.
 abbrev pub IsReportedUnknown : Database → Bytes → Type 0

@@ -38,9 +38,9 @@ has_row_key k cells row = agree plain (key_columns k) row (key_columns k) (Int (
 abbrev pub PutsRow : TableKind → Row → Trees → Trees → Type 0
 PutsRow k cells = Puts made_all (tree_of k) (has_row_key k cells) cells
 
--- The row is put, nothing is committed, and more can be put.
-pub record MakesRow (k : TableKind) (cells : Row) (old new : State) : Type 0 where
-  pub put : PutsRow k cells old.now.trees new.now.trees
+-- These puts were made, nothing is committed, and more can be put.
+pub record MakesPuts (Puts : Trees → Trees → Type 0) (old new : State) : Type 0 where
+  pub put : Puts old.now.trees new.now.trees
   pub ready : IsReady new
   pub schema : new.now.schema ≡ old.now.schema
   pub committed : new.committed ≡ old.committed
@@ -73,20 +73,6 @@ abbrev pub PutsAll : List Change → Trees → Trees → Type 0
 PutsAll [] old new = new ≡ old
 PutsAll (change ∷ more) old new = (mid : Trees) × PutsChange change old mid × PutsAll more mid new
 
--- The change is put, nothing is committed, and more can be put.
-pub record MakesPut (change : Change) (old new : State) : Type 0 where
-  pub put : PutsChange change old.now.trees new.now.trees
-  pub ready : IsReady new
-  pub schema : new.now.schema ≡ old.now.schema
-  pub committed : new.committed ≡ old.committed
-
--- All of these changes are put, nothing is committed, and more can be put.
-pub record MakesAll (changes : List Change) (old new : State) : Type 0 where
-  pub put : PutsAll changes old.now.trees new.now.trees
-  pub ready : IsReady new
-  pub schema : new.now.schema ≡ old.now.schema
-  pub committed : new.committed ≡ old.committed
-
 -- The changes are put into tables that are ours, and the schema stays.
 pub record IsApplied (changes : List Change) (db after : Database) : Type 0 where
   pub put : PutsAll changes db.trees after.trees
@@ -94,16 +80,12 @@ pub record IsApplied (changes : List Change) (db after : Database) : Type 0 wher
   pub schema : after.schema ≡ db.schema
 
 -- The changes were put and committed, and the schema stays.
-pub record HasApplied (changes : List Change) (old new : State) : Type 0 where
-  pub put : PutsAll changes old.now.trees new.now.trees
-  pub ours : IsOurs new.now
-  pub schema : new.now.schema ≡ old.now.schema
-  pub settled : new.committed ≡ new.now
-  pub is_open : IsTrue new.is_open
+abbrev pub HasApplied : List Change → State → State → Type 0
+HasApplied changes old new = IsApplied changes old.now new.now × IsTrue new.is_open × (new.now ≡ new.committed)
 
--- The effect of each call that writes within a transaction, whatever it writes.
-pub record IsWriting (Makes : State → State → Type 0) {X : Type 0} (old new : State) (result : Result X Error) : Type 0 where
-  pub makes : HasCleanDisk new → IsReady old → OnOk result (Makes old new)
+-- A call that writes within a transaction. If Before holds of the state that it starts from, Makes holds after it.
+pub record IsTransactionStep (Before : State → Type 0) (Makes : State → State → Type 0) {X : Type 0} (old new : State) (result : Result X Error) : Type 0 where
+  pub makes : HasCleanDisk new → Before old → IsTrue old.in_transaction → OnOk result (Makes old new)
   pub inside : HasCleanDisk new → IsTrue old.in_transaction → OnOk result (IsTrue new.in_transaction)
   pub fault : HasCleanDisk new → IsTrue old.in_transaction → IfErr result (IsErrorCaused old new)
   pub kept : HasCleanDisk new → KeepsCommit old new
@@ -111,7 +93,7 @@ pub record IsWriting (Makes : State → State → Type 0) {X : Type 0} (old new 
 
 -- Cells that fill the columns of the table are put into it.
 abbrev pub WritesRow : {X : Type 0} → TableKind → Row → State → State → Result X Error → Type 0
-WritesRow k cells old new result = fill k cells ≡ true → IsWriting (MakesRow k cells) old new result
+WritesRow k cells old new result = fill k cells ≡ true → IsTransactionStep IsReady (MakesPuts (PutsRow k cells)) old new result
 
 -- If the tables are ours, there is no limit of steps and the call succeeds, they have taken the changes.
 abbrev pub Applies : {X E : Type 0} → List Change → State → State → Result X E → Type 0

@@ -11,7 +11,7 @@ ghost use Rattle.toll_sql.specs.Opening.{Adopts, Brings};
 ghost use Rattle.toll_sql.specs.Others.{HasOurs, IsJustOurs};
 ghost use Rattle.toll_sql.specs.Stores.{HoldsIn, LiesIdle};
 
-use crate::creating::{VERSION, create_tables, raise_or_none};
+use crate::creating::{TABLES_VERSION, create_tables, raise_or_none};
 use crate::open_fault::{OpenFault, open_fault_of};
 use crate::schema_check::{Layout, layout_of};
 use crate::version::{find_version, read_first_version, read_version};
@@ -68,7 +68,7 @@ fn adopt_ours<S: Alter>(conn: &mut Connection<S>) -> Result<(), OpenFault>
 {
     match read_version(conn) {
         Ok(stored_version) => {
-            if stored_version == Some(VERSION) {
+            if stored_version == Some(TABLES_VERSION) {
                 Ok(())
             } else {
                 Err(misfit(stored_version, FIRST_VERSION))
@@ -105,7 +105,7 @@ fn adopt_first<S: Alter>(conn: &mut Connection<S>) -> Result<(), OpenFault>
             if stored_version == Some(FIRST_VERSION) {
                 raise_all(conn)
             } else {
-                Err(misfit(stored_version, VERSION))
+                Err(misfit(stored_version, TABLES_VERSION))
             }
         },
         Err(error) => Err(open_fault_of(error)),
@@ -147,7 +147,7 @@ fn fault_of_others(stored_version: Option<u64>) -> OpenFault
     ensures known { (result ≡ OpenFault.Damaged) ⊎ (result ≡ OpenFault.NotOurs) }
 {
     match stored_version {
-        Some(FIRST_VERSION | VERSION) => OpenFault::Damaged,
+        Some(FIRST_VERSION | TABLES_VERSION) => OpenFault::Damaged,
         _ => OpenFault::NotOurs,
     }
 }

@@ -2,11 +2,11 @@
 ghost use Rattle.std.specs.Prelude.{◌≡◌, false};
 ghost use Rattle.sqlite.specs.Held.{state};
 ghost use Rattle.sqlite.specs.State.{HasCleanDisk};
-ghost use Rattle.toll_sql.specs.Create.{IsMaking, IsNewDatabase, IsShapedAs, IsTransactionStep, IsWholeOrNothing, MakesAllTables, MakesTable, WritesVersion};
+ghost use Rattle.toll_sql.specs.Create.{IsMaking, IsNewDatabase, IsShapedAs, IsWholeOrNothing, MakesAllTables, MakesTable, WritesVersion};
 ghost use Rattle.toll_sql.specs.First.{MakesRaised, Raised, first_ours};
 ghost use Rattle.toll_sql.specs.Opening.{Creates};
 ghost use Rattle.toll_sql.specs.Plain.{no_schema};
-ghost use Rattle.toll_sql.specs.Stores.{LiesIdle};
+ghost use Rattle.toll_sql.specs.Stores.{IsTransactionStep, LiesIdle};
 ghost use Rattle.toll_sql.specs.Schema.{every_table, made_all, made_before};
 
 use crate::encode::meta_values;
@@ -17,7 +17,7 @@ use crate::writing::put;
 use sqlite::{Alter, Connection, Error, Transaction};
 
 /// The version of these tables.
-pub(crate) const VERSION: u64 = 2;
+pub(crate) const TABLES_VERSION: u64 = 2;
 
 /// All tables, in the order of making them.
 pub(crate) fn every_table() -> [TableKind; 14]
@@ -57,7 +57,7 @@ fn write_version<S: Alter>(tx: &mut Transaction<'_, S>) -> Result<(), Error>
     ensures same_reference { tx.new.conn.ghost_name ≡ tx.old.conn.ghost_name }
     ensures steps { IsTransactionStep (IsShapedAs made_all) WritesVersion (state S.Store tx.old.conn.now) (state S.Store tx.new.conn.now) result }
 {
-    put(tx, TableKind::Meta, &meta_values(VERSION))
+    put(tx, TableKind::Meta, &meta_values(TABLES_VERSION))
 }
 
 // Makes all tables. None of them exists yet.

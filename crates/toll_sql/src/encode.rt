@@ -14,7 +14,7 @@ use toll_base::{
 };
 
 /// The greatest whole number that a column can have.
-pub const MOST: u64 = 9_223_372_036_854_775_807;
+pub const MOST_INT: u64 = 9_223_372_036_854_775_807;
 
 /// The cells of `meta`, which say that the tables are the office's, of this version.
 pub fn meta_values<'a>(version: u64) -> [ValueRef<'a>; 2]

@@ -7,7 +7,7 @@ ghost use Rattle.toll_sql.specs.LastPuts.{AreNoted, IsSublotValid, is_put_again,
 ghost use Rattle.toll_sql.specs.Stores.{IsValidChange};
 ghost use Rattle.toll_sql.specs.Valid.{IsStorable, IsSublot};
 
-use crate::encode::{MOST, sublot_values};
+use crate::encode::{MOST_INT, sublot_values};
 use std::alloc::{AllocError, Global};
 use std::collections::BTreeSet;
 use toll_base::{Change, Name, Row, SublotRow};
@@ -55,7 +55,9 @@ fn sublot_put(change: &Change) -> Option<SublotKey>
     ensures valid { IfSome result (λ _. IsValidChange change.now) }
 {
     match change {
-        Change::Put(owner, Row::Sublot(row)) if row.amount <= MOST => Some(sublot_key(owner, row)),
+        Change::Put(owner, Row::Sublot(row)) if row.amount <= MOST_INT => {
+            Some(sublot_key(owner, row))
+        },
         _ => None,
     }
 }

@@ -7,29 +7,33 @@ ghost use Rattle.std.specs.List.{AllByRecursion};
 ghost use Rattle.toll_base.specs.Bytes.{Bytes};
 ghost use Rattle.toll_base.specs.Slice.{with_row};
 ghost use Rattle.toll_base.specs.SliceRules.{KeepsRules};
-ghost use Rattle.toll_sql.specs.Fronts.{slice_past_table};
-ghost use Rattle.toll_sql.specs.Reading.{ForOwned, ForRow, ForStored, ReadsKind, TakesRows};
+ghost use Rattle.toll_sql.specs.Fronts.{front_slice};
+ghost use Rattle.toll_sql.specs.Reading.{ForOwned, ForRow, ForStored, ReadsNext, TakesRows, next_of};
 ghost use Rattle.toll_sql.specs.Shown.{AreOwnedBy, IsRowOfOwner};
+ghost use Rattle.toll_sql.specs.StoredLaws.{AreStoredOfOwner};
 
 use crate::fault::MemoryLack;
 use crate::queries::owners_rows;
 use crate::stored::StoredRow;
+use crate::table_kind::TableKind;
 use sqlite::{Alter, Connection, Row as Stored};
 use toll_base::{Name, Row, Slice};
 use toll_keep::KeepFault;
 
-/// Reads the owner's rows of this kind. Damaged if one isn't of this kind or breaks the rules. Memory and Disk are
-/// faults of the store.
+/// Reads the owner's rows of this kind, which the table has. Damaged if one isn't of this kind or breaks the
+/// rules. Memory and Disk are faults of the store.
 pub fn read_table<S: Alter, X: StoredRow>(
     conn: &mut Connection<S>,
     lack: &mut MemoryLack,
     slice: &mut Slice,
     owner: &Name,
+    table: TableKind,
 ) -> Result<(), KeepFault>
-    ensures reads { ReadsKind X.kind owner.now (state S.Store conn.old) (state S.Store conn.new) slice.old slice.new result }
+    ensures reads { table ≡ X.kind.table → AreStoredOfOwner X.kind
+        → ReadsNext table owner.now (state S.Store conn.old) (state S.Store conn.new) slice.old slice.new result }
     ensures lack { result ≡ Err KeepFault.Memory → IsTrue lack.new.is_noted }
 {
-    match owners_rows(conn, X::table(), owner) {
+    match owners_rows(conn, table, owner) {
         Ok(rows) => read_rows::<X>(slice, lack, &rows),
         Err(error) => Err(lack.fault_of(error)),
     }
@@ -42,7 +46,7 @@ fn read_rows<X: StoredRow>(
     lack: &mut MemoryLack,
     rows: &[Stored],
 ) -> Result<(), KeepFault>
-    ensures reads { ForStored X.kind rows.now slice.old (λ s. OnOk result (slice.new ≡ slice_past_table X.kind s)) }
+    ensures reads { ForStored X.kind rows.now slice.old (λ s. OnOk result (slice.new ≡ front_slice (next_of X.kind.table) 0 s)) }
     ensures shown { (o : Bytes) → AreOwnedBy o rows.now → OnOk result (AllByRecursion (IsRowOfOwner X.kind o) rows.now) }
     ensures whole { ForStored X.kind rows.now slice.old (λ s. KeepsRules s → result ≢ Err KeepFault.Damaged) }
     ensures takes { ForOwned X.kind rows.now (λ o. TakesRows X.kind.table o rows.now slice.old slice.new result) }

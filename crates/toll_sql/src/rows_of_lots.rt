@@ -3,16 +3,11 @@ ghost use Rattle.toll_sql.specs.Kinds.{lot_kind, sublot_kind, result_kind};
 
 use crate::cells::{bounded_at, disposition_at, name_at, number_at, origin_at, value_at};
 use crate::stored::StoredRow;
-use crate::table_kind::TableKind;
 use sqlite::Row as Stored;
 use toll_base::{LotRow, ResultRow, Row, SublotRow};
 
 impl StoredRow for LotRow {
     ghost kind = { lot_kind };
-
-    fn table() -> TableKind {
-        TableKind::Lots
-    }
 
     fn into_row(self) -> Row {
         Row::Lot(self)
@@ -31,10 +26,6 @@ impl StoredRow for LotRow {
 impl StoredRow for SublotRow {
     ghost kind = { sublot_kind };
 
-    fn table() -> TableKind {
-        TableKind::Sublots
-    }
-
     fn into_row(self) -> Row {
         Row::Sublot(self)
     }
@@ -50,10 +41,6 @@ impl StoredRow for SublotRow {
 
 impl StoredRow for ResultRow {
     ghost kind = { result_kind };
-
-    fn table() -> TableKind {
-        TableKind::Results
-    }
 
     fn into_row(self) -> Row {
         Row::Result(self)

@@ -3,16 +3,11 @@ ghost use Rattle.toll_sql.specs.Kinds.{material_kind, test_kind, recipe_kind, re
 
 use crate::cells::{bounded_at, limits_at, measure_at, name_at, role_at};
 use crate::stored::StoredRow;
-use crate::table_kind::TableKind;
 use sqlite::Row as Stored;
 use toll_base::{MaterialRow, RecipeRow, RequirementRow, Row, TestRow};
 
 impl StoredRow for MaterialRow {
     ghost kind = { material_kind };
-
-    fn table() -> TableKind {
-        TableKind::Materials
-    }
 
     fn into_row(self) -> Row {
         Row::Material(self)
@@ -28,10 +23,6 @@ impl StoredRow for MaterialRow {
 
 impl StoredRow for TestRow {
     ghost kind = { test_kind };
-
-    fn table() -> TableKind {
-        TableKind::Tests
-    }
 
     fn into_row(self) -> Row {
         Row::Test(self)
@@ -49,10 +40,6 @@ impl StoredRow for TestRow {
 impl StoredRow for RecipeRow {
     ghost kind = { recipe_kind };
 
-    fn table() -> TableKind {
-        TableKind::Recipes
-    }
-
     fn into_row(self) -> Row {
         Row::Recipe(self)
     }
@@ -67,10 +54,6 @@ impl StoredRow for RecipeRow {
 
 impl StoredRow for RequirementRow {
     ghost kind = { requirement_kind };
-
-    fn table() -> TableKind {
-        TableKind::Requirements
-    }
 
     fn into_row(self) -> Row {
         Row::Requirement(self)

@@ -4,16 +4,11 @@ ghost use Rattle.toll_sql.specs.Kinds.{move_kind, void_kind};
 use crate::cells::{bounded_at, name_at};
 use crate::move_cells::move_at;
 use crate::stored::StoredRow;
-use crate::table_kind::TableKind;
 use sqlite::Row as Stored;
 use toll_base::{MoveRow, Row, VoidRow};
 
 impl StoredRow for MoveRow {
     ghost kind = { move_kind };
-
-    fn table() -> TableKind {
-        TableKind::Moves
-    }
 
     fn into_row(self) -> Row {
         Row::Move(self)
@@ -31,10 +26,6 @@ impl StoredRow for MoveRow {
 
 impl StoredRow for VoidRow {
     ghost kind = { void_kind };
-
-    fn table() -> TableKind {
-        TableKind::Voids
-    }
 
     fn into_row(self) -> Row {
         Row::Void(self)

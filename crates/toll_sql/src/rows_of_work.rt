@@ -3,16 +3,11 @@ ghost use Rattle.toll_sql.specs.Kinds.{order_kind, batch_kind};
 
 use crate::cells::{bounded_at, flag_at, name_at, state_at};
 use crate::stored::StoredRow;
-use crate::table_kind::TableKind;
 use sqlite::Row as Stored;
 use toll_base::{BatchRow, OrderRow, Row};
 
 impl StoredRow for OrderRow {
     ghost kind = { order_kind };
-
-    fn table() -> TableKind {
-        TableKind::Orders
-    }
 
     fn into_row(self) -> Row {
         Row::Order(self)
@@ -30,10 +25,6 @@ impl StoredRow for OrderRow {
 
 impl StoredRow for BatchRow {
     ghost kind = { batch_kind };
-
-    fn table() -> TableKind {
-        TableKind::Batches
-    }
 
     fn into_row(self) -> Row {
         Row::Batch(self)

@@ -15,7 +15,7 @@ use sqlite_value::keys::{Collation, Order};
 use sqlite_value::value::{Bytes, Value};
 
 /// How many tables version 1 has. It has as many indexes.
-const FIRST: usize = 13;
+const FIRST_TABLES: usize = 13;
 
 /// Whether the schema is empty.
 pub(crate) fn is_blank(schema: &Schema) -> bool
@@ -177,8 +177,8 @@ pub(crate) fn layout_of(schema: &Schema, made: &Schema) -> Layout
     }
     if has_tables(
         schema,
-        &made.tables.as_slice()[..FIRST],
-        &made.indexes.as_slice()[..FIRST],
+        &made.tables.as_slice()[..FIRST_TABLES],
+        &made.indexes.as_slice()[..FIRST_TABLES],
     ) {
         return Layout::First;
     }

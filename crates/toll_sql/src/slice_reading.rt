@@ -29,7 +29,7 @@ use toll_base::{
 use toll_keep::KeepFault;
 
 /// The number of tables, at the start of the list, whose rows belong to no owner.
-const UNOWNED: usize = 3;
+const UNOWNED_TABLES: usize = 3;
 
 /// All rows of an owner: `None` for an unknown owner. HOUSE is always known. If rows are given, each of the
 /// owner's rows in the tables is a row of the office, and its values are values of their kinds. Any other row
@@ -102,7 +102,7 @@ fn read_tables<S: Alter>(
     ensures lack { result ≡ Err KeepFault.Memory → IsTrue lack.new.is_noted }
 {
     let every = every_table();
-    for table in &every[UNOWNED..] {
+    for table in &every[UNOWNED_TABLES..] {
         read_kind(conn, lack, slice, owner, *table)?;
     }
     Ok(())
@@ -120,17 +120,17 @@ fn read_kind<S: Alter>(
     ensures lack { result ≡ Err KeepFault.Memory → IsTrue lack.new.is_noted }
 {
     match table {
-        TableKind::Materials => read_table::<S, MaterialRow>(conn, lack, slice, owner),
-        TableKind::Tests => read_table::<S, TestRow>(conn, lack, slice, owner),
-        TableKind::Recipes => read_table::<S, RecipeRow>(conn, lack, slice, owner),
-        TableKind::Requirements => read_table::<S, RequirementRow>(conn, lack, slice, owner),
-        TableKind::Orders => read_table::<S, OrderRow>(conn, lack, slice, owner),
-        TableKind::Batches => read_table::<S, BatchRow>(conn, lack, slice, owner),
-        TableKind::Lots => read_table::<S, LotRow>(conn, lack, slice, owner),
-        TableKind::Sublots => read_table::<S, SublotRow>(conn, lack, slice, owner),
-        TableKind::Moves => read_table::<S, MoveRow>(conn, lack, slice, owner),
-        TableKind::Results => read_table::<S, ResultRow>(conn, lack, slice, owner),
-        TableKind::Voids => read_table::<S, VoidRow>(conn, lack, slice, owner),
+        TableKind::Materials => read_table::<S, MaterialRow>(conn, lack, slice, owner, table),
+        TableKind::Tests => read_table::<S, TestRow>(conn, lack, slice, owner, table),
+        TableKind::Recipes => read_table::<S, RecipeRow>(conn, lack, slice, owner, table),
+        TableKind::Requirements => read_table::<S, RequirementRow>(conn, lack, slice, owner, table),
+        TableKind::Orders => read_table::<S, OrderRow>(conn, lack, slice, owner, table),
+        TableKind::Batches => read_table::<S, BatchRow>(conn, lack, slice, owner, table),
+        TableKind::Lots => read_table::<S, LotRow>(conn, lack, slice, owner, table),
+        TableKind::Sublots => read_table::<S, SublotRow>(conn, lack, slice, owner, table),
+        TableKind::Moves => read_table::<S, MoveRow>(conn, lack, slice, owner, table),
+        TableKind::Results => read_table::<S, ResultRow>(conn, lack, slice, owner, table),
+        TableKind::Voids => read_table::<S, VoidRow>(conn, lack, slice, owner, table),
         TableKind::Meta | TableKind::Owners | TableKind::Units => Ok(()),
     }
 }

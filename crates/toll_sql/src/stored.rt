@@ -7,7 +7,6 @@ ghost use Rattle.toll_sql.specs.Cells.{columns_from};
 ghost use Rattle.toll_sql.specs.Kinds.{RowKind};
 ghost use Rattle.toll_sql.specs.Schema.{width_of};
 
-use crate::table_kind::TableKind;
 use sqlite::Row as Stored;
 use toll_base::Row as AnyRow;
 
@@ -15,10 +14,6 @@ use toll_base::Row as AnyRow;
 pub trait StoredRow: Copy {
     // The kind of such rows.
     ghost kind: { RowKind Self };
-
-    /// The table.
-    fn table() -> TableKind
-        ensures { result ≡ kind.table };
 
     /// The row, whatever its kind.
     fn into_row(self) -> AnyRow

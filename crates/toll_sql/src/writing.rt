@@ -6,10 +6,10 @@ ghost use Rattle.sqlite.specs.Values.{bound};
 ghost use Rattle.toll_base.specs.declared.decision.Change.TheVariants.{Put};
 ghost use Rattle.toll_sql.specs.Causes.{Reason};
 ghost use Rattle.toll_sql.specs.Create.{IsWholeOrNothing};
-ghost use Rattle.toll_sql.specs.Stores.{Applies, IsApplied, IsReady, IsWriting, LeavesPut, MakesAll, MakesPut, StaysOnErr, WritesRow};
+ghost use Rattle.toll_sql.specs.Stores.{Applies, IsApplied, IsReady, IsTransactionStep, LeavesPut, MakesPuts, PutsAll, PutsChange, StaysOnErr, WritesRow};
 
 use crate::encode::{
-    MOST, batch_values, lot_values, material_values, move_values, order_values, owner_values,
+    MOST_INT, batch_values, lot_values, material_values, move_values, order_values, owner_values,
     recipe_values, requirement_values, result_values, sublot_values, test_values, unit_values,
     void_values,
 };
@@ -23,7 +23,7 @@ use toll_base::{Change, Name, Row};
 use toll_keep::KeepFault;
 
 /// The number of changes from which on sublots that are put again are looked for. One command makes fewer.
-const MANY: usize = 8;
+const MANY_CHANGES: usize = 8;
 
 /// The column of a sublot's amount.
 const AMOUNT: usize = 3;
@@ -79,9 +79,9 @@ fn put_all<S: Alter>(
     changes: &[Change],
 ) -> Result<(), Error>
     ensures same_reference { tx.new.conn.ghost_name ≡ tx.old.conn.ghost_name }
-    ensures writes { IsWriting (MakesAll changes.now) (state S.Store tx.old.conn.now) (state S.Store tx.new.conn.now) result }
+    ensures writes { IsTransactionStep IsReady (MakesPuts (PutsAll changes.now)) (state S.Store tx.old.conn.now) (state S.Store tx.new.conn.now) result }
 {
-    if changes.len() < MANY {
+    if changes.len() < MANY_CHANGES {
         return put_each(tx, changes);
     }
     let last = last_puts(alloc, changes)?;
@@ -91,7 +91,7 @@ fn put_all<S: Alter>(
 // Makes each change, in order.
 fn put_each<S: Alter>(tx: &mut Transaction<'_, S>, changes: &[Change]) -> Result<(), Error>
     ensures same_reference { tx.new.conn.ghost_name ≡ tx.old.conn.ghost_name }
-    ensures writes { IsWriting (MakesAll changes.now) (state S.Store tx.old.conn.now) (state S.Store tx.new.conn.now) result }
+    ensures writes { IsTransactionStep IsReady (MakesPuts (PutsAll changes.now)) (state S.Store tx.old.conn.now) (state S.Store tx.new.conn.now) result }
 {
     for change in changes {
         put_change(tx, change)?;
@@ -102,7 +102,7 @@ fn put_each<S: Alter>(tx: &mut Transaction<'_, S>, changes: &[Change]) -> Result
 // Makes the change.
 fn put_change<S: Alter>(tx: &mut Transaction<'_, S>, change: &Change) -> Result<(), Error>
     ensures same_reference { tx.new.conn.ghost_name ≡ tx.old.conn.ghost_name }
-    ensures writes { IsWriting (MakesPut change.now) (state S.Store tx.old.conn.now) (state S.Store tx.new.conn.now) result }
+    ensures writes { IsTransactionStep IsReady (MakesPuts (PutsChange change.now)) (state S.Store tx.old.conn.now) (state S.Store tx.new.conn.now) result }
 {
     // This names the type for the proof: a change may have a row.
     let _row: Option<Row> = None;
@@ -116,7 +116,8 @@ fn put_change<S: Alter>(tx: &mut Transaction<'_, S>, change: &Change) -> Result<
 // Puts the owner's row. An amount or a number too great for a column, which no rules allow, is out of range.
 fn put_row<S: Alter>(tx: &mut Transaction<'_, S>, owner: &Name, row: &Row) -> Result<(), Error>
     ensures same_reference { tx.new.conn.ghost_name ≡ tx.old.conn.ghost_name }
-    ensures writes { IsWriting (MakesPut (Put owner.now row.now)) (state S.Store tx.old.conn.now) (state S.Store tx.new.conn.now) result }
+    ensures writes { IsTransactionStep IsReady (MakesPuts (PutsChange (Put owner.now row.now)))
+        (state S.Store tx.old.conn.now) (state S.Store tx.new.conn.now) result }
 {
     match row {
         Row::Material(row) => put(tx, TableKind::Materials, &material_values(owner, row)),
@@ -126,10 +127,10 @@ fn put_row<S: Alter>(tx: &mut Transaction<'_, S>, owner: &Name, row: &Row) -> Re
         Row::Order(row) => put(tx, TableKind::Orders, &order_values(owner, row)),
         Row::Batch(row) => put(tx, TableKind::Batches, &batch_values(owner, row)),
         Row::Lot(row) => put(tx, TableKind::Lots, &lot_values(owner, row)),
-        Row::Sublot(row) if row.amount > MOST => Err(Error::IntegralValueOutOfRange(AMOUNT)),
+        Row::Sublot(row) if row.amount > MOST_INT => Err(Error::IntegralValueOutOfRange(AMOUNT)),
         Row::Sublot(row) => put(tx, TableKind::Sublots, &sublot_values(owner, row)),
         Row::Move(row) => put(tx, TableKind::Moves, &move_values(owner, row)),
-        Row::Result(row) if row.number > MOST => Err(Error::IntegralValueOutOfRange(NUMBER)),
+        Row::Result(row) if row.number > MOST_INT => Err(Error::IntegralValueOutOfRange(NUMBER)),
         Row::Result(row) => put(tx, TableKind::Results, &result_values(owner, row)),
         Row::Void(row) => put(tx, TableKind::Voids, &void_values(owner, row)),
     }

@@ -13,7 +13,7 @@ use toll_base::{Change, Decision, Disposition, LotRow, Name, Refusal, Row, Slice
 ///
 /// [`Refusal::UnknownLot`] if the owner has no such lot, [`Refusal::NotQuarantined`] if it is
 /// released or rejected, then [`Refusal::TestsOpen`] if a test of its material has no result of
-/// the lot, or its latest is out of the test's limits.
+/// the lot, or its latest is out of the test's limits. It fails only if memory runs out.
 pub fn release(alloc: Global, slice: &Slice, lot: Name) -> Result<Decision, AllocError>
     ensures decides { IfOk result (Decides (by slice.now.owner (Release lot)) slice.now) }
     ensures rules { IfOk result (DecisionKeepsRules slice.now) }
@@ -25,7 +25,7 @@ pub fn release(alloc: Global, slice: &Slice, lot: Name) -> Result<Decision, Allo
 /// Rejects a lot, for good.
 ///
 /// [`Refusal::UnknownLot`] if the owner has no such lot, then [`Refusal::Rejected`] if it is
-/// rejected already.
+/// rejected already. It fails only if memory runs out.
 pub fn reject(alloc: Global, slice: &Slice, lot: Name) -> Result<Decision, AllocError>
     ensures decides { IfOk result (Decides (by slice.now.owner (Reject lot)) slice.now) }
     ensures rules { IfOk result (DecisionKeepsRules slice.now) }

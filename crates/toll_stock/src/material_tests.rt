@@ -11,7 +11,7 @@ use toll_base::{Change, Decision, Limits, MOST_TESTS, Name, Refusal, Row, Slice,
 ///
 /// [`Refusal::UnknownMaterial`] if the owner has no such material, [`Refusal::TestExists`] if
 /// the material has a test of this name, [`Refusal::MaterialInUse`] if a lot is of the material,
-/// then [`Refusal::LimitReached`] at 2,000 tests.
+/// then [`Refusal::LimitReached`] at 2,000 tests. It fails only if memory runs out.
 pub fn add_test(
     alloc: Global,
     slice: &Slice,

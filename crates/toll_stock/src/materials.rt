@@ -12,7 +12,7 @@ use toll_base::{
 /// Adds a material, whose amounts are in this measure.
 ///
 /// [`Refusal::MaterialExists`] if the owner has one of this name, then [`Refusal::LimitReached`]
-/// at 200 materials.
+/// at 200 materials. It fails only if memory runs out.
 pub fn add_material(
     alloc: Global,
     slice: &Slice,

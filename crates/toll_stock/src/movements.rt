@@ -8,7 +8,7 @@ use toll_base::{Amount, Change, Decision, MOST_MOVEMENTS, MoveRow, Name, Refusal
 use toll_history::decide_known;
 
 /// The decision on a movement: by its key if that is known; otherwise the refusal of its checks, or these
-/// changes if there is none.
+/// changes if there is none. It fails only if memory runs out.
 pub fn decide_movement(
     alloc: Global,
     slice: &Slice,
@@ -28,7 +28,8 @@ pub fn decide_movement(
     }
 }
 
-/// Whether the sublot is there with enough in it, and there is room for a movement.
+/// Whether the amount can be taken from the sublot: [`Refusal::UnknownLot`], [`Refusal::UnknownSublot`], then as
+/// [`check_enough`] says.
 pub fn check_taking(slice: &Slice, lot: &Name, sublot: &Name, amount: Amount) -> Result<(), Refusal>
     ensures { verdict_of_result result
         ≡ verdict_of_checks (scrap_checks (facts_of slice.now) lot.now sublot.now amount) }
@@ -42,7 +43,8 @@ pub fn check_taking(slice: &Slice, lot: &Name, sublot: &Name, amount: Amount) ->
     check_enough(slice, lot, sublot, amount)
 }
 
-/// Whether there is enough in the sublot, and room for a movement.
+/// Whether there is enough in the sublot, and room for a movement: [`Refusal::NotEnough`], then
+/// [`Refusal::LimitReached`] at [`MOST_MOVEMENTS`] movements.
 pub fn check_enough(slice: &Slice, lot: &Name, sublot: &Name, amount: Amount) -> Result<(), Refusal>
     ensures { verdict_of_result result
         ≡ verdict_of_checks (enough_checks (facts_of slice.now) lot.now sublot.now amount) }

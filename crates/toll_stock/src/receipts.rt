@@ -18,7 +18,8 @@ use toll_history::{has_room_in, sublot_gaining};
 /// A known key with equal content is repeated, or [`Refusal::Voided`], with other content
 /// [`Refusal::KeyConflict`]. Then [`Refusal::UnknownMaterial`]; for a known lot
 /// [`Refusal::WrongOrigin`], [`Refusal::WrongMaterial`] and [`Refusal::NotQuarantined`]; then
-/// [`Refusal::LimitReached`] at [`MOST_MOVEMENTS`] movements or [`MOST_LOTS`] lots.
+/// [`Refusal::LimitReached`] at [`MOST_MOVEMENTS`] movements or [`MOST_LOTS`] lots. It fails only if memory
+/// runs out.
 pub fn receive(
     alloc: Global,
     slice: &Slice,

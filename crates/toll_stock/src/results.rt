@@ -17,7 +17,7 @@ use toll_base::{
 ///
 /// [`Refusal::UnknownLot`] if the owner has no such lot, [`Refusal::UnknownTest`] if the
 /// lot's material has no such test, [`Refusal::Rejected`] if the lot is rejected, then
-/// [`Refusal::LimitReached`] at 20,000 results.
+/// [`Refusal::LimitReached`] at 20,000 results. It fails only if memory runs out.
 pub fn record_result(
     alloc: Global,
     slice: &Slice,

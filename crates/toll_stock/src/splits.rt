@@ -14,7 +14,7 @@ use toll_history::{has_room_in, sublot_gaining, sublot_losing};
 /// A known key with equal content is repeated, or [`Refusal::Voided`], with other content
 /// [`Refusal::KeyConflict`]. Then [`Refusal::SameSublot`], [`Refusal::UnknownLot`],
 /// [`Refusal::UnknownSublot`], [`Refusal::NotEnough`], and [`Refusal::LimitReached`] at 20,000
-/// movements.
+/// movements. It fails only if memory runs out.
 pub fn split(
     alloc: Global,
     slice: &Slice,

@@ -38,7 +38,7 @@ impl Drop for LotTotals {
 }
 
 impl LotTotals {
-    /// Of the lots of the slice's owner, by one walk over its movements.
+    /// Of the lots of the slice's owner, by one walk over its movements. It fails only if memory runs out.
     pub fn new(alloc: Global, slice: Slice) -> Result<Self, AllocError>
         ensures { IfOk result (λ totals. totals ≡ slice) }
     {
@@ -46,7 +46,7 @@ impl LotTotals {
         Ok(LotTotals { slice, shipped })
     }
 
-    /// The rows.
+    /// The rows of the owner whose lots these are.
     pub fn slice(&self) -> &Slice
         ensures { result.now ≡ self.now }
     {

@@ -16,7 +16,7 @@ use toll_history::sublot_losing;
 /// A known key with equal content is repeated, or [`Refusal::Voided`], with other content
 /// [`Refusal::KeyConflict`]. Then [`Refusal::UnknownLot`], [`Refusal::UnknownSublot`],
 /// [`Refusal::NotReleased`], [`Refusal::NotEnough`], and [`Refusal::LimitReached`] at 20,000
-/// movements.
+/// movements. It fails only if memory runs out.
 pub fn ship(
     alloc: Global,
     slice: &Slice,
@@ -45,7 +45,8 @@ pub fn ship(
 ///
 /// A known key with equal content is repeated, or [`Refusal::Voided`], with other content
 /// [`Refusal::KeyConflict`]. Then [`Refusal::UnknownLot`], [`Refusal::UnknownSublot`],
-/// [`Refusal::NotEnough`], and [`Refusal::LimitReached`] at 20,000 movements.
+/// [`Refusal::NotEnough`], and [`Refusal::LimitReached`] at 20,000 movements. It fails only if memory runs
+/// out.
 pub fn scrap(
     alloc: Global,
     slice: &Slice,

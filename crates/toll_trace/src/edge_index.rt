@@ -79,7 +79,8 @@ impl EdgeIndex {
         way: Way,
     ) -> Result<Self, AllocError>
         ensures moved { IsPermutation leaving.old leaving.new }
-        ensures joined { IfOk result (λ joints. (m n : ℕ) → LeadsThrough joints.sources joints.targets.items m n ↔ PassesThrough way entering.now leaving.old m n) }
+        ensures joined { IfOk result (λ joints. (m n : ℕ)
+            → LeadsThrough joints.sources joints.targets.items m n ↔ PassesThrough way entering.now leaving.old m n) }
         ensures targets { IfOk result (λ joints. (n : ℕ) → Contains joints.targets.items n
             → (v : _) × Contains leaving.old v × (v.1 ≡ n)) }
     {

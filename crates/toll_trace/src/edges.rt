@@ -27,7 +27,8 @@ pub(crate) struct LotUse {
 /// production's. An actual is standing if no void has its key.
 ///
 /// A batch's lots are paired, each once, and not its actuals. Two lots have an edge if and only if the
-/// lowest segment that consumes the one isn't above the highest segment that produces the other.
+/// lowest segment that consumes the one isn't above the highest segment that produces the other. It fails
+/// only if memory runs out.
 pub fn edges_of(alloc: Global, slice: &Slice) -> Result<Vec<Edge>, AllocError>
     ensures { IfOk result (λ edges. AreEdges (IsEdge slice.now) edges.items) }
 {

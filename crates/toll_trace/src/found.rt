@@ -65,7 +65,7 @@ impl Found {
         Ok(())
     }
 
-    /// The steps.
+    /// The steps, in the order in which their lots were found.
     pub(crate) fn into_steps(self) -> Vec<Step>
         ensures { result.items ≡ self }
     {

@@ -38,7 +38,7 @@ impl Graph {
     ghost use Rattle.toll_trace.specs.Edges.{IsEdge};
     ghost use Rattle.toll_trace.specs.Recorded.{Draws};
 
-    /// A graph of these edges. The list may have repeats, loops and cycles.
+    /// A graph of these edges. The list may have repeats, loops and cycles. It fails only if memory runs out.
     pub fn build(alloc: Global, edges: &[Edge]) -> Result<Self, AllocError>
         ensures { IfOk result (IsGraphOf edges.now) }
     {
@@ -52,14 +52,14 @@ impl Graph {
         })
     }
 
-    /// A graph of the edges that standing actuals of the slice draw.
+    /// A graph of the edges that standing actuals of the slice draw. It fails only if memory runs out.
     pub fn of_slice(alloc: Global, slice: &Slice) -> Result<Self, AllocError>
         ensures { IfOk result (IsGraph (IsEdge slice.now)) }
     {
         Graph::of_recorded(alloc, Recorded::new(alloc).with(alloc, slice)?)
     }
 
-    /// A graph of the edges that the recorded uses draw.
+    /// A graph of the edges that the recorded uses draw. It fails only if memory runs out.
     pub fn of_recorded(alloc: Global, recorded: Recorded) -> Result<Self, AllocError>
         ensures { IfOk result (IsGraph (Draws recorded)) }
     {
@@ -76,7 +76,7 @@ impl Graph {
     }
 
     /// Every lot that ends a chain of the graph's edges from the lot: the same steps as those of
-    /// [`crate::plain_trace`]. It walks each joint once at most.
+    /// [`crate::plain_trace`]. It walks each joint once at most. It fails only if memory runs out.
     pub fn trace(&self, alloc: Global, from: &LotId, way: Way) -> Result<Vec<Step>, AllocError>
         ensures led { IfOk result (λ trace. IsTrace (Leads self.now way) from.now trace.items) }
         ensures edges { IfOk result (λ trace. (edges : List Edge) → IsGraphOf edges self.now

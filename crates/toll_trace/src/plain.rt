@@ -16,7 +16,7 @@ use toll_base::{Edge, LotId};
 /// edges may have repeats, loops and cycles.
 ///
 /// Reads the whole list for each step away from the lot. Only tests call it: programs use [`crate::Graph`],
-/// which gives the same answer faster if there are many edges.
+/// which gives the same answer faster if there are many edges. It fails only if memory runs out.
 pub fn plain_trace(
     alloc: Global,
     edges: &[Edge],

@@ -33,7 +33,7 @@ impl Recorded {
     }
 
     /// Adds the lots that the slice's batches consumed and produced, unless a void has the movement's
-    /// key. Lots with the same name in several slices are the same lot.
+    /// key. Lots with the same name in several slices are the same lot. It fails only if memory runs out.
     pub fn with(self, alloc: Global, slice: &Slice) -> Result<Self, AllocError>
         ensures { IfOk result
             (λ all. (e : Edge) → Draws all e ↔ (Draws self e ⊎ IsEdge slice.now e)) }

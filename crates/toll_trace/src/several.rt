@@ -11,6 +11,7 @@ use std::alloc::{AllocError, Global};
 use toll_base::LotId;
 
 /// Every lot that ends a chain of the edges of these graphs from the lot. It walks each joint once at most.
+/// It fails only if memory runs out.
 pub fn trace_among(
     alloc: Global,
     graphs: &[&Graph],

@@ -47,7 +47,7 @@ holds_of part.NameAndNumber P (NameAndNumber name number) all e = all name numbe
 
 -- the values make a request of the kind, and its address is this one
 abbrev IsMadeAt : Verb × Bytes → RequestKind → Values → Type 0
-IsMadeAt address ask.Place v = (order recipe : Bytes) (batches : ℕ) → address_of (request.Place order recipe batches) ≡ address
+IsMadeAt address ask.Place v = (placing : Placing) → address_of (request.Place placing) ≡ address
 IsMadeAt address kind v = IsSomeAnd (request_from kind v) (λ requested. address_of requested ≡ address)
 
 -- the same if the method asks for anything
@@ -60,7 +60,7 @@ MakesRequests r = HoldsOfParts r.endpoint.parts (λ v. IsMadeIf (Get, path_at r 
 
 every_route : AllByRecursion MakesRequests routes
 every_route = (
-  (refl, λ order recipe batches. refl),
+  (refl, λ placing. refl),
   (
     (λ n. (refl, tt)),
     (
@@ -157,12 +157,12 @@ right_values address body requested asks None made askable body_is e is = absurd
 right_values address body requested asks (Some r) made askable body_is e is =
     let same : r ≡ requested = cc (e, is) in subst (IsRightFor address body) same (record { address_is = made; askable = askable; body_is = body_is })
 
-right_order : (address : Verb × Bytes) (body : Bytes) (requested : Request) (order : Option Placing) → ((order recipe : Bytes) (batches : ℕ) → address_of (request.Place order recipe batches) ≡ address)
+right_order : (address : Verb × Bytes) (body : Bytes) (requested : Request) (order : Option Placing) → ((placing : Placing) → address_of (request.Place placing) ≡ address)
     → IsBodyOf body order → Ok requested ≡ placing_request order → IsRightFor address body requested
 right_order address body requested None made is e = absurd (cc e)
 right_order address body requested (Some p) made is e =
-    let same : request.Place p.order p.recipe p.batches ≡ requested = cc e in
-    subst (IsRightFor address body) same (record { address_is = made p.order p.recipe p.batches; askable = order_body_within body p is; body_is = is })
+    let same : request.Place p ≡ requested = cc e in
+    subst (IsRightFor address body) same (record { address_is = made p; askable = order_body_within body p is; body_is = is })
 
 right_by : (address : Verb × Bytes) (kind : RequestKind) (v : Values) (body : Bytes) (requested : Request) → IsMadeAt address kind v → AreValues v → MakesRequest kind v body (Ok requested) → IsRightFor address body requested
 right_by address ask.Place v body requested made valid is = right_order address body requested is.0 made is.1 is.2
@@ -229,8 +229,8 @@ pub each_address_asks : (requested : Request) (query body : Bytes) → IsAskable
     → IsAsking (address_of requested).0 ((address_of requested).1 ++ query) body (Ok requested)
 each_address_asks request.Orders query body is queried by = asked_at Get 0 Nothing query body _ queried (omega arith) refl is refl
 each_address_asks (request.Order order) query body is queried by = asked_at Get 1 (Name order) query body _ queried (omega arith) refl is refl
-each_address_asks (request.Place order recipe batches) query body is queried by =
-    asked_at Post 0 Nothing query body _ queried (omega arith) refl tt (Some (record { order = order; recipe = recipe; batches = batches }), by, refl)
+each_address_asks (request.Place placing) query body is queried by =
+    asked_at Post 0 Nothing query body _ queried (omega arith) refl tt (Some placing, by, refl)
 each_address_asks (request.Cancel order) query body is queried by = asked_at Post 2 (Name order) query body _ queried (omega arith) refl is refl
 each_address_asks (request.Batch order number) query body is queried by = asked_at Get 3 (NameAndNumber order number) query body _ queried (omega arith) refl is refl
 each_address_asks request.Stock query body is queried by = asked_at Get 4 Nothing query body _ queried (omega arith) refl is refl

@@ -6,8 +6,9 @@ use Rattle.std.proofs.lemmas.Bool.{leb-true}
 use Rattle.serde_json.specs.Data.{Data}
 use Rattle.serde_json.specs.Find.{get, as_str, as_number, as_u64}
 use Rattle.toll_base.specs.declared.bounded.TheConstants.{MOST_BATCHES}
-use Rattle.toll_wire.specs.declared.bodies.body.Placing.{Placing}
-use Rattle.toll_wire.specs.Bodies.{batches_at, name_member, placing_of, IsOrderBody}
+use Rattle.toll_base.specs.Rows.{placing_of}
+use Rattle.toll_base.specs.declared.rows.Placing.{Placing}
+use Rattle.toll_wire.specs.Bodies.{batches_at, name_member, IsOrderBody}
 
 abbrev IsWithin : Placing → Type 0
 IsWithin placing = IsTrue (is_name placing.order) × IsTrue (is_name placing.recipe) × IsBatchNo placing.batches

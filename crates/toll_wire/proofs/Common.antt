@@ -32,6 +32,7 @@ pub use Rattle.toll_base.specs.Bytes.{Bytes, same_bytes}
 pub use Rattle.toll_base.specs.Values.{IsBatchNo, house_name, is_digit, is_letter, is_measure, is_name, is_name_byte, is_text_of, number_of}
 pub use Rattle.toll_base.specs.declared.refusal.Refusal.TheVariants.{OrderExists, UnknownLot}
 pub use Rattle.toll_base.specs.declared.request.Request.{Request}
+pub use Rattle.toll_base.specs.declared.rows.Placing.{Placing}
 pub use Rattle.toll_desk.specs.OfficeSteps.{IsPlantStep, PlantCalls, owner_steps, plant_steps}
 pub use Rattle.toll_desk.specs.Outcome.{finished}
 pub use Rattle.toll_desk.specs.Representing.{Represents}
@@ -63,7 +64,6 @@ pub use Rattle.toll_wire.specs.Routes.{IsAskable, Route, address_of, path_text_o
 pub use Rattle.toll_wire.specs.Routing.{IsAsking, IsPlacing, IsRequestAt, IsRequestOf, MakesRequest, ValuesFit, kind_for, other_of, placing_request}
 pub use Rattle.toll_wire.specs.Sayings.{Asks, By, ClaimedRequest, Fails, IsSaidBy, IsTold, MayBeReply, Nobody, Saying, Says, after_saying, claimed_in, claims, saying_of}
 pub use Rattle.toll_wire.specs.Steps.{IfPlacedBefore, IfSayingUnchanging, IsAnswered, IsFaultMet, IsGranted, IsReplyWhere, IsSayingStep, SayingCalls, saying_steps}
-pub use Rattle.toll_wire.specs.declared.bodies.body.Placing.{Placing}
 pub use Rattle.toll_wire.specs.declared.event.Answer.{Answer}
 pub use Rattle.toll_wire.specs.declared.event.Answer.TheVariants.{Plant}
 pub use Rattle.toll_wire.specs.declared.event.Event.{Event}

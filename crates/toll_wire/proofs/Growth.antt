@@ -17,7 +17,7 @@ abbrev IsOf : Option Bytes → Command → Type 0
 IsOf claimed c = (claimed ≡ Some c.owner) × IsValidAction c.action
 
 grows_by_answer : (o : Bytes) (H : History) (q : Request) → IsValidOwnerRequest q → Grows (IsOf (Some o)) H (after_answer o H q)
-grows_by_answer o H (request.Place order recipe batches) valid = inr (by o (PlaceOrder order recipe batches), (refl, valid), refl)
+grows_by_answer o H (request.Place placing) valid = inr (by o (PlaceOrder placing), (refl, valid), refl)
 grows_by_answer o H (request.Cancel order) valid = inr (by o (CancelOrder order), (refl, tt), refl)
 grows_by_answer o H (request.Release lot) valid = inr (by o (Release lot), (refl, tt), refl)
 grows_by_answer o H (request.Reject lot) valid = inr (by o (Reject lot), (refl, tt), refl)

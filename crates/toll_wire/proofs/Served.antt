@@ -43,7 +43,7 @@ so_unchanging : (c : Content) (saying : Saying) (out : Out) (P : Type 0) → P �
 so_unchanging c saying out P p = record { asks = λ none. p; quiet = λ not. p; once = so_again saying }
   where
     so_again : (saying : Saying) → IfPlacedBefore c saying P
-    so_again (By o (Some key) (Asks q)) = λ order recipe batches is there. p
+    so_again (By o (Some key) (Asks q)) = λ placing is there. p
     so_again (By o (Some key) (Fails text)) = tt
     so_again (By o None asking) = tt
     so_again (Nobody text) = tt
@@ -203,7 +203,7 @@ module _ {K : Type 0} (meaning : Meaning K) where
         (λ honest c H held stands lawful. IfOk-weaker planned _ _ (λ x plan. (plan.reply, plan.leads)) (plan honest c H held stands lawful)) _ refl _
         (λ honest c held P stays none. record {
           quiet = stays;
-          once = λ order recipe batches asks there. none (idle.once honest c held order recipe batches asks there);
+          once = λ placing asks there. none (idle.once honest c held placing asks there);
         }))
 
     -- the fault that the making of the changes met

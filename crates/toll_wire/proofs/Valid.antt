@@ -9,7 +9,7 @@ IsValidSaying (By o key (Asks q)) = IsValidOwnerRequest q
 IsValidSaying _ = Unit {0}
 
 valid_if_askable : (requested : Request) → IsAskable requested → IsValidOwnerRequest requested
-valid_if_askable (Place order recipe batches) askable = askable.2
+valid_if_askable (Place placing) askable = askable.2
 valid_if_askable _ askable = tt
 
 asking_valid : (verb : Verb) (target : Bytes) (owner key : Option Bytes) (body : Bytes) (asks : Result Request Failure) → IsAsking verb target body asks → IsValidSaying (saying_of owner key asks)

@@ -14,7 +14,8 @@ use Rattle.toll_base.specs.declared.rows.LotRow.{LotRow}
 use Rattle.toll_base.specs.declared.rows.OrderRow.{OrderRow}
 use Rattle.toll_base.specs.declared.state.State.TheVariants.{Running}
 use Rattle.toll_base.specs.Rows.{lot_row_of, sublot_row_of}
-use Rattle.toll_wire.specs.Bodies.{order_in, placing_of}
+use Rattle.toll_base.specs.Rows.{placing_of}
+use Rattle.toll_wire.specs.Bodies.{order_in}
 use Rattle.toll_wire.specs.ReplyBodies.{orders_data, order_data, batch_data, stock_data, lot_data, trace_data, refusal_data, error_data}
 use Rattle.toll_work.specs.declared.views.RequirementLine.{RequirementLine}
 

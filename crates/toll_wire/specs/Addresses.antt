@@ -18,7 +18,7 @@ IsQuery (b ∷ rest) = b ≡ 63
 
 -- the body asks for the order that is to be placed; any body does for other requests
 abbrev pub IsBodyFor : Request → Bytes → Type 0
-IsBodyFor (Place order recipe batches) body = IsOrderBody body (record { order = order; recipe = recipe; batches = batches })
+IsBodyFor (Place placing) body = IsOrderBody body placing
 IsBodyFor _ body = Unit {0}
 
 -- each request is asked for at its address, whatever query stands behind the path

@@ -3,8 +3,9 @@ use Rattle.std.specs.Prelude.{◌≡◌, ℕ, ◌&&◌, nat_le, Option, Some, No
 use Rattle.toll_wire.specs.Common.{Data, Bytes, is_name}
 use Rattle.serde_json.specs.Read.{read}
 use Rattle.serde_json.specs.Find.{get, as_str, as_number, as_u64}
+use Rattle.toll_base.specs.Rows.{placing_of}
 use Rattle.toll_base.specs.declared.bounded.TheConstants.{MOST_BATCHES}
-use Rattle.toll_wire.specs.declared.bodies.body.Placing.{Placing}
+use Rattle.toll_base.specs.declared.rows.Placing.{Placing}
 
 -- the last member of this name is a text, which is a name
 abbrev pub name_member : Bytes → Data → Option Bytes
@@ -15,10 +16,6 @@ abbrev pub batches_at : Data → Option ℕ
 batches_at d =
     option_and_then (λ n. if nat_le 1 n && nat_le n MOST_BATCHES then Some n else None)
     (option_and_then as_u64 (option_and_then as_number (get (codes "batches") d)))
-
--- that many batches by that recipe
-abbrev pub placing_of : Bytes → Bytes → ℕ → Placing
-placing_of order recipe batches = record { order = order; recipe = recipe; batches = batches }
 
 -- the order that a JSON value asks for
 abbrev pub order_in : Data → Option Placing

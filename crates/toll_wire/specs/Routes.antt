@@ -59,7 +59,7 @@ request_from _ _ = None
 abbrev pub address_of : Request → Verb × Bytes
 address_of request.Orders = (Get, codes "/orders")
 address_of (request.Order order) = (Get, codes "/orders/" ++ order)
-address_of (request.Place order recipe batches) = (Post, codes "/orders")
+address_of (request.Place placing) = (Post, codes "/orders")
 address_of (request.Cancel order) = (Post, codes "/orders/" ++ (order ++ codes "/cancel"))
 address_of (request.Batch order number) = (Get, codes "/batches/" ++ (order ++ (codes "/" ++ decimal number)))
 address_of request.Stock = (Get, codes "/stock")
@@ -73,7 +73,7 @@ address_of (request.HouseForward lot) = (Get, codes "/trace/house/" ++ lot)
 -- the names of the request are names, and its numbers are those of batches
 abbrev pub IsAskable : Request → Type 0
 IsAskable (request.Order order) = IsTrue (is_name order)
-IsAskable (request.Place order recipe batches) = IsTrue (is_name order) × IsTrue (is_name recipe) × IsBatchNo batches
+IsAskable (request.Place placing) = IsTrue (is_name placing.order) × IsTrue (is_name placing.recipe) × IsBatchNo placing.batches
 IsAskable (request.Cancel order) = IsTrue (is_name order)
 IsAskable (request.Batch order number) = IsTrue (is_name order) × IsBatchNo number
 IsAskable (request.Lot lot) = IsTrue (is_name lot)

@@ -2,11 +2,11 @@
 use Rattle.std.specs.Prelude.{◌≡◌, Option, Some, None, Result, Ok, Err, IsSome, option_map}
 use Rattle.toll_wire.specs.Common.{Bytes, Request, Verb}
 use Rattle.toll_base.specs.declared.request.Request.TheVariants as request
+use Rattle.toll_base.specs.declared.rows.Placing.{Placing}
 use Rattle.toll_protocol.specs.declared.http_messages.verb.Verb.TheVariants.{Get, Post}
 use Rattle.toll_protocol.specs.declared.http_messages.failure.Failure.{Failure}
 use Rattle.toll_protocol.specs.declared.http_messages.failure.Failure.TheVariants.{BadRequest, NoRoute, MethodNotAllowed}
 use Rattle.toll_wire.specs.Bodies.{IsBodyOf}
-use Rattle.toll_wire.specs.declared.bodies.body.Placing.{Placing}
 use Rattle.toll_wire.specs.Routes.{routes, request_from}
 use Rattle.toll_wire.specs.Places.{PathLeadsTo, path_of}
 use Rattle.toll_wire.specs.declared.routes.route.Endpoint.{Endpoint}
@@ -19,7 +19,7 @@ use Rattle.toll_wire.specs.declared.routes.values.Values.{Values}
 -- the request for the order that a body asks for, or the check that a body without one fails
 abbrev pub placing_request : Option Placing → Result Request Failure
 placing_request None = Err BadRequest
-placing_request (Some p) = Ok (request.Place p.order p.recipe p.batches)
+placing_request (Some placing) = Ok (request.Place placing)
 
 -- the body asks for this, if an order is to be placed
 abbrev pub IsPlacing : Bytes → Result Request Failure → Type 0

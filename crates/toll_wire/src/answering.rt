@@ -1,8 +1,11 @@
 //! Answering a request.
 ghost use Rattle.std.specs.Prelude.{◌≡◌, IfErr, Some};
 ghost use Rattle.toll_answers.specs.Replies.{IsValidOwnerRequest};
+ghost use Rattle.toll_base.specs.Bytes.{Bytes};
 ghost use Rattle.toll_desk.specs.Steps.{IsKeepStep};
 ghost use Rattle.toll_desk.specs.Translations.{meaning_of_reply};
+ghost use Rattle.toll_protocol.specs.Parsed.{parse_outcome};
+ghost use Rattle.toll_protocol.specs.Parsing.{IsParsedAs};
 ghost use Rattle.toll_wire.specs.OutTexts.{out_of};
 ghost use Rattle.toll_wire.specs.ReplyTexts.{fault_or_memory, text_of_failure};
 ghost use Rattle.toll_wire.specs.Sayings.{Asks, By, Fails};
@@ -15,7 +18,7 @@ use std::alloc::Global;
 use toll_base::Request;
 use toll_desk::{Reply, admit, commit, owner_plan};
 use toll_keep::{Keep, KeepFault};
-use toll_protocol::{Failure, parse_http};
+use toll_protocol::{Failure, HttpRequest, parse_http};
 
 /// Answers the bytes of a request: one step of a run.
 ///
@@ -37,21 +40,21 @@ pub fn reply_by_router<K: Keep>(
 ) -> Out
     ensures { IsAnswered K.meaning keep.old keep.new bytes.now result }
 {
-    Out::of(answer_with_router(alloc, router, keep, bytes))
+    Out::of(answer_with_router(alloc, router, keep, parse_http(bytes)))
 }
 
-/// Gives the text of that reply. An `Err` is the fault because of which the reply is [`Out::Unavailable`]:
+/// Gives the text of that reply, for bytes that were parsed. An `Err` is the fault because of which the reply is [`Out::Unavailable`]:
 /// that of a call of the keep, or that there was no memory.
 pub fn answer_with_router<K: Keep>(
     alloc: Global,
     router: &mut OfficeRouter,
     keep: &mut K,
-    bytes: &[u8],
+    parsed: Result<HttpRequest<'_>, Failure>,
 ) -> Result<Vec<u8>, KeepFault>
-    ensures answered { IsAnswered K.meaning keep.old keep.new bytes.now (out_of result) }
+    ensures answered { (bytes : Bytes) → IsParsedAs bytes (parse_outcome parsed.entry) → IsAnswered K.meaning keep.old keep.new bytes (out_of result) }
     ensures met { IfErr result (IsFaultMet K.meaning keep.old keep.new) }
 {
-    match parse_http(bytes) {
+    match parsed {
         Err(failure) => fail(alloc, failure).into_text(),
         Ok(http) => match route_request(alloc, router, http.verb, http.target, http.body) {
             Err(_) => Err(KeepFault::Memory),

@@ -13,7 +13,7 @@ mod rows;
 mod values;
 
 pub use batches::batch_body;
-pub use body::{Placing, requested_order};
+pub use body::requested_order;
 pub use failures::{error_body, refusal_body};
 pub use listed::{orders_body, stock_body, trace_body};
 pub use lots::lot_body;

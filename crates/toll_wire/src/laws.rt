@@ -33,7 +33,8 @@ pub fn every_run_has_its_parts<K: Keep>()
 /// The replies to each owner besides HOUSE are, byte for byte, those that its own requests, and the
 /// accepted commands of the plant on its rows, give by themselves.
 pub fn replies_are_those_that_the_owners_part_gives_alone<K: Keep>()
-    ensures { (k : K) (run : Course) → IsRunTo (K.meaning.holds k) run → (o : Bytes) → same_bytes o house_name ≡ false → RepliesAsAlone o run.start run.events run.answers }
+    ensures { (k : K) (run : Course) → IsRunTo (K.meaning.holds k) run → (o : Bytes) → same_bytes o house_name ≡ false
+        → RepliesAsAlone o run.start run.events run.answers }
 {}
 
 /// An owner's part alone gives one list of replies.
@@ -69,7 +70,8 @@ pub fn any_two_keeps_answer_alike<J: Keep, K: Keep>()
 /// Take two lawful histories in which the commands of HOUSE and of an owner are the same. They print the
 /// recall of a lot of HOUSE with the same lines of that owner's lots, byte for byte.
 pub fn recalls_print_the_same_lines_of_an_owner()
-    ensures { (G H : History) (o : Bytes) (lot : LotId) → IsLawful G → IsLawful H → same_bytes o house_name ≡ false → IfPartsAgree G H o (PrintTheSame G H o lot) }
+    ensures { (G H : History) (o : Bytes) (lot : LotId) → IsLawful G → IsLawful H → same_bytes o house_name ≡ false
+        → IfPartsAgree G H o (PrintTheSame G H o lot) }
 {}
 
 /// The text of a trace for the plant lists exactly the lots that a chain of recorded consumption joins to the
@@ -81,5 +83,6 @@ pub fn the_plants_traces_are_printed()
 /// The reply to an owner with its key, which asks for the trace of a lot that it has, lists exactly the lots
 /// that a chain of its own batches joins to it, each with its fewest steps, byte for byte.
 pub fn an_owners_traces_are_replied_byte_for_byte()
-    ensures { (H : History) (o key lot : Bytes) (way : Way) → has_owner_key o key H ≡ true → is_some (lot_row H o lot) ≡ true → RepliesWithTrace H o key way lot }
+    ensures { (H : History) (o key lot : Bytes) (way : Way) → has_owner_key o key H ≡ true → is_some (lot_row H o lot) ≡ true
+        → RepliesWithTrace H o key way lot }
 {}

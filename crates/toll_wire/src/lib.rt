@@ -13,8 +13,8 @@ mod run;
 
 pub use answering::{answer, answer_with_router, reply_by_router};
 pub use bodies::{
-    Placing, batch_body, error_body, lot_body, order_body, orders_body, refusal_body,
-    requested_order, stock_body, trace_body,
+    batch_body, error_body, lot_body, order_body, orders_body, refusal_body, requested_order,
+    stock_body, trace_body,
 };
 pub use event::{Answer, Event};
 pub use laws::{

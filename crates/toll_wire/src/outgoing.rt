@@ -5,7 +5,7 @@ use toll_keep::KeepFault;
 /// The bytes that are sent back to a request.
 #[derive(Drop)]
 pub enum Out {
-    /// A reply.
+    /// The text of a reply.
     Text(Vec<u8>),
     /// There was no memory, or the keep failed.
     Unavailable,

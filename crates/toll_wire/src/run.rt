@@ -15,7 +15,8 @@ use toll_keep::Keep;
 /// Answers the events one by one, each over the rows that those before it left: a run, in which each owner's
 /// replies are those that its own part gives alone. After a stop during an event, the rows are those
 /// that all events before it left, or those that it leaves with them. Over a keep that never closes, the only
-/// fault in an answer is that there was no memory. An `Err` means that no event acted.
+/// fault in an answer is that there was no memory. An `Err` means that there was no memory for the answers, and
+/// no event acted.
 pub fn run_events<K: Keep>(
     alloc: Global,
     keep: &mut K,

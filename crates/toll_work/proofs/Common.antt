@@ -45,7 +45,7 @@ pub use Rattle.toll_history.specs.Puts.{gained, less_in_sublot}
 pub use Rattle.toll_history.specs.Verdict.{Accepted, IsValidAction, Refused, Repeated, Verdict, is_of_closed, verdict_of_check, takes_too_much, verdict}
 pub use Rattle.toll_history.specs.Work.{batch_of, cancels, count_opened, is_closed, material_of, opens, order_of, order_placed, requirement_of, same_requirement, state_of, unit_of, unit_opened}
 pub use Rattle.toll_work.specs.ActualPlans.{recipe_checks_of, running_checks, source_checks, target_checks, use_checks}
-pub use Rattle.toll_work.specs.Common.{AddRecipe, AreRowsGiven, BatchClosed, BatchRow, Bytes, CancelOrder, Checks, CloseBatch, CommandBatch, Consumed, Decides, Decision, History, IsDecided, IsInKeyOrder, IsLawful, IsRowsOf, KeepsRules, LimitReached, Lot, Move, MoveRow, NotEnough, OpenBatch, Order, OrderRow, PlaceOrder, Produced, PutsOnly, PutsOnlyWith, Record, Require, Requirement, RequirementKey, RequirementRow, Slice, Sublot, OwnerFacts, Void, Voided, actual_checks, amount_in, batch_at, batch_command_checks, by, bytes_cmp, cancel_checks, changes_of, close_checks, consumed_checks, crosses, verdict_of_checks, followed, is_actual, is_actual_of, is_some_where, key_checks, lot_bounds, move_at, open_batch_checks, open_checks, option_and_then, option_map_or, order_at, order_checks, owner_known, produced_checks, recipe_checks, recipe_of_order, requirement_at, requirement_checks, requirement_cmp, requirement_key, verdict_of_result, same_bytes, sublot_named, tables_for, facts_of, total, unit_known, void_at, where_so}
+pub use Rattle.toll_work.specs.Common.{AddRecipe, AreRowsGiven, BatchClosed, BatchRow, Bytes, CancelOrder, Checks, CloseBatch, CommandBatch, Consumed, Decides, Decision, History, IsDecided, IsInKeyOrder, IsLawful, IsRowsOf, KeepsRules, LimitReached, Lot, Move, MoveRow, NotEnough, OpenBatch, Order, OrderRow, PlaceOrder, Placing, Produced, PutsOnly, PutsOnlyWith, Record, Require, Requirement, RequirementKey, RequirementRow, Slice, Sublot, OwnerFacts, Void, Voided, actual_checks, amount_in, batch_at, batch_command_checks, by, bytes_cmp, cancel_checks, changes_of, close_checks, consumed_checks, crosses, verdict_of_checks, followed, is_actual, is_actual_of, is_some_where, key_checks, lot_bounds, move_at, open_batch_checks, open_checks, option_and_then, option_map_or, order_at, order_checks, owner_known, placed_row, produced_checks, recipe_checks, recipe_of_order, requirement_at, requirement_checks, requirement_cmp, requirement_key, verdict_of_result, same_bytes, sublot_named, tables_for, facts_of, total, unit_known, void_at, where_so}
 pub use Rattle.toll_work.specs.Plans.{cancelled_row, cancelled_rows, changed_rows, closed_row, commanded_row, opened_row, opened_rows}
 pub use Rattle.toll_work.specs.Voiding.{actual_sublot, giving_bounds, void_batch_checks}
 pub use mathlib.Core.Bool.{false≢true}

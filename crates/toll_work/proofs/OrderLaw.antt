@@ -1,11 +1,7 @@
 -- What the placing of an order owes.
-use Rattle.std.proofs.Common.{◌≡◌, suc, Bool, true, false, ◌||◌, cond, ℕ, Option, Some, None, is_some, is_none, List, [], ◌∷◌, length, refl, sym, ap, ◌∙◌}
-use Rattle.toll_work.proofs.Common.{list_any, option_map, or_right, nat_list_cmp_total, Bytes, same_bytes, bytes_cmp, first_some, or_else, where_so, Action, PlaceOrder, by, History, acts, Slice, order_at, with_row, KeepsRules, order_placed, order_of, cancels, OwnerFacts, facts_of, facts_given, IsDecided, Decides, DecisionKeepsRules, Accepted, order_checks, verdict, IsLawful, Put, Decision, OrderRow, Order, none_applies, accepted_passes, adding_decided, adding_keeps, below_limit, tables-own, row_at-put_row, none_of, length-new, any-new, same_bytes-exact, MOST_ORDERS}
+use Rattle.std.proofs.Common.{◌≡◌, suc, Bool, true, false, ◌||◌, cond, Option, Some, None, is_some, is_none, List, [], ◌∷◌, length, refl, sym, ap, ◌∙◌}
+use Rattle.toll_work.proofs.Common.{list_any, option_map, or_right, nat_list_cmp_total, Bytes, same_bytes, bytes_cmp, first_some, or_else, where_so, Action, PlaceOrder, by, History, acts, Slice, order_at, with_row, KeepsRules, order_placed, placed_row, order_of, cancels, OwnerFacts, facts_of, facts_given, IsDecided, Decides, DecisionKeepsRules, Accepted, order_checks, verdict, IsLawful, Put, Decision, Placing, OrderRow, Order, none_applies, accepted_passes, adding_decided, adding_keeps, below_limit, tables-own, row_at-put_row, none_of, length-new, any-new, same_bytes-exact, MOST_ORDERS}
 use Rattle.toll_history.proofs.Uncancelled.{uncancelled}
-
--- an order that is placed by this action
-abbrev new_order : (order recipe : Bytes) → ℕ → OrderRow
-new_order order recipe batches = record { order = order; recipe = recipe; batches = batches; cancelled = false }
 
 -- tables with one more order
 abbrev with_order : OrderRow → OwnerFacts → OwnerFacts
@@ -34,22 +30,22 @@ placed_first : (b cancelled : Bool) (row : OrderRow) (rest : Option OrderRow) �
 placed_first true cancelled row rest is never = ap (λ c. Some (record row { cancelled = c })) (never refl ∙ sym is)
 placed_first false cancelled row rest is never = refl
 
-order_in_history : (H : History) (o order recipe : Bytes) (batches : ℕ) → IsLawful H → is_some (order_of (acts o H) order) ≡ false → facts_given (by o (PlaceOrder order recipe batches) ∷ H) o ≡ with_order (new_order order recipe batches) (facts_given H o)
-order_in_history H o order recipe batches lawful absent =
-    tables-own H o (PlaceOrder order recipe batches) refl
-    ∙ (λ i. record (with_order (new_order order recipe batches) (facts_given H o)) {
-      order = λ k. placed_first (same_bytes k order) (list_any (cancels k) (acts o H)) (new_order order recipe batches) (order_as_placed (acts o H) k) refl
-          (λ same. uncancelled H o lawful k (ap (λ x. is_none (order_of (acts o H) x)) (same_bytes-exact k order same) ∙ ap is_none (none_of _ absent))) i;
+order_in_history : (H : History) (o : Bytes) (placing : Placing) → IsLawful H → is_some (order_of (acts o H) placing.order) ≡ false → facts_given (by o (PlaceOrder placing) ∷ H) o ≡ with_order (placed_row placing) (facts_given H o)
+order_in_history H o placing lawful absent =
+    tables-own H o (PlaceOrder placing) refl
+    ∙ (λ i. record (with_order (placed_row placing) (facts_given H o)) {
+      order = λ k. placed_first (same_bytes k placing.order) (list_any (cancels k) (acts o H)) (placed_row placing) (order_as_placed (acts o H) k) refl
+          (λ same. uncancelled H o lawful k (ap (λ x. is_none (order_of (acts o H) x)) (same_bytes-exact k placing.order same) ∙ ap is_none (none_of _ absent))) i;
     })
 
-module _ (own : Slice) (order recipe : Bytes) (batches : ℕ) (d : Decision) (decided : IsDecided (order_checks (facts_of own) order recipe batches) (Put own.owner (Order (new_order order recipe batches)) ∷ []) d) where
-  order_is_new : (H : History) (o : Bytes) → verdict H (by o (PlaceOrder order recipe batches)) ≡ Accepted → is_some (order_of (acts o H) order) ≡ false
-  order_is_new H o accepted = accepted_passes H o (PlaceOrder order recipe batches) accepted 1
+module _ (own : Slice) (placing : Placing) (d : Decision) (decided : IsDecided (order_checks (facts_of own) placing) (Put own.owner (Order (placed_row placing)) ∷ []) d) where
+  order_is_new : (H : History) (o : Bytes) → verdict H (by o (PlaceOrder placing)) ≡ Accepted → is_some (order_of (acts o H) placing.order) ≡ false
+  order_is_new H o accepted = accepted_passes H o (PlaceOrder placing) accepted 1
 
-  pub order_decided : Decides (by own.owner (PlaceOrder order recipe batches)) own d
+  pub order_decided : Decides (by own.owner (PlaceOrder placing)) own d
   order_decided =
-      adding_decided (PlaceOrder order recipe batches) (Order (new_order order recipe batches)) refl (with_order (new_order order recipe batches)) (λ t. is_some (t.order order)) (λ s. order_in_slice s (new_order order recipe batches)) (λ H o lawful accepted. order_in_history H o order recipe batches lawful (order_is_new H o accepted)) order_is_new
+      adding_decided (PlaceOrder placing) (Order (placed_row placing)) refl (with_order (placed_row placing)) (λ t. is_some (t.order placing.order)) (λ s. order_in_slice s (placed_row placing)) (λ H o lawful accepted. order_in_history H o placing lawful (order_is_new H o accepted)) order_is_new
       own d _ decided (λ H. refl)
 
   pub order_keeps : KeepsRules own → DecisionKeepsRules own d
-  order_keeps = adding_keeps own (Order (new_order order recipe batches)) d _ decided (λ accepted. or_right _ _ (below_limit MOST_ORDERS (length own.orders) (none_applies (order_checks (facts_of own) order recipe batches) accepted 3)))
+  order_keeps = adding_keeps own (Order (placed_row placing)) d _ decided (λ accepted. or_right _ _ (below_limit MOST_ORDERS (length own.orders) (none_applies (order_checks (facts_of own) placing) accepted 3)))

@@ -9,7 +9,7 @@ pub use Rattle.toll_base.specs.declared.refusal.Refusal.TheVariants.{BadSegment,
 pub use Rattle.toll_base.specs.declared.rows.Row.TheVariants.{Lot, Move, Order, Requirement, Sublot, Void}
 pub use Rattle.toll_history.specs.Bounds.{lot_bounds, returning_bounds}
 pub use Rattle.toll_history.specs.Command.{AddRecipe, CancelOrder, CloseBatch, CommandBatch, OpenBatch, PlaceOrder, Record, Require, by}
-pub use Rattle.toll_history.specs.Common.{BatchRow, Bytes, Consumed, KeepsRules, LimitReached, MoveRow, OrderRow, Produced, RequirementKey, RequirementRow, Slice, batch_at, followed, is_actual_of, is_idle, is_some_where, move_at, next_state, option_map_or, order_at, recipe_at, requirement_at, requirement_cmp, same_bytes, total, void_at, where_so}
+pub use Rattle.toll_history.specs.Common.{BatchRow, Bytes, Consumed, KeepsRules, LimitReached, MoveRow, OrderRow, Placing, Produced, RequirementKey, RequirementRow, Slice, batch_at, followed, is_actual_of, is_idle, is_some_where, move_at, next_state, option_map_or, order_at, placed_row, recipe_at, requirement_at, requirement_cmp, same_bytes, total, void_at, where_so}
 pub use Rattle.toll_history.specs.Decision.{Decides, DecidesWith, DecisionKeepsRules, IsDecided, IsRightOver, verdict_of_result}
 pub use Rattle.toll_history.specs.History.{History, acts, owner_known, unit_known}
 pub use Rattle.toll_history.specs.OwnChanges.{PutsOnly, PutsOnlyWith, sublot_named}

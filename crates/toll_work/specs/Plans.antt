@@ -1,6 +1,6 @@
 -- The rows that an accepted command puts, as the owner's tables make them, and the plans that put them.
 use Rattle.std.specs.Prelude.{ℕ, ◌+◌, Bool, true, false, not, List, [], ◌∷◌}
-use Rattle.toll_work.specs.Common.{option_map_or, Bytes, followed, Slice, Decision, RequirementRow, IsDecided, puts_of, OwnerFacts, facts_of, batch_command_checks, cancel_checks, close_checks, open_checks, order_checks, requirement_checks, tables_for, OrderRow, BatchRow, Order, Requirement}
+use Rattle.toll_work.specs.Common.{option_map_or, Bytes, followed, Slice, Decision, RequirementRow, IsDecided, puts_of, OwnerFacts, facts_of, batch_command_checks, cancel_checks, close_checks, open_checks, order_checks, requirement_checks, tables_for, Placing, placed_row, OrderRow, BatchRow, Order, Requirement}
 use Rattle.toll_base.specs.declared.state.State.TheVariants.{Idle}
 use Rattle.toll_base.specs.declared.state_command.StateCommand.{StateCommand}
 use Rattle.toll_base.specs.declared.rows.Row.{Row}
@@ -34,9 +34,9 @@ changed_rows change order number t = option_map_or (λ row. Batch (change row) �
 
 -- ---- plans: the checks of each decision, and the rows that it puts if none applies
 
--- An order is placed as this row; and an order is cancelled.
-abbrev pub IsOrderPlan : Slice → OrderRow → Decision → Type 0
-IsOrderPlan s row d = IsDecided (order_checks (facts_of s) row.order row.recipe row.batches) (puts_of s.owner (Order row ∷ [])) d
+-- An order is placed; and an order is cancelled.
+abbrev pub IsOrderPlan : Slice → Placing → Decision → Type 0
+IsOrderPlan s placing d = IsDecided (order_checks (facts_of s) placing) (puts_of s.owner (Order (placed_row placing) ∷ [])) d
 
 abbrev pub IsCancelPlan : Slice → (order : Bytes) → Decision → Type 0
 IsCancelPlan s order d = IsDecided (cancel_checks (facts_of s) order) (puts_of s.owner (cancelled_rows order (facts_of s))) d

@@ -65,7 +65,7 @@ pub fn use_of(what: &Move) -> Option<(Role, ActualUse)>
 /// [`Refusal::UnknownSublot`] or [`Refusal::NotEnough`], a production into a known lot as
 /// [`Refusal::WrongOrigin`], [`Refusal::WrongMaterial`] or [`Refusal::NotQuarantined`]; and
 /// [`Refusal::LimitReached`] at [`MOST_MOVEMENTS`] movements, [`MOST_ACTUALS`] actuals of the batch or
-/// [`MOST_LOTS`] lots.
+/// [`MOST_LOTS`] lots. It fails only if memory runs out.
 pub fn record_actual(
     alloc: Global,
     own: &Slice,
@@ -163,7 +163,8 @@ fn check_consumption(
     used: &ActualUse,
     amount: Amount,
 ) -> Result<(), Refusal>
-    ensures { verdict_of_result result ≡ verdict_of_checks (use_checks own.now used.now Role.Consumed ++ source_checks own.now (facts_of source.now) used.now amount) }
+    ensures { verdict_of_result result
+        ≡ verdict_of_checks (use_checks own.now used.now Role.Consumed ++ source_checks own.now (facts_of source.now) used.now amount) }
 {
     check_use(own, used, Role::Consumed)?;
     check_source(own, source, used, amount)

@@ -16,7 +16,8 @@ use toll_base::{
 /// whether it is free: no open batch holds it.
 ///
 /// [`Refusal::UnknownOrder`], then [`Refusal::OrderCancelled`], then [`Refusal::NoMoreBatches`] if
-/// all batches of the order were opened, then [`Refusal::UnknownUnit`], then [`Refusal::UnitBusy`].
+/// all batches of the order were opened, then [`Refusal::UnknownUnit`], then [`Refusal::UnitBusy`]. It fails
+/// only if memory runs out.
 pub fn open_batch(
     alloc: Global,
     slice: &Slice,
@@ -80,7 +81,7 @@ fn next_number(opened: u64, batches: BatchNo) -> Option<BatchNo>
 /// Commands the batch, which goes to the state that the command leads to.
 ///
 /// [`Refusal::UnknownOrder`], then [`Refusal::UnknownBatch`], then [`Refusal::BatchClosed`], then
-/// [`Refusal::BadState`] if the command leads nowhere.
+/// [`Refusal::BadState`] if the command leads nowhere. It fails only if memory runs out.
 pub fn command_batch(
     alloc: Global,
     slice: &Slice,
@@ -137,7 +138,8 @@ fn find_open(slice: &Slice, order: &Name, number: BatchNo) -> Result<BatchRow, R
 /// Closes the batch, after which it holds its unit no more.
 ///
 /// [`Refusal::UnknownOrder`], then [`Refusal::UnknownBatch`], then [`Refusal::BatchClosed`], then
-/// [`Refusal::BadState`] unless the batch is idle, complete, stopped or aborted.
+/// [`Refusal::BadState`] unless the batch is idle, complete, stopped or aborted. It fails only if memory runs
+/// out.
 pub fn close_batch(
     alloc: Global,
     slice: &Slice,

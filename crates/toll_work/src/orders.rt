@@ -4,58 +4,48 @@ ghost use Rattle.toll_work.specs.Common.{changes_of, order_at, KeepsRules, Place
 ghost use Rattle.toll_work.specs.Plans.{IsCancelPlan, IsOrderPlan};
 
 use std::alloc::{AllocError, Global};
-use toll_base::{BatchNo, Change, Decision, MOST_ORDERS, Name, OrderRow, Refusal, Row, Slice};
+use toll_base::{Change, Decision, MOST_ORDERS, Name, OrderRow, Placing, Refusal, Row, Slice};
 
-/// Places an order of that many batches by the recipe.
+/// Places an order.
 ///
 /// An order of this name by the same recipe and of as many batches is repeated, even if it was
 /// cancelled. Otherwise [`Refusal::OrderExists`] if the owner has an order of this name, then
-/// [`Refusal::UnknownRecipe`], then [`Refusal::LimitReached`] at 2,000 orders.
-pub fn place_order(
-    alloc: Global,
-    slice: &Slice,
-    order: Name,
-    recipe: Name,
-    batches: BatchNo,
-) -> Result<Decision, AllocError>
-    ensures decides { IfOk result (Decides (by slice.now.owner (PlaceOrder order recipe batches)) slice.now) }
+/// [`Refusal::UnknownRecipe`], then [`Refusal::LimitReached`] at 2,000 orders. It fails only if memory runs
+/// out.
+pub fn place_order(alloc: Global, slice: &Slice, placing: &Placing) -> Result<Decision, AllocError>
+    ensures decides { IfOk result (Decides (by slice.now.owner (PlaceOrder placing.now)) slice.now) }
     ensures rules { IfOk result (DecisionKeepsRules slice.now) }
     ensures own { IfOk result (λ d. PutsOnly slice.now.owner (changes_of d)) }
-    ensures kept { is_some (order_at slice.now order) ≡ true → IfOk result (λ d. changes_of d ≡ []) }
+    ensures kept { is_some (order_at slice.now placing.now.order) ≡ true → IfOk result (λ d. changes_of d ≡ []) }
 {
-    let row = OrderRow {
-        order,
-        recipe,
-        batches,
-        cancelled: false,
-    };
-    plan_order(alloc, slice, &row)
+    plan_order(alloc, slice, placing)
 }
 
-fn plan_order(alloc: Global, slice: &Slice, row: &OrderRow) -> Result<Decision, AllocError>
-    ensures plan { IfOk result (IsOrderPlan slice.now row.now) }
+fn plan_order(alloc: Global, slice: &Slice, placing: &Placing) -> Result<Decision, AllocError>
+    ensures plan { IfOk result (IsOrderPlan slice.now placing.now) }
     ensures kept { KeepsRules slice.now }
 {
     let owner = *slice.owner();
-    if let Some(known) = slice.order(&row.order) {
-        if known.recipe == row.recipe && known.batches == row.batches {
+    if let Some(known) = slice.order(&placing.order) {
+        if known.recipe == placing.recipe && known.batches == placing.batches {
             return Ok(Decision::Repeated);
         }
         return Ok(Decision::Refuse(Refusal::OrderExists));
     }
-    if slice.recipe(&row.recipe).is_none() {
+    if slice.recipe(&placing.recipe).is_none() {
         return Ok(Decision::Refuse(Refusal::UnknownRecipe));
     }
     if slice.orders().len() >= MOST_ORDERS {
         return Ok(Decision::Refuse(Refusal::LimitReached));
     }
-    Decision::accept(alloc, Change::Put(owner, Row::Order(*row)))
+    let row = OrderRow::placed(placing);
+    Decision::accept(alloc, Change::Put(owner, Row::Order(row)))
 }
 
 /// Cancels the order.
 ///
 /// [`Refusal::UnknownOrder`], then [`Refusal::OrderCancelled`] if it was cancelled before, then
-/// [`Refusal::OrderStarted`] if a batch of it was opened.
+/// [`Refusal::OrderStarted`] if a batch of it was opened. It fails only if memory runs out.
 pub fn cancel_order(alloc: Global, slice: &Slice, order: Name) -> Result<Decision, AllocError>
     ensures decides { IfOk result (Decides (by slice.now.owner (CancelOrder order)) slice.now) }
     ensures rules { IfOk result (DecisionKeepsRules slice.now) }
@@ -83,7 +73,7 @@ fn plan_cancelling(alloc: Global, slice: &Slice, order: &Name) -> Result<Decisio
     Decision::accept(alloc, Change::Put(owner, Row::Order(row)))
 }
 
-/// The order, if it is known and isn't cancelled.
+/// The order: [`Refusal::UnknownOrder`] if the owner has none of this name, then [`Refusal::OrderCancelled`].
 pub fn find_uncancelled(slice: &Slice, order: &Name) -> Result<OrderRow, Refusal>
     ensures checks { verdict_of_result result ≡ verdict_of_checks (uncancelled_order_checks (facts_of slice.now) order.now) }
     ensures order { IfOk result (λ row. order_at slice.now order.now ≡ Some row) }

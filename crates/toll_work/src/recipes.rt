@@ -15,7 +15,7 @@ use toll_base::{
 /// Adds a recipe of that many segments.
 ///
 /// [`Refusal::RecipeExists`] if the owner has one of this name, then [`Refusal::LimitReached`] at
-/// 200 recipes.
+/// 200 recipes. It fails only if memory runs out.
 pub fn add_recipe(
     alloc: Global,
     slice: &Slice,
@@ -49,7 +49,8 @@ fn plan_recipe(alloc: Global, slice: &Slice, row: &RecipeRow) -> Result<Decision
 /// [`Refusal::UnknownRecipe`], then [`Refusal::RecipeInUse`] if an order names the recipe, then
 /// [`Refusal::BadSegment`] above the recipe's segments, then [`Refusal::CrossOwner`] if the source
 /// is another owner, or HOUSE of what is produced, then [`Refusal::UnknownMaterial`] of the source,
-/// then [`Refusal::RequirementExists`], then [`Refusal::LimitReached`] at 2,000 requirements.
+/// then [`Refusal::RequirementExists`], then [`Refusal::LimitReached`] at 2,000 requirements. It fails only
+/// if memory runs out.
 pub fn require(
     alloc: Global,
     own: &Slice,

@@ -15,7 +15,7 @@ pub trait StateWord {
 
     ghost word_of: { Self → List ℕ };
 
-    /// The word.
+    /// How it is printed, such as `idle`.
     fn word(&self) -> &'static str
         ensures { result.now ≡ word_of self.now };
 }

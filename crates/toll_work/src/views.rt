@@ -25,7 +25,7 @@ pub struct BatchView {
 }
 
 /// The batch, with what it did of each requirement of its order's recipe; `None` if the order or
-/// the batch is not known.
+/// the batch is not known. It fails only if memory runs out.
 pub fn batch_view(
     alloc: Global,
     slice: &Slice,

@@ -17,7 +17,7 @@ use toll_history::{has_room_in, sublot_gaining, sublot_losing};
 ///
 /// [`Refusal::UnknownKey`] if `own`'s owner has no actual with the key, then [`Refusal::Voided`],
 /// [`Refusal::BatchClosed`], and for a production [`Refusal::NotEnough`] if its sublot holds less
-/// than its amount. If the owner is HOUSE both slices are HOUSE's.
+/// than its amount. If the owner is HOUSE both slices are HOUSE's. It fails only if memory runs out.
 pub fn void_actual(
     alloc: Global,
     own: &Slice,

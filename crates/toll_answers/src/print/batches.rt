@@ -9,7 +9,7 @@ use toll_work::{BatchView, RequirementLine, StateWord};
 
 /// A batch: its order and number, its state, its unit and `open` or `closed`; and a line for each
 /// requirement in the order that is given: the segment, `consumed` or `produced`, the source, the
-/// material, how much is required and how much the batch did.
+/// material, how much is required and how much the batch did. It fails only if memory runs out.
 pub fn batch_text(alloc: Global, view: &BatchView) -> Result<Vec<u8>, AllocError>
     ensures { IfOk result (λ text. text.items ≡ spec.batch_text view.now.row view.now.lines.items) }
 {

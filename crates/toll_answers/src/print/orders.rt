@@ -7,7 +7,7 @@ use std::alloc::{AllocError, Global};
 use toll_base::{OrderRow, Slice};
 
 /// The orders of an owner, a line for each in the order of their names: the order, its recipe, how
-/// many batches, and `open` or `cancelled`. It is empty if there are none.
+/// many batches, and `open` or `cancelled`. It is empty if there are none. It fails only if memory runs out.
 pub fn orders_text(alloc: Global, slice: &Slice) -> Result<Vec<u8>, AllocError>
     ensures { IfOk result (λ text. text.items ≡ spec.orders_text slice.now.orders) }
 {

@@ -8,7 +8,7 @@ use std::alloc::{AllocError, Global};
 
 /// A recall, a line for each lot in the order that is given, under a line of headings: how many steps
 /// away the lot is, its owner, its name, its disposition, and how much of it is on hand and was
-/// shipped.
+/// shipped. It fails only if memory runs out.
 pub fn recall_text(alloc: Global, lines: &[RecallLine]) -> Result<Vec<u8>, AllocError>
     ensures { IfOk result (λ text. text.items ≡ spec.recall_text lines.now) }
 {

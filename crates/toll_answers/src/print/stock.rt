@@ -13,7 +13,7 @@ use toll_base::{LotRow, Measure, Slice, SublotRow};
 
 /// What an owner has, a line for each sublot in the order of its lot and its name: the lot, the sublot,
 /// the lot's material and disposition, and how much is in the sublot, with the material's measure. It
-/// is empty if there are none.
+/// is empty if there are none. It fails only if memory runs out.
 pub fn stock_text(alloc: Global, slice: &Slice) -> Result<Vec<u8>, AllocError>
     ensures in_slice { IfOk result
         (λ text. text.items ≡ spec.stock_text (spec.sublots_in slice.now)) }

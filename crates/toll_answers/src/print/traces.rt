@@ -7,7 +7,7 @@ use std::alloc::{AllocError, Global};
 use toll_trace::Step;
 
 /// A trace, a line for each lot in the order that is given: how many steps away it is, its owner and
-/// its name.
+/// its name. It fails only if memory runs out.
 pub fn trace_text(alloc: Global, steps: &[Step]) -> Result<Vec<u8>, AllocError>
     ensures { IfOk result (λ text. text.items ≡ spec.trace_text steps.now) }
 {

@@ -18,7 +18,7 @@ pub struct LotView {
 }
 
 /// The lot of the slice's owner, with its results and its sublots; `None` if the owner has no such
-/// lot.
+/// lot. It fails only if memory runs out.
 pub fn lot_view(alloc: Global, slice: &Slice, lot: &Name) -> Result<Option<LotView>, AllocError>
     ensures in_slice { IfOk result (IsLotViewIn slice.now (lot_at slice.now lot.now)) }
     ensures over { (H : History) → IsLawful H → IsRowsOf H slice.now

@@ -19,7 +19,8 @@ pub struct StockLine {
     pub amount: u64,
 }
 
-/// All lots of the slice's owner, in the order of their names, each with how much of it is on hand.
+/// All lots of the slice's owner, in the order of their names, each with how much of it is on hand. It fails
+/// only if memory runs out.
 pub fn stock_lines(alloc: Global, slice: &Slice) -> Result<Vec<StockLine>, AllocError>
     ensures in_slice { IfOk result (λ lines. lines.items ≡ map (line_in slice.now) slice.now.lots) }
     ensures over { OverRows slice.now

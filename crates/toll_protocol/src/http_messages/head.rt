@@ -1,8 +1,9 @@
 //! The head of a request: its end, and its content.
-ghost use Rattle.std.specs.Prelude.{◌≡◌, ◌≤◌, ℕ, length, take, map, IfSome, IfNone, MatchOption};
+ghost use Rattle.std.specs.Prelude.{◌≡◌, ◌≤◌, ℕ, take, map, IfSome, IfNone, MatchOption};
 ghost use Rattle.httparse.specs.Grammar.{RequestHead};
-ghost use Rattle.httparse.specs.Spans.{IsRequestAt, IsRequestWithin, header_bytes};
+ghost use Rattle.httparse.specs.Spans.{IsRequestWithin, header_bytes};
 ghost use Rattle.toll_protocol.specs.Fields.{fields_named};
+ghost use Rattle.toll_protocol.specs.Filled.{IsHeadAt};
 ghost use Rattle.toll_protocol.specs.Found.{seen_match};
 ghost use Rattle.toll_protocol.specs.Head.{IsHeadLen, IsHeadOf, IsSearched, NoHead};
 
@@ -51,10 +52,7 @@ pub fn head_len(text: &[u8], searched: usize) -> Option<usize>
 /// The head of a request, which is all of the shortest front that ends with an empty line (RFC 9112, sections
 /// 2.1, 3 and 5); `None` if there is no head, or one that can't be read.
 pub fn head_of(text: &[u8]) -> Option<Head>
-    ensures head { IfSome result (λ r. (h : RequestHead) × IsHeadOf text.now r.line.len h
-        × IsRequestAt (take r.line.len text.now) r.fields r.line h) }
-    ensures within { IfSome result (λ r. (r.line.len ≤ length text.now)
-        × IsRequestWithin (take r.line.len text.now) r.fields r.line) }
+    ensures head { IfSome result (IsHeadAt text.now) }
     ensures none { IfNone result ((n : ℕ) (h : RequestHead) → IsHeadOf text.now n h → ⊥) }
 {
     match head_len(text, 0) {
@@ -67,10 +65,7 @@ pub fn head_of(text: &[u8]) -> Option<Head>
 pub fn head_at(text: &[u8], len: usize) -> Option<Head>
     requires shortest { IsHeadLen text.now len }
     requires short { len ≤ HEAD_LIMIT }
-    ensures len { IfSome result (λ r. r.line.len ≡ len) }
-    ensures head { IfSome result (λ r. (h : RequestHead) × IsHeadOf text.now len h
-        × IsRequestAt (take len text.now) r.fields r.line h) }
-    ensures within { IfSome result (λ r. IsRequestWithin (take len text.now) r.fields r.line) }
+    ensures head { IfSome result (IsHeadAt text.now) }
     ensures none { IfNone result ((h : RequestHead) → IsHeadOf text.now len h → ⊥) }
 {
     let mut fields = [EMPTY_HEADER_SPAN; FIELD_LIMIT];

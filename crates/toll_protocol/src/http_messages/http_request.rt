@@ -2,6 +2,7 @@
 ghost use Rattle.std.specs.Prelude.{◌≡◌, map};
 ghost use Rattle.httparse.specs.Grammar.{RequestHead};
 ghost use Rattle.httparse.specs.Spans.{IsRequestAt, IsRequestWithin, name_and_value};
+ghost use Rattle.toll_protocol.specs.Filled.{IsHeadAt};
 ghost use Rattle.toll_protocol.specs.Parsed.{parse_outcome};
 ghost use Rattle.toll_protocol.specs.Parsing.{IsParsedAs, checked, host_fails};
 ghost use Rattle.toll_protocol.specs.Found.{seen_match};
@@ -29,11 +30,19 @@ pub struct HttpRequest<'b> {
 pub fn parse_http(text: &[u8]) -> Result<HttpRequest<'_>, Failure>
     ensures { IsParsedAs text.now (parse_outcome result) }
 {
-    let Some(head) = head_of(text) else {
-        return Err(Failure::BadRequest);
-    };
+    match head_of(text) {
+        Some(head) => parse_with_head(text, &head),
+        None => Err(Failure::BadRequest),
+    }
+}
+
+/// The same for a text whose head was read.
+pub fn parse_with_head<'b>(text: &'b [u8], head: &Head) -> Result<HttpRequest<'b>, Failure>
+    requires { IsHeadAt text.now head.now }
+    ensures { IsParsedAs text.now (parse_outcome result) }
+{
     let (front, rest) = text.split_at(head.line.len);
-    check(front, rest, &head)
+    check(front, rest, head)
 }
 
 // The checks of a head that was read, and of what follows it.

@@ -1,11 +1,14 @@
 //! Reading a request bit by bit, as it comes.
 ghost use Rattle.std.specs.Prelude.{◌≡◌, ◌≢◌, ◌≤◌, ◌⊎◌, ℕ, List, [], length, take, drop, IfOk};
 ghost use Rattle.std.specs.Io.KnownBytes.{Consumes, IsAtEnd};
-ghost use Rattle.toll_protocol.specs.Parsing.{IsSettled, ReadsUntilSettled};
+ghost use Rattle.toll_protocol.specs.Parsed.{parse_outcome};
+ghost use Rattle.toll_protocol.specs.Parsing.{IsParsedAs, IsSettled, ReadsUntilSettled};
 ghost use Rattle.toll_protocol.specs.Filled.{IsFilled};
 ghost use Rattle.toll_protocol.specs.Streams.{AppendsRead, HasFailed, NoneBlocked, NoneFailed, OneBlocked};
 
-use crate::http_messages::settled::{TEXT_LIMIT, unsettled};
+use crate::http_messages::failure::Failure;
+use crate::http_messages::http_request::{HttpRequest, parse_http, parse_with_head};
+use crate::http_messages::settled::{HeadSearch, TEXT_LIMIT};
 use crate::streams::{ReadStatus, Source, read_behind};
 use std::alloc::{AllocError, Global};
 use std::marker::Model;
@@ -15,7 +18,7 @@ use std::marker::Model;
 pub struct RequestReader {
     text: Vec<u8>,
     filled: usize,
-    searched: usize,
+    search: HeadSearch,
 }
 
 /// Its bytes.
@@ -27,7 +30,7 @@ impl Model for RequestReader {
 
     ghost view = { λ r. take r.filled r.text.items };
 
-    ghost invariant = { λ r. IsFilled r.text.items r.filled r.searched };
+    ghost invariant = { λ r. IsFilled r.text.items r.filled r.search };
 }
 
 impl RequestReader {
@@ -38,7 +41,7 @@ impl RequestReader {
         Ok(RequestReader {
             text: vec![in alloc; 0u8; TEXT_LIMIT]?,
             filled: 0,
-            searched: 0,
+            search: HeadSearch::Searched(0),
         })
     }
 
@@ -59,6 +62,17 @@ impl RequestReader {
         self.text
     }
 
+    /// The request that these bytes are, or the first check that they fail. A head that has come isn't read again.
+    pub fn parsed(&self) -> Result<HttpRequest<'_>, Failure>
+        ensures value { IsParsedAs self.now (parse_outcome result) }
+        ensures bound { length self.now ≤ TEXT_LIMIT }
+    {
+        match &self.search {
+            HeadSearch::Read(head) => parse_with_head(&self.text[..self.filled], head),
+            HeadSearch::Searched(_) => parse_http(&self.text[..self.filled]),
+        }
+    }
+
     /// Reads on until the head and all of the body that the head claims have come, or 8,192 bytes without the
     /// end of a head, or the stream ends, and no further. It also stops if a read fails, as one does that
     /// would wait.
@@ -73,26 +87,34 @@ impl RequestReader {
         ensures no_further { ReadsUntilSettled self.old (R.reads reader.old) (R.reads reader.new) }
         ensures write_side { R.write_side reader.new ≡ R.write_side reader.old }
     {
-        let filled = fill_on(reader, self.text.as_mut_slice(), self.filled, self.searched);
+        let filled = fill_on(
+            reader,
+            self.text.as_mut_slice(),
+            self.filled,
+            &mut self.search,
+        );
         self.filled = filled.filled;
-        self.searched = filled.searched;
         filled.status
     }
 }
 
-// How many bytes were filled, and a place before which no head ends.
+// How many bytes were filled.
 #[derive(Clone, Copy)]
 struct Filled {
     status: ReadStatus,
     filled: usize,
-    searched: usize,
 }
 
 // Reads on after the first bytes, which came before, until the text is settled, the stream ends, or a read
 // fails.
-fn fill_on<R: Source>(reader: &mut R, text: &mut [u8], begun: usize, looked: usize) -> Filled
-    requires { IsFilled text.old begun looked }
-    ensures filled { IsFilled text.new result.filled result.searched }
+fn fill_on<R: Source>(
+    reader: &mut R,
+    text: &mut [u8],
+    begun: usize,
+    search: &mut HeadSearch,
+) -> Filled
+    requires { IsFilled text.old begun search.old }
+    ensures filled { IsFilled text.new result.filled search.new }
     ensures more { begun ≤ result.filled }
     ensures front { take begun text.new ≡ take begun text.old }
     ensures given { Consumes (R.unread reader.old) (R.unread reader.new) (drop begun (take result.filled text.new)) }
@@ -106,9 +128,7 @@ fn fill_on<R: Source>(reader: &mut R, text: &mut [u8], begun: usize, looked: usi
     ensures write_side { R.write_side reader.new ≡ R.write_side reader.old }
 {
     let mut filled = begun;
-    let mut searched = looked;
-    while let Some(next) = unsettled(&text[..filled], searched) {
-        searched = next;
+    while !search.search_on(&text[..filled]) {
         match read_behind(reader, text, filled) {
             Ok(0) => break,
             Ok(n) => filled += n,
@@ -116,7 +136,6 @@ fn fill_on<R: Source>(reader: &mut R, text: &mut [u8], begun: usize, looked: usi
                 return Filled {
                     status: ReadStatus::after(fault.kind()),
                     filled,
-                    searched,
                 };
             }
         }
@@ -124,6 +143,5 @@ fn fill_on<R: Source>(reader: &mut R, text: &mut [u8], begun: usize, looked: usi
     Filled {
         status: ReadStatus::Complete,
         filled,
-        searched,
     }
 }

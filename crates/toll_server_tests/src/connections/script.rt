@@ -1,7 +1,9 @@
 //! A world by a script, and an office that writes down what it is asked.
 use crate::connections::wire::{Log, Plan, Wire};
 use std::alloc::Global;
-use toll_server::{Accepted, Listener, MOST_CONNECTIONS, Network, NetworkFault, Poll, Service};
+use toll_server::{
+    Accepted, Listener, MOST_CONNECTIONS, Network, NetworkFault, Poll, RequestBuffer, Service,
+};
 
 /// The clients that come, and those that advance, one after another. If none does, a wait is as long as it
 /// may be. A wait without time sees clients that advance while the office has a task, and no others.
@@ -118,22 +120,22 @@ impl Service for Scribe<'_> {
     ghost resumes = { λ old task poll new. ⊤ };
 
     // The first digit of a request is its party.
-    fn party(_listener: Listener, requested: &[u8]) -> u8
+    fn party(request: &RequestBuffer) -> u8
         ensures { ⊤ }
     {
-        match requested.iter().find(|byte| byte.is_ascii_digit()) {
+        match request.bytes().iter().find(|byte| byte.is_ascii_digit()) {
             Some(digit) => *digit,
             None => 0,
         }
     }
 
-    fn answer(&mut self, alloc: Global, listener: Listener, requested: &[u8]) -> Poll<Chore> {
+    fn answer(&mut self, alloc: Global, request: &RequestBuffer) -> Poll<Chore> {
         self.answered = self.answered.saturating_add(1);
-        let Some(digit) = requested.iter().find(|byte| byte.is_ascii_digit()) else {
+        let Some(digit) = request.bytes().iter().find(|byte| byte.is_ascii_digit()) else {
             self.log.wrong.set(true);
             return Poll::Ready(Vec::new(alloc));
         };
-        let left = match listener {
+        let left = match request.listener() {
             Listener::Owners => 0,
             Listener::Plant => self.log.pace.turns.saturating_sub(1),
         };

@@ -1,5 +1,6 @@
 //! What a session does with damage that a turn met.
 ghost use Rattle.std.specs.Prelude.{◌≡◌, ◌≢◌, ◌⊎◌, true, Ok, ⊤, IfErr, OnOk};
+ghost use Rattle.toll_server.specs.RequestBuffers.{bytes_received, listener_of};
 ghost use Rattle.toll_service.specs.Damages.{AreOwnersFound, HasFoundDamage, IsKnown, IsNoted};
 ghost use Rattle.toll_service.specs.Openings.{IsOneRefused, IsNoneOpened};
 ghost use Rattle.toll_service.specs.Sessions.{AreAsLeft, IsLockKept, state_of_session};
@@ -12,23 +13,22 @@ use std::str;
 use toll_base::Name;
 use toll_files::{Lease, Notes, OfficeFault};
 use toll_keep::{Keep, KeepFault};
-use toll_server::Listener;
+use toll_server::RequestBuffer;
 
 impl<K: Keep + Drop> OfficeSession<K> {
-    /// Whether a request or call at a listener is known to meet damage, and no other program has written the
+    /// Whether a request or call is known to meet damage, and no other program has written the
     /// files since that was found out. An `Err` if the files are to be compared and the lock isn't taken.
     pub fn is_damaged<O: KeepOpener<K>>(
         &self,
         office_path: &mut OfficePath<'_, O>,
-        listener: Listener,
-        bytes: &[u8],
+        request: &RequestBuffer,
     ) -> Result<bool, OfficeFault>
-        ensures known { result ≡ Ok true → IsKnown self.now.damage listener bytes.now × AreAsLeft O.is_found self.now }
+        ensures known { result ≡ Ok true → IsKnown self.now.damage (listener_of request.now) (bytes_received request.now) × AreAsLeft O.is_found self.now }
         ensures unasked { OnOk result (IsNoneOpened (O.openings office_path.old.opener) (O.openings office_path.new.opener)) }
         ensures refused { IfErr result (λ fault. IsOneRefused fault
             (O.openings office_path.old.opener) (O.openings office_path.new.opener)) }
     {
-        if !self.damage.is_known(listener, bytes) {
+        if !self.damage.is_known(request) {
             return Ok(false);
         }
         if self.lock.is_some() {
@@ -46,27 +46,29 @@ impl<K: Keep + Drop> OfficeSession<K> {
     pub fn note_damage<O: KeepOpener<K>>(
         &mut self,
         office_path: &mut OfficePath<'_, O>,
-        listener: Listener,
-        bytes: &[u8],
+        request: &RequestBuffer,
         fault: KeepFault,
     )
         ensures state { state_of_session self.new ≡ state_of_session self.old }
         ensures imports { self.new.imports ≡ self.old.imports }
         ensures spared { fault ≢ KeepFault.Damaged → self.new ≡ self.old }
-        ensures noted { IsNoted K.meaning O.is_opened O.is_probed ⊤ (fault ≡ KeepFault.Damaged) self.old.damage self.new.damage listener bytes.now }
+        ensures noted { IsNoted K.meaning O.is_opened O.is_probed ⊤ (fault ≡ KeepFault.Damaged) self.old.damage self.new.damage
+            (listener_of request.now) (bytes_received request.now) }
         ensures files { (self.new.left ≡ self.old.left) ⊎ AreAsLeft O.is_found self.old }
         ensures lock { IsLockKept self.old → IsLockKept self.new }
     {
         if fault != KeepFault::Damaged {
             return;
         }
-        match listener {
-            Listener::Owners => {
-                if let Party::Owner(owner) = Party::of(listener, bytes) {
+        match request {
+            RequestBuffer::Owner(_) => {
+                if let Party::Owner(owner) = Party::of(request) {
                     self.probe_owner(office_path, owner);
                 }
             }
-            Listener::Plant => self.damage.note_call(office_path.rt.alloc(), bytes),
+            RequestBuffer::Plant(frame) => {
+                self.damage.note_call(office_path.rt.alloc(), &frame.bytes);
+            }
         }
     }
 

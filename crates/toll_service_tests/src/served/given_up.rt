@@ -1,6 +1,6 @@
 //! An import that is given up, since its office was closed and can't be opened.
 use crate::served::imports::{import_of_records, push_lines};
-use crate::served::{ADD_OWNER, Client, NO_MEMORY};
+use crate::served::{ADD_OWNER, NO_MEMORY, received};
 use std::alloc::Global;
 use std::fs;
 use std::test::Fail;
@@ -9,7 +9,7 @@ use toll_files::{Lease, LeftFiles, OfficeFault, take_lock};
 use toll_keep::{Keep, KeepFault, MemKeep};
 use toll_plant::GROUP_RECORDS;
 use toll_protocol::{EncodeFault, Response};
-use toll_server::{Listener, Poll, Service};
+use toll_server::{Listener, Poll, RequestBuffer, Service};
 use toll_service::{KeepOpener, OfficePath, OfficeService};
 use toll_stories::{Refused, Refusing};
 
@@ -92,29 +92,32 @@ fn is_expected<T: Drop>(poll: &Poll<T>, wanted: &[u8]) -> bool {
 }
 
 // Whether that is the response to the import, if a fault is met after its first group.
-fn is_given_up<O: Service>(alloc: Global, office: &mut O, requested: &[u8], wanted: &[u8]) -> bool {
-    let poll = office.answer(alloc, Listener::Plant, requested);
+fn is_given_up<O: Service>(
+    alloc: Global,
+    office: &mut O,
+    requested: &RequestBuffer,
+    between: &RequestBuffer,
+    wanted: &[u8],
+) -> bool {
+    let poll = office.answer(alloc, requested);
     let poll = resume(alloc, office, poll);
-    let Client {
-        listener,
-        bytes,
-        ..
-    } = ADD_OWNER;
-    let between = office.answer(alloc, listener, bytes);
+    let between = office.answer(alloc, between);
     let poll = resume(alloc, office, poll);
     is_expected(&between, NO_MEMORY) && is_expected(&poll, wanted)
 }
 
 #[test]
 fn outcomes_of_a_given_up_import_are_reported(rt: HostRuntime) -> Result<(), Fail> {
-    let requested = import_of_records(rt.alloc())?;
+    let import = import_of_records(rt.alloc())?;
+    let requested = received(rt.alloc(), Listener::Plant, &import)?;
+    let between = received(rt.alloc(), ADD_OWNER.listener, ADD_OWNER.bytes)?;
     let wanted = wanted(rt.alloc())?;
     let mut desk = OfficeService::new(OfficePath {
         rt: &rt,
         path: "given_up.db",
         opener: Once { is_opened: false },
     });
-    let is_given_up = is_given_up(rt.alloc(), &mut desk, &requested, &wanted);
+    let is_given_up = is_given_up(rt.alloc(), &mut desk, &requested, &between, &wanted);
     desk.close();
     let _ = fs::remove_file(&rt, "given_up.db.lock");
     assert!(rt; is_given_up);

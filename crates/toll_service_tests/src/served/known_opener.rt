@@ -4,10 +4,11 @@ ghost use Rattle.std.specs.Prelude.{◌≡◌, ◌+◌, ◌∷◌, Contains, Ok,
 ghost use Rattle.toll_base.specs.Bytes.{Bytes};
 ghost use Rattle.toll_keep.specs.Content.{empty_content};
 ghost use Rattle.toll_keep.specs.Slices.{content_of};
+ghost use Rattle.toll_server.specs.RequestBuffers.{bytes_received, listener_of};
 ghost use Rattle.toll_service.specs.FileServing.{logged_by, openings_of};
 ghost use Rattle.toll_service_tests.specs.Openers.{IsAnsweredAnew, IsRead, damaged_owners, faults_of};
 
-use crate::served::ADD_OWNER;
+use crate::served::{ADD_OWNER, received};
 use http_server::Log;
 use std::alloc::Global;
 use std::fs;
@@ -15,7 +16,7 @@ use std::test::Fail;
 use toll_base::{Name, Slice};
 use toll_files::{Lease, LeftFiles, OfficeFault, take_lock};
 use toll_keep::{Keep, KeepFault, MemKeep};
-use toll_server::{Listener, Poll, Service};
+use toll_server::{Poll, RequestBuffer, Service};
 use toll_service::{KeepOpener, OfficePath, OfficeService, PendingImport, fault_response};
 
 /// Opens offices without rows, or refuses each opening for one fault. Others are found to have written the files
@@ -93,18 +94,17 @@ impl KeepOpener<MemKeep> for KnownOpener {
 // Answers a client by a new service, which opened the office ahead. The clauses follow from those of the service.
 fn ask_anew<'a>(
     place: OfficePath<'a, KnownOpener>,
-    listener: Listener,
-    bytes: &[u8],
+    request: &RequestBuffer,
 ) -> (Poll<PendingImport>, OfficeService<'a, MemKeep, KnownOpener>)
     ensures answered { let opener = ⟦<KnownOpener as KeepOpener<MemKeep>>⟧ in
         IsAnsweredAnew ⟦<MemKeep as Keep>⟧.meaning opener.is_opened (openings_of opener.openings result.1) (logged_by result.1)
-        listener bytes.now result.0 }
+        (listener_of request.now) (bytes_received request.now) result.0 }
     ensures sound { (owner : Bytes) → Contains (damaged_owners result.1) owner → ⊥ }
 {
     let alloc = place.rt.alloc();
     let mut service = OfficeService::new(place);
     service.open_ahead();
-    let poll = service.answer(alloc, listener, bytes);
+    let poll = service.answer(alloc, request);
     (poll, service)
 }
 
@@ -120,7 +120,10 @@ fn is_expected(rt: &HostRuntime, fault: Option<OfficeFault>, wanted: &[u8]) -> b
         path: "known_opener.db",
         opener,
     };
-    let (poll, service) = ask_anew(place, ADD_OWNER.listener, ADD_OWNER.bytes);
+    let Ok(request) = received(rt.alloc(), ADD_OWNER.listener, ADD_OWNER.bytes) else {
+        return false;
+    };
+    let (poll, service) = ask_anew(place, &request);
     service.close();
     match poll {
         Poll::Ready(bytes) => bytes.as_slice() == wanted,

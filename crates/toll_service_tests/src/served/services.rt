@@ -1,6 +1,6 @@
 //! An office in a file: when it is opened anew, and when its lock is kept.
 use crate::served::imports::import_of_records;
-use crate::served::{ADD_AGAIN, ADD_OWNER, Client, MOST_TURNS};
+use crate::served::{ADD_AGAIN, ADD_OWNER, Client, MOST_TURNS, received};
 use std::alloc::Global;
 use std::cell::Cell;
 use std::fs::{File, OpenOptions};
@@ -10,7 +10,7 @@ use std::{fs, io};
 use toll_base::{Name, Slice};
 use toll_files::{Lease, LeftFiles, OfficeFault, take_lock};
 use toll_keep::{Keep, KeepFault, MemKeep};
-use toll_server::{Listener, Poll, Service};
+use toll_server::{Listener, Poll, RequestBuffer, Service};
 use toll_service::{KeepOpener, OfficePath, OfficeService};
 
 /// How often an office was opened, and closed.
@@ -103,7 +103,10 @@ fn open_file(rt: &HostRuntime, path: &str) -> io::Result<File> {
 
 // Whether the response to this client is exactly this.
 fn is_expected<O: Service>(alloc: Global, office: &mut O, visit: &Client<'_>) -> bool {
-    match office.answer(alloc, visit.listener, visit.bytes) {
+    let Ok(request) = received(alloc, visit.listener, visit.bytes) else {
+        return false;
+    };
+    match office.answer(alloc, &request) {
         Poll::Ready(bytes) => bytes.as_slice() == visit.expected,
         Poll::Pending(_) => false,
     }
@@ -114,9 +117,9 @@ fn locked_turns<O: Service>(
     rt: &HostRuntime,
     office: &mut O,
     path: &str,
-    requested: &[u8],
+    requested: &RequestBuffer,
 ) -> usize {
-    let mut poll = office.answer(rt.alloc(), Listener::Plant, requested);
+    let mut poll = office.answer(rt.alloc(), requested);
     let mut locked = 0usize;
     for _ in 0..MOST_TURNS {
         let Poll::Pending(task) = poll else {
@@ -190,7 +193,12 @@ fn an_office_stays_open_until_others_write_its_file(rt: HostRuntime) -> Result<(
 }
 
 // The number of turns of an import for which the lock of its file is kept, and whether it is given back then.
-fn turns_of(rt: &HostRuntime, path: &str, requested: &[u8], counts: &Counts) -> (usize, bool) {
+fn turns_of(
+    rt: &HostRuntime,
+    path: &str,
+    requested: &RequestBuffer,
+    counts: &Counts,
+) -> (usize, bool) {
     let mut desk = desk_at(rt, path, counts);
     let locked = locked_turns(rt, &mut desk, path, requested);
     let is_free = take_lock(rt, path).is_ok();
@@ -201,7 +209,8 @@ fn turns_of(rt: &HostRuntime, path: &str, requested: &[u8], counts: &Counts) -> 
 #[test]
 fn the_lock_is_kept_while_an_import_is_under_way(rt: HostRuntime) -> Result<(), Fail> {
     let counts = Counts::new();
-    let requested = import_of_records(rt.alloc())?;
+    let import = import_of_records(rt.alloc())?;
+    let requested = received(rt.alloc(), Listener::Plant, &import)?;
     let turns = turns_of(&rt, "under_way.db", &requested, &counts);
     remove(&rt, "under_way.db")?;
     assert_eq!(rt; turns, (3, true));

@@ -1,17 +1,17 @@
 //! The plant's calls and owners' over a keep that once has no memory.
 use std::alloc::Global;
 use std::test::Fail;
-use toll_base::{BatchNo, Name};
+use toll_base::{BatchNo, Name, Placing};
 use toll_desk::{Reply, Request, owner_do};
 use toll_keep::{Keep, KeepFault, MemKeep};
 use toll_stories::{Refused, Refusing, WITH_ACME, check, check_said_over};
 
 fn placing() -> Result<Request, Fail> {
-    Ok(Request::Place {
+    Ok(Request::Place(Placing {
         order: Name::parse(b"O-1")?,
         recipe: Name::parse(b"R-1")?,
         batches: BatchNo::new(2)?,
-    })
+    }))
 }
 
 // Whether ACME's order is refused for lack of memory.

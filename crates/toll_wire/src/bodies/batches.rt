@@ -10,7 +10,7 @@ use serde::Serializer;
 use std::alloc::{AllocError, Global};
 use toll_work::{BatchView, RequirementLine, StateWord};
 
-/// A batch, with its requirements in the order of the view.
+/// A batch, with its requirements in the order of the view. It fails only if memory runs out.
 pub fn batch_body(alloc: Global, view: &BatchView) -> Result<String, AllocError>
     ensures { IfOk result (λ body. string_bytes body ≡ compact_text (batch_data view.now.row view.now.lines.items)) }
 {

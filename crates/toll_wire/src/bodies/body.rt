@@ -6,15 +6,7 @@ ghost use Rattle.toll_wire.specs.Bodies.{IsBodyOf, batches_at, name_member, orde
 
 use serde_json::{Error, Value};
 use std::alloc::{AllocError, Global};
-use toll_base::{BatchNo, Name};
-
-/// The order in a request.
-#[derive(Clone, Copy)]
-pub struct Placing {
-    pub order: Name,
-    pub recipe: Name,
-    pub batches: BatchNo,
-}
+use toll_base::{BatchNo, Name, Placing};
 
 /// The order that a body asks for, if it asks for one: a JSON object (RFC 8259) with the members `order` and
 /// `recipe`, which are names, and `batches`, a number of batches from 1 to 99 without fraction or exponent.

@@ -9,14 +9,14 @@ use serde::Serializer;
 use std::alloc::{AllocError, Global};
 use toll_base::Refusal;
 
-/// Why a command is refused.
+/// Why a command is refused. It fails only if memory runs out.
 pub fn refusal_body(alloc: Global, refusal: &Refusal) -> Result<String, AllocError>
     ensures { IfOk result (λ body. string_bytes body ≡ compact_text (refusal_data refusal.now)) }
 {
     text_of(alloc, refusal)
 }
 
-/// Why a request is answered without a command.
+/// Why a request is answered without a command. It fails only if memory runs out.
 pub fn error_body(alloc: Global, word: &str) -> Result<String, AllocError>
     ensures { IfOk result (λ body. string_bytes body ≡ compact_text (error_data word.now)) }
 {

@@ -19,21 +19,21 @@ use toll_answers::StockLine;
 use toll_base::OrderRow;
 use toll_trace::Step;
 
-/// The orders of an owner.
+/// The orders of an owner. It fails only if memory runs out.
 pub fn orders_body(alloc: Global, rows: &[OrderRow]) -> Result<String, AllocError>
     ensures { IfOk result (λ body. string_bytes body ≡ compact_text (orders_data rows.now)) }
 {
     list_text(alloc, "orders", rows)
 }
 
-/// What is in stock.
+/// What is in stock. It fails only if memory runs out.
 pub fn stock_body(alloc: Global, lines: &[StockLine]) -> Result<String, AllocError>
     ensures { IfOk result (λ body. string_bytes body ≡ compact_text (stock_data lines.now)) }
 {
     list_text(alloc, "lots", lines)
 }
 
-/// The lots of a trace, in the order of its steps.
+/// The lots of a trace, in the order of its steps. It fails only if memory runs out.
 pub fn trace_body(alloc: Global, steps: &[Step]) -> Result<String, AllocError>
     ensures { IfOk result (λ body. string_bytes body ≡ compact_text (trace_data steps.now)) }
 {

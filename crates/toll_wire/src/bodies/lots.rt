@@ -13,7 +13,7 @@ use std::alloc::{AllocError, Global};
 use toll_answers::LotView;
 use toll_base::{Origin, ResultRow, SublotRow};
 
-/// A lot, with its results and its sublots in the order of the view.
+/// A lot, with its results and its sublots in the order of the view. It fails only if memory runs out.
 pub fn lot_body(alloc: Global, view: &LotView) -> Result<String, AllocError>
     ensures { IfOk result (λ body. string_bytes body ≡ compact_text (lot_data view.now.row view.now.measure view.now.results.items view.now.sublots.items)) }
 {

@@ -9,7 +9,7 @@ use serde::Serializer;
 use std::alloc::{AllocError, Global};
 use toll_base::OrderRow;
 
-/// An order.
+/// An order. It fails only if memory runs out.
 pub fn order_body(alloc: Global, row: &OrderRow) -> Result<String, AllocError>
     ensures { IfOk result (λ body. string_bytes body ≡ compact_text (order_data row.now)) }
 {

@@ -66,11 +66,7 @@ fn placing(alloc: Global, body: &[u8]) -> Result<Result<Request, Failure>, Alloc
     ensures { IfOk result (IsPlacing body.now) }
 {
     match requested_order(alloc, body)? {
-        Some(placing) => Ok(Ok(Request::Place {
-            order: placing.order,
-            recipe: placing.recipe,
-            batches: placing.batches,
-        })),
+        Some(placing) => Ok(Ok(Request::Place(placing))),
         None => Ok(Err(Failure::BadRequest)),
     }
 }

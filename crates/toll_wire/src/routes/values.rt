@@ -4,7 +4,7 @@ use toll_base::{BatchNo, Name};
 /// The values that a path has in its parts.
 #[derive(Clone, Copy)]
 pub enum Values {
-    /// None.
+    /// No value: the path is a route without parts.
     Nothing,
     /// The name of an order or of a lot.
     Name(Name),

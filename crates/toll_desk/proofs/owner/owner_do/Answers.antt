@@ -19,5 +19,5 @@ returns g c =
     (λ honest content H held stands lawful. IfOk-weaker reply _ _ (λ x plan. (plan.reply, plan.leads)) (planned.ensures.plan honest content H held stands lawful))
     _ refl _ (λ honest content held P stays none. record {
       quiet = stays;
-      once = λ order recipe batches asks there. none (planned.ensures.idle.once honest content held order recipe batches asks there);
+      once = λ placing asks there. none (planned.ensures.idle.once honest content held placing asks there);
     })

@@ -28,9 +28,9 @@ returns-in-Ok-None-clause-plan g c honest content H held stands lawful =
 pub returns-in-Ok-Some-clause-idle : goal.returns-in-Ok-Some-clause-idle
 returns-in-Ok-Some-clause-idle g c = record {
   quiet = c.plan_for.ensures.idle.quiet;
-  once = λ honest content held order recipe batches asks there.
+  once = λ honest content held placing asks there.
       let before = c.plan_for.ensures.reads.goes.honest honest in
       let named = subst (λ found. IfSome found (λ name. name ≡ c.args.owner.now)) c.in-Ok-Some.field-0-is c.in-Ok-Some.ensures.named in
-      c.plan_for.ensures.idle.once honest content ((c.in-Ok-Some.ensures.reads.keeps before).content content held) order recipe batches asks
-      (subst (λ p. is_some (order_at (content.rows p) order) ≡ true) (sym named) there);
+      c.plan_for.ensures.idle.once honest content ((c.in-Ok-Some.ensures.reads.keeps before).content content held) placing asks
+      (subst (λ p. is_some (order_at (content.rows p) placing.order) ≡ true) (sym named) there);
 }

@@ -7,10 +7,10 @@ use Rattle.toll_desk.proofs.planning.plan_for.Goals as goal
 pub returns-in-Ok-clause-idle : goal.returns-in-Ok-clause-idle
 returns-in-Ok-clause-idle g c = record {
   quiet = c.in-Ok.ensures.idle.quiet;
-  once = λ honest content held order recipe batches asks is_there.
+  once = λ honest content held placing asks is_there.
       let before = (c.plan_over.ensures.kept honest).0 in
       let is = slice_read content c.args.owner.now c.in-Ok-Some.slice (sym c.in-Ok-Some.field-0-is ∙ c.in-Ok-Some.ensures.reads before content held) in
-      c.in-Ok.ensures.idle.once order recipe batches asks (subst (λ s. is_some (order_at s order) ≡ true) (sym is) is_there);
+      c.in-Ok.ensures.idle.once placing asks (subst (λ s. is_some (order_at s placing.order) ≡ true) (sym is) is_there);
 }
 
 pub returns-in-Ok-clause-plan : goal.returns-in-Ok-clause-plan

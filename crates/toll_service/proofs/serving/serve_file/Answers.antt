@@ -10,5 +10,6 @@ returns-clause-served g c = record {
       (c.open_ahead.ensures c.new-service.ensures.session);
   run = c.serve-served.ensures.run;
   in_turn = c.serve-served.ensures.in_turn;
-  rounds = c.serve-served.ensures.rounds;
+  most = c.serve-served.ensures.events.0;
+  events = c.serve-served.ensures.events.1;
 }

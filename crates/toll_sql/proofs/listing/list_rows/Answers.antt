@@ -1,7 +1,7 @@
-use Rattle.std.proofs.Common.{◌∙◌, ap, map, rules}
+use Rattle.std.proofs.Common.{◌∙◌, [], ◌∷◌, ap, map, rules, take_all}
 use Rattle.toll_sql.proofs.Common.{columns_from, width_of, ShowsRow}
-use Rattle.toll_sql.proofs.ListLemmas.{list_item, list_item_is, list_item_valid, more_shown, more_valid, read_it, take_past, with_list_item}
-use Rattle.toll_sql.proofs.SoFar.{first_good}
+use Rattle.toll_sql.proofs.ListLemmas.{list_item, list_item_is, list_item_valid, more_shown, read_it, with_list_item}
+use Rattle.toll_sql.proofs.SoFar.{all_append, first_good}
 use Rattle.toll_sql.proofs.listing.list_rows.Goals as goal
 
 pub loop-row-preserved : goal.loop-row-preserved
@@ -21,7 +21,7 @@ loop-row-preserved g c =
           let more = more_shown X.kind.cells (columns_from 0 (width_of X.kind.table)) rows i lt c.row-item.result c.row-item.is c.loop-row.listed.items c.in-Some.it c.loop-row.invariant.shown c.in-Some.ensures.some in
           search rules;
       valid =
-          let more = more_valid X.kind.is_valid c.loop-row.listed.items c.in-Some.it c.loop-row.invariant.valid c.in-Some.ensures.valid in
+          let more = all_append X.kind.is_valid c.loop-row.listed.items (c.in-Some.it ∷ []) c.loop-row.invariant.valid (c.in-Some.ensures.valid, tt) in
           search rules;
       first = λ _. first_good (ShowsRow X.kind) rows i c.row-item.result lt c.row-item.is c.loop-row.invariant.first (c.in-Some.it, c.in-Some.ensures.valid, c.in-Some.ensures.some);
     }
@@ -29,7 +29,7 @@ loop-row-preserved g c =
 pub returns-clause-shown : goal.returns-clause-shown
 returns-clause-shown g c =
     let X = g.X.StoredPlantRow in
-    (c.loop-row.invariant.shown ∙ ap (map (columns_from 0 (width_of X.kind.table))) (take_past c.args.rows.now c.loop-row.row-index c.loop-row-test.false), c.loop-row.invariant.valid)
+    (c.loop-row.invariant.shown ∙ ap (map (columns_from 0 (width_of X.kind.table))) (take_all c.loop-row.row-index c.args.rows.now c.loop-row-test.false), c.loop-row.invariant.valid)
 
 pub returns-in_default-clause-whole : goal.returns-in_default-clause-whole
 returns-in_default-clause-whole g c = λ alone l are valid.

@@ -1,7 +1,8 @@
-use Rattle.std.proofs.Common.{◌≡◌, ◌∙◌, Err, rules}
-use Rattle.toll_sql.proofs.Common.{column, Text, TakesRows, IsRowOfOwner}
-use Rattle.toll_sql.proofs.SoFar.{all_behind, all_with_one_more, value_there}
-use Rattle.toll_sql.proofs.Taken.{all_taken, lacks_here, one_more_taken}
+use Rattle.std.proofs.Common.{◌≡◌, ◌∙◌, Err, ap, arith, length, rules, subst, take_all}
+use Rattle.toll_sql.proofs.Common.{AllByRecursion, column, Text, front_slice, rows_for, AreTaken, TakesRows, IsRowOfOwner}
+use Rattle.toll_sql.proofs.ReadOn.{front_of_next}
+use Rattle.toll_sql.proofs.SoFar.{all_with_one_more, value_there}
+use Rattle.toll_sql.proofs.Taken.{lacks_here, one_more_taken}
 use Rattle.toll_sql.proofs.RowsIn.{table_item, table_item_is, table_item_valid, with_table_item, with_it_keeps}
 use Rattle.toll_sql.proofs.reading.read_rows.Goals as goal
 
@@ -38,10 +39,10 @@ returns-in_err-read_row-clause-whole g c = λ stand s stored first keeps.
 pub returns-clause-shown : goal.returns-clause-shown
 returns-clause-shown g c = λ o all.
     let X = g.X.StoredRow in
-    all_behind (IsRowOfOwner X.kind o) c.args.rows.now c.loop-row.row-index c.loop-row-test.false (c.loop-row.invariant.shown o all)
+    subst (AllByRecursion (IsRowOfOwner X.kind o)) (take_all c.loop-row.row-index c.args.rows.now c.loop-row-test.false) (c.loop-row.invariant.shown o all)
 
 pub returns-clause-takes : goal.returns-clause-takes
-returns-clause-takes g c = λ stand o all. record { taken = all_taken g.X.StoredRow.kind.table o c.args.rows.now c.loop-row.row-index c.loop-row-test.false c.args.slice.now c.loop-row.slice (c.loop-row.invariant.taken stand o all); lacks = λ is. absurd (cc) }
+returns-clause-takes g c = λ stand o all. record { taken = subst (λ rows. AreTaken g.X.StoredRow.kind.table o rows c.args.slice.now c.loop-row.slice) (take_all c.loop-row.row-index c.args.rows.now c.loop-row-test.false) (c.loop-row.invariant.taken stand o all); lacks = λ is. absurd (cc) }
 
 pub returns-in_err-read_row-clause-takes : goal.returns-in_err-read_row-clause-takes
 returns-in_err-read_row-clause-takes g c = λ stand o all.
@@ -57,3 +58,10 @@ returns-in_err-read_row-clause-takes g c = λ stand o all.
     } in
     let f = c.from_residual.ensures in
     search rules
+
+pub returns-clause-reads : goal.returns-clause-reads
+returns-clause-reads g c = λ stand s stored first.
+    let k = g.X.StoredRow.kind.table in
+    let many : length c.args.rows.now ≡ length (rows_for k s) = ap length stored.are in
+    let all : c.loop-row.row-index ≡ length (rows_for k s) = omega (arith, many, c.loop-row-test.false, c.loop-row.auto.row-index-end) in
+    c.loop-row.invariant.reads stand s stored first ∙ ap (λ n. front_slice k n s) all ∙ front_of_next k s stand.owned

@@ -15,7 +15,7 @@ loop-change-preserved g c =
       puts = λ clean ready.
           let before : HasCleanDisk now = omega (arith, clean, c.in_ok-put_change.ensures.writes.survives.clean) in
           let so = subst (λ rest. GoesOn c.args.changes.now rest first now) (next_left c.args.changes.now c.loop-change.change-index c.change-item.result c.loop-change-test.true c.change-item.is) (c.loop-change.invariant.puts before ready) in
-          one_put_more c.args.changes.now _ c.change-item.result first now next so (c.in_ok-put_change.ensures.writes.makes clean so.ready);
+          one_put_more c.args.changes.now _ c.change-item.result first now next so (c.in_ok-put_change.ensures.writes.makes clean so.ready so.ready.inside);
       inside = λ clean was.
           let before : HasCleanDisk now = omega (arith, clean, c.in_ok-put_change.ensures.writes.survives.clean) in
           c.in_ok-put_change.ensures.writes.inside clean (c.loop-change.invariant.inside before was);

@@ -1,4 +1,6 @@
-use Rattle.std.proofs.Common.{None, inl, refl, subst, sym}
+use Rattle.std.proofs.Common.{None, Ok, inl, refl, subst, sym}
+use Rattle.toll_protocol.specs.Parsed.{parse_outcome}
+use Rattle.toll_protocol.specs.Parsing.{IsParsedAs}
 use Rattle.toll_wire.proofs.Common.{text_of_failure, By, Nobody, IsAnswered, IsFaultMet, Forbidden}
 use Rattle.toll_wire.proofs.Served.{met_memory, uncalled}
 use Rattle.toll_wire.proofs.answering.answer_with_router.Goals as goal
@@ -6,11 +8,12 @@ use Rattle.toll_wire.proofs.answering.answer_with_router.Goals.{in_default-via-i
 
 pub returns-in-Err-clause-answered : goal.returns-in-Err-clause-answered
 returns-in-Err-clause-answered g c =
+    λ bytes is.
     let K = g.K.Keep in
     let keep = c.args.keep.now in
-    subst (λ out. IsAnswered K.meaning keep keep c.args.bytes.now out) (sym c.into_text.ensures.text) (inl (
+    subst (λ out. IsAnswered K.meaning keep keep bytes out) (sym c.into_text.ensures.text) (inl (
       _,
-      (_, c.in-Err.ensures, refl),
+      (_, rw c.in-Err.is at is, refl),
       uncalled K.meaning g.met.K.Keep.settled keep (Nobody (text_of_failure c.in-Err.failure)) (text_of_failure c.in-Err.failure) c.fail.result c.fail.ensures refl refl (λ H. (refl, refl)),
     ))
 
@@ -20,12 +23,14 @@ returns-in-Err-clause-met g c =
 
 pub returns-in_default-clause-answered : goal.returns-in_default-clause-answered
 returns-in_default-clause-answered g c =
+    λ bytes is.
     let K = g.K.Keep in
     let keep = c.args.keep.now in
     let out = c.fail-in_default.result in
-    subst (λ out. IsAnswered K.meaning keep keep c.args.bytes.now out) (sym c.into_text-in_default.ensures.text) (elim c.in_default.branch [
-      | in_default-via-in-Some+in_default w ↦ inl (_, (_, rw (w.in_default.is-0, w.in_default.is-1) at c.in-Ok.ensures, (_, c.in-Ok-route_request.ensures, refl)), uncalled K.meaning g.met.K.Keep.settled keep (By _ None _) (text_of_failure Forbidden) out c.fail-in_default.ensures refl refl (λ H. (refl, refl)))
-      | in_default-via-in_default w ↦ inl (_, (_, rw w.in_default.is-0 at c.in-Ok.ensures, (_, c.in-Ok-route_request.ensures, refl)), uncalled K.meaning g.met.K.Keep.settled keep (Nobody (text_of_failure Forbidden)) (text_of_failure Forbidden) out c.fail-in_default.ensures refl refl (λ H. (refl, refl)))
+    let read : IsParsedAs bytes (parse_outcome (Ok c.in-Ok.http)) = rw c.in-Ok.is at is in
+    subst (λ out. IsAnswered K.meaning keep keep bytes out) (sym c.into_text-in_default.ensures.text) (elim c.in_default.branch [
+      | in_default-via-in-Some+in_default w ↦ inl (_, (_, rw (w.in_default.is-0, w.in_default.is-1) at read, (_, c.in-Ok-route_request.ensures, refl)), uncalled K.meaning g.met.K.Keep.settled keep (By _ None _) (text_of_failure Forbidden) out c.fail-in_default.ensures refl refl (λ H. (refl, refl)))
+      | in_default-via-in_default w ↦ inl (_, (_, rw w.in_default.is-0 at read, (_, c.in-Ok-route_request.ensures, refl)), uncalled K.meaning g.met.K.Keep.settled keep (Nobody (text_of_failure Forbidden)) (text_of_failure Forbidden) out c.fail-in_default.ensures refl refl (λ H. (refl, refl)))
     ])
 
 pub returns-in_default-clause-met : goal.returns-in_default-clause-met

@@ -5,5 +5,5 @@ use Rattle.toll_work.proofs.orders.place_order.Goals as goal
 
 pub returns : goal.returns
 returns c =
-    let o = owed c.plan_order.ensures.plan (λ d. order_decided _ _ _ _ d) (λ d decided. order_keeps _ _ _ _ d decided c.plan_order.ensures.kept) (same_bytes-refl c.args.slice.now.owner, tt) in
-    record { decides = o.decides; rules = o.rules; own = o.own; kept = λ there. IfOk-weaker _ _ _ (λ d. no_changes_made (order_checks (facts_of c.args.slice.now) c.args.order c.args.recipe c.args.batches) _ d 1 there) c.plan_order.ensures.plan }
+    let o = owed c.plan_order.ensures.plan (λ d. order_decided _ _ d) (λ d decided. order_keeps _ _ d decided c.plan_order.ensures.kept) (same_bytes-refl c.args.slice.now.owner, tt) in
+    record { decides = o.decides; rules = o.rules; own = o.own; kept = λ there. IfOk-weaker _ _ _ (λ d. no_changes_made (order_checks (facts_of c.args.slice.now) c.args.placing.now) _ d 1 there) c.plan_order.ensures.plan }

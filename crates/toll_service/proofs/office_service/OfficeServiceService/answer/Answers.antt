@@ -1,5 +1,6 @@
 use Rattle.std.proofs.Common.{◌≡◌, ◌∙◌, Some, ap, inl, inr, rules, subst, sym}
 use Rattle.toll_keep.specs.declared.fault.KeepFault.TheVariants.{Damaged}
+use Rattle.toll_server.specs.RequestBuffers.{bytes_received, listener_of}
 use Rattle.toll_service.specs.Common.{Request}
 use Rattle.toll_service.specs.Damages.{IsNoted, KnowsNoMore}
 use Rattle.toll_service.specs.Listeners.{ReportsFault}
@@ -19,27 +20,27 @@ returns-after-reply g c =
     let Reports : Type 0 = ReportsFault Damaged reply.poll in
     let session : c.logged.new.self.session ≡ c.match-reply.self.session = c.logged.ensures.session in
     let noted : (state_of_session c.match-reply.self.session ≡ state_of_session c.answer.new.self)
-    × IsNoted g.K.Keep.meaning g.O.KeepOpener.is_opened g.O.KeepOpener.is_probed Kept Reports known c.match-reply.self.session.damage c.args.listener c.args.bytes.now =
+    × IsNoted g.K.Keep.meaning g.O.KeepOpener.is_opened g.O.KeepOpener.is_probed Kept Reports known c.match-reply.self.session.damage (listener_of c.args.request.now) (bytes_received c.args.request.now) =
     elim (c.match-reply.branch) [
       | in-Some w ↦ (
         ap (λ s. state_of_session s.session) w.self-is ∙ w.note_damage.ensures.state,
-        subst (λ s. IsNoted g.K.Keep.meaning g.O.KeepOpener.is_opened g.O.KeepOpener.is_probed Kept Reports known s.session.damage c.args.listener c.args.bytes.now) (sym w.self-is)
-            (noted_behind g.K.Keep.meaning g.O.KeepOpener.is_opened g.O.KeepOpener.is_probed Kept (w.in-Some.fault ≡ Damaged) Reports known c.answer.new.self.damage w.note_damage.new.self.damage c.args.listener c.args.bytes.now
+        subst (λ s. IsNoted g.K.Keep.meaning g.O.KeepOpener.is_opened g.O.KeepOpener.is_probed Kept Reports known s.session.damage (listener_of c.args.request.now) (bytes_received c.args.request.now)) (sym w.self-is)
+            (noted_behind g.K.Keep.meaning g.O.KeepOpener.is_opened g.O.KeepOpener.is_probed Kept (w.in-Some.fault ≡ Damaged) Reports known c.answer.new.self.damage w.note_damage.new.self.damage (listener_of c.args.request.now) (bytes_received c.args.request.now)
             c.in-Ok-answer.ensures.damage (λ is met. c.in-Ok-answer.ensures.reports is (w.in-Some.is ∙ ap (λ fault. Some fault) met)) w.note_damage.ensures.noted),
       )
       | in_default-fault w ↦ (
         ap (λ s. state_of_session s.session) w.self-is,
-        subst (λ s. IsNoted g.K.Keep.meaning g.O.KeepOpener.is_opened g.O.KeepOpener.is_probed Kept Reports known s.session.damage c.args.listener c.args.bytes.now) (sym w.self-is)
-            (noted_none g.K.Keep.meaning g.O.KeepOpener.is_opened g.O.KeepOpener.is_probed Kept Reports known c.answer.new.self.damage c.args.listener c.args.bytes.now c.in-Ok-answer.ensures.damage),
+        subst (λ s. IsNoted g.K.Keep.meaning g.O.KeepOpener.is_opened g.O.KeepOpener.is_probed Kept Reports known s.session.damage (listener_of c.args.request.now) (bytes_received c.args.request.now)) (sym w.self-is)
+            (noted_none g.K.Keep.meaning g.O.KeepOpener.is_opened g.O.KeepOpener.is_probed Kept Reports known c.answer.new.self.damage (listener_of c.args.request.now) (bytes_received c.args.request.now) c.in-Ok-answer.ensures.damage),
       )
     ] in
     let state : state_of_session c.logged.new.self.session ≡ state_of_session c.answer.new.self = ap (λ s. state_of_session s) session ∙ noted.0 in
     inl (inl (
-      subst (λ s. IsAnsweredAtHand g.K.Keep.meaning g.O.KeepOpener.is_opened Kept old (Request c.args.listener c.args.bytes.now) c.logged.result s) (sym state)
-          (subst (λ p. IsAnsweredAtHand g.K.Keep.meaning g.O.KeepOpener.is_opened Kept old (Request c.args.listener c.args.bytes.now) p (state_of_session c.answer.new.self)) (sym c.logged.ensures.poll)
+      subst (λ s. IsAnsweredAtHand g.K.Keep.meaning g.O.KeepOpener.is_opened Kept old (Request (listener_of c.args.request.now) (bytes_received c.args.request.now)) c.logged.result s) (sym state)
+          (subst (λ p. IsAnsweredAtHand g.K.Keep.meaning g.O.KeepOpener.is_opened Kept old (Request (listener_of c.args.request.now) (bytes_received c.args.request.now)) p (state_of_session c.answer.new.self)) (sym c.logged.ensures.poll)
           c.in-Ok-answer.ensures.ok),
-      subst (λ s. IsNoted g.K.Keep.meaning g.O.KeepOpener.is_opened g.O.KeepOpener.is_probed Kept (ReportsFault Damaged c.logged.result) known s.damage c.args.listener c.args.bytes.now) (sym session)
-          (subst (λ p. IsNoted g.K.Keep.meaning g.O.KeepOpener.is_opened g.O.KeepOpener.is_probed Kept (ReportsFault Damaged p) known c.match-reply.self.session.damage c.args.listener c.args.bytes.now) (sym c.logged.ensures.poll) noted.1),
+      subst (λ s. IsNoted g.K.Keep.meaning g.O.KeepOpener.is_opened g.O.KeepOpener.is_probed Kept (ReportsFault Damaged c.logged.result) known s.damage (listener_of c.args.request.now) (bytes_received c.args.request.now)) (sym session)
+          (subst (λ p. IsNoted g.K.Keep.meaning g.O.KeepOpener.is_opened g.O.KeepOpener.is_probed Kept (ReportsFault Damaged p) known c.match-reply.self.session.damage (listener_of c.args.request.now) (bytes_received c.args.request.now)) (sym c.logged.ensures.poll) noted.1),
     ))
 
 pub returns-in-Err-answer : goal.returns-in-Err-answer
