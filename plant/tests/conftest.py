@@ -340,6 +340,21 @@ def settled(at_work, monkeypatch) -> Plant:
     return at_work
 
 
+@pytest.fixture(scope="session")
+def bare(program, tmp_path_factory) -> Plant:
+    """An office in which nothing is, which no test changes."""
+    plant = Plant(program, tmp_path_factory.mktemp("bare"))
+    assert plant.run("new", plant.db).status == 0
+    return plant
+
+
+@pytest.fixture
+def empty(bare, plant, monkeypatch) -> Plant:
+    """An office in which nothing is, for one test, whose program everything finds."""
+    monkeypatch.setenv("TOLL", plant.program)
+    return copied(bare, plant)
+
+
 @pytest.fixture
 def open_folder() -> Iterator[pathlib.Path]:
     """A folder that other users reach: pytest's own are closed to them whenever it is begun once more."""

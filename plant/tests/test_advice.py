@@ -12,7 +12,7 @@ from conftest import HILPOVEN, Plant, called, command, copied, environment, is_t
 from hilpoven.core import files, office, rights, scratch
 from hilpoven.core.failure import is_visible, printable
 from hilpoven.core.forms import TEXT
-from hilpoven.core.exports import as_cell
+from hilpoven.core.table import as_cell
 
 SHEET = "owner;key;material;lot;sublot;amount;day\nACME;K31;SALT;S-9;BAY1;5;103\n"
 as_root = pytest.mark.skipif(os.geteuid() != 0, reason="only root can be another user")

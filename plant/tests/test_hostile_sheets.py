@@ -13,7 +13,7 @@ import pytest
 from conftest import command
 from hilpoven.core.failure import Failure
 from hilpoven.record.sheets import bounded, workbooks
-from hilpoven.record.sheets.options import read_source
+from hilpoven.record.sheets.reading import read_source
 from test_sheets import CELL, CONTENT, HEADER, INLINE, MAIN, MANIFEST, ROWS, ods_of, ods_row, patched, sheet_of, xlsx
 
 LARGE = 130_000_000  # bytes of a part that is too large

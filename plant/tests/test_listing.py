@@ -4,7 +4,7 @@ import io
 import json
 
 import pytest
-from hilpoven.report.lists.tables import LISTINGS
+from hilpoven.report.lists import LISTINGS
 
 
 def listed(plant, name, *options):
@@ -79,6 +79,12 @@ def test_a_unit_tells_its_batch(office):
     assert "runs: ACME O-1/1, running" in office.run("show", "unit", "KETTLE").out
     assert "runs: nothing" in office.run("show", "unit", "MIXER").out
     assert [row["unit"] for row in listed(office, "units", "--open")] == ["KETTLE"]
+
+
+def test_a_unit_tells_the_open_batch_behind_those_that_are_closed(at_work):
+    at_work.lay("do ACME O-1 1 done\nclose ACME O-1 1\nopen ACME O-1 KETTLE\n")
+    shown = json.loads(at_work.run("show", "unit", "KETTLE", "--json").out)
+    assert [(row["batch"], row["closed"]) for row in shown["batches"]] == [(1, "closed"), (2, "open")]
 
 
 def test_an_order_tells_its_batches_and_recipe(office):

@@ -6,10 +6,9 @@ import pytest
 from conftest import ROOT
 from hilpoven.core import forms, grammar, meanings
 from hilpoven.model import gauge, schema
-from hilpoven.report.lists.tables import LISTINGS
+from hilpoven.report.lists import LISTINGS
 
 COMMANDS = (ROOT / "docs" / "commands.md").read_text()
-REFUSALS = (ROOT / "docs" / "refusals.md").read_text()
 TABLES = (ROOT / "docs" / "tables.md").read_text()
 
 
@@ -25,13 +24,13 @@ def test_the_words_of_values_are_those_of_the_page():
 
 
 def test_each_refusal_means_what_the_page_says():
-    rows = re.findall(r"^\| (\d+) \| (\w+) \| (.*?) \|", REFUSALS, re.M)
+    rows = re.findall(r"^\| (\d+) \| (\w+) \| (.*?) \|", COMMANDS, re.M)
     assert len(rows) == 42
     assert [(int(number), word, means) for number, word, means in rows] == [(refusal["number"], word, refusal["means"]) for word, refusal in meanings.table("refusals").items()]
 
 
 def test_each_limit_is_that_of_the_page():
-    rows = dict(re.findall(r"^\| (.+?) \| ([\d,]+) \|$", REFUSALS.split("## How many")[1], re.M))
+    rows = dict(re.findall(r"^\| (.+?) \| ([\d,]+) \|$", COMMANDS.split("## Limits")[1], re.M))
     limits = {kind.split()[0]: int(most.replace(",", "")) for kind, most in rows.items() if not kind.startswith(("owners", "units", "actuals"))}
     assert limits == {kind: most for kind, (most, _) in gauge.OF_OWNER.items()}
     assert [int(rows[head]) for head in ("owners besides HOUSE", "units", "actuals of a batch")] == [gauge.OWNERS, gauge.UNITS, gauge.ACTUALS]
@@ -49,7 +48,7 @@ def test_what_can_be_done_in_a_state_is_what_the_page_says():
     heads = ["done", *re.findall(r"\w+", table[0])]
     page = {cells[0]: {head for head, cell in zip(heads, cells[1:]) if cell} for cells in ([part.strip() for part in row.split("|")[1:-1]] for row in table[2:])}
     assert len(page) == 12 and page == {state.word: set(commands) for state, commands in schema.FOLLOWING.items()}
-    closable = re.search(r"23 BadState unless it is (.*)\.", COMMANDS)[1]
+    closable = re.search(r"BadState unless it is (.*)\.", COMMANDS)[1]
     assert re.findall(r"idle|complete|stopped|aborted|\w+ed\b", closable) == ["idle", "complete", "stopped", "aborted"] == [
         state.word for state in (schema.State.IDLE, schema.State.COMPLETE, schema.State.STOPPED, schema.State.ABORTED) if state in schema.CLOSABLE]
     assert len(schema.CLOSABLE) == 4

@@ -67,7 +67,7 @@ def test_each_word_that_names_a_path_is_an_operators():
     papers = {f"papers {paper} folder" for paper in ("recall", "batch", "certificate", "delivery-note", "lot", "statement", "settlement", "takeout")}
     assert named == {"db", "new file", "backup folder", "backup keep", "backup days", "to-csv source", "to-csv target", "board target", "companion out", "labels target",
                      "carry-over new", "import path", "count import counted_sheet", "follow to", "follow status folder", "follow verify folder", "promote folder",
-                     "journal site_logs", "drill end folder", "drill paper folder", "settle folder", *papers}
+                     "journal site_logs", "drill end folder", "drill paper folder", "settle folder", "export workbook target", *papers}
 
 
 def test_a_shell_completes_paths():

@@ -7,9 +7,9 @@ import click
 import pytest
 from click.testing import CliRunner
 from conftest import Told, script
-from hilpoven.cli import caller, hilpoven, roles
+from hilpoven.cli import caller, hilpoven
 from hilpoven.record import on_behalf
-from hilpoven.core import settings as site
+from hilpoven.core import roles, settings as site
 from hilpoven.core.failure import Failure
 from hilpoven.core.journal import log
 
@@ -17,7 +17,7 @@ from hilpoven.core.journal import log
 DAEMON, MAN = 1, 6
 QUESTIONS = {"orders", "stock", "batch", "trace", "recall", "status", "verify", "labels", "board", "companion", "to-csv", "count sheet", "complete", "note list", "party list", "drill paper", "journal verify",
              "journal head", "follow status", "follow verify", "years files", "years recall", "years trace", "years lot", "years statement"}
-GROUPS_OF_QUESTIONS = {"list", "show", "papers"}  # of which no subcommand records anything
+GROUPS_OF_QUESTIONS = {"list", "show", "papers", "export"}  # of which no subcommand records anything
 OF_EACH_ROLE = {
     "record": ["ship ACME K9 S-1 BAY1 5 103", "count import -", "use ACME O-1 1 HOUSE W-101 TANK 5 103", "import -", "note not-linked ACME K1", "note corrects ACME K1 K2", "link ACME B-1 S-1 --why use", "do ACME O-1 1 hold",
                "for ACME order O-9 BRINE-10 1 --by mail"],

@@ -8,16 +8,16 @@ from conftest import ROOT
 HEAVY = {"bz2", "csv", "difflib", "email", "gzip", "html", "http", "http.client", "jinja2", "lzma", "odf", "openpyxl", "pathlib", "platform", "random",
          "rich", "secrets", "shutil", "sqlite3", "ssl", "tempfile", "tomllib", "urllib.parse", "weasyprint", "xml", "zipfile", "zlib"}
 LOADED = "import sys, atexit; atexit.register(lambda: print('\\n', *sys.modules, file=sys.stderr)); sys.argv[0] = 'hilpoven'; from hilpoven.cli import main; main()"
-OWN = {"hilpoven", "hilpoven.cli", "hilpoven.cli.caller", "hilpoven.cli.groups", "hilpoven.cli.output", "hilpoven.cli.roles", "hilpoven.cli.table", "hilpoven.cli.words", "hilpoven.core", "hilpoven.core.context", "hilpoven.core.days", "hilpoven.core.failure",
+OWN = {"hilpoven", "hilpoven.cli", "hilpoven.cli.caller", "hilpoven.cli.building", "hilpoven.cli.output", "hilpoven.cli.table", "hilpoven.cli.words", "hilpoven.core", "hilpoven.core.context", "hilpoven.core.days", "hilpoven.core.failure",
        "hilpoven.core.files", "hilpoven.core.forms", "hilpoven.core.grammar", "hilpoven.core.journal", "hilpoven.core.journal.log", "hilpoven.core.lock", "hilpoven.core.office", "hilpoven.core.paths",
-       "hilpoven.core.rights", "hilpoven.core.scanned", "hilpoven.core.scratch", "hilpoven.core.settings", "hilpoven.core.table", "hilpoven.core.timeline"}
-QUESTION = OWN | {"hilpoven.cli.answers", "hilpoven.cli.lines", "hilpoven.record", "hilpoven.record.asking", "hilpoven.core.meanings", "hilpoven.core.names"}
-NOTED = QUESTION | {"hilpoven.cli.building", "hilpoven.cli.line_notes", "hilpoven.model", "hilpoven.model.notes", "hilpoven.model.notes.kinds", "hilpoven.model.notes.likeness"}
-DATED = NOTED | {"hilpoven.cli.day_checks"}
+       "hilpoven.core.rights", "hilpoven.core.roles", "hilpoven.core.scanned", "hilpoven.core.scratch", "hilpoven.core.settings", "hilpoven.core.table", "hilpoven.core.timeline"}
+QUESTION = OWN | {"hilpoven.cli.lines", "hilpoven.record", "hilpoven.record.asking", "hilpoven.record.giving", "hilpoven.core.meanings", "hilpoven.core.office",
+                  "hilpoven.model", "hilpoven.model.kinds"}
+NOTED = QUESTION | {"hilpoven.cli.building"}
 TABLES = {"bz2", "csv", "lzma", "pathlib", "random", "shutil", "sqlite3", "tempfile", "urllib.parse", "zlib"}  # to read which days the office has
 HELP = {"bz2", "lzma", "shutil", "zlib"}  # click asks shutil how wide the terminal is
 LISTING = OWN | {"hilpoven.cli.listing", "hilpoven.core.snapshot", "hilpoven.model", "hilpoven.model.schema",
-                 "hilpoven.report", "hilpoven.report.lists", "hilpoven.report.lists.tables"}
+                 "hilpoven.report", "hilpoven.report.columns", "hilpoven.report.lists"}
 
 
 def loaded(plant, *words):
@@ -32,7 +32,7 @@ def loaded(plant, *words):
     (["--version"], OWN, set()), (["--help"], OWN, HELP), (["papers", "--help"], OWN, HELP),
     (["papers", "recall", "--help"], OWN | {"hilpoven.cli.building"}, HELP), (["stock", "ACME"], QUESTION, set()),
     (["unit-add", "NEW"], QUESTION, set()),
-    (["receive", "ACME", "K99", "SALT", "S-99", "BAY1", "5", "--today"], DATED, set()),
+    (["receive", "ACME", "K99", "SALT", "S-99", "BAY1", "5", "--today"], NOTED, set()),
     (["receive", "ACME", "K99", "SALT", "S-99", "BAY1", "5", "102"], None, TABLES),
     (["list", "units"], LISTING, {"sqlite3"}), (["list", "lots"], None, {"sqlite3"}),
     (["show", "lot", "ACME", "S-1"], None, {"sqlite3"})])

@@ -12,8 +12,8 @@ from conftest import ROOT, Plant, copied, make_office, script
 from hilpoven import OFFICE_VERSION, VERSION
 from hilpoven.care import health
 from hilpoven.model import gauge
-from hilpoven.model.register.store import Register
-from hilpoven.model.register.suspects import suspects
+from hilpoven.model.register.standing import Register
+from hilpoven.model.genealogy import suspects
 
 sys.path.append(str(ROOT))
 

@@ -9,7 +9,7 @@ import termios
 
 import pytest
 from conftest import HILPOVEN, forked
-from hilpoven.report.lists.tables import LISTINGS
+from hilpoven.report.lists import LISTINGS
 
 WIDTH = 80
 LONG = "A-LONG-NAME-OF-1"  # as long as a name may be

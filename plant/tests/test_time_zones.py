@@ -8,7 +8,7 @@ import zoneinfo
 
 import pytest
 from conftest import is_told
-from hilpoven.care.standby.lag import Lag
+from hilpoven.care.standby.state import Lag
 from hilpoven.care.standby.state import State
 
 AHEAD, BEHIND = "Pacific/Kiritimati", "Etc/GMT+12"  # 26 hours apart: never of one day

@@ -14,11 +14,12 @@ from concurrent.futures import ThreadPoolExecutor
 
 import pytest
 from conftest import HILPOVEN, PATIENCE, ZONE, Plant, command, copied, environment, forked, script
-from hilpoven.cli.prompting import Dialogue
+from hilpoven.cli.terminal import prompt_of
 from hilpoven.core import settings as site
 from hilpoven.cli.caller import person
 from hilpoven.core.context import Context
 from hilpoven.core.grammar import LINES
+from hilpoven.record.dialogue import Dialogue
 
 END, INTERRUPT, TAB = "\x04", "\x03", "\t"  # what Ctrl-D, Ctrl-C and Tab type
 PASTE = re.compile(r"\x1b\[\?2004[hl]\r?")  # by which a terminal is told that it may paste
@@ -267,7 +268,7 @@ def test_no_prompt_is_wider_than_the_terminal(at_work):
 
     for line in LINES.values():
         dialogue = Dialogue(Context(site.Settings(), person=person()), line, NoTables())
-        assert all(len(dialogue.question(value).prompt) <= 79 for value in line.values)
+        assert all(len(prompt_of(dialogue.asked(value))) <= 79 for value in line.values)
 
 
 # Values as they were measured

@@ -589,7 +589,7 @@ def test_settings_of_an_office_have_bounds(at_work, line, why):
 
 
 def test_each_setting_has_its_help_and_stands_on_the_page_of_settings():
-    page = (ROOT / "docs" / "hilpoven.md").read_text().partition("\n## Settings\n")[2].partition("\n## ")[0]
+    page = (ROOT / "docs" / "administration.md").read_text().partition("\n## Settings\n")[2].partition("\n## ")[0]
     for table in (site.Settings, *(field.type for field in dataclasses.fields(site.Settings) if dataclasses.is_dataclass(field.type))):
         for field in dataclasses.fields(table):
             if dataclasses.is_dataclass(field.type):

@@ -8,11 +8,14 @@ from typing import Any
 from conftest import Plant
 from hilpoven.core import settings as site
 from hilpoven.core.journal.log import Journal
+from hilpoven.model import views
 from hilpoven.model.register import standing
-from hilpoven.model.notes.facts import LotFacts, MaterialFacts, MovementFacts, OwnerFacts, ResultFacts, TestFacts
-from hilpoven.model.notes.kinds import Bound, Role, Why
-from hilpoven.model.notes.note import Note
-from hilpoven.model.notes.notes import Held, Link, NotLinked, Party, Reason, Signed, Withdrawal, to_json
+from hilpoven.model.notes import LotFacts, MaterialFacts, MovementFacts, OwnerFacts, ResultFacts, TestFacts
+from hilpoven.model.kinds import Bound, Role, Why
+from hilpoven.model.notes import Note
+from hilpoven.model.notes import Held, Link, NotLinked, Party, Reason, Signed, Withdrawal
+from hilpoven.model.register.noted import from_json, to_json
+from hilpoven.report.papers import takeout
 from looks import FIGURE, Papers
 from offices import HOUSE, Filled
 
@@ -144,22 +147,27 @@ class Known(Filled):
         """The notes of each owner are those of all that are its own."""
         with self.plant.reading() as base:
             register = standing.standing(Journal(str(self.plant.journal), str(self.plant.db)), base)
+            for owner in [HOUSE, *self.owners]:
+                judged = [(note.lot, "hold" if isinstance(note, Held) else "signature", note.day, note.reason) for note in self.notes_of(owner, Held, Signed)]
+                assert judged and list(map(tuple, takeout.judgements(views.over(base, register), owner).rows)) == judged
             for owner in self.owners:
                 own = register.of(owner)
                 assert own.links == [link for link in register.links if link.owner == owner]
                 assert own.reasons == [reason for reason in register.reasons if reason.owner == owner]
                 assert own.not_linked == {key for key in register.not_linked if key[0] == owner}
-                for name in ("parties", "facts", "materials", "recipes", "tests", "lots", "bounds", "corrects", "judged"):
+                for name in ("parties", "facts", "materials", "recipes", "tests", "lots", "bounds", "corrects"):
                     things = getattr(register, name)
                     assert getattr(own, name) == {key: notes for key, notes in things.items() if key[0] == owner}, (owner, name)
                     assert all(getattr(own, name).get(key) is None for key in things if key[0] != owner), (owner, name)
 
     def links_of(self, owner: str) -> list[Link]:
         """The links that the journal has of an owner, with those that were withdrawn."""
-        from hilpoven.model.notes.notes import from_json
+        return self.notes_of(owner, Link)
 
+    def notes_of(self, owner: str, *kinds: type[Note]) -> list[Any]:
+        """The notes of some kinds that the journal has of an owner."""
         notes = [from_json(value) for line in self.plant.lines() for value in line.get("notes", ())]
-        return [note for note in notes if isinstance(note, Link) and note.owner == owner]
+        return [note for note in notes if isinstance(note, kinds) and note.owner == owner]
 
     def own_figures(self, owner: str) -> set[int]:
         """The amounts of an owner's own rows and notes, their sums, and days."""

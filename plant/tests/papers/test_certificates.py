@@ -13,9 +13,10 @@ import figures
 import pytest
 from conftest import Plant, site
 from hilpoven.core.journal.log import Journal
-from hilpoven.model.notes import facts
-from hilpoven.model.notes.kinds import Role
-from hilpoven.model.notes.notes import Party, to_json
+from hilpoven.model import notes as facts
+from hilpoven.model.kinds import Role
+from hilpoven.model.notes import Party
+from hilpoven.model.register.noted import to_json
 
 OWNERS = ("ACME", "BOLT")
 FEW, MANY = 12, 200  # certificates

@@ -1,4 +1,5 @@
 """No room, no rights, no WeasyPrint, a stop at any moment: one line, nothing half made, and no copy of the file is left."""
+import builtins
 import fcntl
 import importlib.util
 import os
@@ -14,7 +15,7 @@ import time
 
 import pytest
 from conftest import HILPOVEN, ROOT, Plant
-from hilpoven.report.papers import copies
+from hilpoven.report.papers import copies, printing
 
 KILLED = ROOT / "plant" / "tests" / "killed.py"
 RECALL = ("papers", "recall", "HOUSE", "W-101")
@@ -201,6 +202,25 @@ def test_a_signal_while_keys_are_replaced_is_no_fault_of_the_file(at_work, monke
     monkeypatch.setattr(copies.secrets, "token_hex", lambda size: sys.exit(128 + signal.SIGTERM))
     done = at_work.run(*RECALL, at_work.folder / "made")
     assert (done.status, done.err, left(at_work)) == (143, "", [])
+
+
+def test_a_signal_waits_while_a_library_is_imported(monkeypatch):
+    """A library may make another error of what is raised while it is imported."""
+    imported, blocked = builtins.__import__, {}
+
+    def mask():
+        return set(signal.pthread_sigmask(signal.SIG_BLOCK, ()))
+
+    def note(name, *given, **named):
+        blocked[name] = mask()
+        return imported(name, *given, **named)
+
+    monkeypatch.setattr(builtins, "__import__", note)
+    monkeypatch.setattr(printing.importlib, "import_module", lambda name: blocked.update({name: mask()}))
+    printing.environment.__wrapped__()
+    printing.print_all([])
+    assert all(blocked[name] >= {signal.SIGHUP, signal.SIGINT, signal.SIGTERM} for name in ("jinja2", "weasyprint"))
+    assert not mask()
 
 
 def test_no_key_is_in_a_copy(at_work, monkeypatch):

@@ -63,8 +63,10 @@ def test_the_date_of_issue_is_the_plants(shipped, zone):
 
 
 def test_a_delivery_note_has_its_sender(shipped):
-    page = (folder_of(shipped, "delivery-note ACME K7", "--no-pdf") / "delivery.html").read_text()
+    folder = folder_of(shipped, "delivery-note ACME K7", "--no-pdf")
+    page = (folder / "delivery.html").read_text()
     assert f"<dt>sender</dt><dd>{PLANT['name']}, {PLANT['address']}</dd>" in page
+    assert (folder / "shipments.csv").read_text().splitlines()[0] == "day,key,lot,sublot,material,amount,measure"
 
 
 def test_without_settings_a_delivery_note_has_room_for_its_sender(at_work):
@@ -158,7 +160,7 @@ def test_shares_are_those_of_the_owners_page(at_work):
 
 def printing_share(part: int, whole: int) -> str:
     """What a paper says of a part of a whole."""
-    from hilpoven.report.papers.sheets import percent
+    from hilpoven.report.sheets import percent
 
     return percent(part, whole)
 

@@ -8,7 +8,8 @@ from conftest import Plant, copied, script
 from hilpoven.core.journal.log import Journal
 from hilpoven.report.papers import printing
 from hilpoven.model.below import HEADING
-from hilpoven.model.notes.notes import Link, Why, to_json
+from hilpoven.model.notes import Link, Why
+from hilpoven.model.register.noted import to_json
 
 BEGUN = """
 owner-add ACME ACMEKEY1

@@ -7,7 +7,8 @@ import figures
 import pytest
 from closure import closure, linked_edges, reading, recorded_edges
 from hilpoven.core.journal.log import Journal
-from hilpoven.model.notes.notes import Link, Why, to_json
+from hilpoven.model.notes import Link, Why
+from hilpoven.model.register.noted import to_json
 from looks import Papers
 from offices import HOUSE, Filled
 

@@ -2,8 +2,9 @@
 import re
 
 import pytest
-from hilpoven.report.papers.ranges import on_paper
-from hilpoven.report.papers.sheets import Sheet, columns
+from hilpoven.report.papers.longtables import on_paper
+from hilpoven.report.columns import columns
+from hilpoven.report.sheets import Sheet
 from hypothesis import given, strategies
 
 HEADS = columns("disposition:word owner lot sublot amount:number measure=unit:text@beside")

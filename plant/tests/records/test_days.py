@@ -2,7 +2,7 @@
 from datetime import date, timedelta
 
 import pytest
-from hilpoven.report.papers.sheets import Column
+from hilpoven.report.columns import Column
 from hilpoven.core.days import date_of, day_of, format_day
 from hilpoven.care.years import pace
 

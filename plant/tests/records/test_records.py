@@ -7,7 +7,7 @@ import pytest
 from conftest import ROOT
 from hilpoven.model import answers
 from hilpoven.model.genealogy import Genealogy
-from hilpoven.model.recall import RecallLine, TraceLine
+from hilpoven.model.answers import RecallLine, TraceLine
 from hilpoven.model.rows import LotId
 from hilpoven.model.schema import ACTUAL_OF, INCOMING, OUTGOING, Disposition, Kind, Role, State
 

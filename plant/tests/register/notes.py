@@ -10,7 +10,7 @@ from hilpoven.cli.caller import person
 from hilpoven.core.context import Context
 from hilpoven.core.settings import load
 from hilpoven.model.register import standing
-from hilpoven.model.register.store import Register
+from hilpoven.model.register.standing import Register
 
 NOTED = re.compile(r"noted ([0-9a-f]{16})\n")
 

@@ -9,11 +9,11 @@ from hilpoven.core.context import Context
 from hilpoven.core.settings import load
 from hilpoven.core.journal.log import Journal
 from hilpoven.core.table import formatted
-from hilpoven.model.descriptions import describe_lot
+from hilpoven.model.quality import describe_lot
 from hilpoven.model.rows import LotId, require_lot
-from hilpoven.model.notes import facts
-from hilpoven.model.notes.kinds import Bound
-from hilpoven.model.notes.notes import KINDS, from_json, to_json
+from hilpoven.model import notes as facts
+from hilpoven.model.kinds import Bound
+from hilpoven.model.register.noted import KINDS, from_json, to_json
 from hilpoven.model.register import standing
 from hilpoven.model.register.standing import standing_over_all
 from hilpoven.model.years import history

@@ -8,21 +8,11 @@ from conftest import eventually
 from hilpoven.core.office import Answer
 from hilpoven.core.journal.log import Journal
 from hilpoven.core.journal.query import check
-from hilpoven.model.notes import facts
+from hilpoven.model import notes as facts
 from hilpoven.model.register import file, folding
-from hilpoven.model.notes.kinds import Bound
-from hilpoven.model.notes.notes import (
-    KINDS,
-    Link,
-    MovementFacts,
-    NotLinked,
-    Party,
-    Role,
-    Why,
-    Withdrawal,
-    from_json,
-    to_json,
-)
+from hilpoven.model.kinds import Bound
+from hilpoven.model.register.noted import KINDS, from_json, to_json
+from hilpoven.model.notes import Link, MovementFacts, NotLinked, Party, Role, Why, Withdrawal
 from hypothesis import example, given, settings
 from hypothesis import strategies as any_of
 

@@ -10,7 +10,8 @@ from conftest import Plant
 from hilpoven.core.journal.log import Journal
 from hilpoven.model import gauge
 from hilpoven.model.below import HEADING
-from hilpoven.model.notes.notes import Link, Why, to_json
+from hilpoven.model.notes import Link, Why
+from hilpoven.model.register.noted import to_json
 
 LINKS, SECONDS = 1_000, 5
 

@@ -131,6 +131,52 @@ def test_a_row_that_can_t_be_read_leaves_the_notes_to_the_journal(linked, capsys
     assert linked.run("register", "rebuild").status == 0 and links(linked) == ONE and capsys.readouterr().err == ""
 
 
+def as_no_word(path):
+    base = sqlite3.connect(path)
+    base.execute("UPDATE link_note SET why = 'theft'")
+    base.commit()
+    base.close()
+
+
+def as_zeros_of(name):
+    """The pages of a table or an index, as a torn disk leaves them."""
+    def zeros(path):
+        with sqlite3.connect(path) as base:
+            ((page, size),) = base.execute("SELECT rootpage, page_size FROM sqlite_master, pragma_page_size WHERE name = ?", (name,))
+        base.close()
+        with open(path, "r+b") as register:
+            register.seek((page - 1) * size)
+            register.write(bytes(size))
+
+    return zeros
+
+
+READERS = [("recall", "ACME", "S-1"), ("trace", "ACME", "B-1", "back"), ("list", "lots"), ("list", "moves"), ("show", "lot", "ACME", "B-1"), ("show", "key", "ACME", "K1"),
+           ("papers", "lot", "ACME", "B-1", "FOLDER", "--no-pdf"), ("papers", "recall", "ACME", "S-1", "FOLDER", "--no-pdf"), ("papers", "takeout", "ACME", "FOLDER", "--no-pdf")]
+
+
+@pytest.mark.parametrize("damage", [as_no_word, *map(as_zeros_of, ("link_note", "link_by_contained", "reason_note", "movement_by_key"))])
+def test_a_register_of_which_a_part_can_t_be_read_leaves_all_notes_to_the_journal(linked, damage):
+    """Also where lists, `show` and papers query it beside the office's tables."""
+    assert linked.run("scrap", "ACME", "K-9", "S-1", "BAY1", "1", "103", "--reason", "spilt").status == 0
+    assert linked.run("note", "movement", "ACME", "K1", "--document", "DN-1").status == 0
+
+    def answers(folder):
+        for at, words in enumerate(READERS):
+            paper = linked.folder / f"{folder}{at}"
+            done = linked.run(*(paper if word == "FOLDER" else word for word in words))
+            assert done.status == 0, (words, done)
+            yield done.out.replace(str(paper), ""), {file.name: file.read_text() for file in paper.glob("*.csv")}, done.err
+
+    whole = list(answers("whole"))
+    assert any("rework" in text for _, files, _ in whole for text in files.values())
+    damage(file.path_of(str(linked.db)))
+    damaged = list(answers("damaged"))
+    for words, before, behind in zip(READERS, whole, damaged, strict=True):
+        assert behind[:2] == before[:2], words
+        assert "notes are read from the journal" in behind[2], words
+
+
 def test_a_register_of_an_earlier_version_is_made_anew_by_the_next_reader(linked):
     path = file.path_of(str(linked.db))
     base = sqlite3.connect(path)

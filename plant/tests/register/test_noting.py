@@ -6,7 +6,7 @@ import subprocess
 import pytest
 from conftest import HILPOVEN, Plant, environment
 from hilpoven.model.register import file
-from hilpoven.model.notes.notes import Link, Why
+from hilpoven.model.notes import Link, Why
 from notes import cut_off, links, noted, register_of
 
 RETURNED = "receive ACME K9 BRINE B-1R BAY1 40 103 --of B-1 --why return".split()

@@ -5,7 +5,7 @@ import json
 
 import openpyxl
 import pytest
-from hilpoven.core.exports import as_formula
+from hilpoven.core.table import as_formula
 
 NORD = ("party", "add", "ACME", "NORD", "--name", "Nord Foods Ltd", "--phone", "+44 20 7946 0000", "--role", "customer")
 SALINE = ("party", "add", "ACME", "SALINE", "--name", "Saline AG", "--role", "supplier")

@@ -8,7 +8,7 @@ import pytest
 from hilpoven.core import settings as site
 from hilpoven.core.journal import log
 from hilpoven.cli import caller
-from hilpoven.model.notes.notes import from_json
+from hilpoven.model.register.noted import from_json
 from notes import cut_off
 
 QUALITY = '[quality]\ntest = "QA"\n'

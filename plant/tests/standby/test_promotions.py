@@ -11,7 +11,7 @@ from following import follower_of, look
 from hilpoven.core import settings as site
 from hilpoven.core.journal.log import Journal
 from hilpoven.core.journal.query import check
-from hilpoven.care.standby import chain, journals
+from hilpoven.care.standby import chain, promoting
 
 OLD, NEW = "ACMEKEY1", "ANOTHERKEY2"
 
@@ -144,15 +144,15 @@ def test_a_journal_that_is_written_meanwhile_stops_a_promotion_before_anything_i
     whole = at_work.journal.read_bytes()
     lines = whole.splitlines(keepends=True)
     at_work.journal.write_bytes(b"".join(lines[:2]))
-    real, before = journals.compared, at_work.content()
+    real, before = promoting.compared, at_work.content()
 
-    def compared(*words: str) -> journals.Beside:
+    def compared(*words: str) -> promoting.Beside:
         beside = real(*words)
         Journal(str(at_work.journal), str(at_work.db)).note(str(at_work.db), ["party", "add"])
         return beside
 
     with monkeypatch.context() as patch:
-        patch.setattr(journals, "compared", compared)
+        patch.setattr(promoting, "compared", compared)
         done = at_work.run("promote", pieces)
     assert done.status == 3 and "was written meanwhile" in done.err and at_work.content() == before and not list(pieces.glob("promoted-*"))
     assert len(at_work.lines()) == 3 and not list(at_work.folder.glob("*before-restore*"))

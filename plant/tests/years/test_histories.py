@@ -13,10 +13,10 @@ from conftest import Plant
 from hilpoven.core import days, private_server
 from hilpoven.core.office import Office
 from hilpoven.core.private_server import PrivateServer
-from hilpoven.report.lists import overviews
-from hilpoven.report import statement
+from hilpoven.report import overviews
+from hilpoven.report.papers import statement
 from hilpoven.model.genealogy import Genealogy
-from hilpoven.model.recall import recall_lines
+from hilpoven.model.answers import recall_lines
 from hilpoven.model.rows import LotId
 from hilpoven.model.years import history
 from hilpoven.care.years.steps import Step

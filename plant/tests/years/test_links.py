@@ -15,7 +15,8 @@ from hilpoven.model.genealogy import Genealogy
 from hilpoven.model.rows import LotId
 from hilpoven.model import below
 from hilpoven.model.register.noted import AFTER
-from hilpoven.model.notes.notes import Link, Note, Why, Withdrawal, to_json
+from hilpoven.model.notes import Link, Note, Why, Withdrawal
+from hilpoven.model.register.noted import to_json
 from hilpoven.model.register.standing import standing_over_all
 from hilpoven.model.years import history
 
@@ -110,8 +111,8 @@ def compare_all(plant: Plant, one: pathlib.Path, served: PrivateServer, noted: N
         edges = recorded | linked_edges(base, noted.links)
         lots = base.execute("SELECT owner, lot FROM lots ORDER BY rowid").fetchall()
     with history.opened(Office(str(plant.db), plant.program, 10.0)) as cut, history.opened(Office(str(one), plant.program, 10.0)) as whole:
-        of_cut = Genealogy(cut.base, standing_over_all(noted.journal, cut).links)
-        of_one = Genealogy(whole.base, standing_over_all(noted.journal_of_one, whole).links)
+        of_cut = Genealogy(cut.base, standing_over_all(noted.journal, cut))
+        of_one = Genealogy(whole.base, standing_over_all(noted.journal_of_one, whole))
         for lot in sorted({(link.of_owner, link.of_lot) for link in noted.links})[:MOST_LOTS // 2] + noted.random.sample(lots, min(len(lots), MOST_LOTS // 2)):
             for way in WAYS:
                 expected, trace = closure(edges, lot, way), of_one.trace(LotId(*lot), way)

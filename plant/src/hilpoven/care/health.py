@@ -10,15 +10,15 @@ from datetime import date, datetime
 from .. import HOUSE
 from ..core import client, files, server, settings as site, snapshot
 from ..core.context import Context
-from ..core.days import today, zone_of
+from ..core.days import zone_of
 from ..core.failure import FAULT, REFUSED, Failure, printable
 from ..core.table import formatted
 from ..model.gauge import FULL, Gauge, gauges
 from ..model.register import drills, standing
-from ..model.register.suspects import Suspect, suspects
+from ..model.genealogy import Suspect, suspects
 from ..model.years import chain
 from . import backups, keys
-from .standby.lag import folder_of, lag_of
+from .standby.state import folder_of, lag_of
 from .years import pace
 
 OLD_COMPANIONS = 300  # seconds; a timer looks after them each minute
@@ -118,7 +118,7 @@ def check_file(subject: Subject) -> Finding:
         with snapshot.copied(office) as copy:
             with contextlib.closing(sqlite3.connect(copy)) as base:
                 require_sound(base, context.file)
-                count_rows(base, fullness, today(context.settings.time_zone))
+                count_rows(base, fullness, context.today)
                 short, notes = keys.short_keys(base), check_notes(context, base, fullness)
                 earlier = check_earlier(context, base)
             if not server.greeting(context.file):

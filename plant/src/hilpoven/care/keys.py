@@ -6,12 +6,15 @@ import string
 from collections.abc import Iterable
 from dataclasses import dataclass, field
 
-from ..core.journal import query
-from ..core.journal.log import entry_of
+from .. import HOUSE
 from ..core import lock, scratch, snapshot
+from ..core.context import Context
 from ..core.failure import WRONG_USE, Failure
+from ..core.forms import name_fault
+from ..core.journal import query
+from ..core.journal.log import BLOTTED, entry_of
+from ..core.office import Answer, Office
 from ..model.nearest import nearest
-from ..core.office import Office
 
 LETTERS = string.ascii_letters + string.digits
 KEY_LETTERS = 32
@@ -47,6 +50,36 @@ def short_keys(base: sqlite3.Connection) -> list[str]:
         if owners
         else []
     )
+
+
+def require_name(name: str, is_known: bool = False) -> None:
+    """Fails where a name is none, or that of the plant, which has no key that is known."""
+    if fault := name_fault(name):
+        raise Failure(f"NAME: `{name}` {fault}", WRONG_USE)
+    if is_known and name == HOUSE:
+        raise Failure("HOUSE is the plant, and has no key", WRONG_USE)
+
+
+def add_owner(context: Context, name: str, key: Key) -> Answer:
+    """What `toll` answers to a new owner. Its command line has a throwaway key, in whose place this one comes."""
+    office, journal = context.office(), context.journal()
+    with journal.noted(office.file, ["owner-add", name, BLOTTED]) as note:
+        note.answer = answer = office.ask_patiently(["owner-add", name, random_key().letters])
+        try:
+            if answer.output == "accepted\n":
+                change_key(office, name, key.letters)
+        except Failure as failure:
+            why = f"{name} is added, with a key that nobody knows: {failure.message}"
+            raise Failure(why, failure.exit_code, f"hilpoven owner key {name}") from failure
+    return answer
+
+
+def give_key(context: Context, name: str, key: Key) -> None:
+    """Changes an owner's key, which the journal notes."""
+    office, journal = context.office(), context.journal()
+    with journal.noted(office.file, [CHANGE, name, BLOTTED]) as note:
+        change_key(office, name, key.letters)
+        note.answer = Answer(0, "changed\n", "")
 
 
 def change_key(office: Office, owner: str, key: str) -> None:

@@ -12,12 +12,10 @@ from ..core.journal.query import listed
 from ..core.journal.log import MADE_AT, Journal
 from ..model.accepted import rows_of
 from ..model.register.file import Notes, Opened, memory
-from ..model.register.meant import NAMED
-from ..model.register.named_rows import named_by
-from ..model.notes.notes import Note, RowsLost, to_json
-from ..model.register.noted import Noted
-from ..model.register.faults import OfficeFile, files_of
-from ..model.register.keeping import keep
+from ..model.register.meant import NAMED, named_by
+from ..model.notes import Note, RowsLost
+from ..model.register.noted import Noted, to_json
+from ..model.register.keeping import OfficeFile, files_of, keep
 from ..model.register.standing import Status, belonging, kept, statuses
 from ..model.register.tables import Base, subject_of
 

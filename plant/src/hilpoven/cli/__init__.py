@@ -9,14 +9,14 @@ import click
 
 from .. import VERSION
 from ..core import settings as site
-from ..core.context import Context
+from ..core.context import Context, Question
 from ..core.failure import FAULT, REFUSED, WRONG_USE, Failure, printable
 from ..core.grammar import LINES
-from . import roles
-from .groups import Group, Maker, makers_of
+from ..core import roles
+from .building import Group, Maker, makers_of
 from .output import show, tell
 from .caller import end_by_signals, person
-from .words import PATH
+from .words import PATH, at_terminal
 
 ABOUT = """The plant's command of the order and lot genealogy office.
 
@@ -28,7 +28,6 @@ In the place of a lot, each command takes the text of a label, OWNER/LOT/SUBLOT.
 Example: hilpoven stock ACME
 """
 
-NOTED_LINES = {"receive", "ship", "scrap", "actual", "void", "reject", "cancel", "do", "test-add", "result"}
 RECORD, ASK = "Record", "Ask"  # the sections of the lines in the help
 OF_ANOTHER_OFFICE = {"demo", "setup"}  # which that of the settings doesn't concern
 COMPLETION = "_HILPOVEN_COMPLETE"  # the variable by which a shell asks for completions
@@ -43,20 +42,11 @@ def line_command(name: str) -> click.Command:
     return LineCommand(LINES[name])
 
 
-def noted_line_command(name: str) -> click.Command:
-    """The subcommand of a line beside which something may be noted."""
-    from .line_notes import LINE_NOTES
-    from .lines import LineCommand
-
-    return LineCommand(LINES[name], LINE_NOTES[name])
-
-
 def makers() -> dict[str, Maker]:
     """How each subcommand is made, the lines of `toll` first."""
     lines = {}
     for name, line in LINES.items():
-        make = partial(noted_line_command if name in NOTED_LINES else line_command, name)
-        lines[name] = Maker(make, ASK if line.is_question else RECORD, line.about)
+        lines[name] = Maker(partial(line_command, name), ASK if line.is_question else RECORD, line.about)
     return {**lines, **makers_of()}
 
 
@@ -122,9 +112,17 @@ def hilpoven(context: click.Context, db: str | None, office: str, wait: float | 
             f"{context.invoked_subcommand} makes an office of its own: leave --db and --office out", WRONG_USE
         )
     settings = site.Settings() if is_of_another else site.load(office=office, db=db or "")
-    context.obj = Context(settings, db or "", person=person(), tell=tell).waiting(wait)
+    ask = answer if at_terminal() else None
+    context.obj = Context(settings, db or "", person=person(), tell=tell, ask=ask).waiting(wait)
     context.call_on_close(context.obj.end)
     roles.require(context.obj, context.invoked_subcommand or "")
+
+
+def answer(question: Question) -> str:
+    """What somebody at the terminal answers to a question."""
+    from . import terminal
+
+    return terminal.answer(question)
 
 
 def main() -> None:

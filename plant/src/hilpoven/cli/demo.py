@@ -1,5 +1,6 @@
 """`hilpoven demo`: a sample week of three owners on the owner's page."""
 import contextlib
+import io
 import json
 import os
 import shlex
@@ -8,10 +9,11 @@ import sys
 import tempfile
 from collections.abc import Iterator
 from functools import partial
+from typing import NamedTuple
 
 import click
 
-from ..core import client, settings as site
+from ..core import client, roles, settings as site
 from ..core.context import Context
 from ..core.failure import WRONG_USE, Failure
 from .output import tell, tell_line
@@ -22,11 +24,11 @@ from ..care.demo.week import HERE, Week, working_days
 from ..report.papers import guard
 from ..core.days import today
 from . import hilpoven
-from .giving import give
 from .caller import person
 
 SETTINGS = "hilpoven.toml"
 EXAMPLES = ("recall HOUSE W-1102", "list lots --open", "board > board.html")
+SIGNALLED = 128  # above it, a status says which signal ends this process
 QUICK = "/out/quick/toll"  # how the path of a program ends of which nothing is proved
 
 
@@ -114,3 +116,52 @@ def show(week: Week, port: int, program: str) -> None:
     for owner, key in week.keys.items():
         click.echo(f"{owner} {key}")
     sys.stdout.flush()
+
+
+# Commands of `hilpoven` that the demo gives itself
+
+
+class Given(NamedTuple):
+    """How a command ended, and what it wrote."""
+
+    status: int
+    text: str
+
+
+def give(context: Context, words: list[str]) -> Given:
+    """Gives a command over an office, which reads nothing and writes nowhere else."""
+    status: object = None
+    with apart() as written:
+        try:
+            status = invoked(context, words)
+        except (click.ClickException, Failure) as error:
+            return Given(error.exit_code, f"{written.getvalue()}{error.message}")
+        except SystemExit as end:
+            if isinstance(end.code, int) and end.code > SIGNALLED:
+                raise
+            status = end.code
+    return Given(status if isinstance(status, int) else 0, written.getvalue())
+
+
+def invoked(context: Context, words: list[str]) -> object:
+    """What a subcommand gives back over an office, whose settings aren't read again."""
+    root = click.Context(hilpoven, info_name="hilpoven", obj=context)
+    root.call_on_close(context.end)
+    roles.require(context, words[0])
+    with root:
+        name, command, rest = hilpoven.resolve_command(root, words)
+        assert command  # a name that isn't there is a failure
+        with command.make_context(name, rest, parent=root) as ctx:
+            return command.invoke(ctx)
+
+
+@contextlib.contextmanager
+def apart() -> Iterator[io.StringIO]:
+    """Has commands read nothing and write here, so that none asks at the terminal."""
+    before, written = sys.stdin, io.StringIO()
+    sys.stdin = io.StringIO()
+    try:
+        with contextlib.redirect_stdout(written), contextlib.redirect_stderr(written):
+            yield written
+    finally:
+        sys.stdin = before

@@ -7,31 +7,20 @@ from typing import TYPE_CHECKING
 
 import click
 
-from ..core import paths, rights, scratch, server, settings as site
+from ..core import rights, server, settings as site
 from ..core.context import Context
 from ..core.failure import REFUSED, WRONG_USE, Failure, printable
 from .output import tell, tell_line
 
 if TYPE_CHECKING:
-    from ..care.standby.follower import Follower
     from ..care.standby.promoting import Choice
 
 
 def folder_of(context: Context) -> str:
     """The folder of this machine that has the office's pieces."""
-    from ..care.standby import lag
+    from ..care.standby import state
 
-    return lag.folder_of(context.file, context.settings.follow.to)
-
-
-def made_folder(folder: str) -> str:
-    """A folder that nobody else may change, which is made if only its name is missing."""
-    if not os.path.lexists(folder) and os.path.isdir(os.path.dirname(folder)):
-        try:
-            os.mkdir(folder, 0o700)
-        except OSError as error:
-            raise Failure(f"{folder} can't be made: {error.strerror}") from error
-    return paths.private(folder)
+    return state.folder_of(context.file, context.settings.follow.to)
 
 
 def follow_group(context: Context, to: str | None, is_check: bool) -> None:
@@ -43,57 +32,12 @@ def follow_group(context: Context, to: str | None, is_check: bool) -> None:
     if not context.settings.follow.to:
         raise Failure("no target is named", WRONG_USE, f"give one by --to, or `to` below [follow] in {site.PATH}")
     context.office()
-    check(context) if is_check else follow(context)
+    from ..care.standby import follower
 
-
-def check(context: Context) -> None:
-    """Fails if the target was promoted; what can't be asked is told alone."""
-    from ..care.standby import chain, remote
-    from ..core import timeline
-
-    target, own = context.settings.follow.to, timeline.number_of(context.file)
-    if remote.is_remote(target):
-        try:
-            files = remote.Remote(target, context.settings.follow.rsh).listed()
-        except Failure as failure:
-            if failure.exit_code == WRONG_USE:
-                raise
-            tell_line(f"hilpoven: {printable(failure.message)}")
-            return
-        chain.require_own(context.file, own, target, [file.name for file in files])
-    folder = folder_of(context)
-    if os.path.isdir(folder):
-        chain.require_own(context.file, own, folder, list(chain.names_in(folder)))
-    click.echo(printable(f"{context.file} is of timeline {own}, the latest that {target} has"))
-
-
-def follow(context: Context) -> None:
-    """Follows the office, alone in its folder."""
-    folder = made_folder(folder_of(context))
-    try:
-        with scratch.held(folder):
-            follower_of(context, folder).run()
-    except BlockingIOError:
-        raise Failure(f"another follower writes into {folder}", REFUSED) from None
-
-
-def follower_of(context: Context, folder: str) -> "Follower":
-    """The follower of the office into a folder."""
-    from ..care.standby import remote
-    from ..core import timeline
-    from ..care.standby.book import Book
-    from ..care.standby.follower import Follower
-    from ..care.standby.sender import Sender
-
-    settings, file, own = context.settings.follow, context.file, timeline.number_of(context.file)
-    office = f"{os.uname().nodename}:{file}"
-    book = Book(folder, file, context.journal().path, office, own, settings.reserve * 1_000_000)
-    sender = None
-    if remote.is_remote(settings.to):
-        rsh = remote.keeping_connected(settings.rsh, folder)
-        sender = Sender(remote.Remote(settings.to, rsh), folder, file, own, settings.days, say)
-    say(f"follows {file}, of timeline {own}, to {settings.to}")
-    return Follower(file, context.settings.wait, book, settings.days, say, sender)
+    if not is_check:
+        follower.follow(context, say)
+    elif latest := follower.require_latest(context, say):
+        click.echo(printable(latest))
 
 
 def say(line: str) -> None:
@@ -105,7 +49,7 @@ def follow_status(context: Context, folder: str | None) -> None:
     """`hilpoven follow status`."""
     from ..core.days import zone_of
     from ..core import timeline
-    from ..care.standby.lag import lag_of
+    from ..care.standby.state import lag_of
 
     timeline.require_latest(context.file)
     lag = lag_of(context.file, folder := folder or folder_of(context), zone_of(context.settings.time_zone))

@@ -9,11 +9,10 @@ import click
 from ..core import settings as site
 from ..core.context import Context
 from ..core.failure import REFUSED, WRONG_USE, Failure, printable
-from .output import print_table, tell
+from .output import give_table, tell
 from ..report import history
 from ..core.journal import query
 from ..report.history import COLUMNS, JournalEntry
-from ..core.exports import as_csv, as_json
 from ..core.days import format_moment, moment_in
 
 
@@ -69,12 +68,8 @@ def journal_group(
         and (whom is None or whom in entry.names)
         and (word is None or word in entry.words)
     ]
-    if form:
-        click.echo({"csv": as_csv, "json": as_json}[form](COLUMNS, rows), nl=False)
-    elif rows:
-        print_table(COLUMNS, [(format_moment(time, zone), *others) for time, *others in rows])
-    else:
-        click.echo("nothing", err=True)
+    shown = [(format_moment(time, zone), *others) for time, *others in rows]
+    give_table(COLUMNS, rows, form, "nothing", shown)
 
 
 def head_of(text: str) -> tuple[int, str]:

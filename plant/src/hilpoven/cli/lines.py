@@ -1,41 +1,35 @@
 """The 25 lines of `toll` as subcommands, whose values are typed in order or behind their names."""
 import sys
-from functools import partial
-from typing import TYPE_CHECKING, Any
+from typing import Any
 
 import click
 
 from ..core import scanned
 from ..core.context import Context
 from ..core.failure import WRONG_USE, Failure
-from . import answers
-from .output import tell
 from ..core.grammar import LINES, MOVEMENTS, NEXT, OWNER_ADD, TO, Line, in_capitals, in_days
+from ..record import asking, giving
+from .output import pass_on, tell, tell_all
 from .table import ENTRIES, Entry
 from .words import at_terminal, quoted
 
-if TYPE_CHECKING:
-    from .line_notes import LineNotes
-
 TODAY, YES = "today", "yes"  # the flags that stand for DAY, and that say that it is meant
 YES_ABOUT = "Takes a day that looks wrong: no date, in the future, or before the lot's first."
-
-
 ENTRIES_OF_LINES = {entry.name: entry for entry in ENTRIES if not entry.group and entry.name in LINES}
 
 
 def options_of(entry: Entry) -> list[click.Option]:
     """The options of what may be noted beside a line."""
-    from . import building
+    from .building import option_of
 
-    return [building.option_of(value) for value in entry.values]
+    return [option_of(value) for value in entry.values]
 
 
 class LineCommand(click.Command):
     """A line of `toll`, whose values stand in order, or behind their names: `--lot S-1`."""
 
-    def __init__(self, line: Line, notes: "LineNotes | None" = None) -> None:
-        self.line, self.notes, entry = line, notes, ENTRIES_OF_LINES.get(line.name)
+    def __init__(self, line: Line) -> None:
+        self.line, entry = line, ENTRIES_OF_LINES.get(line.name)
         beside = options_of(entry) if entry else []
         self.names_beside = [str(option.name) for option in beside]
         options = [*(self.option(value_name) for value_name in line.values), *self.day_options(), *beside]
@@ -96,23 +90,12 @@ class LineCommand(click.Command):
         """Gives the line to `toll`, and ends with its status."""
         named = dict(ctx.params)
         words = named.pop("words")
-        given = {name: named.pop(name) for name in self.names_beside}
+        noted = {name: named.pop(name) for name in self.names_beside}
         is_meant = named.pop(YES, True)
-        typed, beside = self.typed(ctx.obj, list(words), named, given), None
-        if self.notes:
-            typed, given = self.notes.read(ctx.obj, self.line, typed, given)
-            beside = partial(self.notes.beside, given=given)
-        if not is_meant:
-            from . import day_checks
+        typed = self.typed(ctx.obj, list(words), named, noted)
+        sys.exit(report(ctx.obj, self.line, giving.give(ctx.obj, self.line, typed, noted, is_meant)))
 
-            day_checks.require_meant(ctx.obj, self.line, typed)
-        if is_next_key(self.line, typed):
-            from . import next_key
-
-            sys.exit(next_key.run(ctx.obj, self.line, typed, beside))
-        sys.exit(answers.run(ctx.obj, self.line, typed, beside))
-
-    def typed(self, context: Context, words: list[str], named: dict[str, Any], given: dict[str, Any]) -> list[str]:
+    def typed(self, context: Context, words: list[str], named: dict[str, Any], noted: dict[str, Any]) -> list[str]:
         """The values in the line's order. A label's text fills three of them. At a terminal those that are missing are
         asked for, with the customer of a shipment, and names that were typed in lower case are read in capitals."""
         named = with_today(context, self.line, named)
@@ -120,12 +103,13 @@ class LineCommand(click.Command):
         is_asked = len(words) < len(scanned.missing_of(values)) and self.line.name != OWNER_ADD and at_terminal()
         if is_asked:
             require_options(self.line, words)
-            from . import prompting
+            from . import terminal
 
-            beside = {TO: given["party"]} if self.notes and self.notes.asks_for_customer else None
-            asked = prompting.completed(context, self.line, filled(values, words), given.get("decimals"), beside)
-            given.update({"party": asked.customer} if beside else {})
-            return asked.words
+            beside = {TO: noted["party"]} if self.line.name == "ship" else {}
+            given = filled(values, words)
+            meant, customer = terminal.completed(context, self.line, given, noted.get("decimals"), beside)
+            noted.update({"party": customer} if beside else {})
+            return meant
         meant, notes = in_days(self.line, arranged(self.line, words, values))
         if at_terminal():
             meant, in_lower_case = in_capitals(self.line, meant)
@@ -134,9 +118,13 @@ class LineCommand(click.Command):
         return meant
 
 
-def is_next_key(line: Line, words: list[str]) -> bool:
-    """Whether the key of a movement is to be the next free one."""
-    return line.name in MOVEMENTS and words[line.values.index("KEY")] == NEXT
+def report(context: Context, line: Line, given: asking.Given) -> int:
+    """Prints what `toll` answered, and explains it; the exit status."""
+    pass_on(given.answer)
+    for text in asking.below(context, line, given):
+        click.echo(text)
+    tell_all(asking.remarks(context, line, given))
+    return given.answer.status
 
 
 def parameter(value: str) -> str:
@@ -155,9 +143,7 @@ def with_today(context: Context, line: Line, named: dict[str, Any]) -> dict[str,
         return named
     if named.get("day") is not None:
         raise Failure(f"{line.name}: --{TODAY} and --day both say the day", WRONG_USE, "leave one of them out")
-    from ..core.days import day_of, today
-
-    day = str(day_of(today(context.settings.time_zone)))
+    day = str(context.day())
     tell(f"DAY: --{TODAY} is {day}")
     return {**named, "day": day}
 

@@ -7,12 +7,12 @@ import click
 from ..core import scanned, snapshot
 from ..core.context import Context
 from ..core.failure import WRONG_USE, Failure
-from .output import print_table, tell
+from .output import give_table, tell
 from ..core.forms import listed
 from ..core.table import Row
 from ..model.schema import Kind
-from ..report.lists.tables import FILTERS, LISTINGS, Listing
-from .groups import Maker
+from ..report.lists import FILTERS, LISTINGS, Listing
+from .building import Maker
 from .words import DAY, WORD, OneOf, pass_context
 
 TYPES = {"kind": OneOf([kind.word for kind in Kind]), "since": DAY}  # of options whose values are no names
@@ -84,17 +84,11 @@ def list_command(name: str, listing: Listing) -> click.Command:
         columns, rows, reasons = read(context, name, asked, only_open)
         if expiring is not None:
             from ..core.days import last_day_within
-            from ..report.lists.noted import expiring_lots
+            from ..report.listing import expiring_lots
 
             rows = expiring_lots(columns, rows, last_day_within(expiring, context.settings.time_zone))
-        if form:
-            from ..core.exports import as_csv, as_json
-
-            click.echo({"csv": as_csv, "json": as_json}[form](columns, rows), nl=False)
-        elif rows:
-            print_table(columns, rows)
-        else:
-            click.echo(f"no {name}", err=True)
+        give_table(columns, rows, form, f"no {name}")
+        if not rows and not form:
             tell("\n".join(reasons))
 
     return ListCommand(name, params=options_of(name, listing), callback=show, help=text, short_help=listing.about)
@@ -108,17 +102,17 @@ def read(context: Context, name: str, asked: dict[str, Any], only_open: bool) ->
         asked["lot_owner"], asked["lot"] = scanned.named_lot("list", owner, asked["lot"])
     with snapshot.opened(context.office_to_read()) as base:
         if context.may_have_notes and name in HAVE_NOTES:
-            from ..report.lists import noted
+            from ..report import listing as listed_rows
 
-            columns, rows = noted.read_of(context, base, name, asked, only_open)
+            columns, rows = listed_rows.read_of(context, base, name, asked, only_open)
         else:
             columns = list(listing.columns)
             rows = [tuple(row) for row in base.execute(listing.sql(asked, only_open), asked)]
         if rows or not asked and not only_open:
             return Listed(columns, rows, [])
-        from ..report.lists import absence
+        from ..report import listing as listed_rows
 
-        return Listed(columns, rows, absence.reasons(base, name, asked, only_open))
+        return Listed(columns, rows, listed_rows.reasons(base, name, asked, only_open))
 
 
 def makers() -> dict[str, Maker]:

@@ -3,15 +3,13 @@ import sys
 
 import click
 
-from .. import HOUSE
+from ..care import keys
+from ..care.keys import KEY_LETTERS, Key, random_key
 from ..core import meanings
-from ..record.asking import BLOTTED
 from ..core.context import Context
 from ..core.failure import WRONG_USE, Failure
+from ..core.forms import secret_fault
 from .output import pass_on, tell
-from ..core.forms import name_fault, secret_fault
-from ..care.keys import CHANGE, KEY_LETTERS, Key, change_key, random_key
-from ..core.office import Answer
 
 MOST_READ = 4_096  # letters of standard input, of which a key is at most the first 32
 
@@ -47,25 +45,11 @@ def show(key: Key) -> None:
         click.echo(f"key {key.letters}")
 
 
-def check_name(name: str) -> None:
-    """Fails where a name is none."""
-    if fault := name_fault(name):
-        raise Failure(f"NAME: `{name}` {fault}", WRONG_USE)
-
-
 def add(context: Context, name: str, is_random: bool) -> None:
     """`hilpoven owner add`."""
-    check_name(name)
+    keys.require_name(name)
     key = key_given(is_random)
-    office, journal = context.office(), context.journal()
-    with journal.noted(office.file, ["owner-add", name, BLOTTED]) as note:
-        note.answer = answer = office.ask_patiently(["owner-add", name, random_key().letters])
-        try:
-            if answer.output == "accepted\n":
-                change_key(office, name, key.letters)
-        except Failure as failure:
-            why = f"{name} is added, with a key that nobody knows: {failure.message}"
-            raise Failure(why, failure.exit_code, f"hilpoven owner key {name}") from failure
+    answer = keys.add_owner(context, name, key)
     pass_on(answer)
     if refusal := meanings.refusal_in(answer.output):
         tell(meanings.explained("refusals", refusal, {"OWNER": name}))
@@ -76,13 +60,8 @@ def add(context: Context, name: str, is_random: bool) -> None:
 
 def key_command(context: Context, name: str, is_random: bool) -> None:
     """`hilpoven owner key`."""
-    check_name(name)
-    if name == HOUSE:
-        raise Failure("HOUSE is the plant, and has no key", WRONG_USE)
+    keys.require_name(name, is_known=True)
     key = key_given(is_random)
-    office, journal = context.office(), context.journal()
-    with journal.noted(office.file, [CHANGE, name, BLOTTED]) as note:
-        change_key(office, name, key.letters)
-        note.answer = Answer(0, "changed\n", "")
+    keys.give_key(context, name, key)
     click.echo(f"the key of {name} is changed")
     show(key)

@@ -8,7 +8,7 @@ from ..core import snapshot
 from ..core.context import Context
 from ..core.failure import printable
 from ..core.table import formatted
-from ..report.lists import master_data, overviews
+from ..report import overviews
 from .output import print_table
 from ..model.register.standing import register_of
 
@@ -40,5 +40,5 @@ def show(
 
 lot, batch, key = (partial(show, make, True) for make in (overviews.lot, overviews.batch, overviews.movement))
 order, unit = (partial(show, make, False) for make in (overviews.order, overviews.unit))
-owner = partial(show, master_data.owner, True)
-recipe, material = (partial(show, make, False) for make in (master_data.recipe, master_data.material))
+owner = partial(show, overviews.owner, True)
+recipe, material = (partial(show, make, False) for make in (overviews.recipe, overviews.material))

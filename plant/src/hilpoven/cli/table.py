@@ -66,7 +66,7 @@ TABLE = """
 
 receive
   --of LOT =of_lot  The lot that it contains some of.
-  --why :model.notes.kinds.Why  Why it does; with --of.
+  --why :model.kinds.Why  Why it does; with --of.
   --of-owner OWNER  Whose that lot is: OWNER, or HOUSE.
   --reason TEXT :text  What else there is to say; with --of.
   --from PARTY =party :name  The supplier; of a return the customer.
@@ -111,7 +111,7 @@ result
   write <5 or >5: toll gets 5, and the sign is noted.
   > result ACME B-1 PH '<5' 261127
 
-for OWNER order|cancel|release|reject=name:order|cancel|release|reject VALUE..=values : on_behalf.for_command
+for OWNER order|cancel|release|reject=name:order|cancel|release|reject VALUE..=values : recording.for_command
   --by TEXT =said_by !  Who asked for it, and how.
   Does what an owner asked for by mail or telephone: places or cancels an order, releases or rejects a lot.
 
@@ -123,7 +123,7 @@ for OWNER order|cancel|release|reject=name:order|cancel|release|reject VALUE..=v
 link OWNER [LOT]_OF-LOT=typed! : noting
   --batch ORDER N :word,word  All lots of this batch, in place of LOT.
   --of-owner OWNER  Whose OF-LOT is: OWNER, as by default, or HOUSE.
-  --why :model.notes.kinds.Why !  Why the one contains some of the other.
+  --why :model.kinds.Why !  Why the one contains some of the other.
   --amount N :1..1000000000  How much of OF-LOT, if it is known.
   --reason TEXT :text ~  What else there is to say.
   Notes that LOT contains some of OF-LOT, where no actual says so: after rework, a return, an addition that the recipe
@@ -191,12 +191,12 @@ party
   Notes who gets an owner's shipments, who sends its receipts, and who carries them. toll has none of it.
   > party list ACME
 
-party add OWNER PARTY:name : parties
+party add OWNER PARTY:name : noting.party_add
   --name TEXT  Its full name, which a new one has to have.
   --address TEXT  Where it is, in one line.
   --contact TEXT  Who is told of a recall.
   --phone TEXT  At which number, at any hour.
-  --role =roles :model.notes.kinds.Role *  What it is to the owner, which a new one has to have; may be given several
+  --role =roles :model.kinds.Role *  What it is to the owner, which a new one has to have; may be given several
       times: all of its roles.
   --empty =emptied :address|contact|phone *  What is known of it no longer; may be given several times.
   Notes a party of an owner, or what is new of it. What isn't given stays as it was noted; --empty takes it out. HOUSE
@@ -205,7 +205,7 @@ party add OWNER PARTY:name : parties
   A customer gets shipments, a supplier sends receipts, a carrier does neither.
   > party add ACME NORD --name 'Nord Foods Ltd' --phone '+44 20 7946 0000' --role customer
 
-party list [OWNER] : parties.list_command
+party list [OWNER] : noting.party_list
   +form
   Lists the parties of all owners, or of one.
   > party list ACME
@@ -216,25 +216,25 @@ describe
   which a lot was made and expires; and what a contract allows to be lost. Without options it shows what is noted.
   > describe test ACME BRINE PH
 
-describe owner OWNER : describing
+describe owner OWNER : noting
   --name TEXT  Its full name.
   --address TEXT  Where it is, in one line.
   Notes the full name and the address of an owner. HOUSE is the plant.
   > describe owner ACME --name 'Acme Foods Ltd' --address '1 Dock Road, Hull'
 
-describe material OWNER MATERIAL : describing
+describe material OWNER MATERIAL : noting
   --name TEXT  Its full name.
   Notes the full name of a material.
   > describe material ACME BRINE --name 'Brine, 10 %'
 
-describe recipe OWNER RECIPE : describing
+describe recipe OWNER RECIPE : noting
   --allowance PERCENT  How much may be lost: 0.1 to 100, such as 1.5.
   --product MATERIAL :name  Its main product; by default that of which it makes most.
   Notes how much of a recipe's materials may be lost by the contract, in percent of what is required for what was
   made; and which of its products is the main one, by which that is reckoned. `papers settlement` tells what is lost.
   > describe recipe ACME BRINE-10 --allowance 1.5
 
-describe test OWNER MATERIAL TEST : describing
+describe test OWNER MATERIAL TEST : noting
   --name TEXT  Its full name.
   --unit TEXT  The unit of its values.
   --method TEXT  The method by which it is measured.
@@ -247,7 +247,7 @@ describe test OWNER MATERIAL TEST : describing
   were recorded so, which --results-too says.
   > describe test ACME BRINE PH --unit pH --decimals 2 --method 'ISO 10523'
 
-describe lot OWNER LOT : describing
+describe lot OWNER LOT : noting
   --made DAY :date  The day on which it was made, YYMMDD.
   --expires DAY :date  The last day on which it may be used.
   --retest DAY :date  The last day on which it may be used without another test.
@@ -260,7 +260,7 @@ material
   Adds a material with all its tests.
   > material new ACME BRINE kg --test DENSITY 1100 1250
 
-material new OWNER MATERIAL MEASURE : materials
+material new OWNER MATERIAL MEASURE : recording
   --test NAME LOW HIGH =tests :word,word,word *  A test with its limits.
   --decimals NAME N :word,1..9 *  How many decimals the values and the limits of a test have.
   Adds a material, its tests, and the test by which the plant signs and holds its lots, if the settings name one.
@@ -269,7 +269,7 @@ material new OWNER MATERIAL MEASURE : materials
   what was interrupted. No test is added to a material that has a lot.
   > material new ACME BRINE kg --test DENSITY 1100 1250 --test PH 6.50 8.50 --decimals PH 2
 
-sign OWNER LOT : judging
+sign OWNER LOT : recording
   --reason TEXT  What else there is to say.
   --day DAY  The day of it; today, as YYMMDD, by default.
   Signs a lot for the plant, so that it may be released and go. It needs each of the lot's own tests within its
@@ -279,7 +279,7 @@ sign OWNER LOT : judging
   signed by a note alone.
   > sign ACME B-1
 
-hold OWNER LOT : judging
+hold OWNER LOT : recording
   --reason TEXT !  Why it stays.
   --day DAY  The day of it; today, as YYMMDD, by default.
   Holds a lot, released or not, so that none of it is shipped or consumed until it is signed and released again.
@@ -288,8 +288,8 @@ hold OWNER LOT : judging
   lot whose material hasn't this test is held by a note alone: then only hilpoven refuses to ship and to consume it.
   > hold ACME B-1 --reason 'metal in drum 7'
 
-import SHEET=path : importing.import_command
-  --what :record.sheets.values.KINDS ~actuals  What the sheet holds.
+import SHEET=path : sheets.import_command
+  --what :record.workbook.tables.IMPORTED ~actuals  What the sheet holds.
   +sheet
   --yes =are_meant  Takes a day that looks wrong: no date, in the future, or before the lot's first.
   --check  Checks the sheet and records nothing.
@@ -299,14 +299,18 @@ import SHEET=path : importing.import_command
   The first row holds the column names, in any order. The command changes no value. It refuses a row with a value that
   is invalid or that the spreadsheet may have changed, reports its row and column, and records the other rows. What is
   already recorded counts once, so correct the sheet and import it again. toll takes a large sheet in parts.
+
+  A workbook has owners, units, materials, tests, recipes, requirements, parties and opening stock, a sheet for each
+  (`export workbook`). It is checked as a whole: nothing is given if one cell is wrong, and each fault names its cell.
   > import monday.xlsx
+  > import --what workbook day-one.xlsx
 
 count
   = makes the sheet of a stock count, and records its differences
   Makes the sheet of a stock count, and records what was counted otherwise than it is on hand.
   > count sheet ACME --xlsx > count.xlsx
 
-count sheet [OWNER] : counting
+count sheet [OWNER] : sheets
   --material MATERIAL  Only this material.
   --day DAY  The day of the count; today, as YYMMDD, by default.
   --xlsx  Writes a workbook, all of whose cells are texts, instead of CSV.
@@ -317,7 +321,7 @@ count sheet [OWNER] : counting
   columns as they are. A row with a blank count isn't counted.
   > count sheet ACME > count.csv
 
-count import SHEET=counted_sheet : counting.import_command
+count import SHEET=counted_sheet : sheets.count_import
   +sheet
   --yes =are_meant  Takes a day that looks wrong: no date, in the future, or before the lot's first.
   --check  Only shows the differences, and records nothing.
@@ -328,7 +332,21 @@ count import SHEET=counted_sheet : counting.import_command
   imported.
   > count import count.xlsx --check
 
-to-csv SHEET=source [CSV]=target : converting
+export
+  = writes a workbook of all that an office begins with
+  Writes what the office has into a workbook.
+  > export workbook day-one.xlsx
+
+export workbook [FILE]=target : workbooks.export_workbook
+  --ods =is_ods  As .ods, where FILE doesn't say the form; as .xlsx by default.
+  --force  Replaces FILE, if it is there, and keeps its permissions.
+  Writes the workbook that `import --what workbook` takes: owners without their keys, units, materials, tests, recipes,
+  requirements, parties, and what is on hand as opening stock. Without FILE it writes to standard output.
+
+  Of an empty office it is the template: the names of the columns, with a line of help below them.
+  > export workbook day-one.xlsx
+
+to-csv SHEET=source [CSV]=target : sheets
   --what :record.sheets.values.KINDS ~actuals  What the sheet holds.
   +sheet
   --force  Replaces CSV, if it is there.
@@ -396,14 +414,14 @@ drill
   Practises a recall against the clock, and makes the paper of it.
   > drill start ACME B-1
 
-drill start [OWNER]_LOT=names! : drills
+drill start [OWNER]_LOT=names! : papers
   Starts the clock: find all that became of LOT, as if it were bad. OWNER may be left out where one owner alone has a
   lot of this name.
 
   One drill is under way at a time; `status` shows it. Nothing of the office is changed by it.
   > drill start ACME B-1
 
-drill end [FOLDER] : drills
+drill end [FOLDER] : papers
   --cancel  It was none: no paper is made.
   --reason TEXT :text ~  Why it was none; with --cancel.
   +paper
@@ -413,7 +431,7 @@ drill end [FOLDER] : drills
   shipped and who did what meanwhile. It is for the plant alone.
   > drill end drill
 
-drill paper [FOLDER] : drills.paper_command
+drill paper [FOLDER] : papers.paper_command
   --of NOTE =name ~  The note with which it began.
   +paper
   Makes the paper of a drill that ended once more: that of the last one, or of one that `note list` names. Its amounts
@@ -440,7 +458,7 @@ owner key NAME:plain : owners.key_command
   A running server uses the new key from the next request on. Backups keep the old key.
   > owner key ACME --random
 
-status : status
+status : upkeep
   --prometheus  As metrics, for monitoring.
   --all =is_whole  Shows every owner against every limit.
   Checks the office's health, and shows how full it is.
@@ -548,7 +566,7 @@ papers takeout OWNER [FOLDER] : papers
   batches, lots, movements and results, and what the plant noted of them. Nothing of another owner is in them.
   > papers takeout ACME --tar > acme.tar
 
-settle OWNER MONTH [FOLDER] : settling
+settle OWNER MONTH [FOLDER] : papers
   +paper
   Closes the settlement of OWNER for MONTH, written as YYMM, and makes its paper with a number.
 
@@ -557,7 +575,7 @@ settle OWNER MONTH [FOLDER] : settling
   afterwards. The journal has the closing as a note, and `note withdraw` takes the last one back.
   > settle ACME 2611 settlement
 
-labels OWNER:name LOT:name [SUBLOT_..]:name : labels
+labels OWNER:name LOT:name [SUBLOT_..]:name : papers
   = makes labels of a lot's sublots, with QR codes that commands take
   --size :report.papers.labels.SIZES ~99.1x38.1  Millimetres of a label: 99.1x38.1 is a sheet of A4 with 2 by 7,
       100x50 is a roll.
@@ -571,7 +589,7 @@ labels OWNER:name LOT:name [SUBLOT_..]:name : labels
   > labels ACME B-1 --out labels.pdf
   > labels ACME B-1 TOTE2 --size 100x50 | lp
 
-board : board
+board : papers
   = makes a page for a screen in the plant
   --out FILE.html =target  Writes the page to this file, in one step; to standard output by default.
   --force  Replaces the file, if it is there, and keeps its permissions.
@@ -581,7 +599,7 @@ board : board
   A timer makes it every minute, and the page reloads itself. A page older than three minutes says so.
   > board --force --out /srv/board/board.html
 
-companion : companion
+companion : papers
   = writes a file for each owner, with what toll doesn't tell it
   --out FOLDER  Where they go; where the site looks for them by default.
   Writes OWNER.json for each owner: limits of tests, recipes, batches with their lots, movements with recipients,
@@ -679,7 +697,7 @@ register rebuild : noting
   Makes the register anew from the journal, which has each note. Nothing is lost.
   > register rebuild
 
-carry-over [NEW] : carrying
+carry-over [NEW] : upkeep
   --day DAY  The day of the receipts that carry the stock over; today, as YYMMDD, by default.
   --plan =is_plan  Only shows what would be done, how full the new file would be, and what prevents it.
   --without OWNER :name *  An owner that leaves, and has nothing on hand; its rows stay in the earlier file.

@@ -1,194 +1,237 @@
-"""`hilpoven new`, `backup`, `restore` and `verify`."""
-import contextlib
+"""`hilpoven new`, `backup`, `restore`, `verify`, `status` and `carry-over`: the office's files as a whole. What does
+each is imported where it is needed."""
 import os
-import re
-import sqlite3
 import sys
-from datetime import datetime, timezone
-from typing import Any
+from collections import Counter
+from collections.abc import Iterable
+from typing import TYPE_CHECKING
 
 import click
 
-from ..care import backups, lost, reports
-from ..core import paths, rights, server, settings as site, snapshot
+from .. import HOUSE
+from ..core import rights, server
 from ..core.context import Context
-from ..core.failure import FAULT, REFUSED, WRONG_USE, Failure, printable
-from .output import tell
-from ..core.office import has_bytes
-from ..core.journal import query
-from ..core.journal.log import Journal
-from ..model import accepted
-from ..record import answered
-from ..model.register import lines as register
-from ..model.years import chain
+from ..core.failure import REFUSED, WRONG_USE, Failure, printable
+from ..core.office import number_of
+from ..core.table import Row, counted
+from .output import bar, print_table, tell
+
+if TYPE_CHECKING:
+    from ..care.health import Fullness
+    from ..care.years.carrying import Work
+
+NEW = "next.db"
+MOST_ORDERS, MOST_GAUGES = 40, 12  # that are shown
+GAUGES = ["owner", "of", "there are", "it begins with", "most", "full"]
+MOST = 12  # gauges that are shown of an office, where none is above FULL
+FEW = 5  # receipts that are shown
+SUSPECTS = ["owner", "key", "lot", "material", "day"]
+
+
+def print_lines(lines: Iterable[str]) -> None:
+    """Prints lines as they come."""
+    for line in lines:
+        click.echo(line)
 
 
 def new(context: Context, file: str | None) -> None:
     """`hilpoven new`."""
-    new_context = Context(
-        context.settings, file or context.db, context.unnoted, person=context.person, tell=context.tell
-    )
-    if has_bytes(new_context.file):
-        raise Failure(f"{new_context.file} is there already", WRONG_USE)
-    if has_bytes(f"{new_context.file}-wal"):
-        raise Failure(
-            f"a log of this name is there: {new_context.file}-wal",
-            WRONG_USE,
-            "a file of this name was moved away; its log belongs to it",
-        )
-    folder = os.path.dirname(new_context.file)
-    if not os.path.isdir(folder):
-        raise Failure(f"{folder} is no folder", WRONG_USE)
-    rights.become_owner(new_context.file)
-    office, journal = new_context.unseen_office(), new_context.journal()
-    require_no_notes(journal)
-    with journal.noted(office.file, ["new"]) as note:
-        note.answer = office.ask_patiently(["stock", "HOUSE"])
-    if note.answer.status:
-        raise Failure(f"no office was made: {note.answer.error.strip()}")
-    click.echo(printable(f"{new_context.file} is a new office; its journal is {journal.path}"))
-    if os.stat(folder).st_mode & 0o022:
-        tell(f"Others may put files into {folder}: chmod 700 keeps them out.")
+    from ..care import upkeep
 
-
-def require_no_notes(journal: Journal) -> None:
-    """Fails where there are notes of the office that was here: those of a new one would be mixed with them."""
-    path = register.path_of(journal.file)
-    if register.may_have_notes(journal):
-        raise Failure(
-            f"there are notes of the office that was here, in {journal.path}",
-            WRONG_USE,
-            f"`hilpoven restore` puts a backup of it in place; for another office, move it and {path} elsewhere",
-        )
+    print_lines(upkeep.new(context, file))
 
 
 def backup(context: Context, folder: str | None, keep: int | None, days: int | None) -> None:
     """`hilpoven backup`."""
-    settings = context.settings
-    office, journal = context.office(), context.journal()
-    days = settings.days if days is None else days
-    path = backups.make(office, folder or backups_of(context), keep or settings.keep, days, journal)
-    click.echo(path)
-    checked = query.check(journal.path)
-    click.echo(f"journal {checked.lines} {checked.head}")
+    from ..care import upkeep
 
-
-def backups_of(context: Context) -> str:
-    """The folder of the backups."""
-    if not context.settings.backups:
-        raise Failure("no folder is named", WRONG_USE, f'give one, or backups = ".." in {site.PATH}')
-    return context.settings.backups
-
-
-def chosen(context: Context, backup: str) -> str:
-    """The path of a backup: one of the settings' folder by its name, or for root and the office's user any file."""
-    if not context.person.is_member and (os.sep in backup or os.path.exists(backup) or not context.settings.backups):
-        return os.path.realpath(backup)
-    folder = paths.private(backups_of(context))
-    if not re.fullmatch(backups.form_of(context.file), backup):
-        mark = backups.mark_of(context.journal()) or "1a2b3c4d"
-        example = f"{backups.name_of(context.file)}-{mark}-20261127-010203.db"
-        raise Failure(f"{backup} is no name of a backup", WRONG_USE, f"such as {example}, which is in {folder}")
-    return os.path.join(folder, backup)
+    print_lines(upkeep.backup(context, folder, keep, days))
 
 
 def restore(context: Context, backup: str | None, is_foreign: bool, moment: float | None) -> None:
     """`hilpoven restore`."""
-    if (backup is None) == (moment is None) or moment is not None and is_foreign:
-        raise Failure("either BACKUP or --at TIME is given", WRONG_USE)
-    if is_foreign:
-        context.person.require_operator("--foreign")
-    rights.become_owner(context.file)
-    subject, aside = restored(context, backup, is_foreign) if moment is None else restored_at(context, moment)
-    click.echo(printable(f"{subject} is in place" + (f"; what was there is in {aside}" if aside else "")))
-    for line in lost.lines_of(lost.note_lost(context)):
-        click.echo(line)
+    from ..care import upkeep
 
-
-def restored(context: Context, backup: str | None, is_foreign: bool) -> tuple[str, str]:
-    """Puts a backup in place; its name, and the folder where what was there is now."""
-    name = str(backup)
-    path, office = chosen(context, name), context.unseen_office()
-    replaced = backups.restore(office, path, server.place_of(context), context.journal(), is_foreign)
-    tell("\n".join(replaced.notes))
-    return name, replaced.aside
-
-
-def restored_at(context: Context, moment: float) -> tuple[str, str]:
-    """Puts the office of a moment in place; what it is, and the folder where what was there is now."""
-    from ..care.standby import promoting
-    from .following import folder_of
-
-    office, folder = context.unseen_office(), folder_of(context)
-    restored = promoting.restore_at(office, folder, server.place_of(context), context.journal(), moment)
-    tell("\n".join(restored.notes))
-    return f"the office of {restored.last.at}", restored.aside
+    print_lines(upkeep.restore(context, backup, is_foreign, moment))
 
 
 def verify(context: Context) -> None:
     """`hilpoven verify`."""
-    office, wrong, lost_rows = context.office_to_read(), list[str](), list[str]()
-    checked = query.check(context.journal().path, file=context.file)  # before the copy, which has all that it says
-    entries = [] if checked.wrong else query.entries(context.journal().path, context.file)
-    rows, owners = accepted.added_rows(entries), Answered(context, entries) if not checked.wrong else None
-    with snapshot.copied(office) as copy:
-        with contextlib.closing(sqlite3.connect(copy)) as base:
-            wrong += backups.checked_tables(base) or accepted.lacking(base, rows)
-            lost_rows = [] if wrong else lost.report(context.journal(), base)
-            register_report = reports.verified(context.journal(), None if wrong else base)
-        wrong += owners.lacking(copy) if owners and not wrong else []
-        answer = office.ask(["stock", "HOUSE"], copy)
-    if answer.status:
-        wrong.append(f"toll doesn't open it: {answer.error.strip()}")
-    click.echo(f"file: {'; '.join(wrong) or 'sound; sublots hold what movements come to; toll opens it'}")
-    for line in owners.lines if owners else []:
-        click.echo(printable(f"owners: {line}"))
-    for finding in [*checked.wrong, *checked.notes]:
-        click.echo(f"journal: {finding}")
+    from ..care import upkeep
+
+    verified = upkeep.verify(context)
+    print_lines(verified.lines)
+    sys.exit(verified.status)
+
+
+# Health
+
+
+def status(context: Context, prometheus: bool, is_whole: bool) -> None:
+    """`hilpoven status`."""
+    from ..care.health import health_of, metrics
+    from ..report.companion import making
+
+    rights.become_owner(context.file)
+    health = health_of(context, making.age_of)
+    if prometheus:
+        click.echo(metrics(health), nl=False)
+        sys.exit(health.code)
+    faults = [f"NOT WELL: {fault}" for fault in health.bad]
+    warnings = [f"ATTENTION: {warning}" for warning in health.attention]
+    print_lines(map(printable, [*faults, *warnings, *health.lines]))
+    print_gauges(health.fullness, is_whole)
+    print_suspects(health.fullness, is_whole)
+    sys.exit(health.code)
+
+
+def print_gauges(fullness: "Fullness", is_whole: bool) -> None:
+    """Prints the gauges: the fullest, or all of them."""
+    first = fullness.pressing()
+    others = [gauge for gauge in fullness.full if gauge not in first]
+    rows: list[Row] = [
+        (
+            gauge.owner or "(plant)",
+            gauge.kind,
+            gauge.count,
+            gauge.most,
+            f"{gauge.percent} %",
+            str(fullness.full_by.get(gauge, "")),
+        )
+        for gauge in (fullness.full if is_whole else [*first, *others][: max(MOST, len(first))])
+    ]
+    columns = ["owner", "of", "there are", "most", "full", "full by"]
+    if rows:
+        click.echo()
+        print_table(*((columns, rows) if fullness.full_by else (columns[:-1], [row[:-1] for row in rows])))
+
+
+def print_suspects(fullness: "Fullness", is_whole: bool) -> None:
+    """Prints the receipts that look as if a trace ended there: the newest few, or all of them; and what answers all of
+    an owner."""
+    if not fullness.suspects:
+        return
+    chosen = fullness.suspects if is_whole else fullness.suspects[:FEW]
+    count = counted(len(fullness.suspects), "receipts")
+    click.echo(f"\n{count} of what batches make, into new lots without a link: a trace may end there.")
     click.echo(
-        f"journal: {checked.lines} lines, {len(checked.unanswered)} without an answer"
-        f"{'' if checked.wrong else '; it is whole'}"
+        "`hilpoven link` says what each contains, `hilpoven note not-linked OWNER KEY ..` that they contain nothing."
     )
-    for line in [*register_report.lines, *lost_rows]:
-        click.echo(f"register: {printable(line)}")
-    changed: list[str] = []
-    if os.path.isdir(folder := context.settings.backups):
-        count, changed = backups.changed(context.file, folder, context.journal())
-        unlike = [f"{changed_backup} isn't the file that was made" for changed_backup in changed]
-        click.echo(f"backups: {'; '.join([*unlike, f'{count - len(changed)} as the journal notes them'])}")
-    sys.exit(FAULT if wrong else REFUSED if checked.wrong or changed or register_report.is_wrong else 0)
+    counts = Counter(suspect.owner for suspect in fullness.suspects)
+    for owner, number in sorted(counts.items()):
+        last = max(suspect.day for suspect in fullness.suspects if suspect.owner == owner)
+        if number > FEW:
+            click.echo(
+                f"{number:,} are of {owner}. If all of them are opening stock, or came anew: "
+                f"`hilpoven note not-linked {owner} --until {last}`."
+            )
+    if not is_whole and len(fullness.suspects) > FEW:
+        click.echo(f"The newest {FEW}; `hilpoven status --all` shows all:")
+    print_table(
+        SUSPECTS, [(suspect.owner, suspect.key, suspect.lot, suspect.material, suspect.day) for suspect in chosen]
+    )
 
 
-class Answered:
-    """What owners' requests did by the logs of the office's site, which are read before the file is copied, and what
-    the pieces of a standby on this machine have; and what is told of both."""
+# A new file
 
-    def __init__(self, context: Context, entries: list[dict[str, Any]]) -> None:
-        self.context, self.since, self.now = context, answered.last_replaced(entries), datetime.now(timezone.utc)
-        self.done, self.lines = list[answered.Done](), list[str]()
-        logs = site.site_logs_of(context.settings, context.file)
-        try:
-            self.done = answered.done_since(logs, self.since)
-            self.lines += [f"{len(self.done):,} requests that the site's log has as done are compared"] if logs else []
-        except Failure as failure:
-            self.lines.append(f"what they did isn't compared: {failure.message}")
 
-    def lacking(self, copy: str) -> list[str]:
-        """What is told of what a copy of the file and its earlier files lack."""
-        from ..care.standby import kept, lag
+def print_plan(work: "Work") -> None:
+    """Prints how full the new file begins, and which orders stay behind."""
+    from ..care.years import steps
 
-        file, follow = self.context.file, self.context.settings.follow
-        snapshot.settle(copy)
-        with chain.reading(copy) as base:
-            earlier = [part.path for part in chain.earlier_files(file, chain.came_from(base))]
-        with contextlib.ExitStack() as stack:
-            bases = [stack.enter_context(chain.reading(path)) for path in (copy, *earlier)]
-            wrong = answered.lacking(bases, self.done)
-        try:
-            rows = kept.Kept(lag.folder_of(file, follow.to), file, self.since, self.now).lacking([copy, *earlier])
-        except Failure as failure:
-            self.lines.append(f"the standby's pieces aren't compared: {failure.message}")
-            return wrong
-        others = f"; and {len(rows) - answered.FIRST:,} more" if len(rows) > answered.FIRST else ""
-        first = "; ".join(rows[: answered.FIRST])
-        return [*wrong, *([printable(f"the standby's pieces have what is missing: {first}{others}")] if rows else [])]
+    with work.reading() as base:
+        gauges = [
+            (owner, kind, before, after, most, f"{after * 100 // most} %")
+            for owner, kind, before, after, most in steps.fullness(base)
+        ]
+        count = steps.count(base)
+    click.echo(
+        f"{count:,} words and requests make the new file; stock comes over as receipts of day {work.receipts.day}, "
+        f"keys {work.receipts.series}-1 and so on"
+    )
+    print_table(GAUGES, gauges[:MOST_GAUGES])
+    print_staying(work)
+
+
+def print_staying(work: "Work") -> None:
+    """Prints the orders that stay behind: what is left of them is placed under a new name."""
+    from ..care.years import steps
+
+    with work.reading() as base:
+        orders = base.execute(steps.STAYING).fetchall()
+    if left := [order for order in orders if order[5]]:
+        click.echo("\nOrders that were begun stay behind. What is left of them is placed under a new name:")
+        print_table(["owner", "order", "recipe", "batches", "opened", "left"], left)
+    if done := [order for order in orders if not order[5]]:
+        first = ", ".join(f"{owner} {name}" for owner, name, *_ in done[:MOST_ORDERS])
+        click.echo(f"\n{len(done):,} finished orders stay behind: {first}{', ..' if len(done) > MOST_ORDERS else ''}")
+
+
+def note(text: str) -> None:
+    """Tells those who wait at a terminal what is done now."""
+    if sys.stderr.isatty():
+        click.echo(text, err=True)
+
+
+def require_owners(work: "Work") -> None:
+    """Fails unless those that leave are owners; one that left with the last carry-over has left already."""
+    from ..care.years.carrying import has_owner
+
+    for owner in work.without:
+        if owner == HOUSE:
+            raise Failure(f"{HOUSE} is the plant itself, and stays", WRONG_USE)
+        last = work.earlier[-1:] if work.earlier else []
+        paths = [work.copy, *(part.path for part in last)]
+        if not any(has_owner(path, owner) for path in paths):
+            raise Failure(f"there is no owner {owner}", REFUSED)
+
+
+def do(work: "Work") -> None:
+    """Carries the office over, and prints what was done."""
+    from ..care.years.carrying import Telling, carry_over as carry
+
+    done = carry(work, Telling(note, tell, bar))
+    if done:
+        click.echo(
+            f"{work.office.file} is the new file; {done.earlier} is the earlier one, read-only, sha256 {done.hash}"
+        )
+        print_staying(work)
+    else:
+        last = work.earlier[-1]
+        since = f"{work.office.file} came from {last.name} at {last.at}, and nothing was recorded since"
+        click.echo(f"{since}: nothing is left to do")
+
+
+def target_of(file: str, new: str | None) -> str:
+    """The path of the new file, until it is put in place."""
+    folder = os.path.dirname(file)
+    target = os.path.abspath(new) if new else os.path.join(folder, NEW)
+    target = os.path.join(os.path.realpath(os.path.dirname(target)), os.path.basename(target))
+    if os.path.dirname(target) != folder or target == file or number_of(file, os.path.basename(target)):
+        raise Failure(
+            f"NEW is to be a name in the folder of {file}, and none that an earlier file has",
+            WRONG_USE,
+            f"such as {os.path.join(folder, NEW)}",
+        )
+    return target
+
+
+def carry_over(context: Context, new: str | None, day: int | None, is_plan: bool, without: tuple[str, ...]) -> None:
+    """`hilpoven carry-over`."""
+    from ..care.years.carrying import hindrances, prepared
+
+    target = target_of(context.file, new)
+    office = context.office_to_read() if is_plan else context.office()
+    place, leaving = server.place_of(context), tuple(dict.fromkeys(without))
+    with prepared(office, place, context.journal(), target, str(context.day(day)), is_plan, leaving) as work:
+        note("the file is looked at")
+        require_owners(work)
+        reasons = hindrances(work)
+        for reason in reasons:
+            click.echo(reason, err=True)
+        if is_plan:
+            print_plan(work)
+            sys.exit(REFUSED if reasons else 0)
+        if reasons:
+            raise Failure("the office isn't carried over; nothing was changed", REFUSED)
+        do(work)

@@ -5,6 +5,8 @@ their names, and output goes to standard output.
 """
 import re
 import sys
+from collections.abc import Callable
+from functools import partial
 from typing import TYPE_CHECKING, Any
 
 import click
@@ -12,13 +14,13 @@ import click
 from ..core import rights, scanned
 from ..core.context import Context
 from ..core.failure import printable
-from ..core.forms import DAY as DAY_FORM, TEXT as TEXT_FORM, name_fault
+from ..core.forms import DAY as DAY_FORM, MOST_TOLD, TEXT as TEXT_FORM, name_fault
 from .caller import person
+from .table import RAW
 
 if TYPE_CHECKING:
     from click.shell_completion import CompletionItem
 
-MOST_TOLD = 40  # letters of a text that is none
 INSTEAD = {
     "db": "--office NAME names the office",
     "folder": "papers go to standard output by --tar; backups and pieces are in the folders of the settings",
@@ -90,86 +92,89 @@ class Word(click.ParamType):
         return completion.of_word(ctx, param, incomplete)
 
 
-class Name(click.ParamType):
-    """A name that the plant gives, of the form of `toll`'s names."""
+class Reading(click.ParamType):
+    """A value that a function reads of a word; it fails with ValueError, which says what the word is, if it can't."""
 
-    name = "name"
+    def __init__(self, name: str, read: Callable[[str], Any]) -> None:
+        self.name, self.read = name, read
 
-    def convert(self, value: Any, param: click.Parameter | None, ctx: click.Context | None) -> str:
-        """The name; fails if it can't be one."""
-        if fault := name_fault(str(value)):
-            self.fail(f"`{printable(str(value)[:MOST_TOLD])}` {fault}", param, ctx)
-        return str(value)
-
-
-class Text(click.ParamType):
-    """A text of a note: one line that can be printed, and that may say nothing only where that is allowed."""
-
-    name = "text"
-
-    def __init__(self, may_be_empty: bool) -> None:
-        self.may_be_empty = may_be_empty
-
-    def convert(self, value: Any, param: click.Parameter | None, ctx: click.Context | None) -> str:
-        """The text; fails if it can't be one."""
-        is_missing = not self.may_be_empty and not str(value).strip()
-        if fault := "is empty" if is_missing else TEXT_FORM.fault(str(value)):
-            self.fail(f"`{printable(str(value)[:MOST_TOLD])}` {fault}", param, ctx)
-        return str(value)
+    def convert(self, value: Any, param: click.Parameter | None, ctx: click.Context | None) -> Any:
+        """The value; fails if the word is none."""
+        if not isinstance(value, str):
+            return value
+        try:
+            return self.read(value)
+        except ValueError as fault:
+            self.fail(f"`{printable(value[:MOST_TOLD])}` {fault}", param, ctx)
 
 
-class Date(click.ParamType):
+def read_text(word: str, fault_of: Callable[[str], str] = TEXT_FORM.fault, may_be_empty: bool = True) -> str:
+    """A text of a note: one line that can be printed, and that may say nothing only where that is allowed; or a name
+    that the plant gives, of the form of `toll`'s names."""
+    if fault := fault_of(word) if may_be_empty or word.strip() else "is empty":
+        raise ValueError(fault)
+    return word
+
+
+def read_date(word: str) -> int:
     """A day that is a date."""
+    from ..core.days import date_of, day_in
 
-    name = "date"
-
-    def convert(self, value: Any, param: click.Parameter | None, ctx: click.Context | None) -> int:
-        """The day; fails if it is no date."""
-        from ..core.days import date_of, day_in
-
-        word = str(value)
-        if (day := day_in(word)) is not None:
-            return day
-        if word.isascii() and word.isdecimal() and len(word) == 6 and date_of(int(word)):
-            return int(word)
-        self.fail(f"`{printable(word[:MOST_TOLD])}` is no date; a date is written 2027-11-27 or 271127", param, ctx)
+    if (day := day_in(word)) is not None:
+        return day
+    if word.isascii() and word.isdecimal() and len(word) == 6 and date_of(int(word)):
+        return int(word)
+    raise ValueError("is no date; a date is written 2027-11-27 or 271127")
 
 
-class Month(click.ParamType):
+def read_day(word: str) -> int:
+    """A day of movements, which may also be written as a date."""
+    from ..core.days import day_in
+
+    if (day := day_in(word)) is not None:
+        return day
+    if DAY_FORM.fault(word):
+        raise ValueError("is no day, which is a number such as 261127 or a date such as 2026-11-27")
+    return int(word)
+
+
+def read_month(word: str) -> int:
     """A month, written as YYMM or as 2026-11; its days are dates."""
+    from ..core.days import is_month
 
-    name = "month"
-
-    def convert(self, value: Any, param: click.Parameter | None, ctx: click.Context | None) -> int:
-        """Fails unless a word is one."""
-        from ..core.days import is_month
-
-        if isinstance(value, int):
-            return value
-        match = re.fullmatch(r"([0-9]{4})|20([0-9]{2})-([0-9]{2})", value)
-        month = int(match[1] or match[2] + match[3]) if match else 0
-        if not is_month(month):
-            shown = printable(value[:MOST_TOLD])
-            self.fail(f"`{shown}` is no month, which is written as YYMM, such as 2611, or as 2026-11", param, ctx)
-        return month
+    match = re.fullmatch(r"([0-9]{4})|20([0-9]{2})-([0-9]{2})", word)
+    month = int(match[1] or match[2] + match[3]) if match else 0
+    if not is_month(month):
+        raise ValueError("is no month, which is written as YYMM, such as 2611, or as 2026-11")
+    return month
 
 
-class Percent(click.ParamType):
-    """A part of a whole in percent, with one decimal at the most."""
+def read_percent(word: str) -> int:
+    """How many tenths of a percent a part of a whole is, 1 to 1,000."""
+    from ..model.notes import tenths_in
 
-    name = "percent"
-
-    def convert(self, value: Any, param: click.Parameter | None, ctx: click.Context | None) -> int:
-        """How many tenths of a percent it is, 1 to 1,000; fails if it is none."""
-        if isinstance(value, int):
-            return value
-        match = re.fullmatch(r"([0-9]{1,3})(?:\.([0-9]))?", str(value))
-        tenths = int(match[1]) * 10 + int(match[2] or 0) if match else 0
-        if not 1 <= tenths <= 1_000:
-            self.fail(
-                f"`{printable(str(value)[:MOST_TOLD])}` is no percentage from 0.1 to 100, such as 1.5", param, ctx
-            )
+    if tenths := tenths_in(word):
         return tenths
+    raise ValueError("is no percentage from 0.1 to 100, such as 1.5")
+
+
+def read_moment(word: str) -> float:
+    """A moment in seconds since 1970, of the plant's time zone where it names none, as the journal is printed in."""
+    from ..core.days import moment_in
+
+    context = click.get_current_context().find_object(Context)
+    try:
+        return moment_in(word, context.settings.time_zone if context else "").timestamp()
+    except (ValueError, OverflowError, OSError):
+        raise ValueError("is no time such as 2026-11-27T01:02:03") from None
+
+
+class OneOf(click.Choice):
+    """A word of a list, which is told in one line where it is missing."""
+
+    def get_missing_message(self, param: click.Parameter) -> str:
+        """The words that there are."""
+        return f"one of {', '.join(self.choices)}"
 
 
 class LotCommand(click.Command):
@@ -201,57 +206,29 @@ class LotCommand(click.Command):
         return [*places, *range(at + 1, len(args))]
 
 
-class Day(click.ParamType):
-    """A day of movements, which may also be written as a date."""
-
-    name = "day"
-
-    def convert(self, value: Any, param: click.Parameter | None, ctx: click.Context | None) -> int:
-        """The day; fails if the text is neither a day nor a date that stands for one."""
-        from ..core.days import day_in
-
-        text = str(value)
-        if (day := day_in(text)) is not None:
-            return day
-        if DAY_FORM.fault(text):
-            shown = printable(text[:MOST_TOLD])
-            self.fail(f"`{shown}` is no day, which is a number such as 261127 or a date such as 2026-11-27", param, ctx)
-        return int(text)
-
-
-class Moment(click.ParamType):
-    """A moment, of the plant's time zone where it names none, as the journal is printed in."""
-
-    name = "moment"
-
-    def convert(self, value: object, param: click.Parameter | None, ctx: click.Context | None) -> float:
-        """The moment in seconds since 1970; fails if the text is none."""
-        from ..core.days import moment_in
-
-        context = ctx.find_object(Context) if ctx else None
-        try:
-            return moment_in(str(value), context.settings.time_zone if context else "").timestamp()
-        except (ValueError, OverflowError, OSError):
-            self.fail(f"`{printable(str(value)[:MOST_TOLD])}` is no time such as 2026-11-27T01:02:03", param, ctx)
-
-
-class OneOf(click.Choice):
-    """A word of a list, which is told in one line where it is missing."""
-
-    def get_missing_message(self, param: click.Parameter) -> str:
-        """The words that there are."""
-        return f"one of {', '.join(self.choices)}"
-
-
 PATH = Operators(click.Path(readable=False))
 SHEET = Operators(click.Path(readable=False), is_sheet=True)
 WORD = Word()
-TEXT, FILLED_TEXT = Text(may_be_empty=True), Text(may_be_empty=False)
-NAME = Name()
-DATE, MONTH, PERCENT, MOMENT = Date(), Month(), Percent(), Moment()
+TEXT, FILLED_TEXT = Reading("text", read_text), Reading("text", partial(read_text, may_be_empty=False))
+NAME = Reading("name", partial(read_text, fault_of=name_fault))
+DATE, DAY, MONTH = Reading("date", read_date), Reading("day", read_day), Reading("month", read_month)
+PERCENT, MOMENT = Reading("percent", read_percent), Reading("moment", read_moment)
 
-
-DAY = Day()
+TYPES: dict[str, click.ParamType] = {
+    "date": DATE,
+    "day": DAY,
+    "filled": FILLED_TEXT,
+    "moment": MOMENT,
+    "month": MONTH,
+    "name": NAME,
+    "path": PATH,
+    "percent": PERCENT,
+    "plain": click.STRING,
+    RAW: click.UNPROCESSED,
+    "sheet": SHEET,
+    "text": TEXT,
+    "word": WORD,
+}
 
 pass_context = click.make_pass_decorator(Context)
 

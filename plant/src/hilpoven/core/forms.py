@@ -8,6 +8,7 @@ from .failure import is_visible
 MOST_VALUE = 1_000_000_000
 MOST_DIGITS = 10
 MOST_LETTERS = 200  # of a text
+MOST_TOLD = 40  # letters of a word that is none, which are told back
 DIGITS = "0123456789"
 CAPITALS = "ABCDEFGHIJKLMNOPQRSTUVWXYZ"
 SMALL = CAPITALS.lower()

@@ -16,8 +16,8 @@ ENDING = (signal.SIGHUP, signal.SIGINT, signal.SIGTERM)
 
 @contextlib.contextmanager
 def held_back() -> Iterator[None]:
-    """Holds the signals that end a program back, over a fork: what is raised in Python's own steps around one is
-    lost."""
+    """Holds the signals that end a program back, over a fork or the import of a library: what is raised in Python's own
+    steps around a fork is lost, and an import may make another error of it."""
     before = signal.pthread_sigmask(signal.SIG_BLOCK, ENDING)
     try:
         yield

@@ -1,10 +1,44 @@
-"""What `toll` prints, as rows, and rows as `toll` prints them."""
+"""What `toll` prints, as rows, and rows as `toll` prints them, such as the lines of a recall."""
 from collections.abc import Iterable, Mapping, Sequence
 from dataclasses import astuple, dataclass
 from typing import Any, NamedTuple, TypeVar, get_type_hints
 
-from .recall import RecallLine, TraceLine
-from .rows import LotId
+from .rows import Base, LotId, want
+from .schema import ON_HAND, STANDING, Disposition, Kind
+
+LINES = f"""
+SELECT l.owner, l.lot, {Disposition.sql('l.disposition')}, {ON_HAND}, coalesce(s.shipped, 0) FROM lots AS l
+LEFT JOIN (SELECT m.lot_owner AS owner, m.lot, sum(m.amount) AS shipped FROM moves AS m
+  WHERE m.kind = {Kind.SHIP:d} AND (m.lot_owner, m.lot) IN temp.wanted AND {STANDING} GROUP BY 1, 2) AS s
+  USING (owner, lot)
+WHERE (l.owner, l.lot) IN temp.wanted
+"""
+
+
+@dataclass(frozen=True)
+class TraceLine:
+    """A lot of a trace, as `toll trace` prints it."""
+
+    steps: int
+    owner: str
+    lot: str
+
+
+@dataclass(frozen=True)
+class RecallLine(TraceLine):
+    """A lot of a recall, as `toll recall` prints it."""
+
+    disposition: str
+    on_hand: int
+    shipped: int
+
+
+def recall_lines(base: Base, steps: Mapping[LotId, int]) -> list[RecallLine]:
+    """The lines of a recall for these lots with their steps, in the same order."""
+    want(base, steps)
+    lines = {LotId(owner, lot): rest for owner, lot, *rest in base.execute(LINES)}
+    return [RecallLine(number, *lot, *lines[lot]) for lot, number in steps.items()]
+
 
 Row = TypeVar("Row")
 TRACE_FORM = "{:>6} {:<16} {:<16}"

@@ -8,10 +8,10 @@ from ..core.office import Answer, Office
 from ..core.journal.log import Journal
 from . import answers
 from .genealogy import FORWARD, Genealogy
-from .recall import recall_lines
+from .answers import recall_lines
 from .rows import LotId
 from .register.file import Notes
-from .notes.notes import Link
+from .notes import Link
 from .register.standing import standing
 
 LINKED = f"""
@@ -28,7 +28,7 @@ def lines_below(office: Office, journal: Journal, words: Sequence[str], answer: 
     if not may_concern(Notes(journal), start):
         return []
     with snapshot.opened(office) as base:
-        trace = Genealogy(base, standing(journal, base).links).trace(start, way)
+        trace = Genealogy(base, standing(journal, base)).trace(start, way)
         require_told(name, answer, trace.recorded)
         if name == "recall":
             return noted_text(answers.recall_text(recall_lines(base, trace.noted))[1:])

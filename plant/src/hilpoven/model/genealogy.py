@@ -1,4 +1,5 @@
-"""Which lots went into which, by recorded actuals and by the plant's links, and in how few steps."""
+"""Which lots went into which, by recorded actuals and by the plant's links, in how few steps, and where a trace may
+end."""
 from collections import defaultdict
 from collections.abc import Callable, Iterable
 from dataclasses import dataclass
@@ -7,9 +8,12 @@ from itertools import groupby
 from operator import itemgetter
 
 from .. import HOUSE
-from .notes.notes import Link
+from . import views
+from .notes import Link, Why
+from .register.standing import Register
 from .rows import Base, BatchId, LotId, owners_of
-from .schema import IS_ACTUAL, STANDING, Kind
+from .schema import IS_ACTUAL, STANDING, Kind, Role
+from .years import chain
 
 # DISTINCT, and what differs most first: grouping by segments takes twice the time.
 ACTUALS = f"""
@@ -18,7 +22,20 @@ FROM moves AS m WHERE m.owner = ? AND {IS_ACTUAL} AND {STANDING}
 """
 FORWARD, BACK = "forward", "back"
 
+LINKS = "SELECT owner, lot, ord, number, of_owner, of_lot, why, amount, reason FROM link {} ORDER BY note, place"
 Segments = dict[LotId, int]
+
+
+def links_of(base: Base, register: Register) -> list[Link]:
+    """The links between lots that are there, in the order in which they were noted; of one owner's notes its own."""
+    if register.opened is None:
+        return []
+    where, words = ("", ()) if register.owner is None else ("WHERE owner = ?", (register.owner,))
+    rows = views.over(base, register).execute(LINKS.format(where), words)
+    return [
+        Link(owner, lot, order, batch, of_owner, of_lot, Why(why), *rest)
+        for owner, lot, order, batch, of_owner, of_lot, why, *rest in rows
+    ]
 
 
 @dataclass(frozen=True)
@@ -47,11 +64,10 @@ class Genealogy:
     or if a link says so of the other, or of a batch that produced it.
     """
 
-    def __init__(self, base: Base, links: Iterable[Link] = ()) -> None:
-        self.base = base
+    def __init__(self, base: Base, register: Register | None = None) -> None:
+        self.base, self.links = base, links_of(base, register) if register else []
         self.consumed: dict[BatchId, Segments] = defaultdict(dict)  # with the first segment
         self.produced: dict[BatchId, Segments] = defaultdict(dict)  # with the last segment
-        self.links = [link for link in links if self.is_drawn(link)]
         self._consumers: dict[LotId, list[BatchId]] = defaultdict(list)
         self._producers: dict[LotId, list[BatchId]] = defaultdict(list)
         self._links_of: dict[LotId, list[Link]] = defaultdict(list)
@@ -61,14 +77,6 @@ class Genealogy:
         for link in self.links:
             self._links_of[link.contained].append(link)
             self._links_in[link.container].append(link)
-
-    def is_drawn(self, link: Link) -> bool:
-        """Whether a link leads to an owner from its own lots or from HOUSE's, and the tables have its lots: a restored
-        backup may be older than a note."""
-        lots = [link.contained, *([link.container] if isinstance(link.container, LotId) else [])]
-        sql = "SELECT 1 FROM lots WHERE owner = ? AND lot = ?"
-        is_there = all(self.base.execute(sql, lot).fetchone() for lot in lots)
-        return is_there and link.of_owner in (link.owner, HOUSE)
 
     @cached_property
     def everybody(self) -> list[str]:
@@ -133,11 +141,6 @@ class Genealogy:
         containers: list[LotId | BatchId] = [lot, *batches]
         return [link for container in containers for link in self._links_in.get(container, [])]
 
-    def links_about(self, lot: LotId) -> list[Link]:
-        """The links that say what a lot contains, or what contains it, in the order in which they were noted."""
-        of_lot = {*self.links_in(lot), *self.links_of(lot)}
-        return [link for link in self.links if link in of_lot]
-
     def links_in_batch(self, batch: BatchId) -> list[Link]:
         """The links that say what a batch contains: its own, and those of the lots that it produced."""
         if not self.links:
@@ -188,3 +191,45 @@ def fewest_steps(start: LotId, neighbours: Callable[[LotId], Iterable[LotId]]) -
                 steps[neighbour] = steps[lot] + 1
                 queue.append(neighbour)
     return dict(sorted(steps.items(), key=lambda entry: (entry[1], entry[0])))
+
+
+# Receipts into lots of a material that a recipe of the owner produces.
+RECEIPTS = f"""
+SELECT l.owner, m.mkey, l.lot, l.material, m.day
+FROM moves AS m JOIN lots AS l ON l.owner = m.lot_owner AND l.lot = m.lot
+WHERE m.kind = {Kind.RECEIVE:d} AND (l.owner, l.material) IN (
+  SELECT owner, material FROM requirements WHERE source = owner AND role = {Role.PRODUCED:d})
+ORDER BY m.rowid
+"""
+CARRIED = "SELECT owner, mkey FROM carried_moves"
+
+
+@dataclass(frozen=True)
+class Suspect:
+    """A receipt into a new lot of a material that batches make, without a link to what it was."""
+
+    owner: str
+    key: str
+    lot: str
+    material: str
+    day: int
+
+    @property
+    def lot_id(self) -> LotId:
+        """The lot."""
+        return LotId(self.owner, self.lot)
+
+
+def suspects(base: Base, register: Register) -> list[Suspect]:
+    """The receipts into new lots of a material that batches make, without a link; the newest first. Those by which
+    stock came over from an earlier file are none."""
+    carried = set(base.execute(CARRIED)) if chain.came_from(base) else set()
+    settled = register.not_linked | carried
+    passed = {link.container for link in register.links}
+    first: dict[LotId, Suspect] = {}
+    for row in base.execute(RECEIPTS):
+        suspect = Suspect(*row)
+        first.setdefault(suspect.lot_id, suspect)
+        if (suspect.owner, suspect.key) in settled:
+            passed.add(suspect.lot_id)
+    return [suspect for lot, suspect in reversed(first.items()) if lot not in passed]

@@ -4,28 +4,15 @@ from collections.abc import Iterable
 
 from ..core.failure import WRONG_USE, Failure, printable
 from ..core.forms import MOST_VALUE, Form
-from ..core.table import Shown, counted
+from ..core.table import GROUP as GROUP
+from ..core.table import as_measured as as_measured
+from ..core.table import counted
 
 MOST_DECIMALS = 9
 MOST_QUOTED = 40  # letters of a text that is no value
-GROUP = ","  # between thousands, as people read a number
 MEASURED = re.compile(r"(-|M)?([0-9]+)(?:\.([0-9]+))?")
 NUMBER = re.compile(r"M?[0-9]+")
 WITH_COMMA = re.compile(r"(-|M)?[0-9]+,[0-9]+")
-
-
-def as_measured(value: int, decimals: int = 0, group: str = "") -> str:
-    """A value of `toll` as it was measured: 702 with two decimals is 7.02. `group` stands between thousands."""
-    whole, part = divmod(abs(value), 10**decimals)
-    sign, behind = "-" if value < 0 else "", f".{part:0{decimals}}" if decimals else ""
-    return f"{sign}{whole:{group}}{behind}"
-
-
-def shown(value: int, decimals: int = 0, sign: str = "") -> int:
-    """A value of a list: the number, which people read as it was measured, `<` or `>` before it where it is a bound."""
-    if not decimals and not sign:
-        return value
-    return Shown(value, sign + as_measured(value, decimals, GROUP), sign + as_measured(value, decimals))
 
 
 def form_of(decimals: int) -> Form:

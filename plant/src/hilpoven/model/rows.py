@@ -1,15 +1,17 @@
-"""Rows of the office's tables with their types, and how they are read."""
+"""Rows of the office's tables with their types, how they are read, and the keys of movements."""
 import sqlite3
 from collections.abc import Iterable
 from dataclasses import dataclass
 from typing import Any, NamedTuple
 
 from .. import HOUSE
-from ..core.failure import REFUSED, Failure
+from ..core.failure import REFUSED, WRONG_USE, Failure
+from ..core.forms import name_fault
 from .nearest import nearest
 from .schema import INCOMING, ON_HAND, ORIGIN, REQUIREMENTS, STANDING, Disposition, Kind, State
 
 Base = sqlite3.Connection
+HAS_RESULT = "SELECT 1 FROM results WHERE owner = ? AND lot = ? AND test = ? AND value = ? AND day = ?"
 
 PLURALS = {"batch": "batches"}
 
@@ -66,11 +68,6 @@ class Move(NamedTuple):
     amount: int
     day: int
     is_void: bool
-
-    @property
-    def void(self) -> str | None:
-        """`void` if it was voided."""
-        return "void" if self.is_void else None
 
     @property
     def change(self) -> int:
@@ -141,7 +138,7 @@ def read_batches(base: Base, where: str, words: Any = ()) -> list[Batch]:
     ]
 
 
-def select(base: Base, lots: Iterable[LotId]) -> None:
+def want(base: Base, lots: Iterable[LotId]) -> None:
     """Has `temp.wanted` name these lots."""
     wanted = list(lots)
     base.execute(WANTED)
@@ -151,19 +148,19 @@ def select(base: Base, lots: Iterable[LotId]) -> None:
 
 def lots_of(base: Base, lots: Iterable[LotId]) -> dict[LotId, Lot]:
     """These lots, as they are now."""
-    select(base, lots)
+    want(base, lots)
     return {lot.id: lot for lot in read_lots(base, "(l.owner, l.lot) IN temp.wanted")}
 
 
 def moves_of(base: Base, lots: Iterable[LotId]) -> list[Move]:
     """All movements of these lots."""
-    select(base, lots)
+    want(base, lots)
     return read_moves(base, "(m.lot_owner, m.lot) IN temp.wanted")
 
 
 def sublots_of(base: Base, lots: Iterable[LotId]) -> dict[tuple[LotId, str], int]:
     """What each sublot of these lots holds."""
-    select(base, lots)
+    want(base, lots)
     sql = "SELECT owner, lot, sublot, amount FROM sublots WHERE (owner, lot) IN temp.wanted ORDER BY 1, 2, 3"
     return {(LotId(owner, lot), sublot): amount for owner, lot, sublot, amount in base.execute(sql)}
 
@@ -171,12 +168,6 @@ def sublots_of(base: Base, lots: Iterable[LotId]) -> dict[tuple[LotId, str], int
 def batches_of(base: Base, batches: Iterable[BatchId]) -> dict[BatchId, Batch]:
     """These batches, as they are now."""
     return {batch.id: batch for wanted in batches for batch in read_batches(base, OF_BATCH.format("b"), wanted)}
-
-
-def results_of(base: Base, lot: Lot) -> list[tuple[str, int, int]]:
-    """All results of a lot, by test and in the order in which they came: the test, the value, the day."""
-    sql = "SELECT test, value, day FROM results WHERE owner = ? AND lot = ? ORDER BY test, number"
-    return base.execute(sql, lot.id).fetchall()
 
 
 def requirements_of(base: Base, batch: Batch) -> list[tuple[int, str, str, str, int, int]]:
@@ -214,3 +205,32 @@ def row_of(base: Base, sql: str, words: tuple[str, ...], kind: str, names: str) 
         advice = nearest(words[-1], known, PLURALS.get(kind, f"{kind}s"))
         raise Failure(f"there is no {kind} {' '.join(words)}", REFUSED, advice)
     return tuple(row)
+
+
+# What keys begin with that a stock count makes, `hilpoven use`, and a workbook with opening stock.
+OF_COUNT, OF_USE, OF_OPENING = "COUNT-", "USE-", "OPEN-"
+BEGINNING = "SELECT mkey FROM moves WHERE owner = ? AND mkey GLOB ?"
+COLUMNS = "m.kind, m.lot_owner, m.lot, m.sublot, m.target, m.material, m.ord, m.number, m.segment, m.amount, m.day"
+SAME = f"""
+SELECT m.mkey FROM moves AS m WHERE m.owner = ? AND ({COLUMNS}) = ({', '.join('?' * len(COLUMNS.split(', ')))})
+AND {STANDING} ORDER BY m.rowid DESC
+"""
+
+
+def next_key(bases: Iterable[Base], owner: str, prefix: str) -> str:
+    """The next free key of an owner: the prefix with the number behind the greatest that there is in any file."""
+    keys = [key for base in bases for key, in base.execute(BEGINNING, (owner, f"{prefix}[0-9]*"))]
+    numbers = [int(rest) for rest in (key.removeprefix(prefix) for key in keys) if rest.isdecimal()]
+    key = f"{prefix}{max(numbers, default=0) + 1}"
+    if name_fault(key):
+        raise Failure(
+            f"{owner} has no next key: behind {prefix}{max(numbers)} there is none of 16 letters",
+            WRONG_USE,
+            "give a key by --key KEY, or set another key_prefix in the settings",
+        )
+    return key
+
+
+def keys_of_same(bases: Iterable[Base], owner: str, row: tuple[str | int, ...]) -> list[str]:
+    """The keys of an owner with which the same movement is recorded and not voided, the latest first."""
+    return [key for base in bases for key, in base.execute(SAME, (owner, *row))]

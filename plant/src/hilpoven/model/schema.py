@@ -3,9 +3,10 @@
 In these fragments `m` is a movement, `l` a lot, `b` a batch, `r` a result and `t` a test of a material.
 """
 from collections.abc import Iterable
-from enum import IntEnum
+from enum import Enum, IntEnum
 from typing import NoReturn
 
+from ..core.days import format_day
 from ..core.failure import Failure
 
 
@@ -73,6 +74,24 @@ class Disposition(Code):
     QUARANTINED = 0
     RELEASED = 1
     REJECTED = 2
+
+
+class QualityState(Enum):
+    """What the plant's quality says of a lot."""
+
+    UNSIGNED = "not signed by the plant"
+    SIGNED = "signed by the plant"
+    HELD = "held"
+
+
+def quality_text(state: str | None, day: int, reason: str | None) -> str | None:
+    """The same in words, as lists and papers show it, since which day or why; `None` where it says nothing."""
+    if not state:
+        return None
+    word = QualityState[state.upper()].value
+    if state == QualityState.SIGNED.name.lower():
+        return f"{word} on {format_day(day)}"
+    return f"{word}: {reason}" if reason else word
 
 
 # The commands that lead from each state to another one.

@@ -9,8 +9,8 @@ Of several notes of a thing the last one that says something counts, member by m
 import sqlite3
 
 from .register.file import Opened, memory
-from .register.store import Register
-from .schema import LATEST, ON_HAND, Kind
+from .register.standing import Register
+from .schema import LATEST, ON_HAND, STANDING, Kind
 
 Base = sqlite3.Connection
 LIMIT = 1  # the lower and the upper one of the plant's own test: its result 1 is a signature, and 0 a hold
@@ -94,11 +94,29 @@ LEFT JOIN register.judgement_note AS j ON p.test IS NULL AND j.note = (SELECT x.
     "lot": f"""
 SELECT l.*, m.measure, {ON_HAND} AS on_hand, {day('made')}, {day('expires')}, {day('retest')}
 FROM lots AS l LEFT JOIN materials AS m USING (owner, material)""",
-    # Movements with their party, the supplier's lot and their document.
+    # Movements with the material and the measure of their lot, their party, the supplier's lot and their document.
     "movement": f"""
-SELECT m.rowid AS rowid, m.*, {last_of('party', 'movement_note', OF_MOVEMENT)},
+SELECT m.rowid AS rowid, m.*, l.material AS of_material, k.measure, NOT {STANDING} AS is_void,
+  {last_of('party', 'movement_note', OF_MOVEMENT)},
   {last_of('supplier_lot', 'movement_note', OF_MOVEMENT)}, {last_of('document', 'movement_note', OF_MOVEMENT)}
-FROM moves AS m""",
+FROM moves AS m LEFT JOIN lots AS l ON l.owner = m.lot_owner AND l.lot = m.lot
+LEFT JOIN materials AS k ON k.owner = l.owner AND k.material = l.material""",
+    # Batches with their recipe.
+    "batch": "SELECT b.rowid AS rowid, b.*, o.recipe FROM batches AS b JOIN orders AS o USING (owner, ord)",
+    # Links from an owner's own lots or from HOUSE's, between lots that are there: a restored backup may be older than a
+    # note. Each once, in the place of its first note, with the measure of the lot that is contained.
+    "link": """
+SELECT min(k.note) AS note, k.rowid AS place, k.owner, k.lot, k.ord, k.number, k.of_owner, k.of_lot, k.why, k.amount,
+  k.reason, m.measure
+FROM register.link_note AS k JOIN lots AS c ON c.owner = k.of_owner AND c.lot = k.of_lot
+LEFT JOIN materials AS m ON m.owner = c.owner AND m.material = c.material
+WHERE k.of_owner IN (k.owner, 'HOUSE')
+AND (k.lot = '' OR EXISTS (SELECT 1 FROM lots AS l WHERE l.owner = k.owner AND l.lot = k.lot))
+GROUP BY k.owner, k.lot, k.ord, k.number, k.of_owner, k.of_lot, k.why, k.amount, k.reason""",
+    # Why commands were given, the same reason once.
+    "reason": """
+SELECT min(note) AS note, owner, command, reason, lot, mkey, ord, number FROM register.reason_note
+GROUP BY owner, command, reason, lot, mkey, ord, number""",
     # Parties, and how they are reached.
     "party": f"""
 SELECT p.owner, p.party, {last_of('name', 'party_note', OF_PARTY)}, {last_of('roles', 'party_note', OF_PARTY)},
@@ -106,8 +124,7 @@ SELECT p.owner, p.party, {last_of('name', 'party_note', OF_PARTY)}, {last_of('ro
 FROM (SELECT DISTINCT owner, party FROM register.party_note) AS p""",
     # Shipments with who got each.
     "shipment": f"""
-SELECT m.*, EXISTS (SELECT 1 FROM voids AS v WHERE v.owner = m.owner AND v.mkey = m.mkey) AS is_void,
-  {', '.join(f"coalesce(p.{member}, '') AS {member}" for member in ('name', 'contact', 'phone', 'address'))}
+SELECT m.*, {', '.join(f"coalesce(p.{member}, '') AS {member}" for member in ('name', 'contact', 'phone', 'address'))}
 FROM temp.movement AS m LEFT JOIN temp.party AS p ON p.owner = m.owner AND p.party = m.party
 WHERE m.kind = {Kind.SHIP:d}""",
 }

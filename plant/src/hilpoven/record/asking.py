@@ -7,11 +7,10 @@ from ..core import lock, meanings
 from ..core.context import Context
 from ..core.failure import WRONG_USE, Failure, printable
 from ..core.grammar import OWNER_ADD, Line, faults, unsayable, written
-from ..core.journal.log import Journal
-from ..core.names import earlier_files
+from ..core.journal.log import BLOTTED, Journal
+from ..core.office import earlier_files
 from ..core.office import Answer, Office
 
-BLOTTED = "********"  # in place of a key
 TRACES = ("recall", "trace")  # the questions to which links add lots
 TAKES = ("ship", "actual")  # the commands by which a lot leaves, or is consumed
 
@@ -25,22 +24,6 @@ class Beside(NamedTuple):
     is_use: bool = False
 
 
-class Typed(NamedTuple):
-    """The words of a line as they are given to `toll`, and what was given beside them."""
-
-    words: list[str]
-    given: dict[str, Any]
-
-
-class Read(NamedTuple):
-    """A line before it is given: its words as `toll` gets them, which of them are read otherwise than they were typed,
-    and what is wrong with them."""
-
-    words: list[str]
-    notes: list[str]
-    wrong: list[str]
-
-
 class Given(NamedTuple):
     """A line as it was given to `toll`: its words, what is wrong with them, what is told once it is accepted, and the
     answer."""
@@ -51,24 +34,23 @@ class Given(NamedTuple):
     answer: Answer
 
 
-MakeBeside = Callable[[Context, dict[str, str]], Beside]
+MakeBeside = Callable[[dict[str, str]], Beside]  # of the values of a line, by their names
 
 
-def read(line: Line, typed: list[str]) -> Read:
-    """The words of a line as `toll` gets them."""
+def give(context: Context, line: Line, typed: list[str], beside: MakeBeside | None = None) -> Given:
+    """Gives a line to `toll`, and tells which words are read otherwise than they were typed. What is noted beside it is
+    made of its values, where all can be read."""
     words, notes = written(line, typed)
-    return Read(words, notes, faults(line, words))
-
-
-def give(context: Context, line: Line, read: Read, beside: MakeBeside | None = None) -> Given:
-    """Gives a line to `toll`. What is noted beside it is made of its values, where all can be read."""
-    if unsayable(read.words):
-        advice = "\n".join(read.wrong) or f"{unsayable(read.words)[0]!r} is a word of no line"
+    for note in notes:
+        context.tell(note)
+    wrong = faults(line, words)
+    if unsayable(words):
+        advice = "\n".join(wrong) or f"{unsayable(words)[0]!r} is a word of no line"
         raise Failure(f"{line.name} can't be asked so", WRONG_USE, advice)
-    office, values = context.office(), dict(zip(line.values, read.words))
-    noted = Beside() if read.wrong or beside is None else beside(context, values)
-    answer = asked(context, office, line, read.words, is_use=noted.is_use, **noted.members)
-    return Given(read.words, read.wrong, noted.hint, answer)
+    office, values = context.office(), dict(zip(line.values, words))
+    noted = Beside() if wrong or beside is None else beside(values)
+    answer = asked(context, office, line, words, is_use=noted.is_use, **noted.members)
+    return Given(words, wrong, noted.hint, answer)
 
 
 def below(context: Context, line: Line, given: Given) -> list[str]:

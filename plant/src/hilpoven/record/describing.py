@@ -1,22 +1,21 @@
 """What is looked at before the plant describes something, or reads a value of a test as it was measured."""
 import sqlite3
+from collections.abc import Mapping
 
 from ..core.failure import REFUSED, Failure
 from ..core.forms import MOST_VALUE, VALUE
 from ..model.nearest import nearest
 from ..core.journal.log import Journal
-from ..model.descriptions import facts_of_test
+from ..model.quality import facts_of_test
 from ..core.table import counted
 from ..model.measures import GROUP, as_measured, decimals_in, limits_text, value_word, whole_of
-from ..model.rows import LotId, require_lot, require_owner, row_of
+from ..model.rows import HAS_RESULT, LotId, require_lot, require_owner, row_of
 from ..model.schema import Role
 from ..model.register import lines
 from ..model.register.file import Notes
-from ..model.notes.facts import LotFacts, ResultFacts, ResultId, TestFacts, joined
-from ..model.notes.kinds import Bound, split_sign
-from ..model.notes.note import Note
-from ..model.register.faults import HAS_RESULT
-from ..model.register.store import Register
+from ..model.notes import LotFacts, Note, ResultFacts, ResultId, TestFacts, joined
+from ..model.kinds import Bound, split_sign
+from ..model.register.standing import Register
 
 Base = sqlite3.Connection
 MATERIAL = "SELECT measure FROM materials WHERE owner = ? AND material = ?"
@@ -29,6 +28,7 @@ SELECT DISTINCT material FROM requirements WHERE owner = ? AND recipe = ? AND ro
 LIMITS = "SELECT low, high FROM tests WHERE owner = ? AND material = ? AND test = ?"
 TESTS = "SELECT test FROM tests WHERE owner = ? AND material = ?"
 MATERIAL_OF = "SELECT material FROM lots WHERE owner = ? AND lot = ?"
+NO_DAY = -1  # which no result has
 VALUES = """
 SELECT r.value FROM results AS r JOIN lots AS l USING (owner, lot)
 WHERE r.owner = ? AND l.material = ? AND r.test = ? ORDER BY r.rowid
@@ -135,6 +135,14 @@ def test_of_lot(base: Base, register: Register, owner: str, lot: str, test: str)
     if row is None or not base.execute(LIMITS, (owner, row[0], test)).fetchone():
         return None
     return facts_of_test(register, owner, row[0], test)
+
+
+def decimals_of(base: Base, register: Register, values: Mapping[str, str]) -> int:
+    """How many decimals are noted of a test, which is that of a lot or of a material; 0 if none are."""
+    if "LOT" in values:
+        facts = test_of_lot(base, register, values["OWNER"], values["LOT"], values["TEST"])
+        return facts.decimals if facts else 0
+    return facts_of_test(register, values["OWNER"], values["MATERIAL"], values["TEST"]).decimals
 
 
 def require_test_of_lot(base: Base, register: Register, owner: str, lot: str, test: str) -> TestFacts:

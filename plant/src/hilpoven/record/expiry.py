@@ -6,9 +6,8 @@ from ..core.settings import REFUSE
 from ..core.days import date_of, format_day
 from ..model.rows import LotId
 from . import making
-from ..model.notes.facts import LotFacts
-
-HAS_KEY = "SELECT 1 FROM moves WHERE owner = ? AND mkey = ?"
+from ..model.notes import LotFacts
+from ..model.years.earlier import MOVE
 
 
 def last_day(facts: LotFacts) -> int | None:
@@ -35,7 +34,7 @@ def warning(desk: making.Desk, setting: str, lot: LotId, movement: Mapping[str, 
     """What is told of a lot from which a movement takes past its day; empty if it doesn't. Fails where the settings
     refuse that, unless the movement is recorded already."""
     fault = past_day(desk.register.lots.get(lot), int(movement["DAY"]))
-    if fault and setting == REFUSE and not desk.has(HAS_KEY, movement["OWNER"], movement["KEY"]):
+    if fault and setting == REFUSE and not desk.has(MOVE, movement["OWNER"], movement["KEY"]):
         raise Failure(f"{fault}, and the settings refuse it", REFUSED, advice_of(lot))
     return f"{fault[0].upper()}{fault[1:]}, as the plant noted." if fault else ""
 

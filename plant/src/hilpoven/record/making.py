@@ -1,6 +1,7 @@
 """How a note is made: what it names is there, and it stands in a line of the journal."""
 import contextlib
 import functools
+import json
 import sqlite3
 from collections.abc import Iterator, Sequence
 from dataclasses import dataclass
@@ -9,7 +10,8 @@ from typing import Any
 from .. import HOUSE
 from ..core import snapshot
 from ..core.context import Context
-from ..core.failure import REFUSED, Failure
+from ..core.failure import REFUSED, WRONG_USE, Failure, printable
+from ..core.forms import MOST_TOLD, TEXT
 from ..model.nearest import nearest
 from ..core.office import Office
 from ..core.journal.log import Journal
@@ -17,16 +19,12 @@ from ..model.rows import BatchId, LotId, read_moves, require_owner
 from ..model.schema import STANDING, Kind
 from ..model.years import chain, earlier
 from ..model.register.file import Notes
-from ..model.register.noted import AFTER
-from ..model.notes.movements import GETS, RETURNS, SENDS, Parties, Task, require_party
-from ..model.notes.facts import MovementFacts
-from ..model.register.meant import MEANT
-from ..model.register.named_rows import RowReader
-from ..model.notes.notes import Corrects, Link, Note, Why, to_json
-from ..model.register.faults import HAS_BATCH, HAS_LOT
-from ..model.register.standing import kept, statuses
+from ..model.register.noted import AFTER, from_json, to_json
+from ..model.notes import GETS, RETURNS, SENDS, Corrects, Link, MovementFacts, Note, Parties, Task, require_party
+from ..model.register.meant import HAS_BATCH, HAS_LOT, MEANT, RowReader
+from ..model.kinds import Why
+from ..model.register.standing import Register, kept, statuses
 from ..model.register.tables import storable, subject_of
-from ..model.register.store import Register
 
 Base = sqlite3.Connection
 HAS_RECEIPT = f"SELECT 1 FROM moves WHERE owner = ? AND mkey = ? AND kind = {Kind.RECEIVE:d}"
@@ -127,6 +125,8 @@ class Desk:
     def all_members(self, notes: Sequence[Note]) -> dict[str, Any]:
         """What stands in the line of the journal that has these notes: also the rows that they mean, so that they are
         about no later rows of the same names."""
+        for note in notes:
+            require_readable(note)
         meant = [self.rows.rows(note) for note in notes]
         return {
             "notes": [to_json(note) for note in notes],
@@ -207,6 +207,15 @@ class Desk:
     def record(self, words: list[str], *notes: Note) -> str:
         """Adds notes to the journal; the name of the first one."""
         return self.journal.note(self.office.file, words, **self.all_members(notes))
+
+
+def require_readable(note: Note) -> None:
+    """Fails if a note says what its reader wouldn't take, such as a text with a line end, whoever made it."""
+    for name, member in vars(note).items():
+        if isinstance(member, str) and (fault := TEXT.fault(member)):
+            raise Failure(f"{name}: `{printable(member[:MOST_TOLD])}` {fault}", WRONG_USE)
+    if from_json(json.loads(json.dumps(to_json(note)))) is None:
+        raise Failure(f"a note can't be so: {printable(note.sentence)}", WRONG_USE)
 
 
 def plant_moves(base: Base) -> str:

@@ -3,15 +3,15 @@ import contextlib
 import os
 import socket
 import sqlite3
-from collections.abc import Iterator
+from collections.abc import Iterator, Sequence
 from dataclasses import dataclass
 from typing import Any, NamedTuple
 
 from ..core import client, meanings, rights, server, snapshot
 from ..core.context import Context
-from ..core.failure import FAULT, REFUSED, Failure
+from ..core.failure import FAULT, REFUSED, WRONG_USE, Failure
 from ..core.forms import secret_fault
-from ..core.grammar import LINES, Line
+from ..core.grammar import LINES, Line, faults
 from ..care.keys import Key
 from ..model.nearest import nearest
 from ..core.office import Answer, Office
@@ -64,13 +64,17 @@ class Done(NamedTuple):
 
     @property
     def remark(self) -> str:
-        """What a reader of an accepted request has to know."""
+        """What a reader of an accepted request has to know: that an order is cancelled."""
         is_cancelled = "recipe" in self.body and self.body.get("status") == "cancelled"
         return "The order is cancelled, so nobody makes it." if is_cancelled else ""
 
 
-def ask(context: Context, office: Office, request: Request, said_by: str) -> Done:
-    """What the office answers to an owner's request, which stands in the journal with who asked the plant for it."""
+def ask(context: Context, owner: str, name: str, values: Sequence[str], said_by: str) -> Done:
+    """What the office answers to an owner's request, by the line of HOUSE's that owners have too and its values, which
+    stands in the journal with who asked the plant for it."""
+    if wrong := faults(line_of_owner(name), [owner, *values]):
+        raise Failure(f"{name} can't be asked so", WRONG_USE, "\n".join(wrong))
+    office, request = context.office(), Request(owner, LINES[name], tuple(values))
     with snapshot.opened(office) as base:
         key = key_of(base, request.owner)
         is_there = request.line.name == "order" and base.execute(ORDER, (request.owner, *request.values)).fetchone()

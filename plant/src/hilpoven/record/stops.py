@@ -17,7 +17,7 @@ from ..model import quality
 from ..model.register import lines
 from ..model.register.file import Notes
 from ..model.register.standing import register_of
-from ..model.notes.notes import Held, Signed
+from ..model.notes import Held, Signed
 
 TAKEN = f"SELECT owner, mkey, {MOVE_COLUMNS} FROM moves AS m WHERE m.lot_owner = ? AND m.lot = ? AND {IS_OUTGOING}"
 # A test of a lot that has the name of the plant's own and other limits.
@@ -88,7 +88,7 @@ class Stops:
             status = quality.statuses(base, register_of(self.context, base), lot).get(lot)
             known = base.execute(MOVE, (values["OWNER"], values["KEY"])).fetchone()
         is_recorded = movement is not None and known == movement[2:]
-        if is_recorded or status is None or status.state != quality.State.HELD:
+        if is_recorded or status is None or status.state != quality.QualityState.HELD:
             return ""
         return f"lot {lot} is {status.text}; `hilpoven sign {lot.owner} {lot.name}` lets it be used"
 

@@ -1,11 +1,13 @@
-"""Columns of tables: what each says, as SQL over the views, and how its value is made of what that gives."""
-from collections.abc import Callable, Mapping, Sequence
+"""Columns of tables: what each is called, what is in it, its SQL over the views, and how its value is made of that."""
+import re
+from collections.abc import Callable
 from typing import Any, NamedTuple
 
-from ..core.table import Row, Value
-from ..model.measures import shown
-from ..model.quality import State, Status
-from ..model.rows import Base
+from ..core.days import format_day
+from ..core.table import Shown, Value, shown
+
+FORM = re.compile(r"(?:(\w+)\.)?(\w+)(?:=([\w%]+))?(?::(\w+))?(?:@(\w+))?(\?(\w*))?")
+NOTED = "noted_"  # what the names of columns begin with that have what the plant noted
 
 
 def as_given(value: Value) -> Value:
@@ -14,49 +16,48 @@ def as_given(value: Value) -> Value:
 
 
 class Column(NamedTuple):
-    """A column: its SQL, an expression for each value that it is made of, and how. Of a group, which says what is
-    noted, all columns stand in a table if one of them says something in some row."""
+    """A column: its name for programs, its head on paper, and what is in it: a `name`, a `number`, a `day`, a `word` of
+    a disposition, or `text`. On paper it may be `beside` the column before it, or `beneath` it. Its SQL has an
+    expression for each value that it is made of. Of a group all columns stand in a table if one of them says something.
+    """
 
-    sql: tuple[str, ...]
+    name: str
+    title: str
+    kind: str = "name"
+    place: str = ""
+    sql: tuple[str, ...] = ()
     value: Callable[..., Value] = as_given
     group: str = ""
 
+    def as_text(self, value: Value) -> str:
+        """A value as it is on paper."""
+        if value is None or isinstance(value, str):
+            return value or ""
+        if isinstance(value, Shown):
+            return value.text
+        return format_day(value) if self.kind == "day" else f"{value:,}"
 
-def noted(columns: dict[str, str]) -> dict[str, Column]:
-    """Columns of a group, which its first one names, each with its SQL by its name."""
-    group = next(iter(columns))
-    return {f"noted_{name}": Column((sql,), group=group) for name, sql in columns.items()}
+
+Sql = str | tuple[Any, ...]  # the SQL of a column, or its expressions with what makes its value of them behind
 
 
-def measured(value: str, decimals: str, sign: str = "''") -> Column:
+def columns(text: str, **sql: Sql) -> list[Column]:
+    """Columns by their names, each with the table that it is of, `m.owner`, another head, `lot=of_lot`, a kind,
+    `day:day`, a place, `measure@beside`, or its group, `unit?noted`; `?` alone is a group of one. The SQL of a column
+    is its name, unless it is given."""
+    listed = []
+    for word in text.split():
+        match = FORM.fullmatch(word)
+        assert match, word
+        table, name, title, kind, place, is_grouped, group = match.groups()
+        of = sql.get(name, f"{table}.{name}" if table else name)
+        *expressions, value = of if isinstance(of, tuple) else (of, as_given)
+        head = (title or name).replace("_", " ")
+        grouped = (group or name) if is_grouped else ""
+        listed.append(Column(name, head, kind or "name", place or "", tuple(expressions), value, grouped))
+    return listed
+
+
+def measured(value: str, decimals: str = "decimals", sign: str = "''") -> Sql:
     """A value of a test, of which 702 with two decimals is 7.02."""
-    return Column((value, decimals, sign), shown_as_measured)
-
-
-def shown_as_measured(value: int | None, decimals: int | None, sign: str | None) -> int | None:
-    """A value as it was measured; `None` without one."""
-    return None if value is None else shown(value, decimals or 0, sign or "")
-
-
-def quality(state: str | None, day: int, reason: str | None) -> str | None:
-    """What the plant's quality says of a lot, in words."""
-    return Status(State[state.upper()], day, reason or "").text if state else None
-
-
-def select(base: Base, columns: Mapping[str, Column], behind: str, words: Any = ()) -> tuple[list[str], list[Row]]:
-    """The names and the rows of a table, of which `behind` says where it comes from, with its conditions and its
-    order."""
-    expressions = ", ".join(sql for column in columns.values() for sql in column.sql)
-    rows = [row_of(list(columns.values()), row) for row in base.execute(f"SELECT {expressions} {behind}", words)]
-    groups = {
-        column.group for at, column in enumerate(columns.values()) if column.group and any(row[at] for row in rows)
-    }
-    kept = [at for at, column in enumerate(columns.values()) if not column.group or column.group in groups]
-    names = list(columns)
-    return [names[at] for at in kept], [[row[at] for at in kept] for row in rows]
-
-
-def row_of(columns: Sequence[Column], values: Sequence[Value]) -> Row:
-    """The cells of a row, each made of as many values as its column has."""
-    rest = iter(values)
-    return [column.value(*(next(rest) for _ in column.sql)) for column in columns]
+    return value, decimals, sign, shown

@@ -5,7 +5,7 @@ from typing import Any
 from ..core.failure import Failure
 from ..core.journal import query, sitelog
 from ..core.journal.query import listed, sheet_keys, who
-from ..model.notes.notes import from_json
+from ..model.register.noted import from_json
 
 COLUMNS = ["time", "who", "where", "what", "answer"]
 UNKNOWN = "asked, answer unknown"

@@ -15,7 +15,7 @@ from ...core import settings as site
 from ...core.failure import WRONG_USE, Failure
 
 PAGES = (f"{site.CHECKOUT}/page", f"{site.CHECKOUT}/toll/page", "/usr/share/toll/page")  # of a clone, or installed
-CONTRACT = ("openapi.yaml", "http.md", "commands.md", "refusals.md")  # beside the page, where it is installed
+CONTRACT = ("openapi.yaml", "http.md", "commands.md")  # beside the page, where it is installed
 NO_PART_OF_THE_PAGE = ("tests", "package.json")
 POLICY = "; ".join(
     (

@@ -16,7 +16,9 @@ from .machine import Machine
 from .plan import Plan
 from .site import site_of
 
-ABOUT_HILPOVEN = '# The settings of hilpoven. What can stand here: /usr/share/doc/toll/docs/hilpoven.md, "Settings".\n'
+ABOUT_HILPOVEN = (
+    '# The settings of hilpoven. What can stand here: /usr/share/doc/toll/docs/administration.md, "Settings".\n'
+)
 ABOUT_SETTINGS = '# What else can stand here: /usr/share/doc/toll/docs/operations.md, "As a service".\n'
 IS = ("is-enabled", "is-active")
 OPTIONAL = ("toll-companion@{name}.timer",)  # units of later packages

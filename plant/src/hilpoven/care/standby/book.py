@@ -1,24 +1,98 @@
 """The chain that a follower writes: what its next piece follows, and what it has of the journal and earlier files."""
+import hashlib
 import os
 import shutil
+from collections.abc import Callable
 from contextlib import AbstractContextManager
 from dataclasses import dataclass, field
 from datetime import datetime, timezone
 
-from ...core import files, names
+from ...core import files
 from ...core.failure import Failure
-from . import chain, lines, piece
-from .capture import Digests, Place
+from ...core.files import PART
+from ...core.office import earlier_files
+from . import chain, piece
+from .capture import Digests, Place, opened
 from .chain import Chain
-from .lines import Taken
 from .piece import NOTHING, SNAPSHOT, Header, Writer
 
 DAY = len("2026-11-29")
+KNOWN_BY = 4_096  # bytes, by whose SHA-256 a journal is known again
+EMPTY = hashlib.sha256().hexdigest()
 
 
 def now() -> str:
     """The time in UTC."""
     return datetime.now(timezone.utc).isoformat(timespec="milliseconds").replace("+00:00", "Z")
+
+
+# The journal's lines that a piece takes along
+
+
+@dataclass(frozen=True)
+class Taken:
+    """How far a journal was taken: its bytes, and the SHA-256 of the last of them."""
+
+    to: int = 0
+    hash: str = EMPTY
+
+
+@dataclass(frozen=True)
+class Lines:
+    """Whole lines of a journal, from a place to a place."""
+
+    path: str
+    start: int
+    end: int
+
+    @property
+    def count(self) -> int:
+        """How many bytes there are."""
+        return self.end - self.start
+
+    def copy(self, write: Callable[[bytes], None]) -> None:
+        """Writes them, in parts."""
+        with opened(self.path) as journal:
+            at = self.start
+            while journal is not None and at < self.end and (part := os.pread(journal, min(PART, self.end - at), at)):
+                write(part)
+                at += len(part)
+        if at < self.end:
+            raise OSError(0, "it became shorter meanwhile", self.path)
+
+    @property
+    def taken(self) -> Taken:
+        """How far the journal is taken with them."""
+        with opened(self.path) as journal:
+            return Taken(self.end, hash_before(journal, self.end)) if journal is not None else Taken()
+
+
+def hash_before(journal: int, end: int) -> str:
+    """The SHA-256 of the last bytes before a place."""
+    return hashlib.sha256(os.pread(journal, min(KNOWN_BY, end), max(0, end - KNOWN_BY))).hexdigest()
+
+
+def behind(path: str, taken: Taken) -> Lines:
+    """The lines behind those that were taken; all lines, from 0, if the journal is another one than it was. Of a line
+    that is being written nothing is taken."""
+    start = end = taken.to
+    with opened(path) as journal:
+        if journal is not None:
+            end = end_of_lines(journal)
+            start = taken.to if taken.to <= end and hash_before(journal, taken.to) == taken.hash else 0
+    return Lines(path, start, end)
+
+
+def end_of_lines(journal: int) -> int:
+    """Where the last whole line ends."""
+    end = os.fstat(journal).st_size
+    while end:
+        start = max(0, end - PART)
+        at = os.pread(journal, end - start, start).rfind(b"\n")
+        if at >= 0:
+            return start + at + 1
+        end = start
+    return 0
 
 
 @dataclass
@@ -78,7 +152,7 @@ class Book:
     def finish(self, new_piece: Writer, place: Place, page_size: int, size: int) -> Header:
         """Adds the journal's new lines, all of them to a snapshot, and the header, and gives a piece its name."""
         is_snapshot = new_piece.kind == SNAPSHOT
-        new = lines.behind(self.journal, Taken() if is_snapshot else self.taken)
+        new = behind(self.journal, Taken() if is_snapshot else self.taken)
         new.copy(new_piece.lines)
         if is_snapshot or self.needs_earlier:
             new_piece.name_earlier(self.earlier)
@@ -112,7 +186,7 @@ class Book:
 
     def collect_earlier(self) -> None:
         """Copies the office's earlier files into the folder, each once, by its SHA-256."""
-        digests = {path: files.hash_of(path) for path in names.earlier_files(self.file)}
+        digests = {path: files.hash_of(path) for path in earlier_files(self.file)}
         for path, digest in digests.items():
             target = chain.earlier_path(self.folder, digest)
             if not os.path.exists(target):

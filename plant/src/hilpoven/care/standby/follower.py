@@ -6,9 +6,10 @@ from collections.abc import Callable
 from dataclasses import dataclass, field
 from functools import cached_property
 
-from ...core import files, timeline
+from ...core import files, paths, scratch, timeline
+from ...core.context import Context
 from ...core.failure import FAULT, REFUSED, Failure
-from . import capture, chain, lines
+from . import book, capture, chain, remote, state
 from .book import Book
 from .capture import Digests, Gap, Place, Scan, Watch
 from .chain import Chain
@@ -98,7 +99,7 @@ class Follower:
 
     def write_pending(self) -> None:
         """Makes a piece of what is new in the log and the journal, if anything is."""
-        last, new = self.book.last, lines.behind(self.book.journal, self.book.taken)
+        last, new = self.book.last, book.behind(self.book.journal, self.book.taken)
         if self.watch is None or last is None or not (self.pending.commits or new.count):
             return
         size = self.pending.size or last.size
@@ -264,3 +265,53 @@ def own_chains(book: Book) -> list[Chain]:
         if (office := chain.office_of(own_chain)) not in ("", book.office):
             raise Failure(f"{book.folder} has pieces of {office}", REFUSED, "each office needs a folder of its own")
     return [candidate for candidate in own if candidate.snapshots]
+
+
+# How a follower begins
+
+
+def follow(context: Context, tell: Callable[[str], None]) -> None:
+    """Follows an office to the target of its settings, alone in the folder of its pieces, until a signal ends it.
+    `tell` writes a line for the operator."""
+    folder, settings, file = folder_of(context), context.settings.follow, context.file
+    if not os.path.lexists(folder) and os.path.isdir(os.path.dirname(folder)):
+        try:
+            os.mkdir(folder, 0o700)
+        except OSError as error:
+            raise Failure(f"{folder} can't be made: {error.strerror}") from error
+    folder, own = paths.private(folder), timeline.number_of(file)
+    try:
+        with scratch.held(folder):
+            office = f"{os.uname().nodename}:{file}"
+            book = Book(folder, file, context.journal().path, office, own, settings.reserve * 1_000_000)
+            sender = None
+            if remote.is_remote(settings.to):
+                target = remote.Remote(settings.to, remote.keeping_connected(settings.rsh, folder))
+                sender = Sender(target, folder, file, own, settings.days, tell)
+            tell(f"follows {file}, of timeline {own}, to {settings.to}")
+            Follower(file, context.settings.wait, book, settings.days, tell, sender).run()
+    except BlockingIOError:
+        raise Failure(f"another follower writes into {folder}", REFUSED) from None
+
+
+def folder_of(context: Context) -> str:
+    """The folder of this machine that has an office's pieces."""
+    return state.folder_of(context.file, context.settings.follow.to)
+
+
+def require_latest(context: Context, tell: Callable[[str], None]) -> str:
+    """Fails if the target was promoted; otherwise which timeline is the latest. A target that can't be asked is told
+    alone."""
+    target, own = context.settings.follow.to, timeline.number_of(context.file)
+    if remote.is_remote(target):
+        try:
+            names = [file.name for file in remote.Remote(target, context.settings.follow.rsh).listed()]
+        except Failure as failure:
+            if failure.exit_code != FAULT:
+                raise
+            tell(f"hilpoven: {failure.message}")
+            return ""
+        chain.require_own(context.file, own, target, names)
+    if os.path.isdir(folder := folder_of(context)):
+        chain.require_own(context.file, own, folder, list(chain.names_in(folder)))
+    return f"{context.file} is of timeline {own}, the latest that {target} has"

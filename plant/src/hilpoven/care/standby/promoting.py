@@ -2,16 +2,16 @@
 import contextlib
 import os
 from dataclasses import dataclass, field
+from enum import auto, Enum
 
-from .. import backups, keys
 from ...core import files, lock, paths, scratch, snapshot, timeline
 from ...core.failure import REFUSED, Failure
-from ...core.names import number_of
-from ...core.office import Answer, Office
-from ...core.server import Place
 from ...core.journal import query
 from ...core.journal.log import MADE_AT, Journal
-from . import chain, journals, piece
+from ...core.office import number_of, Answer, Office
+from ...core.server import Place
+from .. import backups, keys
+from . import chain, piece
 from .chain import Built, Chain, Report
 from .piece import Header
 
@@ -99,13 +99,13 @@ def put(
 ) -> Made:
     """Puts the office and the lines of the journal that pieces gave in place, under the lock. The folder is marked
     before the file has its name, so that no two offices go on."""
-    beside = journals.compared(journal.path, lines, built.journal)
+    beside = compared(journal.path, lines, built.journal)
     number = 1 + max(choice.chain.timeline, timeline.number_of(office.file), timeline.latest(os.listdir(folder)))
     present = office.file if beside.is_newer else ""
     kept = keys.keep(built.file, present, beside.longer, beside.point, beside.changed_keys)
     origin = {"chain": choice.chain.name, "piece": choice.end, "at": built.last.at, "sha256": files.hash_of(built.file)}
     notes = [*beside.lines, *kept.lines]
-    aside = journals.go_on(journal, beside)
+    aside = go_on(journal, beside)
     words = ["promote", *(["--until", str(until)] if until is not None else []), built.last.name]
     members = {"sha256": origin["sha256"], "timeline": number, MADE_AT: built.last.at}
     with journal.noted(office.file, words, **members) as note:
@@ -181,3 +181,94 @@ def is_copied(source: str, target: str, digest: str) -> bool:
             files.copy(source, target)
             return files.hash_of(target) == digest
     return False
+
+
+class Relation(Enum):
+    """What a journal that is in place is to the lines of pieces."""
+
+    NONE = auto()  # there is no journal
+    OLDER = auto()  # the lines go on with it
+    NEWER = auto()  # it goes on with the lines
+    ANOTHER = auto()  # each has lines behind those that both have
+
+
+@dataclass(frozen=True)
+class Beside:
+    """A journal that is in place, the lines of pieces, and how much of them the office has that is made."""
+
+    relation: Relation
+    path: str
+    size: int  # bytes of the journal in place
+    pieces: str  # the file with the lines of pieces
+    point: int  # bytes of them up to the office
+    changed_keys: frozenset[str] = frozenset()  # whose keys only lines say that are moved aside
+
+    @property
+    def is_newer(self) -> bool:
+        """Whether the file that is in place is newer than all pieces."""
+        return self.relation is Relation.NEWER
+
+    @property
+    def is_another(self) -> bool:
+        """Whether the journal in place is moved aside."""
+        return self.relation is Relation.ANOTHER
+
+    @property
+    def longer(self) -> str:
+        """Of the journal in place and the lines of pieces, the one that goes on."""
+        return self.path if self.is_newer else self.pieces
+
+    @property
+    def lines(self) -> list[str]:
+        """What is told of lines that the office doesn't have."""
+        behind = sum(1 for _ in query.lines_behind(self.longer, self.point))
+        stay = f"the journal keeps {behind:,} lines behind that piece, and the office has nothing of what they say"
+        moved = "the journal that was here has lines that pieces don't have, and is moved aside"
+        return [*([stay] if behind else []), *([moved] if self.is_another else [])]
+
+
+def compared(path: str, pieces: str, of_office: str) -> Beside:
+    """A journal that is in place, beside the lines of pieces and those of them that an office has."""
+    point, size, changed = os.path.getsize(of_office), files.size_of(path), frozenset[str]()
+    same = query.common(path, pieces)
+    if not os.path.lexists(path):
+        relation = Relation.NONE
+    elif same == os.path.getsize(pieces):
+        relation = Relation.NEWER
+    elif same == size or is_cut(path, pieces, same):
+        relation = Relation.OLDER
+    else:
+        relation, changed = Relation.ANOTHER, frozenset(keys.changed(path, same) - keys.changed(pieces, same))
+    return Beside(relation, path, size, pieces, point, changed)
+
+
+def is_cut(path: str, longer: str, at: int) -> bool:
+    """Whether all that a journal has behind a place is the front of a line that another one has there."""
+    with open(path, "rb") as journal, open(longer, "rb") as lines:
+        journal.seek(at)
+        lines.seek(at)
+        rest = journal.read(files.PART)
+        return lines.readline().startswith(rest)
+
+
+def go_on(journal: Journal, beside: Beside) -> str:
+    """Has the office's journal go on with the lines of pieces that it lacks, and moves the office's file aside; the
+    folder where it is now. A journal that was written meanwhile fails before that. Behind a kill, the same goes on."""
+    if beside.relation is Relation.OLDER:
+        add_lines(journal, beside)
+    aside = backups.move_aside(journal.file, *([journal.path] if beside.is_another else []))
+    if beside.relation in (Relation.NONE, Relation.ANOTHER):
+        files.put_in_place(beside.pieces, journal.path)
+    journal.move(journal.file)
+    return aside
+
+
+def add_lines(journal: Journal, beside: Beside) -> None:
+    """Adds the lines of pieces that an older journal lacks, under its lock."""
+    with journal.locked() as descriptor, open(beside.pieces, "rb") as lines:
+        if os.fstat(descriptor).st_size != beside.size:
+            raise Failure(f"the journal {journal.path} was written meanwhile", advice="give the command again")
+        lines.seek(beside.size)
+        while part := lines.read(files.PART):
+            os.write(descriptor, part)
+        os.fsync(descriptor)

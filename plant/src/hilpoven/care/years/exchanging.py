@@ -11,9 +11,9 @@ from collections.abc import Iterable
 from dataclasses import dataclass
 
 from .. import backups
-from ...core import files, names, scratch, snapshot
+from ...core import files, scratch, snapshot
 from ...core.failure import Failure
-from ...core.office import Office
+from ...core.office import Office, earlier_files, number_of
 from ...core.server import Place
 from ...core.journal.log import now
 from ...model.years import chain
@@ -121,7 +121,7 @@ def is_left(file: str, path: str) -> bool:
     try:
         with chain.reading(path) as base:
             row = chain.came_from(base)
-            is_from_this = row is not None and names.number_of(file, row.file) > 0
+            is_from_this = row is not None and number_of(file, row.file) > 0
             return is_from_this and not base.execute(chain.RECORDED).fetchone()
     except (Failure, sqlite3.Error):
         return False
@@ -130,7 +130,7 @@ def is_left(file: str, path: str) -> bool:
 def unclaimed(file: str, claimed: set[str]) -> list[str]:
     """The files beside an office's file whose row says that they were carried into it, though it came from others."""
     paths = []
-    for path in names.earlier_files(file):
+    for path in earlier_files(file):
         with contextlib.suppress(Failure), chain.reading(path) as base:
             into = [row.file for row in chain.carried_rows(base) if row.way == chain.INTO]
             if path not in claimed and os.path.basename(file) in into:

@@ -7,12 +7,12 @@ from typing import Any
 
 from ... import HOUSE
 from ...core.forms import MOST_VALUE
+from ...core.journal.log import BLOTTED
 from ...model.gauge import OF_OWNER
 from ...model.measures import value_word
 from ...model.schema import LATEST, Disposition, Role
 
 Base = sqlite3.Connection
-BLOTTED = "********"
 CARRIED_LOTS = "(SELECT DISTINCT owner, lot FROM sublots WHERE amount > 0)"
 UNBEGUN = "NOT EXISTS (SELECT 1 FROM batches AS b WHERE b.owner = o.owner AND b.ord = o.ord)"
 JUDGED = {Disposition.RELEASED: "release", Disposition.REJECTED: "reject"}

@@ -17,6 +17,7 @@ from ..rights import name_of
 NOTHING_DONE = "nothing is done that isn't noted there"
 BEGINNING = "0" * 64  # before the first line
 PIECE = 8_192  # bytes
+BLOTTED = "********"  # in place of an owner's key
 MADE_AT = "made_at"  # a member of a promotion's line: the moment of the office that it puts in place
 KNOWN_KEYS = "known"  # a member of a note: the keys of a sheet's rows that the office had already
 IN_PLACE = "in_place"  # a member of an answer: another file has the office's place, also where something failed since

@@ -5,9 +5,9 @@ from datetime import datetime, timedelta, timezone
 
 from ...core.failure import printable
 from ...core.journal.log import Journal
+from ..notes import DrillEnd, DrillStart
 from ..rows import LotId
 from .noted import Noted
-from ..notes.notes import DrillEnd, DrillStart
 from .standing import Status, kept, reader_of, statuses
 from .tables import Base
 

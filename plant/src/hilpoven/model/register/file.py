@@ -99,12 +99,13 @@ class Notes(Opened):
             return action(self.base)
 
     def attach(self, base: Base) -> None:
-        """The same."""
+        """The same, if all rows of the file can be read: a query over both has no other tables to go on with."""
 
-        def attach(_: Base) -> None:
+        def attach(own: Base) -> None:
             if self.state is None:
                 Opened.attach(self, base)
             else:
+                tables.require_readable(own)
                 base.execute("ATTACH ? AS register", (self.path,))
 
         self.read(attach)

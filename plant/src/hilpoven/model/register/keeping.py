@@ -1,22 +1,284 @@
-"""How a register keeps which of its notes stand.
+"""Which notes of a register stand, and why others don't; and what the things that they are about are called.
 
 New notes are looked at as they come, and those that may stand later by each reader: whose row isn't there, or whose
 command has no answer. All are looked at where another office has the file's place, as behind a restore or a carry-over.
+
+A name in a note means what the office's file had by it when the note was made, or else its newest earlier file that has
+it. What went on into later files keeps its notes; another thing that has the name there has none of them.
 """
+import contextlib
 import heapq
 import json
 import os
-from collections.abc import Sequence
+from collections.abc import Callable, Iterator, Sequence
+from dataclasses import dataclass, replace
+from typing import NamedTuple
 
+from ... import HOUSE
+from ...core.grammar import LINES, faults
 from ...core.journal.log import Journal
-from ..notes.notes import Judgement, Note, RowsLost, Withdrawal
+from ..measures import value_of
+from ..notes import (
+    Corrects,
+    Held,
+    Judgement,
+    Link,
+    LotFacts,
+    MaterialFacts,
+    MovementFacts,
+    NotLinked,
+    Note,
+    OwnerFacts,
+    Party,
+    Reason,
+    RecipeFacts,
+    ResultFacts,
+    RowsLost,
+    Settled,
+    TestFacts,
+    Withdrawal,
+)
+from ..rows import HAS_RESULT
+from ..schema import Disposition
 from ..years import chain
+from ..years.earlier import CAME_OVER, MOVE, VOIDED, move_of
 from . import tables
-from .faults import NOT_IN_USE, Fault, OfficeFile, fault_of, files_of
 from .file import transaction
-from .naming import Reader, went_on
+from .meant import EXACT, NAMED, is_in, row_of
 from .noted import Noted
 from .tables import Base, noted_of
+
+HAS_TEST = "SELECT 1 FROM tests WHERE owner = ? AND material = ? AND test = ? AND low = ? AND high = ?"
+IS_REJECTED = f"SELECT 1 FROM lots WHERE owner = '{HOUSE}' AND lot = ? AND disposition = {Disposition.REJECTED:d}"
+IS_CANCELLED = f"SELECT 1 FROM orders WHERE owner = '{HOUSE}' AND ord = ? AND cancelled = 1"
+NUMBERS = {"VALUE", "DAY", "LOW", "HIGH"}
+# Which name nothing that a file has, or what all files of an office have in common.
+OF_ALL_FILES = (Party, Withdrawal, RowsLost, OwnerFacts, MaterialFacts, RecipeFacts, TestFacts, Settled)
+NOT_IN_USE = "about a file that isn't in use"
+BY_RESTORE = "its row was lost by a restore"
+
+
+@dataclass(frozen=True)
+class OfficeFile:
+    """A file of an office: which earlier one it came from, empty for the first, and its tables."""
+
+    after: str
+    base: Base
+
+
+class Fault(NamedTuple):
+    """Why a note doesn't stand, empty if it does; and whether that is only because the office hasn't the row that it
+    means."""
+
+    why: str = ""
+    is_lost: bool = False
+
+
+@contextlib.contextmanager
+def files_of(journal: Journal, newest: Base) -> Iterator[list[OfficeFile]]:
+    """The files of an office, the oldest first; the newest is given."""
+    came = chain.came_from(newest)
+    after = ""
+    with contextlib.ExitStack() as stack:
+        files = []
+        for part in chain.earlier_files(journal.file, came):
+            files.append(OfficeFile(after, stack.enter_context(chain.reading(part.path))))
+            after = part.name
+        yield [*files, OfficeFile(after, newest)]
+
+
+def fault_of(
+    noted: Noted, note: Note, is_done: bool | None, files: Sequence[OfficeFile], lost: frozenset[str]
+) -> Fault:
+    """Why a note doesn't stand that nobody withdrew; `is_done` says whether `toll` did what its line asks."""
+    at = next((at for at, office_file in enumerate(files) if office_file.after == noted.after), None)
+    if at is None and not isinstance(note, OF_ALL_FILES):
+        return Fault(NOT_IN_USE, True)
+    base = files[at].base if at is not None else None
+    if not noted.is_own and (fault := fault_of_command(noted, is_done, base)).why:
+        return fault
+    if noted.meant is None:
+        return Fault("what it means can't be read")
+    known = files if at is None else files[: at + 1]
+    if not all(any(is_in(office_file.base, row) for office_file in reversed(known)) for row in noted.meant):
+        return Fault("the row that it means isn't there", True)
+    return Fault(BY_RESTORE, True) if noted.name in lost and not counts_again(note) else Fault()
+
+
+def counts_again(note: Note) -> bool:
+    """Whether a note that lost its row in a restore counts once the office has a row with all these values again:
+    without a hold a lot would go, and without the link of a lot a recall would miss it."""
+    return isinstance(note, Held) or isinstance(note, Link) and bool(note.lot)
+
+
+def fault_of_command(noted: Noted, is_done: bool | None, base: Base | None) -> Fault:
+    """Why a note doesn't stand that belongs to a command: `toll` refused that, or the office lacks what it recorded."""
+    if base is None:
+        return Fault(NOT_IN_USE, True)
+    if is_done is False:
+        return Fault("its command was refused")
+    is_there = is_recorded(base, noted.words)
+    if is_there is None:
+        return Fault() if is_done else Fault("its command has no answer")
+    return Fault() if is_there else Fault(f"its {kind_of(noted.words)} isn't there", is_done is True)
+
+
+@dataclass(frozen=True)
+class Recorded:
+    """What a command other than a movement records: what that is called, the query that finds it, and of which of the
+    command's values."""
+
+    kind: str
+    sql: str
+    values: tuple[str, ...]
+
+    def is_in(self, base: Base, values: dict[str, str]) -> bool:
+        """Whether a file has it."""
+        return base.execute(self.sql, [column_of(name, values[name]) for name in self.values]).fetchone() is not None
+
+
+RECORDED = {
+    "result": Recorded("result", HAS_RESULT, ("OWNER", "LOT", "TEST", "VALUE", "DAY")),
+    "test-add": Recorded("test", HAS_TEST, ("OWNER", "MATERIAL", "TEST", "LOW", "HIGH")),
+    "reject": Recorded("rejection", IS_REJECTED, ("LOT",)),
+    "void": Recorded("void", VOIDED, ("OWNER", "KEY")),
+    "cancel": Recorded("cancellation", IS_CANCELLED, ("ORDER",)),
+}
+
+
+def kind_of(words: Sequence[str]) -> str:
+    """What a command records that is looked for."""
+    return RECORDED[words[0]].kind if words[0] in RECORDED else "movement"
+
+
+def is_recorded(base: Base, words: Sequence[str]) -> bool | None:
+    """Whether a file has what a command records; `None` if it records nothing that is looked for."""
+    line = LINES.get(words[0]) if words else None
+    if line is None or len(words) != len(line.values) + 1:
+        return None
+    values = dict(zip(line.values, words[1:]))
+    if line.name in RECORDED:
+        return not faults(line, list(words[1:])) and RECORDED[line.name].is_in(base, values)
+    row = move_of(line, values)
+    return None if row is None else base.execute(MOVE, (values["OWNER"], values["KEY"])).fetchone() == row
+
+
+def column_of(name: str, word: str) -> str | int:
+    """A value of a line as a file has it."""
+    return value_of(word) if name in NUMBERS else word
+
+
+MADE = "SELECT lot FROM lots WHERE owner = ? AND ord = ? AND number = ?"
+AGAIN = "SELECT called FROM again WHERE kind = ? AND file = ? AND owner = ? AND name = ?"
+
+# What a thing of one of the files is called where the notes are read; empty if it isn't there.
+Naming = Callable[[str, int, str, str], str]
+
+
+def went_on(files: Sequence[OfficeFile]) -> Naming:
+    """The names of an office's newest file, in which lots are that came over, and orders and keys of its own."""
+
+    def name_there(kind: str, at: int, owner: str, name: str) -> str:
+        later = files[at + 1 :]
+        if kind == "lot":
+            return name if all(part.base.execute(CAME_OVER, (owner, name)).fetchone() for part in later) else ""
+        return "" if later else name
+
+    return name_there
+
+
+def called(whole: Base) -> Naming:
+    """The names of things over all files of an office."""
+
+    def name_there(kind: str, at: int, owner: str, name: str) -> str:
+        row = whole.execute(AGAIN, (kind, at + 1, owner, name)).fetchone()
+        return str(row[0]) if row else name
+
+    return name_there
+
+
+@dataclass
+class Reader:
+    """How notes are read: over which files, and by which names."""
+
+    files: Sequence[OfficeFile]
+    naming: Naming
+    is_sure: bool = True  # whether each name since `begin` means what the note's own file has, which doesn't change
+
+    def place(self, noted: Noted, table: str, *names: str | int) -> int | None:
+        """The file that a name means in a note: the newest one up to the note's own that has the row that was meant,
+        or, where the note doesn't say which, one of that name."""
+        own = next(at for at, office_file in enumerate(self.files) if office_file.after == noted.after)
+        row = row_of(noted.meant, table, names) if noted.meant else ()
+        if row and not own:
+            return own  # otherwise the note wouldn't stand
+        sql, words = (EXACT[table], row[1:]) if row else (NAMED[table], names)
+        at = next((at for at in range(own, -1, -1) if self.files[at].base.execute(sql, words).fetchone()), None)
+        self.is_sure = self.is_sure and at == own
+        return at
+
+    def lot(self, noted: Noted, owner: str, lot: str) -> str:
+        """What a lot is called."""
+        at = self.place(noted, "lots", owner, lot)
+        return "" if at is None else self.naming("lot", at, owner, lot)
+
+    def key(self, noted: Noted, owner: str, key: str) -> str:
+        """What the key of a movement is called."""
+        at = self.place(noted, "moves", owner, key)
+        return "" if at is None else self.naming("key", at, owner, key)
+
+    def links(self, noted: Noted, link: Link) -> Iterator[Link]:
+        """A link as it is read: that of a batch of another file is one of each lot that it made there."""
+        of_lot = self.lot(noted, link.of_owner, link.of_lot)
+        if not of_lot:
+            return
+        link = replace(link, of_lot=of_lot)
+        if link.lot:
+            lot = self.lot(noted, link.owner, link.lot)
+            yield from [replace(link, lot=lot)] if lot else []
+            return
+        at = self.place(noted, "batches", link.owner, link.order, link.batch)
+        if at is None:
+            return
+        order = self.naming("order", at, link.owner, link.order)
+        if order:
+            yield replace(link, order=order)
+            return
+        for (lot,) in self.files[at].base.execute(MADE, (link.owner, link.order, link.batch)).fetchall():
+            if name := self.naming("lot", at, link.owner, lot):
+                yield replace(link, lot=name, order="", batch=0)
+
+    def read(self, noted: Noted, note: Note) -> Iterator[Note]:
+        """A note that stands, as it is read: nothing if what it is about isn't there, and several links of one."""
+        match note:
+            case Link():
+                yield from self.links(noted, note)
+            case MovementFacts() | NotLinked():
+                if key := self.key(noted, note.owner, note.key):
+                    yield note if key == note.key else replace(note, key=key)
+            case Corrects():
+                key, of_key = self.key(noted, note.owner, note.key), self.key(noted, note.of_owner, note.of_key)
+                if key and of_key:
+                    yield replace(note, key=key, of_key=of_key)
+            case LotFacts() | ResultFacts() | Judgement():
+                if lot := self.lot(noted, note.owner, note.lot):
+                    yield note if lot == note.lot else replace(note, lot=lot)
+            case Reason():
+                if reason := self.reason(noted, note):
+                    yield reason
+            case _:
+                yield note
+
+    def reason(self, noted: Noted, note: Reason) -> Reason | None:
+        """A reason as it is read; `None` if what it is about isn't there."""
+        if note.lot:
+            return replace(note, lot=lot) if (lot := self.lot(noted, note.owner, note.lot)) else None
+        if note.key:
+            return replace(note, key=key) if (key := self.key(noted, note.owner, note.key)) else None
+        at = self.place(noted, "orders", note.owner, note.order)
+        order = "" if at is None else self.naming("order", at, note.owner, note.order)
+        return replace(note, order=order) if order else None
+
 
 # The last row of each table whose rows notes mean, by its values: no file has it that another office's was put in.
 LAST_ROWS = {

@@ -1,7 +1,8 @@
 """The tables of a register: each note of the journal with its line, and those that stand as typed rows.
 
 `note` has all. The other tables have the notes of a kind that stand, by the names that things have in the office's
-newest file, so that what is noted of a thing is found by an index. `SCHEMA` says what each column is.
+newest file, so that what is noted of a thing is found by an index. Their columns are the members of the notes; what
+quality says has `is_alone` where `toll` has nothing of it.
 """
 import hashlib
 import json
@@ -10,16 +11,31 @@ from collections.abc import Iterable, Iterator
 from dataclasses import fields
 from typing import Any
 
-from ..notes.facts import LotFacts, MaterialFacts, MovementFacts, OwnerFacts, RecipeFacts, ResultFacts, TestFacts
-from ..notes.kinds import Bound, Emptied, Role, Why
-from ..notes.note import Note
-from ..notes.notes import Corrects, Held, Judgement, Link, NotLinked, Party, Reason, Signed, Withdrawal, to_json
+from ..notes import (
+    Corrects,
+    Held,
+    Judgement,
+    Link,
+    LotFacts,
+    MaterialFacts,
+    MovementFacts,
+    NotLinked,
+    Note,
+    OwnerFacts,
+    Party,
+    Reason,
+    RecipeFacts,
+    ResultFacts,
+    Signed,
+    TestFacts,
+    Withdrawal,
+)
 from .meant import rows_in
-from .noted import Noted
+from .noted import LISTS, WORDS, Noted, to_json
 
 Base = sqlite3.Connection
 MARK = 0x48504C4E  # the number by which SQLite knows whose file it is
-SCHEMA = (
+OF_JOURNAL = (
     # How far the journal was read: where its last line begins and ends, that line's hash, and the file it is about.
     "CREATE TABLE folded (start INTEGER NOT NULL, stop INTEGER NOT NULL, hash TEXT NOT NULL, file TEXT NOT NULL) "
     "STRICT",
@@ -52,54 +68,6 @@ SCHEMA = (
     "CREATE INDEX note_by_kind ON note (kind, owner)",
     "CREATE INDEX note_by_subject ON note (subject)",
     "CREATE INDEX note_open ON note (id) WHERE is_open = 1",
-    "CREATE TABLE party_note (note INTEGER PRIMARY KEY, owner TEXT NOT NULL, party TEXT NOT NULL, name TEXT NOT NULL, "
-    "address TEXT NOT NULL, contact TEXT NOT NULL, phone TEXT NOT NULL, roles TEXT NOT NULL, emptied TEXT NOT NULL) "
-    "STRICT",
-    "CREATE TABLE owner_note (note INTEGER PRIMARY KEY, owner TEXT NOT NULL, name TEXT NOT NULL, address TEXT NOT NULL)"
-    " STRICT",
-    "CREATE TABLE material_note (note INTEGER PRIMARY KEY, owner TEXT NOT NULL, material TEXT NOT NULL, "
-    "name TEXT NOT NULL) STRICT",
-    "CREATE TABLE recipe_note (note INTEGER PRIMARY KEY, owner TEXT NOT NULL, recipe TEXT NOT NULL, "
-    "allowance INTEGER NOT NULL, product TEXT NOT NULL) STRICT",
-    "CREATE TABLE test_note (note INTEGER PRIMARY KEY, owner TEXT NOT NULL, material TEXT NOT NULL, test TEXT NOT NULL,"
-    " name TEXT NOT NULL, unit TEXT NOT NULL, decimals INTEGER NOT NULL, method TEXT NOT NULL) STRICT",
-    "CREATE TABLE lot_note (note INTEGER PRIMARY KEY, owner TEXT NOT NULL, lot TEXT NOT NULL, made INTEGER, "
-    "expires INTEGER, retest INTEGER) STRICT",
-    "CREATE TABLE result_note (note INTEGER PRIMARY KEY, owner TEXT NOT NULL, lot TEXT NOT NULL, test TEXT NOT NULL, "
-    "value INTEGER NOT NULL, day INTEGER NOT NULL, bound TEXT NOT NULL) STRICT",
-    "CREATE TABLE movement_note (note INTEGER PRIMARY KEY, owner TEXT NOT NULL, mkey TEXT NOT NULL, "
-    "party TEXT NOT NULL, supplier_lot TEXT NOT NULL, document TEXT NOT NULL) STRICT",
-    "CREATE TABLE unlinked_note (note INTEGER PRIMARY KEY, owner TEXT NOT NULL, mkey TEXT NOT NULL) STRICT",
-    "CREATE TABLE corrects_note (note INTEGER PRIMARY KEY, owner TEXT NOT NULL, mkey TEXT NOT NULL, "
-    "of_owner TEXT NOT NULL, of_key TEXT NOT NULL) STRICT",
-    # Of a lot, or of a batch that stands for its lots. One note of an earlier file's batch is a row for each of its
-    # lots that came over.
-    "CREATE TABLE link_note (note INTEGER NOT NULL, owner TEXT NOT NULL, lot TEXT NOT NULL, ord TEXT NOT NULL, "
-    "number INTEGER NOT NULL, of_owner TEXT NOT NULL, of_lot TEXT NOT NULL, why TEXT NOT NULL, amount INTEGER, "
-    "reason TEXT NOT NULL) STRICT",
-    # What quality says; `is_alone` where `toll` has nothing of it.
-    "CREATE TABLE judgement_note (note INTEGER PRIMARY KEY, owner TEXT NOT NULL, lot TEXT NOT NULL, "
-    "day INTEGER NOT NULL, reason TEXT NOT NULL, is_held INTEGER NOT NULL, is_alone INTEGER NOT NULL) STRICT",
-    "CREATE TABLE withdrawal_note (note INTEGER PRIMARY KEY, owner TEXT NOT NULL, of_note TEXT NOT NULL, "
-    "reason TEXT NOT NULL) STRICT",
-    "CREATE TABLE reason_note (note INTEGER PRIMARY KEY, owner TEXT NOT NULL, command TEXT NOT NULL, "
-    "reason TEXT NOT NULL, lot TEXT NOT NULL, mkey TEXT NOT NULL, ord TEXT NOT NULL, number INTEGER NOT NULL) STRICT",
-    "CREATE INDEX party_by_name ON party_note (owner, party)",
-    "CREATE INDEX owner_by_name ON owner_note (owner)",
-    "CREATE INDEX material_by_name ON material_note (owner, material)",
-    "CREATE INDEX recipe_by_name ON recipe_note (owner, recipe)",
-    "CREATE INDEX test_by_name ON test_note (owner, material, test)",
-    "CREATE INDEX lot_by_name ON lot_note (owner, lot)",
-    "CREATE INDEX result_by_name ON result_note (owner, lot, test, value, day)",
-    "CREATE INDEX movement_by_key ON movement_note (owner, mkey)",
-    "CREATE INDEX unlinked_by_key ON unlinked_note (owner, mkey)",
-    "CREATE INDEX corrects_by_key ON corrects_note (owner, mkey)",
-    "CREATE INDEX link_by_note ON link_note (note)",
-    "CREATE INDEX link_by_container ON link_note (owner, lot, ord, number)",
-    "CREATE INDEX link_by_contained ON link_note (of_owner, of_lot)",
-    "CREATE INDEX judgement_by_lot ON judgement_note (owner, lot)",
-    "CREATE INDEX withdrawal_by_note ON withdrawal_note (of_note)",
-    "CREATE INDEX reason_by_owner ON reason_note (owner)",
 )
 # The table of each kind whose standing notes are rows; drills and settlements are read from `note`.
 TABLES: dict[type[Note], str] = {
@@ -119,9 +87,27 @@ TABLES: dict[type[Note], str] = {
     Withdrawal: "withdrawal_note",
     Reason: "reason_note",
 }
+INDEXES = (
+    "CREATE INDEX party_by_name ON party_note (owner, party)",
+    "CREATE INDEX owner_by_name ON owner_note (owner)",
+    "CREATE INDEX material_by_name ON material_note (owner, material)",
+    "CREATE INDEX recipe_by_name ON recipe_note (owner, recipe)",
+    "CREATE INDEX test_by_name ON test_note (owner, material, test)",
+    "CREATE INDEX lot_by_name ON lot_note (owner, lot)",
+    "CREATE INDEX result_by_name ON result_note (owner, lot, test, value, day)",
+    "CREATE INDEX movement_by_key ON movement_note (owner, mkey)",
+    "CREATE INDEX unlinked_by_key ON unlinked_note (owner, mkey)",
+    "CREATE INDEX corrects_by_key ON corrects_note (owner, mkey)",
+    "CREATE INDEX link_by_note ON link_note (note)",
+    "CREATE INDEX link_by_container ON link_note (owner, lot, ord, number)",
+    "CREATE INDEX link_by_contained ON link_note (of_owner, of_lot)",
+    "CREATE INDEX judgement_by_lot ON judgement_note (owner, lot)",
+    "CREATE INDEX withdrawal_by_note ON withdrawal_note (of_note)",
+    "CREATE INDEX reason_by_owner ON reason_note (owner)",
+)
+TYPES: dict[Any, str] = {int: "INTEGER NOT NULL", int | None: "INTEGER"}
+TEXT = "TEXT NOT NULL"  # the type of all other members
 COLUMNS = {"key": "mkey", "order": "ord", "batch": "number", "of": "of_note"}  # of members that have another name
-WORDS: dict[str, Any] = {"why": Why, "bound": Bound}  # members that are a word of a list
-LISTS: dict[str, Any] = {"roles": Role, "emptied": Emptied}  # members that are several such words
 NOTED = "name, line, time, who, file, after, words, is_own, value, meant"  # what the journal says of a note
 Row = tuple[Any, ...]
 
@@ -186,9 +172,15 @@ class Columns:
         self.all = self.names + (", is_held, is_alone" if table == "judgement_note" else "")
         places = ", ".join("?" * (self.all.count(",") + 2))
         self.insert = f"INSERT INTO {table} (note, {self.all}) VALUES ({places})"
+        typed = [f"{COLUMNS.get(member.name, member.name)} {TYPES.get(member.type, TEXT)}" for member in fields(kind)]
+        typed += ["is_held INTEGER NOT NULL", "is_alone INTEGER NOT NULL"] if table == "judgement_note" else []
+        # one note of an earlier file's batch is a row for each of its lots that came over
+        key = "note INTEGER NOT NULL" if table == "link_note" else "note INTEGER PRIMARY KEY"
+        self.create = f"CREATE TABLE {table} ({', '.join([key, *typed])}) STRICT"
 
 
 COLUMNS_OF = {kind: Columns(table, kind) for kind, table in TABLES.items()}
+SCHEMA = (*OF_JOURNAL, *dict.fromkeys(columns.create for columns in COLUMNS_OF.values()), *INDEXES)
 
 
 def values_of(noted: Noted, note: Note) -> Row:
@@ -218,16 +210,27 @@ def rows_of(base: Base, id: int, kind: type[Note]) -> list[Row]:
     return base.execute(sql, (id,)).fetchall()
 
 
-def read(base: Base, kind: type[Note], **names: str | int) -> Iterator[tuple[Note, Row]]:
-    """The notes of a kind that stand, of which these columns have these values, the oldest first, each with what else
-    its table has; fails with ValueError if a row can't be one."""
+def read(base: Base, kind: type[Note], **names: str | int) -> Iterator[Note]:
+    """The notes of a kind that stand, of which these columns have these values, the oldest first; fails with ValueError
+    if a row can't be one."""
     columns = COLUMNS_OF[kind]
     where = " AND ".join(f"{name} = ?" for name in names) or "1"
-    sql = f"SELECT {columns.all} FROM {columns.table} WHERE {where} ORDER BY note, rowid"
-    count = len(columns.members)
+    sql = f"SELECT {columns.names} FROM {columns.table} WHERE {where} ORDER BY note, rowid"
     for row in base.execute(sql, tuple(names.values())).fetchall():
-        of_kind: Any = (Held if row[count] else Signed) if columns.table == "judgement_note" else kind
-        yield of_kind(*map(read_member, columns.members, row)), row[count:]
+        yield kind(*map(read_member, columns.members, row))
+
+
+def require_readable(base: Base) -> None:
+    """Fails with ValueError unless all rows of the notes that stand can be read: their tables and indexes are whole,
+    and what is a word of a list is one."""
+    for columns in {columns.table: columns for columns in COLUMNS_OF.values()}.values():
+        for (fault,) in base.execute(f"PRAGMA quick_check({columns.table})").fetchall():
+            if fault != "ok":
+                raise ValueError(fault)
+        for member in columns.members:
+            if member in WORDS or member in LISTS:
+                for (value,) in base.execute(f"SELECT DISTINCT {member} FROM {columns.table}").fetchall():
+                    read_member(member, value)
 
 
 def read_member(name: str, value: Any) -> Any:

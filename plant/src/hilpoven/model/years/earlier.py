@@ -8,10 +8,10 @@ from collections.abc import Iterator, Sequence
 from dataclasses import dataclass
 
 from ... import HOUSE
-from ...core import names, snapshot
+from ...core import snapshot
 from ...core.failure import REFUSED
 from ...core.grammar import Line
-from ...core.office import Answer, Office
+from ...core.office import Answer, Office, earlier_files
 from ..schema import INCOMING, MOVE_COLUMNS as MOVE_COLUMNS, ON_HAND, Kind
 from . import chain
 
@@ -48,7 +48,7 @@ def files_of(office: Office) -> tuple[EarlierFile, ...]:
     Only if files of such names are there the office's own is read. Its table of where it came from has its pages since
     before the file had its name, and nothing writes them: so it is read without the lock and without the log.
     """
-    return open_files(office.file, os.stat(office.file).st_ino) if names.earlier_files(office.file) else ()
+    return open_files(office.file, os.stat(office.file).st_ino) if earlier_files(office.file) else ()
 
 
 @contextlib.contextmanager

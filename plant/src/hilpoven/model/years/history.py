@@ -1,24 +1,172 @@
-"""What all files of an office hold, as if there had been one, for recalls, traces, lot cards and statements.
+"""The tables of one office made of those of its files: what they would hold, had there been one file.
 
-    with history.opened(context.office_to_read()) as whole:
-        whole.base      an office's tables, some with a column `file`, the number of the file in which a row came
-        whole.parts     the files that were read, the oldest first, each with its SHA-256
-        whole.lot(..)   by which name a lot is there
+Receipts by which stock came over, and results that came with it, are left out. A lot that came over is one lot. A name
+that comes again without having come over, of a lot, an order or a movement's key, is another thing: the newer one keeps
+the name, and the older one is called `S-1 (office-1.db)`.
 """
 import contextlib
 import os
 import sqlite3
-from collections.abc import Iterator
+from collections.abc import Iterator, Sequence
 from dataclasses import dataclass
 
 from ...core import files, snapshot
 from ...core.failure import REFUSED, Failure
 from ...core.office import Office
+from ..notes import Place
 from ..rows import BatchId, LotId
-from ..notes.settled import Place
 from . import chain
-from .chain import Part
-from .merging import merge
+from .chain import NOT_CARRIED, Part, address_of
+
+Base = sqlite3.Connection
+
+FILES = """
+CREATE TABLE files (number INTEGER PRIMARY KEY, name TEXT, hash TEXT, at TEXT);
+CREATE INDEX moves_by_batch ON moves (owner, ord, number, kind);
+CREATE INDEX moves_by_lot ON moves (lot_owner, lot, kind);
+CREATE TABLE again (kind TEXT, file INTEGER, owner TEXT, name TEXT, called TEXT, PRIMARY KEY (kind, file, owner, name));
+CREATE TEMP TABLE asked (owner TEXT PRIMARY KEY) WITHOUT ROWID;
+CREATE TEMP TABLE seen (kind TEXT, owner TEXT, name TEXT, PRIMARY KEY (kind, owner, name)) WITHOUT ROWID;
+CREATE TEMP TABLE over (file INTEGER, owner TEXT, lot TEXT, PRIMARY KEY (file, owner, lot)) WITHOUT ROWID;
+CREATE TEMP TABLE no_moves (owner TEXT, mkey TEXT);
+CREATE TEMP TABLE unbegun (file INTEGER, owner TEXT, ord TEXT, PRIMARY KEY (file, owner, ord)) WITHOUT ROWID;
+"""
+
+# The owners whose rows are read, also those that left: all, or one and HOUSE, whose lots its batches may consume.
+ASKED = """
+INSERT OR IGNORE INTO asked SELECT owner FROM f.owners WHERE owner = :owner OR :owner IN ('', 'HOUSE')
+UNION SELECT 'HOUSE'
+"""
+PLAIN = NOT_CARRIED.replace("carried_moves", "f.carried_moves")
+# What each kind of name is, in a file, and whether it went on into the next file as what it was.
+NAMES = {
+    "lot": (
+        "SELECT owner, lot AS name FROM f.lots WHERE owner IN temp.asked",
+        "EXISTS (SELECT 1 FROM over AS c WHERE c.file = :file + 1 AND c.owner = n.owner AND c.lot = n.name)",
+    ),
+    "order": (
+        "SELECT owner, ord AS name FROM f.orders WHERE owner IN temp.asked",
+        "EXISTS (SELECT 1 FROM unbegun AS u WHERE u.file = :file AND u.owner = n.owner AND u.ord = n.name)",
+    ),
+    "key": (f"SELECT owner, mkey AS name FROM f.moves AS m WHERE owner IN temp.asked AND {PLAIN}", "0"),
+}
+
+
+def called(kind: str, owner: str, name: str) -> str:
+    """SQL for what a name of the file is called over all files."""
+    where = f"a.kind = '{kind}' AND a.file = :file AND a.owner = {owner} AND a.name = {name}"
+    return f"coalesce((SELECT a.called FROM again AS a WHERE {where}), {name})"
+
+
+# Names of the file that a newer file has for another thing, or that went on as what is called otherwise there.
+AGAIN = """
+INSERT INTO again SELECT '{kind}', :file, n.owner, n.name,
+  CASE WHEN {went_on} THEN a.called ELSE n.name || ' (' || :name || ')' END FROM ({names}) AS n
+LEFT JOIN again AS a ON a.kind = '{kind}' AND a.file = :file + 1 AND a.owner = n.owner AND a.name = n.name
+WHERE CASE WHEN {went_on} THEN a.called IS NOT NULL
+  ELSE EXISTS (SELECT 1 FROM seen AS s WHERE s.kind = '{kind}' AND s.owner = n.owner AND s.name = n.name) END
+"""
+SEEN = "INSERT OR IGNORE INTO seen SELECT '{kind}', owner, name FROM ({names}) AS n"
+OVER = """
+INSERT OR IGNORE INTO over SELECT :file, m.owner, m.lot FROM f.carried_moves AS c JOIN f.moves AS m USING (owner, mkey)
+WHERE c.owner IN temp.asked
+"""
+UNBEGUN = """
+INSERT INTO unbegun SELECT :file, o.owner, o.ord FROM f.orders AS o
+WHERE o.owner IN temp.asked AND NOT EXISTS (SELECT 1 FROM f.batches AS b WHERE b.owner = o.owner AND b.ord = o.ord)
+"""
+
+LOT, OF_LOT = called("lot", "l.owner", "l.lot"), called("lot", "m.lot_owner", "m.lot")
+ORDER, KEY = called("order", "o.owner", "o.ord"), called("key", "m.owner", "m.mkey")
+MADE_BY = f"CASE l.ord WHEN '' THEN '' ELSE {called('order', 'l.owner', 'l.ord')} END"
+OF_BATCH = f"CASE m.ord WHEN '' THEN '' ELSE {called('order', 'm.owner', 'm.ord')} END"
+COPIED = "EXISTS (SELECT 1 FROM over AS c WHERE c.file = :file AND c.owner = l.owner AND c.lot = l.lot)"
+BEFORE = f"""
+(SELECT coalesce(max(x.number), 0) FROM main.results AS x WHERE x.owner = l.owner AND x.lot = {LOT} AND x.test = l.test)
+"""
+
+# What each file adds, the oldest first.
+ADDED = f"""
+INSERT INTO orders SELECT o.owner, {ORDER}, o.recipe, o.batches, o.cancelled, :file
+  FROM f.orders AS o WHERE o.owner IN temp.asked ORDER BY o.rowid
+  ON CONFLICT (owner, ord) DO UPDATE SET cancelled = excluded.cancelled;
+INSERT INTO batches SELECT o.owner, {ORDER}, o.number, o.unit, o.state, o.closed, :file
+  FROM f.batches AS o WHERE o.owner IN temp.asked ORDER BY o.rowid;
+INSERT INTO lots SELECT l.owner, {LOT}, l.material, {MADE_BY}, l.number, l.disposition, :file
+  FROM f.lots AS l WHERE l.owner IN temp.asked ORDER BY l.rowid
+  ON CONFLICT (owner, lot) DO UPDATE SET disposition = excluded.disposition;
+INSERT INTO sublots SELECT l.owner, {LOT}, l.sublot, l.amount
+  FROM f.sublots AS l WHERE l.owner IN temp.asked ORDER BY l.rowid
+  ON CONFLICT (owner, lot, sublot) DO UPDATE SET amount = excluded.amount;
+INSERT INTO moves SELECT m.owner, {KEY}, m.kind, m.lot_owner, {OF_LOT}, m.sublot, m.target, m.material, {OF_BATCH},
+  m.number, m.segment, m.amount, m.day, :file
+  FROM f.moves AS m WHERE m.owner IN temp.asked AND {PLAIN} ORDER BY m.rowid;
+INSERT INTO voids SELECT m.owner, {KEY} FROM f.voids AS m WHERE m.owner IN temp.asked ORDER BY m.rowid;
+CREATE TEMP TABLE added AS SELECT l.owner, {LOT} AS lot, l.test, l.number, {BEFORE} AS before, {COPIED} AS copied,
+  l.value, l.day FROM f.results AS l WHERE l.owner IN temp.asked ORDER BY l.rowid;
+INSERT INTO results SELECT owner, lot, test, before + number - (copied AND before > 0), value, day, :file FROM added
+  WHERE NOT (copied AND before > 0 AND number = 1) ORDER BY rowid;
+DROP TABLE added"""
+# Tables of which the newest file has all rows, and those that lack there the rows of owners that left; no key is read.
+# A lot of an owner that left and came back may be of a material that it doesn't have now.
+KEPT = {"meta": "*", "units": "*"}
+NEW_OWNER = " WHERE owner NOT IN (SELECT owner FROM main.owners) AND (owner <> 'HOUSE' OR :is_newest)"
+OF_OWNERS = {"tests": NEW_OWNER, "recipes": NEW_OWNER, "requirements": NEW_OWNER, "materials": ""}
+OWNERS = "INSERT OR IGNORE INTO owners SELECT owner, '' FROM f.owners ORDER BY rowid"
+NUMBERED = ("orders", "batches", "lots", "moves", "results")  # tables that say in which file a row came
+
+
+def merge(base: Base, parts: Sequence[Part], owner: str = "") -> None:
+    """Makes the tables of one office of those of its files, the oldest of which is the first. What is asked about one
+    owner other than HOUSE needs only its rows and HOUSE's."""
+    with file_as_f(base, parts[-1]):
+        tables = dict(base.execute("SELECT name, sql FROM f.sqlite_master WHERE type = 'table'").fetchall())
+    for name in ("owners", *KEPT, *OF_OWNERS, *NUMBERED, "sublots", "voids"):
+        base.execute(tables[name])
+    for name in NUMBERED:
+        base.execute(f"ALTER TABLE {name} ADD COLUMN file INTEGER")
+    base.executescript(FILES)
+    for part in parts:
+        run_over(base, part, [ASKED], owner)
+    for part in reversed(parts):
+        names = [
+            sql.format(kind=kind, names=rows, went_on=went_on)
+            for kind, (rows, went_on) in NAMES.items()
+            for sql in (AGAIN, SEEN)
+        ]
+        run_over(base, part, [OVER, UNBEGUN, *names])
+    for part in parts:
+        base.execute("INSERT INTO files VALUES (?, ?, ?, ?)", (part.number, part.name, part.hash, part.at))
+        run_over(base, part, ADDED.split(";\n"))
+    kept = [f"INSERT INTO {table} SELECT {columns} FROM f.{table} ORDER BY rowid" for table, columns in KEPT.items()]
+    run_over(base, parts[-1], kept)
+    definitions = [
+        f"INSERT OR IGNORE INTO {table} SELECT * FROM f.{table}{where} ORDER BY rowid"
+        for table, where in OF_OWNERS.items()
+    ]
+    for part in reversed(parts):
+        run_over(base, part, [*definitions, OWNERS], is_newest=part == parts[-1])
+
+
+@contextlib.contextmanager
+def file_as_f(base: Base, part: Part) -> Iterator[None]:
+    """Has a file as `f`."""
+    base.execute("ATTACH ? AS f", (address_of(part.path),))
+    try:
+        yield
+    finally:
+        base.execute("DETACH f")
+
+
+def run_over(base: Base, part: Part, statements: list[str], owner: str = "", is_newest: bool = False) -> None:
+    """Runs statements with a file as `f`. The first file has no table of receipts that carried stock: it has none."""
+    words = {"file": part.number, "name": part.name, "owner": owner, "is_newest": is_newest}
+    with file_as_f(base, part):
+        has_carried = base.execute("SELECT 1 FROM f.sqlite_master WHERE name = 'carried_moves'").fetchone()
+        with base:
+            for sql in statements:
+                base.execute(sql if has_carried else sql.replace("f.carried_moves", "no_moves"), words)
+
 
 PLACES_OF_ONE = "SELECT 1, ord, number, ord FROM batches WHERE owner = ?"
 PLACES = """

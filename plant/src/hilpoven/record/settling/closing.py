@@ -9,9 +9,9 @@ from collections.abc import Iterable, Mapping
 from dataclasses import dataclass, replace
 
 from ...core.failure import REFUSED, Failure
-from ...model.register.closings import Closing
-from ...model.notes.kinds import Why
-from ...model.notes.settled import Cell, Place, Settled, Terms
+from ...model.register.standing import Closing
+from ...model.kinds import Why
+from ...model.notes import Cell, Place, Settled, Terms
 from .corrections import Correction
 from ...core.days import FIRST_DAY, date_of, days_of_month
 from ...model.rows import BatchId

@@ -9,13 +9,11 @@ from dataclasses import dataclass
 from enum import StrEnum
 
 from ... import HOUSE
-from ...model.notes.kinds import Why
-from ...model.notes.likeness import CORRECTING
-from ...model.notes.notes import Link
-from ...model.register.store import Register
+from ...model.kinds import CORRECTING, Why
+from ...model.notes import Link
+from ...model.register.standing import Register
 from ...model.genealogy import Genealogy
-from ...model.movement_keys import OF_COUNT, OF_USE
-from ...model.rows import Base, BatchId, Lot, LotId, Move, lots_of, moves_of, read_moves
+from ...model.rows import OF_COUNT, OF_USE, Base, BatchId, Lot, LotId, Move, lots_of, moves_of, read_moves
 from ...model.schema import STANDING, Kind, among
 
 OF_OWNER = f"m.owner = ? AND {among('m.kind', (Kind.RECEIVE, Kind.SCRAP))} AND {STANDING}"
@@ -99,7 +97,7 @@ class Corrector:
     def __init__(self, base: Base, register: Register, owner: str) -> None:
         self.base, self.register = base, register
         self.owners = sorted({owner, HOUSE})
-        self.genealogy = Genealogy(base, register.links)
+        self.genealogy = Genealogy(base, register)
         self.corrected = corrected_lots(self.genealogy.links)
         self.moves: dict[LotId, list[Move]] = defaultdict(list)  # of the lots that corrections are in or of
         self.places: dict[Move, int] = {}  # of these movements, in the order in which they came

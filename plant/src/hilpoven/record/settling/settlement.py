@@ -12,10 +12,9 @@ from fractions import Fraction
 from functools import cached_property
 from typing import NamedTuple
 
-from ...model.notes.kinds import Why
-from ...model.notes.notes import Link
-from ...model.notes.settled import Terms
-from ...model.register.store import Register
+from ...model.kinds import Why
+from ...model.notes import Link, Terms
+from ...model.register.standing import Register
 from .corrections import Correction, Corrector, Means
 from ...model.genealogy import Genealogy
 from ...model.rows import Base, Batch, BatchId, Lot, LotId, Move, lots_of, read_batches, read_moves
@@ -182,7 +181,7 @@ class Reader:
 
     def __init__(self, base: Base, register: Register, owner: str) -> None:
         self.base, self.register, self.owner = base, register, owner
-        self.genealogy = Genealogy(base, register.of(owner).links)
+        self.genealogy = Genealogy(base, register.of(owner))
         self.standards: dict[str, Sums] = defaultdict(Sums)
         for recipe, role, source, material, amount in base.execute(STANDARD, (owner,)):
             self.standards[recipe][Item(Role(role), source, material)] = amount

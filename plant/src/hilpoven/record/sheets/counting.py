@@ -5,24 +5,33 @@ earlier count found of a lot lies with it, so whoever counts the lot may count t
 """
 import hashlib
 import io
+import os
 from collections import Counter, defaultdict
-from collections.abc import Iterable
+from collections.abc import Iterable, Iterator
 from dataclasses import dataclass, field
 from enum import Enum
 from typing import Any
 
-from ...core.failure import Failure
+from ...core import client
+from ...core.context import Context
+from ...core.failure import FAULT, Failure
 from ...core.forms import name_fault
 from ...core.grammar import LINES, Line
-from ...core.exports import as_cell, as_formula, csv_of
+from ...core.table import as_cell, as_formula, csv_of
+from ...core.office import Answer
 from ...model.measures import as_number
-from ...model.movement_keys import OF_COUNT
-from ...model.rows import Base, LotId, lots_of, sublots_of
+from ...model.rows import OF_COUNT, Base, LotId, lots_of, sublots_of
 from ...model.schema import Kind
+from ...model.years import earlier
+from ...model.notes import Link, Reason
+from ...model.kinds import Why
+from ...model.register.meant import HAS_KEY, HAS_LOT
+from .. import asking, making
 from ..making import Desk
-from ...model.notes.notes import Link, Reason, Why
-from ...model.register.faults import HAS_KEY, HAS_LOT
+from .noting import check_days
+from .reading import read_source
 from .sheet import Finding, Record, Sheet
+from .values import COUNTS
 
 COLUMNS = ("owner", "lot", "sublot", "material", "measure", "disposition", "on_hand", "counted", "reason", "day")
 BESIDE = ("material", "measure", "disposition")  # columns that are for who counts, and aren't read
@@ -61,15 +70,13 @@ class Difference:
     note: Link | Reason
     apart: "Apart"
 
-    @property
-    def text(self) -> str:
-        """What was counted, and what is recorded of it."""
+    def __str__(self) -> str:
         values, noted = self.record.values, self.record.noted
         where = f"{values['owner']} {values['lot']} {values['sublot']}"
         amount = int(self.words[self.line.values.index("AMOUNT")])
         into = f" into {self.words[self.line.values.index('LOT')]}" if self.line.name == "receive" else ""
-        counted, on_hand = int(noted["counted"]), int(values["on_hand"])
-        return f"{where}: {counted:,} counted{self.apart}, {on_hand:,} on hand: {self.line.name} {amount:,}{into}"
+        counted, on_hand = f"{int(noted['counted']):,} counted{self.apart}", f"{int(values['on_hand']):,} on hand"
+        return f"row {self.record.row} ({where}: {counted}, {on_hand}: {self.line.name} {amount:,}{into})"
 
 
 @dataclass
@@ -88,13 +95,17 @@ class Apart:
 
 @dataclass
 class Count:
-    """What a counted sheet says: how many rows had which outcome before anything is recorded, the differences that are
-    to be recorded, and what is refused."""
+    """What a counted sheet says: how many rows had which outcome, the differences that are to be recorded, with what
+    the journal notes beside each, and what is refused; and the fault that ended the recording, if one did."""
 
     outcomes: Counter[Outcome] = field(default_factory=Counter)
     differences: list[Difference] = field(default_factory=list)
     refused: list[Finding] = field(default_factory=list)
     left_out: list[Sublot] = field(default_factory=list)  # of the sheet's materials, what it hasn't
+    beside: dict[int, dict[str, Any]] = field(default_factory=dict)  # by the numbers of rows
+    remarks: list[Finding] = field(default_factory=list)
+    is_wrong: bool = False  # the sheet as a whole
+    fault: str = ""
 
 
 def rows_to_count(base: Base, owner: str | None, material: str | None, day: int) -> list[dict[str, Any]]:
@@ -137,6 +148,38 @@ def as_workbook(rows: Iterable[dict[str, Any]]) -> bytes:
     file = io.BytesIO()
     book.save(file)
     return file.getvalue()
+
+
+def read(context: Context, path: str, are_meant: bool, **given: Any) -> Count:
+    """What a counted sheet of a file says, as options ask for it. `are_meant` says that days are, whatever they are."""
+    office = context.office()
+    source, sha256 = read_source(path, {**given, "ignored": (*given["ignored"], *BESIDE)}, COUNTS)
+    if source.wrong:
+        return Count(remarks=sorted([*source.wrong, *source.let]), is_wrong=True)
+    if source.records:
+        with earlier.tables_of(office) as bases:
+            check_days(bases, context.settings.time_zone, source, are_meant, is_recorded)
+    origin = {"sheet": os.path.basename(path), "sheet_sha256": sha256}
+    with making.desk(context) as desk:
+        count = compare(desk, source)
+        for each in count.differences:
+            count.beside[each.record.row] = {"row": each.record.row, **origin, **desk.all_members([each.note])}
+    count.remarks = sorted(source.let)
+    return count
+
+
+def record(context: Context, count: Count) -> Iterator[tuple[Difference, Answer]]:
+    """Gives the differences to `toll`, with what came of each; a fault ends that."""
+    office, journal = context.office(), context.journal()
+    with client.asker(office, len(count.differences)) as ask, journal.series():
+        for each in count.differences:
+            beside = count.beside[each.record.row]
+            answer = asking.asked(context, office, each.line, each.words, journal, ask, **beside)
+            if answer.status == FAULT:
+                count.fault = answer.error.strip() or "toll ended without an answer"
+                return
+            count.outcomes[Outcome.REFUSED if answer.status else Outcome.DONE] += 1
+            yield each, answer
 
 
 def compare(desk: Desk, sheet: Sheet) -> Count:

@@ -22,8 +22,10 @@ from ...core.office import Answer, Office
 from ...core.journal import log as journals
 from ...core.table import counted
 from ...model.measures import value_of
-from ...model.notes.facts import ResultId
+from ...model.notes import ResultId
 from ...model.years import earlier
+from .noting import check_days, decimals_of, notes_beside
+from .reading import read_source
 from .sheet import Record, Sheet, text_of
 from .values import ACTUALS, RECEIPTS, RESULTS, SHIPMENTS
 
@@ -40,24 +42,25 @@ NEW, OLD = "accepted", (REPEATED, THERE)
 
 @dataclass
 class Import:
-    """A sheet on its way into an office: what the journal notes of its source, who hears of progress, what the journal
-    notes beside rows, how many rows had which outcome, and the rows that didn't go in, with the reason."""
+    """A sheet on its way into an office: what the journal notes of its source and beside rows, who hears of progress,
+    how many rows had which outcome, and the rows that didn't go in, with the reason."""
 
     context: Context
     office: Office
     sheet: Sheet
     source: dict[str, Any]
-    advance: Callable[[int], None]
     beside: dict[int, dict[str, Any]] = field(default_factory=dict)
     known: set[int] = field(default_factory=set)  # rows that the file has already, which `toll` isn't asked about
+    advance: Callable[[int], None] = lambda count: None
     counts: Counter[str] = field(default_factory=Counter)
     rows: list[tuple[int, str, str]] = field(default_factory=list)  # row, key or result, outcome
     answered: set[int] = field(default_factory=set)  # rows
     fault: str = ""
     signal: int = 0  # the exit status where a signal ended the import
 
-    def run(self) -> None:
+    def run(self, advance: Callable[[int], None]) -> None:
         """Gives the sheet to `toll`, until a fault or a signal ends that: the report is printed all the same."""
+        self.advance = advance
         with ended_by_signal(self):
             left = self.left_of_known()
             if self.sheet.kind == ACTUALS:
@@ -206,6 +209,21 @@ class Import:
         return sum((record.values["owner"], record.values["key"]) in keys for record in records)
 
 
+def read(context: Context, path: str, are_meant: bool, **given: Any) -> Import:
+    """The sheet of a file, as options ask for it, with what is known of its rows in the office. `are_meant` says that
+    days are, whatever they are."""
+    office, required = context.office(), ["to"] if context.settings.require.recipient else []
+    decimals = decimals_of(context) if given["what"] == RESULTS.name else None
+    sheet, sha256 = read_source(path, {**given, "required": required, "decimals_of": decimals})
+    source = {"sheet": os.path.basename(path), "sheet_sha256": sha256}
+    read_sheet = Import(context, office, sheet, source, {} if sheet.wrong else notes_beside(context, sheet))
+    if sheet.records and not sheet.wrong:
+        with earlier.tables_of(office) as bases:
+            check_days(bases, context.settings.time_zone, sheet, are_meant)
+            read_sheet.known = known_rows(office, bases[0], sheet)
+    return read_sheet
+
+
 def name_of(record: Record) -> str:
     """By what a record is known: its owner's key, or of a result its lot and test."""
     values = record.values
@@ -234,7 +252,8 @@ def fitting(records: list[Record]) -> list[Record]:
 
 def values_of(line: Line, record: Record) -> dict[str, str]:
     """The values of a record, by their names in its line."""
-    return {value: record.values[value.lower().replace("-", "_")] for value in line.values}
+    values = record.of_line
+    return {value: values[value] for value in line.values}
 
 
 def known_rows(office: Office, base: sqlite3.Connection, sheet: Sheet) -> set[int]:

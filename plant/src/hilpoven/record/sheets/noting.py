@@ -1,17 +1,19 @@
-"""What is noted with the rows of a sheet of receipts, shipments or results."""
+"""What is noted with the rows of a sheet of receipts, shipments or results, and which of their days can't be meant."""
+from collections.abc import Callable, Sequence
 from typing import Any
 
 from ...core import snapshot
 from ...core.context import Context
 from ...core.failure import Failure
 from ...core.table import counted
+from ...model.doubtful_days import read_days
 from ...model.measures import value_of
-from ...model.rows import LotId
+from ...model.rows import Base, LotId
 from ...model.schema import Role
-from .. import describing, expiry, making
-from ...model.notes.facts import LotFacts, MovementFacts, ResultFacts, ResultId
-from ...model.notes.kinds import Bound, split_sign
-from ...model.notes.movements import GETS, SENDS, Parties, party_fault
+from ...model.years.earlier import lot_of
+from .. import describing, doubts, expiry, making
+from ...model.notes import GETS, SENDS, LotFacts, MovementFacts, Parties, ResultFacts, ResultId, party_fault
+from ...model.kinds import Bound, split_sign
 from .sheet import Finding, Record, Sheet
 from .values import ACTUALS, RESULTS, SHIPMENTS
 from ...model.register.standing import register_of
@@ -19,6 +21,29 @@ from ...model.register.standing import register_of
 COLUMNS = {"to": GETS, "from": SENDS}  # whose values are parties, with what each does
 Beside = dict[int, dict[str, Any]]  # what stands in the journal beside rows, by their numbers
 LOTS = "SELECT lot FROM lots WHERE owner = ? AND material = ?"
+
+
+def is_recorded(base: Base, record: Record) -> bool:
+    """Whether tables have the key of a row, or its result."""
+    return doubts.is_recorded(base, record.of_line)
+
+
+def check_days(
+    bases: Sequence[Base], zone: str, sheet: Sheet, are_meant: bool, has: Callable[[Base, Record], bool] = is_recorded
+) -> None:
+    """Refuses the rows of which days can't be meant, by the tables of the office's file and of its earlier ones, or
+    only tells of them if they are. What is recorded already stays; its days were looked at then."""
+    kept, days = [], read_days(bases, zone, (int(record.values["day"]) for record in sheet.records))
+    for record in sheet.records:
+        why = days.doubt(int(record.values["day"]), LotId(*lot_of(record.of_line)))
+        if why and not any(has(base, record) for base in bases):
+            words = f"{why}; {'taken' if are_meant else '--yes takes it'}"
+            findings = sheet.let if are_meant else sheet.refused
+            findings.append(Finding(record.row, sheet.places["day"], words, "day"))
+            if not are_meant:
+                continue
+        kept.append(record)
+    sheet.records = kept
 
 
 def decimals_of(context: Context) -> dict[tuple[str, ...], int]:
@@ -37,11 +62,11 @@ def decimals_of(context: Context) -> dict[tuple[str, ...], int]:
 
 def notes_beside(context: Context, sheet: Sheet) -> Beside:
     """What stands in the journal beside each row of which something is noted. Rows are refused of which it can't be."""
-    check_days(context, sheet)
+    check_expiry(context, sheet)
     return beside_results(context, sheet) if sheet.kind == RESULTS else beside_movements(context, sheet)
 
 
-def check_days(context: Context, sheet: Sheet) -> None:
+def check_expiry(context: Context, sheet: Sheet) -> None:
     """Warns of rows that ship or consume a lot past its day, or refuses them, as the settings say."""
     settings = {SHIPMENTS.name: context.settings.expiry.ship, ACTUALS.name: context.settings.expiry.actual}
     setting = settings.get(sheet.kind.name)
@@ -65,8 +90,7 @@ def warning_of(desk: making.Desk, setting: str, record: Record) -> str:
     values = record.values
     if values.get("use", Role.CONSUMED.word) != Role.CONSUMED.word:
         return ""
-    lot = LotId(values.get("lot_owner", values["owner"]), values["lot"])
-    return expiry.warning(desk, setting, lot, {name.upper(): value for name, value in values.items()})
+    return expiry.warning(desk, setting, LotId(*lot_of(record.of_line)), record.of_line)
 
 
 def beside_results(context: Context, sheet: Sheet) -> Beside:

@@ -8,11 +8,13 @@ from typing import NamedTuple
 from ...core import scanned
 from ...core.failure import printable
 from ...core.forms import listed
-from ...core.exports import csv_of
+from ...core.table import csv_of
 from .cells import MOST_LETTERS, Cell, Table, shortened
-from .values import CAPITALS, Kind, Reading, Refused, Taken, can_be_read, letters, of_days, of_measured, of_values
+from .values import CAPITALS, Kind, Reading, Refused, Taken, can_be_read, letters
+from .values import of_dates, of_days, of_measured, of_values
 
 NOTHING = Cell("")
+COUNTS = {12: "twelve", 7: "seven", 6: "six", 5: "five"}
 Rows = Sequence[tuple[int, list[Cell]]]
 
 
@@ -36,6 +38,11 @@ class Record(NamedTuple):
     values: dict[str, str]
     noted: dict[str, str] = {}
 
+    @property
+    def of_line(self) -> dict[str, str]:
+        """Its values by the names that they have in a line of `toll`."""
+        return {name.upper().replace("_", "-"): value for name, value in self.values.items()}
+
 
 @dataclass
 class Asked:
@@ -54,6 +61,7 @@ class Asked:
     headers: dict[str, str] = field(default_factory=dict)  # by their columns, as they were typed
     trim: bool = False
     rows: list[range] = field(default_factory=list)  # all where there is none
+    is_of_workbook: bool = False  # whether the sheet is one of several, which may have no rows, and none of totals
 
     def column_under(self, header: str) -> str:
         """The column whose header this is."""
@@ -132,7 +140,7 @@ class Sheet:
         self.header(*chosen[0])
         for row, cells in chosen[1:]:
             self.record(row, cells, chosen)
-        if len(chosen) == 1:
+        if len(chosen) == 1 and not asked.is_of_workbook:
             words = "no row of --rows holds anything" if len(rows) > 1 else "there is no row under the header"
             self.wrong.append(Finding(rows[0][0], 0, words))
         self.asked = replace(asked, decimals=None)  # which may be many, and are read by now
@@ -152,9 +160,9 @@ class Sheet:
             elif column in self.kind.readings:
                 self.places[column] = place
             elif not cell.is_empty():
-                count = {12: "twelve", 7: "seven", 6: "six", 5: "five"}[len(self.kind.columns)]
-                text = shortened(cell.text.strip())
-                self.wrong.append(Finding(row, place, f"{text!r} is none of the {count} columns"))
+                text, count = shortened(cell.text.strip()), len(self.kind.columns)
+                columns = "columns" if self.asked.is_of_workbook else f"{COUNTS.get(count, count)} columns"
+                self.wrong.append(Finding(row, place, f"{text!r} is none of the {columns}"))
         missing = [expected for expected in [*self.kind.columns, *self.asked.required] if expected not in self.places]
         texts = {column_of(cell.text) for cell in cells}
         for column, header in self.asked.headers.items():
@@ -183,7 +191,7 @@ class Sheet:
         """Notes a row's values, or what is refused of them."""
         count = len(self.refused)
         placed = dict(enumerate(cells, 1))
-        if lacking := self.lacking(placed):
+        if not self.asked.is_of_workbook and (lacking := self.lacking(placed)):
             self.refused.append(self.no_record(row, placed, lacking, chosen))
             return
         placed = self.with_scanned(row, placed)
@@ -249,7 +257,7 @@ class Sheet:
         if cell.is_empty():
             raise Refused("it is empty")
         trimmed = cell.trimmed()
-        if cell.strange and not (cell.day and reading is of_days):
+        if cell.strange and not (cell.day and reading in (of_days, of_dates)):
             raise Refused(f"it is {shortened(cell.strange, MOST_LETTERS)}")
         if len(cell.text) > MOST_LETTERS or len(cell.shown or "") > MOST_LETTERS:
             raise Refused(f"it has more than {MOST_LETTERS:,} letters")

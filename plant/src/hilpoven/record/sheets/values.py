@@ -10,11 +10,10 @@ from typing import NamedTuple
 
 from ...core import forms
 from ...core.failure import Failure
-from ...core.exports import as_cell
-from ...core.table import Value
-from ...core.days import DATED_YEARS, date_in, day_of
+from ...core.table import Value, as_cell
+from ...core.days import DATED_YEARS, date_in, date_of, day_of
 from ...model.measures import whole_of
-from ...model.notes.kinds import split_sign
+from ...model.kinds import split_sign
 from .cells import Cell
 
 NAME = re.compile(r"[A-Z0-9][A-Z0-9-]{0,15}")
@@ -161,6 +160,16 @@ def of_days(cell: Cell) -> Taken:
     if when.year not in DATED_YEARS:
         raise Refused(f"{when} has no day YYMMDD: its year is none from {DATED_YEARS[0]} to {DATED_YEARS[-1]}")
     return Taken(str(day_of(when)), "dates", f"{when} is a date, and a day is a number", is_other=True)
+
+
+def of_dates(cell: Cell) -> Taken:
+    """A day that is a date, which is written as YYMMDD."""
+    when = cell.day or date_written(cell.text)
+    if not when and re.fullmatch(r"[0-9]{6}", cell.text) and cell.shown in (None, cell.text):
+        when = date_of(int(cell.text))
+    if not when or when.year not in DATED_YEARS:
+        raise Refused(f"{cell.text!r} is no date, such as 2026-11-27 or 261127")
+    return Taken(str(day_of(when)))
 
 
 def date_written(text: str) -> date | None:

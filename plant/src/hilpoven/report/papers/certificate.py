@@ -1,26 +1,138 @@
-"""The certificate of a lot, for its owner's customers: of analysis if it was tested, else of release."""
+"""Papers for an owner's customers: the certificate of a lot, of analysis if it was tested, else of release; and the
+delivery note of shipments."""
 import datetime
-from typing import Any
+from collections.abc import Sequence
+from typing import Any, NamedTuple
 
+from ...core.days import day_of, format_day
+from ...core.failure import REFUSED, Failure
 from ...core.settings import PlantFacts
-from ...model.descriptions import DescribedLot, describe_lot, in_full, owner_in_full
-from ...core.days import day_of
-from ...model.rows import Lot, LotId, require_lot
-from ...model.schema import Disposition
 from ...model import quality
+from ...model.nearest import nearest
+from ...model.notes import OwnerFacts
+from ...model.quality import DescribedLot, describe_lot, in_full, owner_in_full
+from ...model.rows import Lot, LotId, require_lot, require_owner
+from ...model.schema import Disposition
 from ...record.expiry import past_day
+from ..columns import Sql, columns, measured
+from ..sheets import Sheet, select
 from .agreement import check_lots
 from .copies import Source
 from .letterhead import letterhead_of, number_of
 from .printing import Document
-from .sheets import VERDICTS, Row, Sheet, columns
-from .shipments import of_certificate
 
-TESTS = columns(
-    "test noted_name=full_name:text@beneath noted_method=method:text low=limits_from:number high=to:number "
-    "value=result:number noted_unit=unit:text@beside day:day verdict:text"
+HEADS = columns(
+    "day:day key lot sublot material amount=shipped:number measure=unit:text@beside", key="mkey", material="of_material"
 )
-OF_NOTES = [column.name for column in TESTS if column.name.startswith("noted_")]
+SHIPMENTS = """
+SELECT rowid, mkey, lot_owner, lot, amount, measure, day, party, document, name, address, contact, phone FROM shipment
+WHERE owner = ? ORDER BY rowid
+"""
+
+
+class Shipment(NamedTuple):
+    """A shipment, and as far as they are noted its party, its document, and how the party is reached."""
+
+    rowid: int
+    key: str
+    lot_owner: str
+    lot: str
+    amount: int
+    measure: str
+    day: int
+    party: str
+    document: str
+    name: str
+    address: str
+    contact: str
+    phone: str
+
+    @property
+    def noted(self) -> dict[str, str]:
+        """Its recipient and its document, as far as they are noted."""
+        noted = {
+            "recipient": self.name or self.party,
+            "address": self.address,
+            "contact": self.contact,
+            "phone": self.phone,
+            "document": self.document,
+        }
+        return {name: text for name, text in noted.items() if text}
+
+
+def require_shipment(source: Source, owner: str, key: str, lot: LotId | None = None) -> Shipment:
+    """A shipment of an owner, or of one of its lots; fails if there is none."""
+    rows = [Shipment(*row) for row in source.base.execute(SHIPMENTS, (owner,))]
+    shipments = {row.key: row for row in rows if lot in (None, (row.lot_owner, row.lot))}
+    if key in shipments:
+        return shipments[key]
+    subject = str(lot) if lot else owner
+    advice = nearest(key, list(shipments), f"shipments of {subject}")
+    raise Failure(f"there is no shipment {key} of {subject}", REFUSED, advice)
+
+
+def of_certificate(source: Source, lot: LotId, key: str) -> tuple[dict[str, str], bool]:
+    """A shipment of a lot as a certificate names it, and whether any of it is noted by the plant."""
+    shipment = require_shipment(source, lot.owner, key, lot)
+    shown = {name: text for name, text in shipment.noted.items() if name in ("recipient", "address", "document")}
+    amount = f"{shipment.amount:,} {shipment.measure}"
+    return {"shipped": amount, "on": format_day(shipment.day), **shown}, bool(shown)
+
+
+def delivery_note(source: Source, owner: str, keys: Sequence[str], plant: PlantFacts) -> list[Document]:
+    """The delivery note of shipments of an owner, which all go to one recipient and have one document. The plant sends
+    them for the owner."""
+    require_owner(source.base, owner)
+    first, *others = all_shipments = [require_shipment(source, owner, key) for key in dict.fromkeys(keys)]
+    for other in others:
+        require_same(first, other)
+    check_lots(source, {LotId(each.lot_owner, each.lot) for each in all_shipments})
+    rows = [
+        row
+        for each in all_shipments
+        for row in select(source.base, "", HEADS, "FROM shipment WHERE rowid = ?", (each.rowid,)).rows
+    ]
+    owner_noted = source.register.of(owner).owners.get(owner) or OwnerFacts(owner)
+    facts = {**sender_of(plant), **owner_in_full(owner_noted), **first.noted}
+    values: dict[str, Any] = {"facts": facts, "is_noted": bool(first.noted)}
+    title = f"Delivery note {first.document}".strip()
+    return [Document("delivery", False, title, [Sheet("shipments", HEADS, rows)], values, is_across=False)]
+
+
+def sender_of(plant: PlantFacts) -> dict[str, str]:
+    """The plant, which sends what is shipped; nothing if the settings don't say who it is."""
+    sender = ", ".join(filter(None, [plant.name, plant.address]))
+    return {"sender": sender} if sender else {}
+
+
+def require_same(first: Shipment, other: Shipment) -> None:
+    """Fails if two shipments don't go to the same recipient with the same document."""
+    for detail, is_same in (("recipient", first.party == other.party), ("document", first.document == other.document)):
+        if not is_same:
+            raise Failure(
+                f"{other.key} hasn't the {detail} of {first.key}, so they have no delivery note together", REFUSED
+            )
+
+
+OF_TEST: dict[str, Sql] = {
+    "low": measured("t.low"),
+    "high": measured("t.high"),
+    "value": measured("t.value", sign="t.sign"),
+    "noted_unit": "t.unit",
+    "verdict": "CASE t.passes WHEN 1 THEN 'pass' WHEN 0 THEN 'does not pass' ELSE 'no result' END",
+}
+TESTS = columns(
+    "t.test low=from:number high=to:number value=result:number noted_unit=unit:text@beside? t.day:day verdict:text",
+    **OF_TEST,
+)
+SPECIFIED = columns(
+    "t.test noted_name=full_name:text@beneath? noted_method=method:text? low=limits_from:number high=to:number "
+    "value=result:number noted_unit=unit:text@beside? t.day:day verdict:text",
+    noted_name="t.name",
+    noted_method="t.method",
+    **OF_TEST,
+)
+OF_LOT = "FROM lot_test AS t WHERE t.owner = ? AND t.lot = ? AND NOT t.is_plants ORDER BY t.test"
 
 
 def documents(
@@ -29,7 +141,7 @@ def documents(
     """The certificate of a lot, for one of its shipments if that is named by its key. One of a lot that isn't released,
     is held, or is past its day says so on top of each page. It has a number if the settings say who the plant is."""
     lot = require_lot(source.base, asked)
-    check_lots(source, [lot])
+    check_lots(source, [asked])
     described = describe_lot(source.base, source.register.of(asked.owner), lot)
     facts = facts_of(lot, described)
     status = quality.statuses(source.base, source.register, asked).get(asked)
@@ -37,11 +149,13 @@ def documents(
         facts[quality.COLUMN] = status.text
     is_noted = False
     if shipment:
-        shipped, is_noted = of_certificate(source, asked, lot.measure, shipment)
+        shipped, is_noted = of_certificate(source, asked, shipment)
         facts |= shipped
-    tests, letterhead = tests_sheet(described), letterhead_of(plant)
+    tests, letterhead = select(source.base, "tests", SPECIFIED, OF_LOT, asked), letterhead_of(plant)
     title = f"{kind_of(described)}: {asked.name}"
-    is_held, past = status is not None and status.state == quality.State.HELD, past_day(described.lot, day_of(today))
+    is_held, past = status is not None and status.state == quality.QualityState.HELD, past_day(
+        described.lot, day_of(today)
+    )
     says: dict[str, Any] = {
         "facts": facts,
         "disposition": lot.disposition.word,
@@ -51,7 +165,11 @@ def documents(
         "letterhead": letterhead,
         "approver": plant.approver,
     }
-    number = number_of(f"{asked.owner}-{asked.name}", [title, says, printed(tests)]) if letterhead else ""
+    number = (
+        number_of(f"{asked.owner}-{asked.name}", [title, says, list(map(tests.texts, tests.rows))])
+        if letterhead
+        else ""
+    )
     is_described = bool(described.texts) or tests.is_as_measured
     values = {**says, "number": number, "is_noted": is_noted, "is_described": is_described, "asked": lot}
     return [Document("certificate", False, title, [tests], values, is_across=False)]
@@ -60,7 +178,7 @@ def documents(
 def stamp_of(lot: Lot, is_held: bool, past: str) -> str:
     """Why a lot isn't to be used, in a word or two; empty if it may be."""
     if is_held:
-        return quality.State.HELD.value
+        return quality.QualityState.HELD.value
     if lot.disposition != Disposition.RELEASED:
         return "not released"
     return "past its day" if past else ""
@@ -85,22 +203,3 @@ def facts_of(lot: Lot, described: DescribedLot) -> dict[str, str]:
         "comes from": origin,
         **described.days,
     }
-
-
-def tests_sheet(described: DescribedLot) -> Sheet:
-    """The tests, with limits and results as they were measured; without columns of what isn't noted of any of them."""
-    rows: list[Row] = []
-    for test in described.tests:
-        noted = test.full_name or None, test.method or None
-        numbers = test.low, test.high, test.value, test.unit or None, test.day
-        rows.append((test.name, *noted, *numbers, VERDICTS[test.passes]))
-    sheet = Sheet("tests", TESTS, rows)
-    for column in OF_NOTES:
-        if not sheet.has(column):
-            sheet = sheet.without(column)
-    return sheet
-
-
-def printed(sheet: Sheet) -> list[list[str]]:
-    """What a table says on paper."""
-    return [sheet.texts(row) for row in sheet.rows]

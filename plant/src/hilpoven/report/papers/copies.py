@@ -16,9 +16,10 @@ from ...core.failure import Failure
 from ...core.office import Office
 from ...core.private_server import PrivateServer
 from ...core.journal.log import Journal
+from ...model import views
 from ...model.rows import BatchId, LotId
 from ...model.register import standing
-from ...model.register.store import Register
+from ...model.register.standing import Register
 from ...model.years.chain import Part
 from ...model.years.history import merged, parts_of
 from . import guard
@@ -103,7 +104,7 @@ def opened(office: Office, journal: Journal) -> Iterator[Source]:
             base = newest.base if len(files) == 1 else stack.enter_context(merged(files))
             register = standing.read(journal, newest.base, None if len(files) == 1 else base)
             register.plants_test = office.plants_test
-            yield Source(newest, base, tuple(files), register)
+            yield Source(newest, views.over(base, register), tuple(files), register)
         except sqlite3.Error as error:
             raise Failure(f"a copy of {office.file} can't be read: {error}") from error
 

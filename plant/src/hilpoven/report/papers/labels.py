@@ -11,7 +11,7 @@ from ...core.days import day_of, format_day
 from ...model.rows import Lot, LotId, require_lot, sublots_of
 from ...record import expiry
 from ...model import quality
-from ...model.notes.facts import LotFacts
+from ...model.notes import LotFacts
 from . import printing
 from .agreement import check_stock
 from .copies import Source
@@ -85,9 +85,8 @@ def page(source: Source, asked: LotId, names: Sequence[str], stock: Stock, day: 
     an earlier file alone has none: no command takes its name."""
     base = source.newest.base
     lot = require_lot(base, asked)
-    sublots = sublots_of(base, [asked])
-    check_stock(source, [asked.owner], {asked: lot}, sublots)
-    amounts = chosen(lot, {name: amount for (_, name), amount in sublots.items()}, names)
+    check_stock(source, [asked.owner], [asked])
+    amounts = chosen(lot, {name: amount for (_, name), amount in sublots_of(base, [asked]).items()}, names)
     labels = [label(lot, name, amount, stock, at % stock.count) for at, (name, amount) in enumerate(amounts)]
     last_day = last_day_text(source.register.lots.get(asked), day_of(day))
     values = {
@@ -111,7 +110,7 @@ def status(source: Source, lot: Lot, day: datetime.date) -> str:
     """What a label says of its lot's disposition, and that it is held if the plant's quality says so."""
     word = lot.disposition.word
     quality_status = quality.statuses(source.base, source.register, lot.id).get(lot.id)
-    if quality_status and quality_status.state == quality.State.HELD:
+    if quality_status and quality_status.state == quality.QualityState.HELD:
         return f"{SIGNS['held']} held ({word}) when printed, {day}"
     return f"{SIGNS[word]} {word} when printed, {day}"
 

@@ -1,31 +1,43 @@
 """The card of a lot: all that is known of it, with a picture of one step back and forward."""
 from ... import HOUSE
-from ..lists import overviews
-from ...model.answers import recall_of, trace_of
-from ...model.balance import COUNTED, balances, require_closed
-from ...model import views
-from ...model.descriptions import describe_lot
-from ...model.genealogy import BACK, FORWARD, Genealogy
-from ...model.rows import Lot, LotId, lots_of, moves_of, require_lot, sublots_of
-from ...model.schema import Kind
 from ...model import quality
+from ...model.answers import recall_of, trace_of
+from .agreement import COUNTED, SUMS, agree, agree_on_all, check_lots, require_closed
 from ...model.below import MARK
-from ...model.register.store import Register
+from ...model.quality import describe_lot
+from ...model.genealogy import BACK, FORWARD, Genealogy
+from ...model.rows import Lot, LotId, lots_of, require_lot
+from ...model.schema import OUTGOING, STANDING, Kind
+from .. import noted, overviews
+from ..columns import Column, columns
+from ..sheets import Sheet, select
 from . import pictures
-from .agreement import agree, agree_on_all, check_lots
+from .certificate import OF_LOT, TESTS
 from .copies import Source
-from .links import links_sheet
 from .pictures import Arrow, Box
 from .printing import Document
-from .reasons import reasons_of_lot
-from .recipients import noted_movements
-from .sheets import Column, Row, Sheet, columns, test_rows, tests_sheet
 
 MOST_BOXES = 60
-LEDGER = columns(
-    "owner=of key kind:text sublot target=to batch day:day in:number out:number moved:number void:text balance:number"
+LEDGER = [column for column in overviews.LEDGER if not column.group]
+BESIDE = columns("way:text owner lot noted:text@beside?")
+# The receipts and shipments of a lot of which something is noted.
+NOTED = columns(
+    "key kind:text m.day:day m.amount:number m.measure=unit:text@beside noted_party noted_name:text@beneath "
+    "noted_supplier_lot:text noted_document:text",
+    key="m.mkey",
+    kind=Kind.sql("m.kind"),
+    noted_party="m.party",
+    noted_name="p.name",
+    noted_supplier_lot="m.supplier_lot",
+    noted_document="m.document",
 )
-RESULTS, BESIDE = columns("test value=result:number day:day"), columns("way:text owner lot noted:text@beside")
+NOTED_OF_LOT = """
+FROM movement AS m LEFT JOIN party AS p ON p.owner = m.owner AND p.party = m.party
+WHERE m.lot_owner = ? AND m.lot = ? AND m.owner = m.lot_owner AND m.party || m.supplier_lot || m.document <> ''
+ORDER BY m.rowid
+"""
+OF_MOVES = "m.lot_owner = ? AND m.lot = ?"
+SUBLOTS = "FROM sublots WHERE owner = ? AND lot = ? ORDER BY sublot"
 WAYS = {BACK: "made of", FORWARD: "went into"}
 Beside = dict[LotId, bool]  # lots one step away, and whether they are so by links alone
 
@@ -33,41 +45,34 @@ Beside = dict[LotId, bool]  # lots one step away, and whether they are so by lin
 def documents(source: Source, asked: LotId) -> list[Document]:
     """The card of a lot. That of a lot of HOUSE is the plant's own: the batches of all owners may have consumed it."""
     lot = require_lot(source.base, asked)
-    moves = moves_of(source.base, [asked])
-    balance = balances({asked: lot}, moves)[asked]
-    require_closed({asked: balance}, sublots_of(source.base, [asked]))
-    check_lots(source, [lot])
+    require_closed(source.base, [asked])
+    (sums,) = source.base.execute(f"SELECT {SUMS} FROM moves AS m WHERE {OF_MOVES} AND {STANDING}", asked).fetchall()
+    balance = dict(zip([kind.total for kind in COUNTED], sums))
+    check_lots(source, [asked])
     if source.is_one:
-        first, shipped = recall_of(source.newest.answer("recall", *asked))[0], balance.amounts[Kind.SHIP]
-        agree(f"what of {asked} is on hand and was shipped", (first.on_hand, first.shipped), (lot.on_hand, shipped))
-    genealogy = Genealogy(source.base, source.register.links)
-    beside = neighbours(source, genealogy, asked)
-    register = source.register.of(asked.owner)
-    views.over(source.base, source.register)
-    overview = overviews.lot(source.base, *asked, Register(plants_test=register.plants_test))
-    sublots, ledger = (
-        [tuple(None if cell == "" else cell for cell in row[: len(LEDGER)]) for row in overview.tables[name][1]]
-        for name in ("sublots", "ledger")
-    )
-    held = [*columns("sublot"), Column("amount", f"on hand, {lot.measure}", "number")]
-    links = genealogy.links_about(asked)
+        first = recall_of(source.newest.answer("recall", *asked))[0]
+        shipped = lot.on_hand, balance[Kind.SHIP.total]
+        agree(f"what of {asked} is on hand and was shipped", (first.on_hand, first.shipped), shipped)
+    beside = neighbours(source, asked)
+    base, register = source.base, source.register.of(asked.owner)
+    held = [*columns("sublot"), Column("amount", f"on hand, {lot.measure}", "number", sql=("amount",))]
+    tests = overviews.tests_of(base, asked)
     sheets = [
-        tests_sheet("tests", test_rows(source.base, lot, register)),
-        Sheet("results", RESULTS, [tuple(row) for row in overviews.results_of(source.base, asked)[1]]),
-        Sheet("sublots", held, sublots),
-        Sheet("ledger", LEDGER, ledger),
+        select(base, "tests", TESTS, OF_LOT, asked),
+        overviews.results_of(base, asked),
+        select(base, "sublots", held, SUBLOTS, asked),
+        select(base, "ledger", LEDGER, overviews.LEDGER_OF_LOT, asked),
         beside_sheet(beside),
     ]
-    if links:
-        sheets.append(links_sheet(lots_of(source.base, {link.contained for link in links}), links))
+    others = [
+        noted.links(base, noted.ABOUT_LOT, {"owner": asked.owner, "lot": asked.name}),
+        noted.reasons_of_lot(base, *asked),
+        select(base, "noted", NOTED, NOTED_OF_LOT, asked),
+    ]
     about = {"owner": asked.owner, "material": lot.material, "unit": lot.measure, "comes from": lot.origin}
     disposition = f"{pictures.SIGNS[lot.disposition.word]} {lot.disposition.word}"
-    sums = {**{kind.total: balance.amounts[kind] for kind in COUNTED}, "on hand": lot.on_hand}
-    if reasons := reasons_of_lot(source.register, asked, moves):
-        sheets.append(reasons)
+    left = sum(-amount if kind in OUTGOING else amount for kind, amount in zip(COUNTED, sums))
     quality_text = quality.text_of(source.base, source.register, asked)
-    if noted := noted_movements(register, lot, moves):
-        sheets.append(noted)
     values = {
         "facts": {
             **about,
@@ -75,29 +80,30 @@ def documents(source: Source, asked: LotId) -> list[Document]:
             **({quality.COLUMN: quality_text} if quality_text else {}),
             "on hand": lot.on_hand,
         },
-        "remarks": overview.remarks,
-        "balance": {**sums, "difference": balance.difference},
+        "remarks": overviews.release_of(*asked, lot.disposition.word, tests),
+        "balance": {**balance, "on hand": lot.on_hand, "difference": left - lot.on_hand},
         "described": describe_lot(source.base, register, lot).texts,
         "measure": lot.measure,
         "picture": picture(source, lot, beside),
     }
+    sheets += [sheet for sheet in others if sheet.rows]
     return [Document("lot", asked.owner == HOUSE, f"Lot {asked.name}", sheets, values)]
 
 
 def beside_sheet(beside: dict[str, Beside]) -> Sheet:
     """The lots one step back and forward; without marks if links add none."""
-    rows: list[Row] = [
+    rows = [
         (WAYS[way], *neighbour, MARK if is_noted else None)
         for way, lots in beside.items()
         for neighbour, is_noted in lots.items()
     ]
-    sheet = Sheet("beside", BESIDE, rows)
-    return sheet if any(row[-1] for row in rows) else sheet.without("noted")
+    return Sheet("beside", BESIDE, rows).without_empty()
 
 
-def neighbours(source: Source, genealogy: Genealogy, asked: LotId) -> dict[str, Beside]:
+def neighbours(source: Source, asked: LotId) -> dict[str, Beside]:
     """The lots one step back and one step forward: those that are recorded, which `toll` tells too, and those by links
     alone."""
+    genealogy = Genealogy(source.base, source.register)
     recorded = {
         way: {lot for lot in lots if lot != asked}
         for way, lots in ((BACK, genealogy.recorded_backward(asked)), (FORWARD, genealogy.recorded_onward(asked)))

@@ -12,10 +12,9 @@ from typing import Any
 from ...core.failure import Failure
 from ...core.scratch import ENDING, held_back
 from .letterhead import Issue
-from .longtables import LongTable, finisher
+from .longtables import LongTable, finisher, on_paper
 from .pictures import SIGNS
-from .ranges import on_paper
-from .sheets import ACROSS, UPRIGHT, Sheet, rows_as_html
+from ..sheets import ACROSS, UPRIGHT, Sheet, rows_as_html
 
 TEMPLATES = pathlib.Path(__file__).resolve().parent / "templates"
 LONG = 60  # rows; a table with more is set in lines on paper
@@ -84,7 +83,8 @@ def require_module(name: str, why: str, instead: str = "") -> None:
 @functools.cache
 def environment() -> Any:
     """What reads templates, each once."""
-    import jinja2
+    with held_back():
+        import jinja2
 
     loader = jinja2.FileSystemLoader(TEMPLATES)
     return jinja2.Environment(
@@ -135,7 +135,8 @@ def print_all(jobs: list[Job]) -> None:
     """Prints pages, several in processes side by side."""
     import multiprocessing
 
-    importlib.import_module("weasyprint")  # it takes a second, which no other command waits for
+    with held_back():
+        importlib.import_module("weasyprint")  # it takes a second, which no other command waits for
     count = min(len(jobs), len(os.sched_getaffinity(0)), MOST_PRINTERS)
     if count == 1:
         print_share(jobs)

@@ -1,23 +1,69 @@
-"""What a recall is for its readers: the plant reads all of it, and each owner concerned its own part."""
+"""What a recall is for its readers: the plant reads all of it, and each owner concerned its own part.
+
+What was found is in two temporary tables: `recalled` has the lots with their balances, and `moved` their movements with
+what is noted of them.
+"""
 from collections import Counter, defaultdict
+from collections.abc import Sequence
 from dataclasses import dataclass
 from functools import cached_property
+from typing import Any, NamedTuple
 
 from ... import HOUSE
 from ...model import answers
-from ...model.balance import Balance, require_closed
-from ...model.recall import Recall, RecallLine, read_recall, recall_lines
-from ...model.rows import Batch, BatchId, Lot, LotId, Move, batches_of, require_lot, sublots_of
-from ...model.schema import Kind
-from ...model import quality
-from ...model.below import noted_text
-from ...model.notes.notes import Link
-from ...model.register.store import Register
-from .agreement import agree, agree_on_all, check_stock
+from .agreement import SUMS, agree, agree_on_all, check_stock, require_closed
+from ...model.below import MARK, noted_text
+from ...model.genealogy import FORWARD, Genealogy, Trace
+from ...model.notes import Link
+from ...model.answers import RecallLine, recall_lines
+from ...model.rows import Base, Batch, BatchId, LotId, batches_of, require_lot, want
+from ...model.schema import ON_HAND, ORIGIN, Disposition, Kind, QualityState
+from .. import noted
+from ..columns import Column
+from ..sheets import Sheet, select
 from .copies import Source
 
 MOST_ASKED = 200  # batches that `toll` is asked about one by one
-HELD = quality.State.HELD.value
+MOST_NAMES = 4  # lots that are named in a cell; of more their number is told
+HELD = QualityState.HELD.value
+FIRST = (Disposition.RELEASED, Disposition.QUARANTINED, Disposition.REJECTED)
+WORDS = (*(disposition.word for disposition in FIRST), HELD)  # of what is on hand, each in a column
+MOVED = """
+CREATE TEMP TABLE moved AS SELECT m.rowid AS place, m.*, p.name, p.contact, p.phone, p.address
+FROM movement AS m LEFT JOIN party AS p ON p.owner = m.owner AND p.party = m.party
+WHERE (m.lot_owner, m.lot) IN temp.wanted ORDER BY m.rowid
+"""
+RECALLED = f"""
+CREATE TEMP TABLE recalled AS SELECT r.*, l.material, k.measure, l.disposition, {ORIGIN} AS origin,
+  {ON_HAND} AS on_hand, {Disposition.sql('l.disposition')} AS word, q.state IS 'held' AS is_held, q.reason, b.*
+FROM temp.reached AS r JOIN lots AS l USING (owner, lot) JOIN materials AS k USING (owner, material)
+JOIN quality AS q ON q.owner = l.owner AND q.lot = l.lot
+JOIN (SELECT w.owner AS of_owner, w.lot AS of_lot, {SUMS} FROM temp.wanted AS w LEFT JOIN temp.moved AS m
+  ON m.lot_owner = w.owner AND m.lot = w.lot AND NOT m.is_void GROUP BY 1, 2) AS b
+  ON b.of_owner = r.owner AND b.of_lot = r.lot
+ORDER BY r.place
+"""
+REACHED = "CREATE TEMP TABLE reached (place INTEGER PRIMARY KEY, steps, owner, lot, mark, UNIQUE (owner, lot))"
+STATE = f"iif(r.is_held, '{HELD}', r.word)"  # whether a lot is held, or else its disposition
+STATUS = f"iif(r.is_held, '{HELD} (' || r.word || ')', r.word)"
+READ = ":reader IN ('', r.owner)"  # what a reader sees: the plant, which has no name here, all of it
+LOTS = f"FROM temp.recalled AS r WHERE {READ}"
+MOVES = f"FROM temp.moved AS m JOIN temp.recalled AS r ON r.owner = m.lot_owner AND r.lot = m.lot WHERE {READ}"
+SHIPMENTS = f"{MOVES} AND m.kind = {Kind.SHIP:d}"
+
+
+class Found(NamedTuple):
+    """A lot that was found: its steps, its mark if links add it or shorten the way to it, what it is, whether it is
+    held or else its disposition, what is on hand, and what was shipped."""
+
+    steps: int
+    id: LotId
+    mark: str | None
+    material: str
+    measure: str
+    word: str
+    on_hand: int
+    shipped: int
 
 
 @dataclass(frozen=True)
@@ -32,25 +78,28 @@ class Step:
     links: list[Link]
     is_noted: bool
 
+    @property
+    def mark(self) -> str | None:
+        """Its mark, if links add it or shorten the way to it."""
+        return MARK if self.is_noted else None
+
 
 @dataclass
 class Report:
-    """A recall that balances and that `toll` tells too, with its sublots, its batches by their steps, its text, what
-    the plant noted, and which of its lots the plant's quality holds."""
+    """A recall that balances and that `toll` tells too: the lots by their steps, its batches, and its text."""
 
-    recall: Recall
-    sublots: dict[tuple[LotId, str], int]
+    base: Base
+    start: LotId
+    genealogy: Genealogy
+    lots: dict[LotId, Found]
     steps: list[Step]
     text: str
-    register: Register
-    held: dict[LotId, quality.Status]
-    files: int = 1  # of the office, over which it goes
+    files: int  # of the office, over which it goes
 
     @property
     def owners(self) -> list[str]:
         """The owners that a paper is for, besides the plant: those of lots, and those whose batches have some."""
-        owners = [*(lot.owner for lot in self.recall.steps), *(step.batch.id.owner for step in self.steps)]
-        return sorted({*owners} - {HOUSE})
+        return sorted({*(lot.owner for lot in self.lots), *(step.batch.id.owner for step in self.steps)} - {HOUSE})
 
 
 @dataclass
@@ -60,32 +109,24 @@ class View:
     report: Report
     owner: str = ""
 
-    @property
-    def recall(self) -> Recall:
-        """The recall by the tables."""
-        return self.report.recall
-
-    def lot(self, name: LotId) -> Lot:
-        """A lot of the recall."""
-        return self.recall.balances[name].lot
-
-    def word_of(self, lot: LotId) -> str:
-        """Whether a lot is held, or else its disposition."""
-        return HELD if lot in self.report.held else self.lot(lot).disposition.word
-
-    def status_of(self, lot: LotId) -> str:
-        """The disposition of a lot; of one that is held, that it is, and the disposition behind it."""
-        word, disposition = self.word_of(lot), self.lot(lot).disposition.word
-        return f"{word} ({disposition})" if word == HELD else word
-
     def has(self, owner: str) -> bool:
         """Whether it shows an owner's lots and batches."""
         return self.owner in ("", owner)
 
+    def select(self, name: str, heads: list[Column], behind: str, sums: Sequence[str] = ()) -> Sheet:
+        """A table of what was found."""
+        words = {"reader": self.owner, "start": str(self.report.start)}
+        return select(self.report.base, name, heads, behind, words, sums)
+
+    def one(self, sql: str) -> Any:
+        """The first value of a query."""
+        ((value,),) = self.report.base.execute(sql, {"reader": self.owner}).fetchall()
+        return value
+
     @cached_property
-    def balances(self) -> list[Balance]:
-        """The balances of its lots, by their steps."""
-        return [self.recall.balances[lot] for lot in self.recall.steps if self.has(lot.owner)]
+    def lots(self) -> list[Found]:
+        """Its lots, by their steps."""
+        return [lot for lot in self.report.lots.values() if self.has(lot.id.owner)]
 
     @cached_property
     def steps(self) -> list[Step]:
@@ -93,108 +134,103 @@ class View:
         return [step for step in self.report.steps if self.has(step.batch.id.owner)]
 
     @cached_property
-    def shipments(self) -> list[Move]:
-        """Its shipments, in the order in which they were recorded."""
-        return [move for move in self.recall.moves if move.kind == Kind.SHIP and self.has(move.lot.owner)]
-
-    @cached_property
-    def all_links(self) -> list[Link]:
-        """The links that it may show, in the order in which they were noted."""
-        return [link for link in self.recall.genealogy.links if self.has(link.owner)]
-
-    @cached_property
-    def links(self) -> list[Link]:
+    def links(self) -> Sheet:
         """Its links that say what contains some of the recalled lots."""
-        return [link for link in self.all_links if link.contained in self.recall.steps]
-
-    @cached_property
-    def has_held(self) -> bool:
-        """Whether any of its lots is held."""
-        return any(balance.lot.id in self.report.held for balance in self.balances)
+        where = ":reader IN ('', k.owner) AND (k.of_owner, k.of_lot) IN (SELECT owner, lot FROM temp.reached)"
+        return noted.links(self.report.base, where, {"reader": self.owner})
 
     @cached_property
     def is_noted(self) -> bool:
         """Whether links add any of its lots or batches, or shorten the way to a lot."""
-        lots = (balance.lot.id for balance in self.balances)
-        return any(map(self.is_noted_lot, lots)) or any(step.is_noted for step in self.steps)
-
-    def is_noted_lot(self, lot: LotId) -> bool:
-        """Whether links add a lot, or shorten the way to it."""
-        return self.recall.trace.is_noted(lot)
+        return any(lot.mark for lot in self.lots) or any(step.is_noted for step in self.steps)
 
     @cached_property
-    def register(self) -> Register:
-        """What the plant noted: of an owner's recall that owner's notes alone."""
-        return self.report.register.of(self.owner) if self.owner else self.report.register
+    def has_notes(self) -> bool:
+        """Whether its reader has notes of parties or movements; otherwise its papers say nothing of them."""
+        of_parties = "SELECT 1 FROM register.party_note WHERE :reader IN ('', owner)"
+        of_moves = "SELECT 1 FROM temp.moved WHERE :reader IN ('', owner) AND party || supplier_lot || document <> ''"
+        return bool(self.one(f"SELECT EXISTS ({of_parties} UNION ALL {of_moves})"))
 
     @property
     def names_start(self) -> bool:
         """Whether it names the recalled lot: to the plant, to its owner, and to those that consumed it or contain it by
         a link."""
-        start = self.recall.start
+        start = self.report.start
         return (
             self.has(start.owner)
             or any(start in step.consumed for step in self.steps)
-            or any(link.contained == start for link in self.links)
+            or any(link.contained == start for link in self.report.genealogy.links if self.has(link.owner))
         )
+
+    @property
+    def counts(self) -> dict[str, int]:
+        """How many owners are concerned, how many lots of each disposition and how many held ones are on hand, and how
+        many shipments left."""
+        on_hand = Counter(lot.word for lot in self.lots if lot.on_hand)
+        shipments = self.one(f"SELECT count(*) {SHIPMENTS}")
+        return {"owners": len(self.report.owners), "shipments": shipments, **{word: on_hand[word] for word in WORDS}}
 
 
 def read_report(source: Source, start: LotId) -> Report:
     """The recall of a lot, which is there."""
-    require_lot(source.base, start)
-    recall = read_recall(source.base, start, source.register.links)
-    sublots = sublots_of(source.base, recall.steps)
-    require_closed(recall.balances, sublots)
-    steps = steps_of(source, recall)
-    recorded = recall_lines(source.base, recall.trace.recorded)
+    base = source.base
+    require_lot(base, start)
+    genealogy = Genealogy(base, source.register)
+    trace = genealogy.trace(start, FORWARD)
+    require_closed(base, trace.steps)
+    lots = read_lots(base, trace)
+    steps = steps_of(base, genealogy, trace)
+    recorded = recall_lines(base, trace.recorded)
     text = "".join(f"{line}\n" for line in answers.recall_text(recorded))
     check_lines(source, start, recorded, text)
-    lots = {name: balance.lot for name, balance in recall.balances.items()}
-    check_stock(source, sorted({lot.owner for lot in lots}), lots, sublots)
+    check_stock(source, sorted({lot.owner for lot in lots}), lots)
     check_batches(source, [step.batch for step in steps])
-    noted = noted_text(answers.recall_text(recall_lines(source.base, recall.trace.noted))[1:])
-    text += "".join(f"{line}\n" for line in noted)
-    register = noted_of(source.register, recall.moves)
-    statuses = quality.statuses(source.base, source.register)
-    held = {lot: status for lot, status in statuses.items() if lot in lots and status.state == quality.State.HELD}
-    return Report(recall, sublots, steps, text, register, held, len(source.files))
+    added = noted_text(answers.recall_text(recall_lines(base, trace.noted))[1:])
+    text += "".join(f"{line}\n" for line in added)
+    return Report(base, start, genealogy, lots, steps, text, len(source.files))
 
 
-def noted_of(register: Register, moves: list[Move]) -> Register:
-    """What the plant noted, but of movements only what it noted of these, since each reader looks through it."""
-    keys = {(move.owner, move.key) for move in moves}
-    return register.having(facts={key: facts for key, facts in register.facts.items() if key in keys})
+def read_lots(base: Base, trace: Trace) -> dict[LotId, Found]:
+    """The lots of a trace, by their steps; `recalled` has them, and `moved` their movements."""
+    want(base, trace.steps)
+    base.execute(REACHED)
+    marks = ((steps, *lot, MARK if trace.is_noted(lot) else None) for lot, steps in trace.steps.items())
+    base.executemany("INSERT INTO temp.reached (steps, owner, lot, mark) VALUES (?, ?, ?, ?)", marks)
+    base.execute(MOVED)
+    base.execute(RECALLED)
+    sql = f"SELECT steps, owner, lot, mark, material, measure, {STATE}, on_hand, shipped FROM temp.recalled AS r"
+    lots = (Found(steps, LotId(owner, lot), *rest) for steps, owner, lot, *rest in base.execute(sql))
+    return {lot.id: lot for lot in lots}
 
 
-def steps_of(source: Source, recall: Recall) -> list[Step]:
+AMOUNTS = """
+SELECT owner, ord, number, kind, lot_owner, lot, sum(amount) FROM temp.moved WHERE ord <> '' AND NOT is_void
+GROUP BY 1, 2, 3, 4, 5, 6
+"""
+
+
+def steps_of(base: Base, genealogy: Genealogy, trace: Trace) -> list[Step]:
     """The batches that consumed some of the recalled lots, or that contain some by links."""
-    genealogy, steps = recall.genealogy, []
+    amounts = Counter[tuple[BatchId, Kind, LotId]]()
+    for owner, order, number, kind, *lot, amount in base.execute(AMOUNTS):
+        amounts[BatchId(owner, order, number), Kind(kind), LotId(*lot)] = amount
     links: dict[BatchId, list[Link]] = defaultdict(list)
     for link in genealogy.links:
-        if isinstance(link.container, BatchId) and link.contained in recall.steps:
+        if isinstance(link.container, BatchId) and link.contained in trace.steps:
             links[link.container].append(link)
-    amounts = amounts_of(recall)
-    consumers = {batch for lot in recall.steps for batch in genealogy.consumers(lot)}
-    for name, batch in batches_of(source.base, sorted(consumers | links.keys())).items():
-        consumed = [lot for lot in sorted(genealogy.consumed.get(name, {})) if lot in recall.steps]
+    steps = []
+    consumers = {batch for lot in trace.steps for batch in genealogy.consumers(lot)}
+    for name, batch in batches_of(base, sorted(consumers | links.keys())).items():
+        consumed = [lot for lot in sorted(genealogy.consumed.get(name, {})) if lot in trace.steps]
         onward = {product for lot in consumed for product in genealogy.products(name, lot)}
         if links[name]:
             onward |= set(genealogy.lots_of(name))
-        nearest = min(recall.steps[lot] for lot in [*consumed, *(link.contained for link in links[name])])
-        is_noted = all(recall.trace.recorded.get(lot) != nearest for lot in consumed)
+        nearest = min(trace.steps[lot] for lot in [*consumed, *(link.contained for link in links[name])])
+        is_noted = all(trace.recorded.get(lot) != nearest for lot in consumed)
         taken = {lot: amounts[name, Kind.CONSUMED, lot] for lot in consumed}
         produced = {lot: amounts[name, Kind.PRODUCED, lot] for lot in sorted(onward)}
         steps.append(Step(1 + nearest, batch, taken, produced, links[name], is_noted))
     return sorted(steps, key=lambda step: (step.number, step.batch.id))
-
-
-def amounts_of(recall: Recall) -> Counter[tuple[BatchId, Kind, LotId]]:
-    """What each batch consumed or produced of each of the recalled lots."""
-    amounts: Counter[tuple[BatchId, Kind, LotId]] = Counter()
-    for move in recall.moves:
-        if move.batch and not move.is_void:
-            amounts[move.batch, move.kind, move.lot] += move.amount
-    return amounts
 
 
 def check_lines(source: Source, start: LotId, lines: list[RecallLine], text: str) -> None:

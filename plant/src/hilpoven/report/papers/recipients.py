@@ -1,152 +1,160 @@
-"""Who has what was shipped, less what came back, and whom what was received came from, as the plant noted it."""
-from collections import Counter, defaultdict
-from collections.abc import Mapping, Sequence
-from dataclasses import replace
+"""Who has what was shipped, less what came back, as the plant noted it."""
+from collections import defaultdict
+from dataclasses import dataclass
+from itertools import groupby
+from operator import itemgetter
+from typing import Any
 
-from ...model.rows import Lot, LotId, Move
-from ...model.notes.movements import UNKNOWN
-from ...model.notes.notes import Party
-from ...model.register.recipients import Received, Return, facts_of, party_of, returns_of
-from ...model.register.store import Register
-from .recall import View
-from .sheets import Cell, Row, Sheet, columns
+from ...model.kinds import Why
+from ...model.rows import LotId
+from ...model.schema import Kind
+from ..columns import columns
+from ..noted import documents_named
+from ..sheets import Sheet
+from .recall import MOVES, SHIPMENTS, View
 
-Recipients = Mapping[tuple[str, str, LotId], Received]  # by owner, party and lot
-CONTACT = "noted_contact:text noted_phone:text@beneath noted_address:text@beneath"
-NOTE = "hilpoven note movement {owner} {key}"
 LATER = " "  # in the key of a movement that came again in a later file, so that no command means this one by it
-OF_RETURNS = ("noted_returned", "noted_has")  # columns that there are only if something came back
+CONTACT = "noted_contact:text noted_phone:text@beneath noted_address:text@beneath"
+OF_CONTACT = {f"noted_{name}": f"m.{name}" for name in ("party", "name", "contact", "phone", "address")}
 
 
-def has_notes(register: Register) -> bool:
-    """Whether a reader has notes of parties or movements; otherwise its papers say nothing of them."""
-    return bool(register.parties or register.facts)
+def to_note(reader: str, owner: str, key: str, option: str, otherwise: str, by_owner: str) -> str:
+    """What is to be done about a movement whose party isn't known: the plant's command, if one can name it."""
+    if reader:
+        return by_owner
+    return otherwise if LATER in key else f"hilpoven note movement {owner} {key} {option}"
+
+
+def to_find(reader: str, owner: str, key: str) -> str:
+    """The same of a shipment."""
+    return to_note(reader, owner, key, "--to PARTY", "find out who has it", "tell the plant who has it")
+
+
+WITHOUT_RECIPIENT = columns(
+    "m.day:day m.owner key m.lot r.material amount=shipped:number r.measure=unit:text@beside noted_document:text "
+    "to_do=what_to_do:text",
+    key="m.mkey",
+    amount="m.amount",
+    noted_document="m.document",
+    to_do=(":reader", "m.owner", "m.mkey", to_find),
+)
+RECIPIENTS = columns(
+    f"owner noted_party noted_name:text {CONTACT} lot material shipments:number amount=shipped:number "
+    "noted_returned=came_back:number noted_has=has:number measure=unit:text@beside noted_documents:text"
+)
+CONTACTS = columns(
+    f"m.owner noted_party noted_name:text {CONTACT} shipments:number", shipments="count(*)", **OF_CONTACT
+)
+RETURNED = columns(
+    "day:day owner key of_lot lot=came_into amount=came_back:number measure=unit:text@beside noted_party=from "
+    "noted_document:text what:text"
+)
+KNOWN = f"{SHIPMENTS} AND m.party <> ''"
+RECEIVED = f"""
+SELECT m.owner, m.party, r.owner, r.lot, m.name, m.contact, m.phone, m.address, r.material, r.measure, m.amount,
+  m.document {KNOWN} ORDER BY 1, 2, 3, 4, m.place
+"""
+# The receipts of what links say to be returns. What was received of a lot with one such link is all of the lot that the
+# link names; a link with an amount says itself how much it is, and of another one nobody knows.
+RETURNS = f"""
+WITH back AS (SELECT * FROM link WHERE why = '{Why.RETURN}' AND lot <> '' AND :reader IN ('', owner)),
+  receipt AS (SELECT m.*, r.measure, min(m.place) OVER of_lot AS first, count(*) OVER of_lot AS receipts
+    {MOVES.replace(':reader', "''")} AND m.kind = {Kind.RECEIVE:d} AND NOT m.is_void
+    WINDOW of_lot AS (PARTITION BY m.lot_owner, m.lot))
+SELECT m.day, m.owner, m.mkey, f.owner, f.lot, m.lot, m.amount,
+  CASE WHEN n.links = 1 AND k.amount IS NULL THEN m.amount WHEN m.receipts = 1 THEN k.amount END,
+  m.measure, m.measure = f.measure, m.party, m.document
+FROM back AS k JOIN (SELECT owner, lot, count(*) AS links FROM back GROUP BY 1, 2) AS n USING (owner, lot)
+JOIN receipt AS m ON m.lot_owner = k.owner AND m.lot = k.lot
+JOIN temp.recalled AS f ON f.owner = k.of_owner AND f.lot = k.of_lot
+ORDER BY m.first, k.note, k.place, m.place
+"""
+
+
+@dataclass
+class Received:
+    """What a recipient got of a lot: what tables say before and behind the amounts, how much it got in how many
+    shipments, and how much of it came back."""
+
+    about: tuple[Any, ...]
+    behind: tuple[Any, ...]
+    shipments: int
+    amount: int
+    returned: int = 0
+
+    @property
+    def row(self) -> tuple[Any, ...]:
+        """The row of what it has of it still."""
+        return *self.about, self.shipments, self.amount, self.returned, self.amount - self.returned, *self.behind
+
+
+Recipients = dict[tuple[str, str, LotId], Received]  # by owner, party and lot
 
 
 def sheets_of(view: View) -> list[Sheet]:
     """Who has what a recall found: the shipments that nobody is known to have, the recipients, their contacts, and what
     came back, if anything did."""
-    known = [move for move in view.shipments if facts_of(view.register, move).party]
-    received = received_of(view.register, known)
-    returned = returns_sheet(view, received)
-    sheets = [without_recipient(view), recipients(view, received), contacts(view.register, known)]
-    if returned.rows:
-        return [*sheets, returned]
-    for name in OF_RETURNS:
-        sheets[1] = sheets[1].without(name)
-    return sheets
+    received = received_of(view)
+    returned = returns_of(view, received)
+    recipients = Sheet(
+        "recipients",
+        RECIPIENTS,
+        [each.row for each in received.values()],
+        ["shipments", "amount", "noted_returned", "noted_has"],
+    )
+    unknown = f"{SHIPMENTS} AND m.party = '' ORDER BY m.place"
+    sheets = [
+        view.select("without_recipient", WITHOUT_RECIPIENT, unknown),
+        recipients if returned.rows else recipients.without("noted_returned", "noted_has"),
+        view.select("contacts", CONTACTS, f"{KNOWN} GROUP BY m.owner, m.party ORDER BY m.owner, m.party"),
+    ]
+    return [*sheets, returned] if returned.rows else sheets
 
 
-def without_recipient(view: View) -> Sheet:
-    """The shipments that nobody is known to have, with what is to be done about each."""
-    rows: list[Row] = []
-    for move in view.shipments:
-        facts, lot = facts_of(view.register, move), view.lot(move.lot)
-        if not facts.party:
-            about = move.owner, move.key, move.lot.name, lot.material, move.amount, lot.measure
-            task = to_note(view, move, "--to PARTY", "find out who has it", "tell the plant who has it")
-            rows.append((move.day, *about, facts.document, task))
-    heads = "day:day owner key lot material amount=shipped:number measure=unit:text@beside noted_document:text"
-    return Sheet("without_recipient", columns(f"{heads} to_do=what_to_do:text"), rows)
-
-
-def to_note(view: View, move: Move, option: str, otherwise: str, by_owner: str) -> str:
-    """What is to be done about a movement whose party isn't known: the plant's command, if one can name it."""
-    if view.owner:
-        return by_owner
-    return otherwise if LATER in move.key else f"{NOTE.format(owner=move.owner, key=move.key)} {option}"
-
-
-def received_of(register: Register, shipments: Sequence[Move]) -> Recipients:
+def received_of(view: View) -> Recipients:
     """What each recipient got of each lot."""
-    received: dict[tuple[str, str, LotId], Received] = defaultdict(Received)
-    for move in shipments:
-        facts = facts_of(register, move)
-        received[move.owner, facts.party, move.lot].add(move.amount, facts.document)
+    received: Recipients = {}
+    rows = view.report.base.execute(RECEIVED, {"reader": view.owner})
+    for (owner, party, *lot), moves in groupby(rows, itemgetter(0, 1, 2, 3)):
+        (*_, name, contact, phone, address, material, measure, _, _), *_ = all_moves = list(moves)
+        about = owner, party, name, contact, phone, address, lot[1], material
+        documents = documents_named(move[-1] for move in all_moves)
+        amount = sum(move[-2] for move in all_moves)
+        received[owner, party, LotId(*lot)] = Received(about, (measure, documents), len(all_moves), amount)
     return received
 
 
-def recipients(view: View, received: Recipients) -> Sheet:
-    """What each recipient has of each lot, with its contact."""
-    rows: list[Row] = []
-    for (owner, name, of_lot), account in sorted(received.items()):
-        party, lot = view.register.parties.get((owner, name), Party(owner, name, "")), view.lot(of_lot)
-        amounts = account.shipments, account.amount, account.returned, account.left
-        rows.append(
-            (owner, name, *contact_cells(party), of_lot.name, lot.material, *amounts, lot.measure, account.named)
-        )
-    numbers = "shipments:number amount=shipped:number noted_returned=came_back:number noted_has=has:number"
-    about = f"owner noted_party noted_name:text {CONTACT} lot material"
-    heads = columns(f"{about} {numbers} measure=unit:text@beside noted_documents:text")
-    return Sheet("recipients", heads, rows, ["shipments", "amount", *OF_RETURNS])
-
-
-def returns_sheet(view: View, received: Recipients) -> Sheet:
+def returns_of(view: View, received: Recipients) -> Sheet:
     """What came back, and from whose amounts that is subtracted, which this does."""
-    rows: list[Row] = []
-    for returned in returns_of(view.register, view.all_links, view.recall.moves):
-        if returned.of not in view.recall.steps:
-            continue
-        move, facts = returned.move, facts_of(view.register, returned.move)
-        party, why = sender_of(view, received, returned)
-        if party:
-            received[move.owner, party, returned.of].returned += returned.amount or 0
-        about = move.day, move.owner, move.key, returned.of.name, move.lot.name
-        remark = f"subtracted from {party}" if party else f"not subtracted: {why}"
-        amount = move.amount if returned.amount is None else returned.amount
-        rows.append((*about, amount, view.lot(move.lot).measure, facts.party, facts.document, remark))
-    heads = "day:day owner key of_lot lot=came_into amount=came_back:number measure=unit:text@beside"
-    return Sheet("returned", columns(f"{heads} noted_party=from noted_document:text what:text"), rows)
+    rows, parties = [], defaultdict[LotId, set[str]](set)
+    for owner, lot, party in view.report.base.execute(
+        f"SELECT r.owner, r.lot, m.party {SHIPMENTS}", {"reader": view.owner}
+    ):
+        parties[LotId(owner, lot)].add(party)
+    for day, owner, key, *of, lot, all_of_it, amount, measure, is_same, party, document in view.report.base.execute(
+        RETURNS, {"reader": view.owner}
+    ).fetchall():
+        of_lot = LotId(*of)
+        sender, why = sender_of(received, owner, party, of_lot, parties[of_lot])
+        if amount is None:
+            sender, why = "", "the notes don't say how much of it is of this lot"
+        elif not is_same:
+            sender, why = "", "it has another unit"
+        if sender:
+            received[owner, sender, of_lot].returned += amount
+        otherwise = why or to_note(
+            view.owner, owner, key, "--from PARTY", "nobody noted who sent it", "tell the plant who sent it"
+        )
+        remark = f"subtracted from {sender}" if sender else f"not subtracted: {otherwise}"
+        about = day, owner, key, of_lot.name, lot
+        rows.append((*about, all_of_it if amount is None else amount, measure, party, document, remark))
+    return Sheet("returned", RETURNED, rows)
 
 
-def sender_of(view: View, received: Recipients, returned: Return) -> tuple[str, str]:
-    """From whose amount what came back is subtracted; of nobody's, why. One that isn't noted is the only recipient of
-    the lot."""
-    move, of = returned.move, returned.of
-    shipped = [shipment for shipment in view.shipments if shipment.lot == of]
-    parties = {facts_of(view.register, shipment).party for shipment in shipped}
-    if returned.amount is None:
-        return "", "the notes don't say how much of it is of this lot"
-    if view.lot(move.lot).measure != view.lot(of).measure:
-        return "", "it has another unit"
-    if returned.party:
-        is_recipient = (move.owner, returned.party, of) in received
-        return (returned.party, "") if is_recipient else ("", f"{returned.party} got none of this lot by the notes")
-    if len(parties) == 1 and parties != {""}:
-        return parties.pop(), ""
-    return "", to_note(view, move, "--from PARTY", "nobody noted who sent it", "tell the plant who sent it")
-
-
-def contacts(register: Register, shipments: Sequence[Move]) -> Sheet:
-    """Each recipient once, with how many shipments it has: on no page, for a spreadsheet."""
-    counts = Counter((move.owner, facts_of(register, move).party) for move in shipments)
-    rows: list[Row] = []
-    for (owner, name), count in sorted(counts.items()):
-        rows.append((owner, name, *contact_cells(register.parties.get((owner, name), Party(owner, name, ""))), count))
-    return Sheet("contacts", columns(f"owner noted_party noted_name:text {CONTACT} shipments:number"), rows)
-
-
-def contact_cells(party: Party) -> tuple[Cell, ...]:
-    """What is known of a party."""
-    return party.name, party.contact, party.phone, party.address
-
-
-def with_recipients(sheet: Sheet, register: Register, moves: Sequence[Move]) -> Sheet:
-    """A table of these movements with the party and the document of each."""
-    noted = [(facts_of(register, move).party, facts_of(register, move).document) for move in moves]
-    rows = [(*row, *cells) for row, cells in zip(sheet.rows, noted, strict=True)]
-    return replace(sheet, columns=[*sheet.columns, *columns("noted_party noted_document:text")], rows=rows)
-
-
-def noted_movements(register: Register, lot: Lot, moves: Sequence[Move]) -> Sheet | None:
-    """The receipts and shipments of a lot of which something is noted; `None` if there are none."""
-    rows: list[Row] = []
-    for move in moves:
-        facts = facts_of(register, move)
-        if facts != UNKNOWN:
-            about = move.key, move.kind.word, move.day, move.amount, lot.measure
-            noted = facts.party, party_of(register, move).name, facts.supplier_lot, facts.document
-            rows.append((*about, *noted))
-    noted_by = "noted_party noted_name:text@beneath noted_supplier_lot:text noted_document:text"
-    heads = columns(f"key kind:text day:day amount:number measure=unit:text@beside {noted_by}")
-    return Sheet("noted", heads, rows) if rows else None
+def sender_of(received: Recipients, owner: str, party: str, lot: LotId, parties: set[str]) -> tuple[str, str]:
+    """From whose amount what came back of a lot is subtracted; of nobody's, why, if more is known than that nobody
+    noted it. One that isn't noted is the only recipient of the lot."""
+    if party:
+        return (party, "") if (owner, party, lot) in received else ("", f"{party} got none of this lot by the notes")
+    only = max(parties) if len(parties) == 1 else ""
+    return (only, "") if (owner, only, lot) in received else ("", "")

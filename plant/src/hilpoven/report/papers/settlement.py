@@ -1,20 +1,34 @@
-"""The settlement of an owner: what its batches consumed and produced against their recipes, between two days."""
-from collections.abc import Iterable, Mapping, Sequence
+"""The settlement of an owner: what its batches consumed and produced against their recipes, between two days, or of a
+month, which is closed once and has a number then."""
+from collections.abc import Mapping, Sequence
+from dataclasses import replace
 from fractions import Fraction
 
 from ... import HOUSE
-from ...model.balance import balances, require_closed
-from ...record.settling.closing import BY_PRODUCT, MAIN
+from ...core import lock
+from ...core.days import days_of_month, format_day, format_month
+from ...core.failure import REFUSED, Failure
+from ...core.forms import listed
+from ...core.journal.log import Journal
+from ...core.office import Office
+from ...core.table import Row
+from ...model.notes import Settled
+from ...model.register.drills import as_moment
+from ...model.register.noted import to_json
+from ...model.register.standing import Closing, Status, closings_in, kept, next_number, statuses
+from ...model.register.tables import Base
+from ...model.rows import require_owner
+from ...model.years.history import places_of
+from ...record.settling.closing import BY_PRODUCT, MAIN, Change, Month, Months
 from ...record.settling.corrections import Correction, Means
-from ...core.days import format_day
-from ...model.rows import lots_of, moves_of, read_lots, require_owner, sublots_of
 from ...record.settling.settlement import WHYS, Line, Made, Product, Reader, Receipts, Settlement, Sums, rounded
-from .agreement import check_stock
+from ..columns import Column, columns
+from ..noted import LINKS, links_among
+from ..sheets import Sheet
+from .agreement import check_owner
 from .copies import Source
-from .links import links_sheet
 from .printing import Document
 from .recall import check_batches
-from .sheets import Row, Sheet, columns
 
 SOURCES = "recorded:number used=used_besides:number corrected:number reworked:number actual:number"  # of an amount
 RECIPES = columns(
@@ -46,17 +60,14 @@ def documents(source: Source, owner: str, first: int, last: int) -> list[Documen
     check_batches(source, [run.batch for run in (*read.going_on, *read.settled)])
     batches = Sheet("batches", BATCHES, batch_rows(read), ["amount"])
     title = f"Settlement of {owner}, {format_day(first)} to {format_day(last)}"
-    sheets = [*sheets_of(source, read, last), received_sheet(read.receipts), batches]
+    sheets = [*tables_of(read, last), received_of(read.receipts), batches]
     return [document(owner, title, [*sheets, *noted_sheets(source, owner, read)], doubtful_of_house(reader, read))]
 
 
 def reader_of(source: Source, owner: str) -> Reader:
     """Reads an owner's settlements; fails if there is no such owner, or if its lots don't agree with `toll`."""
     require_owner(source.base, owner)
-    lots = {lot.id: lot for lot in read_lots(source.base, "l.owner = ?", (owner,))}
-    sublots = sublots_of(source.base, lots)
-    require_closed(balances(lots, moves_of(source.base, lots)), sublots)
-    check_stock(source, [owner], lots, sublots, is_all=True)
+    check_owner(source, owner)
     return Reader(source.base, source.register, owner)
 
 
@@ -72,13 +83,13 @@ def document(owner: str, title: str, sheets: list[Sheet], doubtful: int = 0, sta
     return Document("settlement", owner == HOUSE, title, sheets, values)
 
 
-def sheets_of(source: Source, read: Settlement, last: int) -> list[Sheet]:
+def tables_of(read: Settlement, last: int) -> list[Sheet]:
     """The tables of what was consumed, made, and goes on."""
     mains = [line_row(line) for line in read.lines if not line.is_product or line.is_main]
     others = [by_product_row(line) for line in read.lines if line.is_product and not line.is_main]
     recipes = with_sources(Sheet("recipes", RECIPES, mains))
     is_allowed = any(line.allowance for line in read.lines)
-    sheets = [recipes if is_allowed else without(recipes, ALLOWED)]
+    sheets = [recipes if is_allowed else recipes.without(*ALLOWED)]
     if others:
         sheets.append(with_sources(Sheet("by_products", BY_PRODUCTS, others)))
     going = Sheet("going_on", GOING_ON, going_on_rows(read, last))
@@ -87,25 +98,15 @@ def sheets_of(source: Source, read: Settlement, last: int) -> list[Sheet]:
 
 def noted_sheets(source: Source, owner: str, read: Settlement) -> list[Sheet]:
     """The tables of links and corrections; none of what there is none of."""
-    sheets = []
-    if rows := correction_rows(owner, read.corrections):
-        sheets.append(Sheet("corrections", CORRECTIONS, rows))
-    if read.links:
-        sheets.append(links_sheet(lots_of(source.base, {link.contained for link in read.links}), read.links))
-    return sheets
-
-
-def without(sheet: Sheet, names: Iterable[str]) -> Sheet:
-    """A table without columns."""
-    for name in names:
-        sheet = sheet.without(name)
-    return sheet
+    corrections = Sheet("corrections", CORRECTIONS, correction_rows(owner, read.corrections))
+    links = links_among(source.base, source.register.of(owner), set(read.links))
+    return [sheet for sheet in (corrections, links) if sheet.rows]
 
 
 def with_sources(sheet: Sheet) -> Sheet:
     """A table with what its amounts are made of, as far as that is another thing than actuals."""
     empty = [name for name in NOTED if not sheet.has(name)]
-    return without(sheet, ["recorded", *empty] if len(empty) == len(NOTED) else empty)
+    return sheet.without(*(["recorded", *empty] if len(empty) == len(NOTED) else empty))
 
 
 def amounts(line: Line) -> tuple[int, ...]:
@@ -149,7 +150,7 @@ def product_rows(products: dict[Product, Made]) -> list[Row]:
     ]
 
 
-def received_sheet(receipts: Receipts) -> Sheet:
+def received_of(receipts: Receipts) -> Sheet:
     """What was received of each material, and what of it was delivered."""
     rows: list[Row] = [
         (name, sum(sums.values()), *(sums[why] for why in WHYS), sums[None], measure)
@@ -195,3 +196,199 @@ def batch_rows(read: Settlement) -> list[Row]:
         for run in read.settled
         for row in item_rows(run.sums, read.measures)
     ]
+
+
+LATE = "late"
+PRODUCTS_OF_MONTH = [*PRODUCTS, *columns("changes=of_it_changes:number")]
+RECEIVED_OF_MONTH = [*RECEIVED, *columns("late=of_it_late:number")]
+BATCHES_OF_MONTH = [*BATCHES, *columns("late:text")]
+CHANGED = columns(
+    "settlement recipe use:text source=of material actual:number measure=unit:text@beside "
+    "expected=for_what_was_made:number loss:number allowed:number above=above_it:number"
+)
+CHANGED_BATCHES = columns(
+    "settlement batch recipe use:text source=of material amount=change:number measure=unit:text@beside"
+)
+TABLES: dict[str, Sequence[Column]] = {
+    "recipes": RECIPES,
+    "by_products": BY_PRODUCTS,
+    "products": PRODUCTS_OF_MONTH,
+    "received": RECEIVED_OF_MONTH,
+    "changed": CHANGED,
+    "changed_batches": CHANGED_BATCHES,
+    "corrections": CORRECTIONS,
+    "going_on": GOING_ON,
+    "batches": BATCHES_OF_MONTH,
+    "links": LINKS,
+}
+SUMS = {"batches": ["amount"]}  # columns whose numbers are summed where rows are joined
+
+
+def statuses_of(journal: Journal, base: Base) -> list[Status]:
+    """Each settlement that was closed, and whether its note stands."""
+    return statuses(kept(journal, base), Settled)
+
+
+def of_month(source: Source, journal: Journal, owner: str, month: int) -> list[Document]:
+    """The settlement of a month: as it was closed, or what would be closed now."""
+    require_owner(source.base, owner)
+    closed = closings_in(statuses_of(journal, source.newest.base), owner)
+    if same := next((closing for closing in closed if closing.settled.month == month), None):
+        return [closed_document(same)]
+    require_later(closed, owner, month)
+    read = read_month(source, closed, owner, month)
+    sheets = sheets_of(source, owner, read, days_of_month(month)[1])
+    title = f"Settlement of {owner}, {format_month(month)}, not closed"
+    doubtful = sum(correction.move.owner != owner for correction in read.doubtful)
+    return [document(owner, title, sheets, doubtful, "This month isn't closed: it may still change.")]
+
+
+def require_later(closed: Sequence[Closing], owner: str, month: int) -> None:
+    """Fails unless a month is behind the last one that is closed."""
+    if closed and month < closed[-1].settled.month:
+        last = closed[-1].settled
+        raise Failure(
+            f"{format_month(month)} of {owner} isn't closed, and {format_month(last.month)} is: by {last.number}",
+            REFUSED,
+            "what belongs to an earlier month is on the next settlement, marked as late",
+        )
+
+
+def read_month(source: Source, closed: list[Closing], owner: str, month: int) -> Month:
+    """What the settlement of a month has, compared with `toll`."""
+    reader = reader_of(source, owner)
+    months = Months(reader, places_of(source.base, owner, source.is_one), closed)
+    read = months.month(month)
+    check_batches(source, [run.batch for run in (*read.settlement.going_on, *read.settlement.settled)])
+    return read
+
+
+def close(source: Source, journal: Journal, owner: str, month: int, words: list[str]) -> list[Document]:
+    """Closes the settlement of a month, by a note in the journal, and makes its paper. The office's lock has only one
+    do it at a time."""
+    office: Office = source.newest.office
+    closed = closings_in(statuses_of(journal, source.newest.base), owner)
+    require_open(closed, owner, month)
+    require_later(closed, owner, month)
+    read = read_month(source, closed, owner, month)
+    require_clear(read.doubtful)
+    sheets = sheets_of(source, owner, read, days_of_month(month)[1])
+    tables = tuple((sheet.name, tuple(sheet.names), tuple(tuple(row) for row in sheet.rows)) for sheet in sheets)
+    with lock.held(office.file, office.wait):
+        notes = statuses_of(journal, source.newest.base)
+        require_open(closings_in(notes, owner), owner, month)
+        if closings_in(notes, owner) != closed:
+            raise Failure(f"settlements of {owner} were closed or withdrawn meanwhile", REFUSED, "close it again")
+        number = next_number(notes, owner, month)
+        settled = Settled(owner, month, number, tables, tuple(read.terms), tuple(read.places))
+        after = {"after": source.files[-2].name} if len(source.files) > 1 else {}
+        journal.note(office.file, words, notes=[to_json(settled)], **after)
+    return of_month(source, journal, owner, month)
+
+
+def require_open(closed: Sequence[Closing], owner: str, month: int) -> None:
+    """Fails if a month is closed."""
+    if same := next((closing for closing in closed if closing.settled.month == month), None):
+        raise Failure(
+            f"{format_month(month)} of {owner} is closed: {same.settled.number}, by {same.noted.who} on "
+            f"{as_moment(same.noted)}",
+            REFUSED,
+            f"`hilpoven papers settlement {owner} --month {month:04}` makes its paper again",
+        )
+
+
+def require_clear(doubtful: Sequence[Correction]) -> None:
+    """Fails if it isn't known what some corrections are of, which may be of batches of the settlement."""
+    if not doubtful:
+        return
+    keys = [f"{each.move.owner} {each.move.key} (of lot {each.lot.id})" for each in doubtful]
+    raise Failure(
+        f"it isn't known what is corrected by {listed(keys)}",
+        REFUSED,
+        "`hilpoven note corrects OWNER KEY OF-KEY` says which movement was recorded wrongly",
+    )
+
+
+def sheets_of(source: Source, owner: str, read: Month, last: int) -> list[Sheet]:
+    """The tables of a month."""
+    new = read.settlement
+    late = [LATE if run.batch.id in read.late else None for run in new.settled for _ in run.sums]
+    batches = Sheet("batches", BATCHES_OF_MONTH, [(*row, is_late) for row, is_late in zip(batch_rows(new), late)])
+    sheets = [sheet for sheet in tables_of(new, last) if sheet.name != "products"]
+    sheets += [products_sheet(read), received_sheet(read), *changed_sheets(read), with_late(batches)]
+    noted = [unreported(sheet, read) for sheet in noted_sheets(source, owner, new)]
+    return [*sheets, *(sheet for sheet in noted if sheet.rows)]
+
+
+def unreported(sheet: Sheet, read: Month) -> Sheet:
+    """A table without the rows that an earlier settlement has: corrections are told once."""
+    reported = {tuple(row.get(head) for head in sheet.names) for row in read.reported(sheet.name)}
+    return replace(sheet, rows=[row for row in sheet.rows if tuple(row) not in reported])
+
+
+def with_late(sheet: Sheet) -> Sheet:
+    """A table without its column of what is late, if nothing is."""
+    sheet.sums = SUMS.get(sheet.name, ())
+    return sheet if sheet.has(LATE) else sheet.without(LATE)
+
+
+def products_sheet(read: Month) -> Sheet:
+    """What was made, and what of it was made by batches of closed settlements."""
+    rows: list[Row] = []
+    for row, (product, output) in zip(product_rows(read.products), read.products.items()):
+        new = read.settlement.products.get(product)
+        rows.append((*row, output.produced - output.reworked - (new.produced - new.reworked if new else 0)))
+    sheet = Sheet("products", PRODUCTS_OF_MONTH, rows)
+    return sheet if sheet.has("changes") else sheet.without("changes")
+
+
+def received_sheet(read: Month) -> Sheet:
+    """What came, and what of it came in earlier months."""
+    rows: list[Row] = [
+        (*row, sum(read.late_receipts.get(material, {}).values()))
+        for row, material in zip(received_of(read.receipts).rows, read.receipts)
+    ]
+    return with_late(Sheet("received", RECEIVED_OF_MONTH, rows))
+
+
+def changed_sheets(read: Month) -> list[Sheet]:
+    """What became otherwise of closed settlements; no table if nothing did."""
+    lines = [
+        (change.number, *change.names[:4], change.figures["actual"], change.names[4], *rest_of(change))
+        for change in read.changed
+    ]
+    amounts = [
+        (change.number, *change.names[:5], change.figures["amount"], change.names[5]) for change in read.changed_batches
+    ]
+    sheets = []
+    if lines:
+        sheet = Sheet("changed", CHANGED, lines)
+        sheets.append(sheet.without(*(name for name in ALLOWED if not sheet.has(name))))
+    if amounts:
+        sheets.append(Sheet("changed_batches", CHANGED_BATCHES, amounts))
+    return sheets
+
+
+def rest_of(change: Change) -> list[int | None]:
+    """The figures of a line's change behind that of its amount."""
+    return [change.figures[name] for name in ("expected", "loss", "allowed", "above")]
+
+
+def closed_document(closing: Closing) -> Document:
+    """The paper of a settlement as it was closed."""
+    settled = closing.settled
+    title = f"Settlement {settled.number} of {settled.owner}, {format_month(settled.month)}"
+    sheets = [sheet_of(*table) for table in settled.tables if table[0] in TABLES]
+    state = f"Closed on {as_moment(closing.noted)}. Each batch is on one settlement alone."
+    paper = document(settled.owner, title, sheets, 0, state)
+    paper.footer = f"Settlement {settled.number}, closed on {as_moment(closing.noted)}."
+    paper.issued_on = as_moment(closing.noted)[: len("2026-11-30")]
+    return paper
+
+
+def sheet_of(name: str, heads: Sequence[str], rows: Sequence[Row]) -> Sheet:
+    """A table of a note, with the columns that are known."""
+    known = {column.name: column for column in TABLES[name]}
+    places = [at for at, head in enumerate(heads) if head in known]
+    cells = [tuple(row[at] for at in places) for row in rows]
+    return Sheet(name, [known[heads[at]] for at in places], cells, SUMS.get(name, ()))

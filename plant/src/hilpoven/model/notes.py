@@ -1,0 +1,497 @@
+"""The notes of the plant, and what each says.
+
+Of several notes about a thing the last one that says something counts, member by member.
+"""
+import re
+from collections.abc import Mapping
+from dataclasses import dataclass, fields, replace
+from typing import ClassVar, TypeVar
+
+from ..core.days import format_day, format_month
+from ..core.failure import REFUSED, Failure
+from ..core.forms import listed
+from .kinds import Bound
+from .kinds import Role as Role
+from .kinds import Why as Why
+from .measures import as_measured
+from .nearest import nearest
+from .rows import BatchId, LotId
+
+PERCENT = re.compile(r"([0-9]{1,3})(?:\.([0-9]))?")
+MOST_ALLOWANCE = 1_000  # tenths of a percent
+
+
+@dataclass(frozen=True)
+class Note:
+    """What the plant notes for one owner."""
+
+    KIND: ClassVar[str]
+    # What names the thing that a note is about, of a kind of which the last note counts.
+    SUBJECT: ClassVar[tuple[str, ...]] = ()
+    owner: str
+
+    @property
+    def subject(self) -> tuple[object, ...]:
+        """What it is about, if the last note of that counts."""
+        return tuple(getattr(self, name) for name in self.SUBJECT)
+
+    @property
+    def sentence(self) -> str:
+        """What it says, in words."""
+        raise NotImplementedError
+
+
+def in_words(facts: Mapping[str, object]) -> str:
+    """What a note says of a thing, by what each is called; what it doesn't say is left out."""
+    return ", ".join(f"{name} {value}" for name, value in facts.items() if value)
+
+
+ResultId = tuple[str, str, str, int, int]  # owner, lot, test, value and day: a result has no key
+
+
+@dataclass(frozen=True)
+class MovementFacts(Note):
+    """What is known of a receipt or a shipment: the party that sent or gets it, the supplier's name of the lot, and the
+    document that came or went with it."""
+
+    KIND = "movement"
+    SUBJECT = ("owner", "key")
+    key: str
+    party: str = ""
+    supplier_lot: str = ""
+    document: str = ""
+
+    @property
+    def sentence(self) -> str:
+        """Which movement, and what is known of it."""
+        facts = {"party": self.party, "the supplier's lot": self.supplier_lot, "document": self.document}
+        return f"movement {self.key} of {self.owner}: {in_words(facts)}"
+
+
+@dataclass(frozen=True)
+class OwnerFacts(Note):
+    """The full name of an owner, and its address."""
+
+    KIND = "owner"
+    SUBJECT = ("owner",)
+    name: str = ""
+    address: str = ""
+
+    @property
+    def sentence(self) -> str:
+        """Which owner, and what is known of it."""
+        return f"owner {self.owner}: {in_words({'name': self.name, 'address': self.address})}"
+
+
+@dataclass(frozen=True)
+class MaterialFacts(Note):
+    """The full name of a material."""
+
+    KIND = "material"
+    SUBJECT = ("owner", "material")
+    material: str
+    name: str = ""
+
+    @property
+    def sentence(self) -> str:
+        """Which material, and its full name."""
+        return f"material {self.material} of {self.owner}: {in_words({'name': self.name})}"
+
+
+@dataclass(frozen=True)
+class RecipeFacts(Note):
+    """How much of a recipe's materials may be lost by the contract, in tenths of a percent, and which of its products
+    is the main one."""
+
+    KIND = "recipe"
+    SUBJECT = ("owner", "recipe")
+    recipe: str
+    allowance: int = 0
+    product: str = ""
+
+    @property
+    def sentence(self) -> str:
+        """Which recipe, and what is known of it."""
+        allowance = percent_of(self.allowance) if self.allowance else ""
+        return (
+            f"recipe {self.recipe} of {self.owner}: {in_words({'allowance': allowance, 'main product': self.product})}"
+        )
+
+
+def percent_of(tenths: int) -> str:
+    """Tenths of a percent as people read them."""
+    return f"{tenths // 10}.{tenths % 10} %"
+
+
+def tenths_in(text: str) -> int:
+    """How many tenths of a percent a text says, such as 1.5; 0 if it says none from 0.1 to 100."""
+    match = PERCENT.fullmatch(text)
+    tenths = int(match[1]) * 10 + int(match[2] or 0) if match else 0
+    return tenths if tenths <= MOST_ALLOWANCE else 0
+
+
+@dataclass(frozen=True)
+class TestFacts(Note):
+    """The full name of a test of a material, the unit of its values, how many decimals they have, and the method."""
+
+    KIND = "test"
+    SUBJECT = ("owner", "material", "test")
+    material: str
+    test: str
+    name: str = ""
+    unit: str = ""
+    decimals: int = 0  # `toll` has 702 of 7.02 with two decimals
+    method: str = ""
+
+    @property
+    def sentence(self) -> str:
+        """Which test, and what is known of it."""
+        facts = {"name": self.name, "unit": self.unit, "decimals": self.decimals, "method": self.method}
+        return f"test {self.test} of {self.owner} {self.material}: {in_words(facts)}"
+
+
+@dataclass(frozen=True)
+class LotFacts(Note):
+    """The days on which a lot was made, expires, and is to be tested again, as YYMMDD."""
+
+    KIND = "lot"
+    SUBJECT = ("owner", "lot")
+    lot: str
+    made: int | None = None
+    expires: int | None = None
+    retest: int | None = None
+
+    @property
+    def days(self) -> dict[str, str]:
+        """The days that are noted, as people read them, by what each is."""
+        days = {"made": self.made, "expires": self.expires, "retest": self.retest}
+        return {name: format_day(day) for name, day in days.items() if day}
+
+    @property
+    def sentence(self) -> str:
+        """Which lot, and its days."""
+        return f"lot {LotId(self.owner, self.lot)}: {in_words(self.days)}"
+
+
+@dataclass(frozen=True)
+class ResultFacts(Note):
+    """The value of a result is a bound: what was measured is below or above it. Results of a lot's test with the same
+    value and day aren't told apart."""
+
+    KIND = "result"
+    SUBJECT = ("owner", "lot", "test", "value", "day")
+    lot: str
+    test: str
+    value: int
+    day: int
+    bound: Bound
+
+    @property
+    def id(self) -> ResultId:
+        """Which result it is about."""
+        return self.owner, self.lot, self.test, self.value, self.day
+
+    @property
+    def sentence(self) -> str:
+        """Which result, and what it means."""
+        result = f"{as_measured(self.value)} of test {self.test} of lot {LotId(self.owner, self.lot)}"
+        return f"result {result} on day {format_day(self.day)}: what was measured is {self.bound} it"
+
+
+Facts = TypeVar("Facts", bound=Note)
+
+
+def joined(before: Facts | None, later: Facts) -> Facts:
+    """The facts of a thing with those of an earlier note, for what the later one doesn't say."""
+    if before is None:
+        return later
+    unsaid = {member.name: getattr(before, member.name) for member in fields(later) if not getattr(later, member.name)}
+    return replace(later, **unsaid)
+
+
+@dataclass(frozen=True)
+class Link(Note):
+    """A lot of the owner, or each lot that a batch of it makes, contains some of another lot, which is the owner's or
+    the plant's."""
+
+    KIND = "link"
+    lot: str  # empty where a batch stands for its lots
+    order: str
+    batch: int
+    of_owner: str
+    of_lot: str
+    why: Why
+    amount: int | None = None  # in the measure of the lot that is contained; `None` if it isn't known
+    reason: str = ""
+
+    @property
+    def container(self) -> LotId | BatchId:
+        """What contains it: a lot, or a batch that stands for its lots."""
+        return LotId(self.owner, self.lot) if self.lot else BatchId(self.owner, self.order, self.batch)
+
+    @property
+    def contained(self) -> LotId:
+        """The lot that is contained."""
+        return LotId(self.of_owner, self.of_lot)
+
+    @property
+    def sentence(self) -> str:
+        """What contains some of what, and why."""
+        kind = "lot" if self.lot else "batch"
+        amount = "some" if self.amount is None else f"{self.amount:,}"
+        why = f"{self.why}: {self.reason}" if self.reason else self.why
+        return f"{kind} {self.container} contains {amount} of lot {self.contained} ({why})"
+
+
+@dataclass(frozen=True)
+class Party(Note):
+    """A customer, a supplier or a carrier of an owner. The last note of a name counts, member by member; it may empty
+    some."""
+
+    KIND = "party"
+    SUBJECT = ("owner", "party")
+    party: str
+    name: str = ""
+    address: str = ""
+    contact: str = ""
+    phone: str = ""
+    roles: tuple[Role, ...] = ()
+    emptied: tuple[str, ...] = ()  # members that are empty from now on
+
+    @property
+    def sentence(self) -> str:
+        """Who it is, and how it is reached."""
+        facts = [self.name, *self.roles, self.address, self.contact, self.phone]
+        facts += [f"no {name}" for name in self.emptied]
+        return f"party {self.party} of {self.owner}: {', '.join(filter(None, facts))}"
+
+    def over(self, before: "Party | None") -> "Party":
+        """The party with what an earlier note says of it, for what this one doesn't say."""
+        return replace(joined(before, self), emptied=(), **dict.fromkeys(self.emptied, ""))
+
+
+@dataclass(frozen=True)
+class NotLinked(Note):
+    """A receipt looks as if a trace ended there, and doesn't."""
+
+    KIND = "not-linked"
+    key: str
+
+    @property
+    def sentence(self) -> str:
+        """Which receipt."""
+        return f"receipt {self.key} of {self.owner} contains no lot that was here before"
+
+
+@dataclass(frozen=True)
+class Corrects(Note):
+    """What a receipt or a scrap recorded corrects what another movement did."""
+
+    KIND = "corrects"
+    SUBJECT = ("owner", "key")
+    key: str
+    of_owner: str
+    of_key: str
+
+    @property
+    def sentence(self) -> str:
+        """Which one corrects which."""
+        return f"{self.key} of {self.owner} corrects {self.of_key} of {self.of_owner}"
+
+
+@dataclass(frozen=True)
+class Withdrawal(Note):
+    """A note doesn't hold, for a reason."""
+
+    KIND = "withdrawal"
+    of: str  # the name of the note
+    reason: str
+
+    @property
+    def sentence(self) -> str:
+        """Which note, and why."""
+        return f"note {self.of} of {self.owner} doesn't hold: {self.reason}"
+
+
+@dataclass(frozen=True)
+class RowsLost(Note):
+    """A restore put a file in place that hasn't the rows that these notes mean: they stand for no later rows of the
+    same names. The last one counts."""
+
+    KIND = "rows-lost"
+    lost: tuple[str, ...] = ()  # the names of the notes
+
+    @property
+    def sentence(self) -> str:
+        """How many, and which first."""
+        others = f" and {len(self.lost) - FIRST_LOST:,} more" if len(self.lost) > FIRST_LOST else ""
+        return f"rows lost by a restore: those of {', '.join(self.lost[:FIRST_LOST]) or 'no note'}{others}"
+
+
+@dataclass(frozen=True)
+class DrillStart(Note):
+    """A drill begins: what became of a lot is to be found, as in a recall."""
+
+    KIND = "drill-start"
+    lot: str
+
+    @property
+    def sentence(self) -> str:
+        """Over which lot."""
+        return f"a drill over lot {LotId(self.owner, self.lot)} begins"
+
+
+@dataclass(frozen=True)
+class DrillEnd(Note):
+    """A drill ends."""
+
+    KIND = "drill-end"
+    of: str  # the name of the note with which it began
+
+    @property
+    def sentence(self) -> str:
+        """Which drill."""
+        return f"the drill {self.of} ends"
+
+
+@dataclass(frozen=True)
+class Judgement(Note):
+    """What the plant's quality says of a lot, on a day. The last one counts, and none is withdrawn: another one
+    follows. One that belongs to no command of `toll` is of a lot whose material has no test of the plant's own."""
+
+    lot: str
+    day: int
+    reason: str = ""
+
+    @property
+    def lot_id(self) -> LotId:
+        """The lot."""
+        return LotId(self.owner, self.lot)
+
+
+@dataclass(frozen=True)
+class Signed(Judgement):
+    """A lot is signed: it may go."""
+
+    KIND = "signed"
+
+    @property
+    def sentence(self) -> str:
+        """Which lot, when and why."""
+        return f"lot {self.lot_id} is signed by the plant on {format_day(self.day)}{because(self.reason)}"
+
+
+@dataclass(frozen=True)
+class Held(Judgement):
+    """A lot is held: it stays, until it is signed again."""
+
+    KIND = "held"
+
+    @property
+    def sentence(self) -> str:
+        """Which lot, when and why."""
+        return f"lot {self.lot_id} is held by the plant on {format_day(self.day)}{because(self.reason)}"
+
+
+@dataclass(frozen=True)
+class Reason(Note):
+    """Why a command was given that changed a lot, an order, a batch, or what a key recorded."""
+
+    KIND = "reason"
+    command: str
+    reason: str
+    lot: str = ""
+    key: str = ""
+    order: str = ""
+    batch: int = 0
+
+    @property
+    def about(self) -> str:
+        """The command with what it was about."""
+        name = self.key or self.lot or (f"{self.order}/{self.batch}" if self.batch else self.order)
+        return f"{self.command} {name}"
+
+    @property
+    def sentence(self) -> str:
+        """Which command, and why."""
+        return f"{self.about} of {self.owner}{because(self.reason)}"
+
+
+def because(reason: str) -> str:
+    """A reason behind what was done for it; nothing where there is none."""
+    return f": {reason}" if reason else ""
+
+
+FIRST_LOST = 5  # notes that are named where many lost their rows
+
+
+Cell = str | int | None
+Terms = tuple[str, str, int]  # a recipe, its main product, and what of its materials may be lost: tenths of a percent
+Place = tuple[int, str, int]  # a batch: the number of its file among all of the office, its order there, its number
+Table = tuple[str, tuple[str, ...], tuple[tuple[Cell, ...], ...]]  # its name, its columns, and its rows
+
+
+@dataclass(frozen=True)
+class Settled(Note):
+    """The settlement of a month is closed, by its number."""
+
+    KIND = "settlement"
+    month: int  # YYMM
+    number: str
+    tables: tuple[Table, ...]
+    recipes: tuple[Terms, ...] = ()
+    batches: tuple[Place, ...] = ()
+
+    @property
+    def sentence(self) -> str:
+        """Which one, and of how many batches."""
+        count = f"{len(self.batches):,} {'batch' if len(self.batches) == 1 else 'batches'}"
+        return f"settlement {self.number} of {self.owner} is closed: {format_month(self.month)}, {count}"
+
+    def table(self, name: str) -> list[dict[str, Cell]]:
+        """The rows of a table of it, by the names of their columns; none if it has no such table."""
+        return [dict(zip(columns, row)) for table, columns, rows in self.tables if table == name for row in rows]
+
+
+Parties = Mapping[tuple[str, str], Party]  # by owner and name
+MEMBERS = ("party", "supplier_lot", "document")  # of a movement's facts
+
+
+@dataclass(frozen=True)
+class Task:
+    """What a party does in a movement: the role that it needs, and what is said of a party that hasn't it."""
+
+    role: Role
+    otherwise: str
+
+
+GETS = Task(Role.CUSTOMER, "it gets no shipment")
+SENDS = Task(Role.SUPPLIER, "it sends nothing but returns")
+RETURNS = Task(Role.CUSTOMER, "it returns nothing")
+
+
+def party_fault(parties: Parties, owner: str, name: str, task: Task) -> str:
+    """Why a party can't do this; empty if it can."""
+    party = parties.get((owner, name))
+    if party is None:
+        return f"there is no party {name} of {owner}"
+    if task.role in party.roles:
+        return ""
+    roles = listed([f"a {role}" for role in party.roles])
+    return f"{name} of {owner} is {roles}, and no {task.role}: {task.otherwise}"
+
+
+def require_party(parties: Parties, owner: str, name: str, task: Task) -> None:
+    """Fails if a party can't do this, with the nearest names of those that can."""
+    if fault := party_fault(parties, owner, name, task):
+        names = [party.party for party in parties.values() if party.owner == owner and task.role in party.roles]
+        has = parties[owner, name].roles if (owner, name) in parties else ()
+        roles = " ".join(f"--role {role}" for role in (*has, task.role))
+        adds = f"`hilpoven party add {owner} {name} --name .. {roles}` notes it as one."
+        raise Failure(fault, REFUSED, f"{nearest(name, names, f'{task.role}s of {owner}')}\n{adds}")
+
+
+def facts_of(owner: str, key: str, given: Mapping[str, str | None]) -> MovementFacts | None:
+    """What is given of a movement; `None` if nothing is."""
+    members = {member: str(given[member]) for member in MEMBERS if given.get(member)}
+    return MovementFacts(owner, key, **members) if members else None

@@ -1,1 +1,0 @@
-"""What notes say, and how they are written."""

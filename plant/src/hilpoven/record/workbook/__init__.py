@@ -1,0 +1,1 @@
+"""A workbook of what an office begins with: its tables are checked as a whole, and given in their order."""

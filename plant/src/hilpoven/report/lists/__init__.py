@@ -1,1 +1,0 @@
-"""The lists, and what is shown of one thing."""
