@@ -3,18 +3,23 @@
 
     packaging/documents.py SHARE       SHARE is /usr/share of a package: it gets toll/page/ and doc/toll/
 
-The page has the contract of its interface beside it, with the pages that the contract cites. In all pages, programs,
-units and examples have the names by which they are installed.
+The page has the contract of its interface beside it, with the page that the contract cites. In all pages, programs,
+units and examples have the names by which they are installed, and a link to what isn't installed there is its words.
+The engineers' pages are not installed.
 """
+import os
 import pathlib
 import re
 import shutil
 import sys
 
 ROOT = pathlib.Path(__file__).resolve().parent.parent
+ENGINEERING = ROOT / "docs" / "engineering"
 EXAMPLES = "/usr/share/doc/toll/examples"
 UNITS = "/usr/lib/systemd/system"
-CONTRACT = ("openapi.yaml", "http.md", "commands.md", "refusals.md")
+CONTRACT = ("openapi.yaml", "http.md", "commands.md")
+TOP = ("README.md", "SECURITY.md")
+LINK = re.compile(r"\[([^\]]+)\]\(([^):#]+)(?:#[^)]*)?\)")
 
 # Names in the sources, and what is installed in their place.
 NAMES = {
@@ -27,7 +32,7 @@ NAMES = {
     r"(?<![\w./])packaging/(hardening\.conf|office\.conf)": rf"{UNITS}/toll@.service.d/\1",
 }
 # Names of what no package has. Installed pages say SOURCES/tools/check-docs.
-ELSEWHERE = r"(?<![\w./])(?<!SOURCES/)(?:tools|packaging|debian|demo|crates|plant)/(?=[\w@.-])"
+ELSEWHERE = r"(?<![\w./])(?<!SOURCES/)(?:tools|packaging|debian|demo|crates|plant|docs/engineering)/(?=[\w@.-])"
 
 
 def installed(text: str) -> str:
@@ -42,11 +47,21 @@ def named_in_sources(text: str) -> list[str]:
     return re.findall(ELSEWHERE + r"[\w@./-]+|(?<![\w/])\./toll\b", text)
 
 
-def copy(source: pathlib.Path, target: pathlib.Path) -> None:
-    """Copies a file; a page gets the names of what is installed."""
+def linked(text: str, folder: str, names: set[str]) -> str:
+    """The text of a page in a folder of the sources, with links to these names alone. Others are their words."""
+
+    def link(match: re.Match[str]) -> str:
+        return match[0] if os.path.normpath(f"{folder}/{match[2]}") in names else match[1]
+
+    return LINK.sub(link, text)
+
+
+def copy(name: str, target: pathlib.Path, names: set[str]) -> None:
+    """Copies a file of the sources; a page gets the names of what is installed, and links to these files alone."""
+    source = ROOT / name
     target.parent.mkdir(parents=True, exist_ok=True)
     if source.suffix == ".md":
-        target.write_text(installed(source.read_text()))
+        target.write_text(installed(linked(source.read_text(), os.path.dirname(name) or ".", names)))
     else:
         shutil.copyfile(source, target)
 
@@ -57,11 +72,11 @@ def write(share: pathlib.Path) -> None:
     ignored = shutil.ignore_patterns("tests", "package.json")
     shutil.copytree(ROOT / "page", page, ignore=ignored, dirs_exist_ok=True, copy_function=shutil.copyfile)
     for name in CONTRACT:
-        copy(ROOT / "docs" / name, page / name)
-    for file in (ROOT / "docs").rglob("*"):
-        if file.is_file() and file.name != "toll.1":
-            copy(file, docs / file.relative_to(ROOT / "docs"))
-    copy(ROOT / "README.md", docs.parent / "README.md")
+        copy(f"docs/{name}", page / name, {f"docs/{other}" for other in CONTRACT})
+    files = [file for file in (ROOT / "docs").rglob("*") if file.is_file() and file.name != "toll.1"]
+    names = {*TOP, *(str(file.relative_to(ROOT)) for file in files if ENGINEERING not in file.parents)}
+    for name in names:
+        copy(name, docs.parent / name, names)
 
 
 if __name__ == "__main__":

@@ -4,7 +4,7 @@ import { meaning } from "./refusals.js";
 import { isReply } from "./replies.js";
 import { parse } from "./values.js";
 
-/** The office understood, and refuses: docs/refusals.md. */
+/** The office understood, and refuses: docs/commands.md. */
 export class Refused extends Error {
   constructor(status, code, word, repeated) {
     super(meaning(code, word));

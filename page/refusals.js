@@ -1,4 +1,4 @@
-/** What the refusals of owners' requests mean, in the words of docs/refusals.md. */
+/** What the refusals of owners' requests mean, in the words of docs/commands.md. */
 
 const REFUSALS = new Map([
   [13, ["UnknownRecipe", "You have no recipe of this name."]],

@@ -8,8 +8,8 @@ EMPTY = {"it", "found", "told", "look_at", "thing", "made", "said", "there", "wh
 # Fields of JSON that the documents name, and the ends of the paths of the sources that have them.
 FIELDS = {
     "made": (
-        "plant/src/hilpoven/model/notes/facts.py",
-        "plant/src/hilpoven/report/companion/lots.py",
+        "plant/src/hilpoven/model/notes.py",
+        "plant/src/hilpoven/report/companion/contents.py",
         "plant/tests/register/test_facts.py",
     )
 }

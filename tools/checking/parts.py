@@ -39,6 +39,10 @@ class Part:
         split = tuple(each for word in words.split() for each in COMMANDS.get(word, [word]))
         return cls(name, split, packages_of(packages), memory=memory * GB, is_alone=alone, **others)
 
+    def beside_others(self) -> Self:
+        """The same where it doesn't run alone at first: if it fails for that, it is run once more, alone."""
+        return dataclasses.replace(self, is_alone=False)
+
     def needs_program(self) -> bool:
         """Whether it runs the program, and so behind the proofs."""
         return any(PROGRAM in word for word in self.words)
@@ -50,5 +54,6 @@ BESIDE, (PROOFS, UNPROVED), BEHIND = (
 
 
 def parts(is_quick: bool = False) -> list[Part]:
-    """All parts in the order in which they begin; with an unproved build in place of the proofs if it is quick."""
-    return [*BESIDE, UNPROVED if is_quick else PROOFS, *BEHIND]
+    """All parts in the order in which they begin; if it is quick, with an unproved build in place of the proofs, and
+    none alone."""
+    return [*BESIDE, UNPROVED, *(part.beside_others() for part in BEHIND)] if is_quick else [*BESIDE, PROOFS, *BEHIND]

@@ -6,6 +6,7 @@ import dataclasses
 import os
 import pathlib
 import re
+import resource
 import shutil
 import signal
 import sys
@@ -49,6 +50,7 @@ class Ended(NamedTuple):
     is_ok: bool
     printed: str = ""
     is_second: bool = False  # whether it had failed before, and was run once more
+    processor: float = 0  # seconds of all that it started
 
     def report(self) -> None:
         outcome = f"{'ok' if self.is_ok else 'FAILED'}{', run once more, alone' if self.is_second else ''}"
@@ -110,6 +112,7 @@ class Runner:
     is_program_there: bool = True
 
     def __post_init__(self) -> None:
+        self.spent = processor_seconds()
         self.changed = asyncio.Event()
 
     async def run_all(self, wanted: Iterable[Part], maker: Part | None = None, is_program_there: bool = True) -> None:
@@ -176,7 +179,8 @@ class Runner:
                 why = f"{fault}\n"
             printed = pathlib.Path(output.name).read_text(errors="replace") + why
         is_ok = status == 0 and not (part.fault and re.search(part.fault, printed))
-        self.note(Ended(part.name, time.monotonic() - began, is_ok, printed))
+        before, self.spent = self.spent, processor_seconds()
+        self.note(Ended(part.name, time.monotonic() - began, is_ok, printed, processor=self.spent - before))
 
     @contextlib.asynccontextmanager
     async def started(self, part: Part, lowered: int, output: IO[bytes]) -> AsyncIterator[asyncio.subprocess.Process]:
@@ -225,10 +229,22 @@ class Runner:
         """How the parts ended that haven't passed, each time."""
         return [ended for ended in self.ended if ended.name not in self.passed()]
 
+    def costs(self) -> str:
+        """The minutes of the processor that all parts took, and each of them, the longest first."""
+        costs = sorted(self.ended, key=lambda ended: -ended.processor)
+        of_parts = ", ".join(f"{ended.name} {ended.processor / 60:.1f}" for ended in costs)
+        return f"processor minutes: {sum(ended.processor for ended in costs) / 60:.1f}: {of_parts}"
+
     def flaky(self) -> list[str]:
         """The parts that failed and then passed, each with its first fault."""
         flaky = (ended for ended in self.ended if not ended.is_ok and ended.name in self.passed())
         return [f"flaky: {ended.name}, {ended.first_fault()}" for ended in flaky]
+
+
+def processor_seconds() -> float:
+    """Of the processor, what all took that was started and has ended."""
+    usage = resource.getrusage(resource.RUSAGE_CHILDREN)
+    return usage.ru_utime + usage.ru_stime
 
 
 def free_memory() -> int:
@@ -312,6 +328,7 @@ def report(runner: Runner, wanted: list[Part], words: argparse.Namespace, minute
     print(f"parts: {len(wanted) - len(failed)} passed, {len(failed)} failed")
     if words.only is None:
         print("skipped for time:", *(f"    {command:30} {subject}" for command, subject in SKIPPED.items()), sep="\n")
+        print(runner.costs())
         if words.quick:
             print("NOTHING WAS PROVED, and no wrong body was tried: ./check does both")
         for ended in runner.failures():

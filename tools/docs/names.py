@@ -10,11 +10,14 @@ PAGES = (
     "README.md",
     "CONTRIBUTING.md",
     "CHANGELOG.md",
-    *(f"docs/{name}.md" for name in "PROVED PROMISES DEFINITIONS ARCHITECTURE DECISIONS GLOSSARY".split()),
+    "docs/GLOSSARY.md",
+    *(f"docs/engineering/{name}.md" for name in "PROVED PROMISES DEFINITIONS ARCHITECTURE DECISIONS".split()),
 )
 OTHERS = set("hilpoven bash curl sh flock python3 sqlite3 rt help import use stdout server Clone Display Net".split())
 QUOTED = re.compile(r"`([^`]+)`")
-LINKED = re.compile(r"\]\(([^):#]+)\)")
+LINKED = re.compile(r"\]\(([^):#]*)(?:#([^)]+))?\)")
+HEADING = re.compile(r"^#+ (.+)$", re.M)
+CODE = re.compile(r"^```.*?^```$", re.M | re.S)
 DECLARED = [
     re.compile(form, re.M)
     for form in (
@@ -38,8 +41,21 @@ def declared(texts: dict[Path, str], *forms: re.Pattern[str]) -> set[str]:
     return {name for match in matches for name in match.groups() if name}
 
 
+def places(text: str) -> set[str]:
+    """The places in a page to which links lead: its headings, as forges name them."""
+    return {
+        re.sub(r"[^\w -]", "", heading.lower()).replace(" ", "-") for heading in HEADING.findall(CODE.sub("", text))
+    }
+
+
 def links_to_nothing(page: Path, text: str) -> list[str]:
-    return [link for link in LINKED.findall(text) if not (page.parent / link).exists()]
+    """The links of a page, or of a line of it, whose file or heading isn't there."""
+    lost = []
+    for link, place in LINKED.findall(text):
+        target = page.parent / link if link else page
+        if not target.exists() or place and place not in places(target.read_text()):
+            lost.append(f"{link}#{place}" if place else link)
+    return lost
 
 
 class Pages:
@@ -62,6 +78,7 @@ class Pages:
         self.folders = [
             root,
             root / "docs",
+            root / "docs" / "engineering",
             plant,
             *plant.glob("**/"),
             sources.crates,
@@ -79,9 +96,9 @@ class Pages:
                 wrong += [f"the link {link} leads to nothing" for link in links_to_nothing(self.root / name, line)]
                 yield from (f"{name}:{number}: {mistake}" for mistake in wrong)
         settings = [path.read_text() for path in (self.root / "packaging").iterdir() if path.is_file()]
-        for page in sorted(self.root.glob("docs/*.md")):
+        for page in sorted([*self.root.glob("docs/**/*.md"), *self.root.glob("SECURITY.md")]):
             yield from (f"{page.relative_to(self.root)}:{mistake}" for mistake in self.mistakes_of_page(page, settings))
-        yield from self.wrong_lengths(self.root / "docs" / "DEFINITIONS.md")
+        yield from self.wrong_lengths(self.root / "docs" / "engineering" / "DEFINITIONS.md")
         yield from self.mistakes_of_readme((self.root / "README.md").read_text())
 
     def strangers_in(self, line: str) -> Iterator[str]:
@@ -123,7 +140,7 @@ class Pages:
                 and (not names or path.stem in names.split(", "))
             )
             if lines != int(cells[2].replace(",", "")):
-                yield f"docs/{page.name}:{number}: {lines} lines, not {cells[2]}"
+                yield f"{page.relative_to(self.root)}:{number}: {lines} lines, not {cells[2]}"
 
     def mistakes_of_readme(self, text: str) -> Iterator[str]:
         """What README.md says of its own length, and of how many crates the program has."""

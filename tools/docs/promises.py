@@ -1,4 +1,4 @@
-"""docs/PROMISES.md: what belongs to each sentence of docs/PROVED.md."""
+"""PROMISES.md of docs/engineering: what belongs to each sentence of PROVED.md there."""
 import collections
 import itertools
 import re
@@ -13,14 +13,13 @@ NAME = re.compile(r"`(\w+(?:::\w+)*)`(?: \(((?:`\w+`(?:, )?)+)\))?")
 LAWS = re.compile(r" \((`.*)\)$")  # what carries a promise, at its end
 GUARDED = re.compile(r"# promise (\d+\.\d+)(?:: (.+))?")
 VERDICTS = ("toll_history", "Verdict")  # where the checks of decisions are
-TESTS = "tools/docs/tests.txt"
+TESTS, PROVED, PROMISES = "tools/docs/tests.txt", "docs/engineering/PROVED.md", "docs/engineering/PROMISES.md"
 MOST_DEFINITIONS, MOST_WRONG_BODIES = 3, 6  # of a promise; of a crate
 INTRODUCTION = """# Promises
 
-`tools/check-docs promises` makes this page. A line leads from a promise, by its number in `docs/PROVED.md`, to the \
-laws and contracts that carry it (with some clauses' names), definitions in those clauses, the code, wrong bodies, \
-and tests. Files are below `crates/`. A wrong body is a file of a crate's `must-fail/` that names the promise. `-` \
-means that there is none: the clauses carry the promise alone.
+`tools/check-docs promises` makes this page. A line leads from a promise, by its number in [PROVED](PROVED.md), to the \
+laws and contracts that carry it (with some clauses), definitions in those clauses, the code, wrong bodies (files of a \
+crate's `must-fail/`), and tests. Files are below `crates/`. `-`: the clauses carry the promise alone.
 
 |promise|law or contract|definition|code|wrong body|test|
 |---|---|---|---|---|---|
@@ -29,7 +28,7 @@ means that there is none: the clauses carry the promise alone.
 
 @dataclass(frozen=True)
 class Promise:
-    """A sentence of docs/PROVED.md, the laws that it names with their clauses, and the functions behind these names."""
+    """A sentence of PROVED.md, the laws that it names with their clauses, and the functions behind these names."""
 
     number: str
     words: str
@@ -96,13 +95,13 @@ class Promises:
 
     def __init__(self, root: Path, sources: Sources) -> None:
         self.root, self.sources = root, sources
-        self.promises = list(promises_of((root / "docs" / "PROVED.md").read_text(), sources))
+        self.promises = list(promises_of((root / PROVED).read_text(), sources))
         lines = (line.split() for line in (root / TESTS).read_text().split("\n") if line and not line.startswith("#"))
         self.tests = {number: names for number, *names in lines}
         self.wrong_bodies = [wrong_body_in(path) for path in sorted(root.glob("crates/*/must-fail/*.edit"))]
 
     def page(self) -> str:
-        """The text of docs/PROMISES.md."""
+        """The text of PROMISES.md."""
         return INTRODUCTION + "".join(f"|{'|'.join(self.cells(promise))}|\n" for promise in self.promises)
 
     def cells(self, promise: Promise) -> Iterator[str]:
@@ -115,14 +114,14 @@ class Promises:
 
     def mistakes(self) -> Iterator[str]:
         """What leads nowhere, wrong bodies that guard no promise of their own, and a page that isn't up to date."""
-        yield from (f"docs/PROVED.md: {mistake}" for mistake in [*self.misnumbered(), *self.mistakes_of_laws()])
+        yield from (f"{PROVED}: {mistake}" for mistake in [*self.misnumbered(), *self.mistakes_of_laws()])
         numbers = {promise.number for promise in self.promises}
         yield from (f"{TESTS}: {number} is no promise" for number in self.tests if number not in numbers)
         tests = (test for names in self.tests.values() for test in names)
         yield from (f"{TESTS}: there is no test {test}" for test in tests if test not in self.sources.tests)
         yield from self.mistakes_of_wrong_bodies()
-        if (self.root / "docs" / "PROMISES.md").read_text() != self.page():
-            yield "docs/PROMISES.md: it is not what `tools/check-docs promises` makes"
+        if (self.root / PROMISES).read_text() != self.page():
+            yield f"{PROMISES}: it is not what `tools/check-docs promises` makes"
 
     def misnumbered(self) -> Iterator[str]:
         section, place = 1, 0

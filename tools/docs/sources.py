@@ -87,7 +87,7 @@ class Sources:
         return crate, "/".join(parts)
 
     def called(self, name: str) -> list[Item]:
-        """The public functions that docs/PROVED.md means by a name: of a type, by themselves, or all methods that a
+        """The public functions that PROVED.md means by a name: of a type, by themselves, or all methods that a
         type has in its crate."""
         *owner, last = name.split("::")
         own = [item for item in self.items if not item.crate.endswith(("_tests", "_stories"))]

@@ -124,6 +124,21 @@ def test_a_part_that_failed_is_shown_again_at_the_end(monkeypatch: pytest.Monkey
     assert end[-43:-40] == ["ill FAILED:", "    .. 59 lines before these", "    60"] and end[-2] == "    99"
 
 
+def test_the_processor_s_minutes_of_each_part_are_told(monkeypatch: pytest.MonkeyPatch, capsys: Capture) -> None:
+    busy = sh("busy", "i=0; while [ $i -lt 900000 ]; do i=$((i+1)); done")
+    assert gate(monkeypatch, busy, sh("idle", "sleep 1")) == 0
+    (line,) = [line for line in capsys.readouterr().out.splitlines() if line.startswith("processor minutes: ")]
+    assert re.search(r": busy 0\.[0-9], .*idle 0\.0", line)
+
+
+def test_with_quick_no_part_waits_until_it_is_alone() -> None:
+    assert [part.name for part in parts.parts() if part.is_alone] == ["try-page"]
+    assert not any(part.is_alone for part in parts.parts(is_quick=True))
+    assert [part.name for part in parts.parts(is_quick=True)][-len(parts.BEHIND) :] == [
+        part.name for part in parts.BEHIND
+    ]
+
+
 def test_both_outputs_of_a_part_that_failed_twice_stand_at_the_end(
     monkeypatch: pytest.MonkeyPatch, capsys: Capture, tmp_path: pathlib.Path
 ) -> None:

@@ -1,4 +1,4 @@
-"""tools/check-docs: docs/PROMISES.md, the names on the pages, and their examples."""
+"""tools/check-docs: PROMISES.md, the names on the pages, and their examples."""
 import os
 import shutil
 import subprocess
@@ -9,7 +9,7 @@ import pytest
 from conftest import ROOT, script, tool
 from docs import examples
 from docs.names import Pages
-from docs.promises import Promises
+from docs.promises import PROMISES, Promises
 from docs.sources import Sources
 
 Output = pytest.CaptureFixture[str]
@@ -50,16 +50,18 @@ PROVED = """\
 """
 OTHER_BODY = "crates/toll_stock/must-fail/a_total_is_one_more.edit"
 FILES = {
-    "README.md": "Of `ship` and [stock](docs/PROVED.md): the program's 2 crates.\n",
+    "README.md": "Of `ship` and [stock](docs/engineering/PROVED.md): the program's 2 crates.\n",
     "CONTRIBUTING.md": "`crates/FOLDER`, `Lots::total`, `shipping.rt`, `cargo build`, `ship_checks`\n",
     "CHANGELOG.md": "",
-    **{f"docs/{name}.md": "" for name in ("PROMISES", "ARCHITECTURE", "DECISIONS", "GLOSSARY")},
-    "docs/DEFINITIONS.md": """|what|read|lines|
+    "docs/GLOSSARY.md": "",
+    **{f"docs/engineering/{name}.md": "" for name in ("PROMISES", "ARCHITECTURE", "DECISIONS")},
+    "docs/engineering/DEFINITIONS.md": """|what|read|lines|
 |---|---|---|
 |a verdict|`toll_history/specs`: Verdict; `toll_stock/specs`|4|
 """,
     "docs/operations.md": "```nginx\nlisten 80;\n```\nSee `packaging/site.conf`.\n",
-    "docs/PROVED.md": PROVED,
+    "docs/engineering/PROVED.md": PROVED,
+    "docs/engineering/testing.md": "`tools/check-docs` compares.\n",
     "packaging/site.conf": "server {\nlisten 80;\n}\n",
     "crates.txt": "# All.\ntoll_stock:\ntoll_history:\ntoll: toll_stock\n",
     "crates/toll_stock/src/shipping.rt": STOCK,
@@ -81,15 +83,15 @@ def repository(tmp_path: Path) -> Path:
     for name, text in FILES.items():
         (tmp_path / name).parent.mkdir(parents=True, exist_ok=True)
         (tmp_path / name).write_text(text)
-    (tmp_path / "docs" / "PROMISES.md").write_text(Promises(tmp_path, Sources(tmp_path)).page())
+    (tmp_path / PROMISES).write_text(Promises(tmp_path, Sources(tmp_path)).page())
     return tmp_path
 
 
 def mistakes(root: Path) -> list[str]:
-    """The mistakes in a repository, except that docs/PROMISES.md is old."""
+    """The mistakes in a repository, except that PROMISES.md is old."""
     sources = Sources(root)
     mistakes_of_all = [*Promises(root, sources).mistakes(), *Pages(root, sources).mistakes()]
-    return [mistake for mistake in mistakes_of_all if not mistake.startswith("docs/PROMISES.md: it is not")]
+    return [mistake for mistake in mistakes_of_all if not mistake.startswith(f"{PROMISES}: it is not")]
 
 
 def change(root: Path, name: str, old: str, new: str) -> None:
@@ -157,7 +159,7 @@ def test_wrong_bodies_may_share_a_promise_if_each_guards_other_words_of_it(repos
 
 
 def test_a_crate_has_six_wrong_bodies_at_most(repository: Path) -> None:
-    with open(repository / "docs" / "PROVED.md", "a") as page:
+    with open(repository / "docs/engineering/PROVED.md", "a") as page:
         page.writelines(f"- **2.{number}** A rule. (`ship`)\n" for number in range(1, 7))
     for number in range(1, 7):
         add_wrong_body(repository, f"edit_{number}", promise=f"# promise 2.{number}")
@@ -166,14 +168,14 @@ def test_a_crate_has_six_wrong_bodies_at_most(repository: Path) -> None:
 
 def test_an_old_page_is_a_mistake(repository: Path) -> None:
     assert list(Promises(repository, Sources(repository)).mistakes()) == []
-    change(repository, "docs/PROMISES.md", "1.3", "1.4")
+    change(repository, PROMISES, "1.3", "1.4")
     assert list(Promises(repository, Sources(repository)).mistakes()) == [
-        "docs/PROMISES.md: it is not what `tools/check-docs promises` makes"
+        f"{PROMISES}: it is not what `tools/check-docs promises` makes"
     ]
 
 
 def test_the_page_of_the_repository_has_each_wrong_body_once() -> None:
-    text = (ROOT / "docs" / "PROMISES.md").read_text()
+    text = (ROOT / PROMISES).read_text()
     names = [path.stem for path in ROOT.glob("crates/*/must-fail/*.edit")]
     assert names and [name for name in names if text.count(f"`{name}`") != 1] == []
 
@@ -184,10 +186,25 @@ def test_the_page_of_the_repository_has_each_wrong_body_once() -> None:
 @pytest.mark.parametrize(
     "name, old, new, mistake",
     [
-        ("docs/PROVED.md", "`ship` (`enough`)", "`check_amount`", "docs/PROVED.md: 1.1: check_amount is not public"),
-        ("docs/PROVED.md", "(`enough`)", "(`decides`, `total`)", "docs/PROVED.md: 1.1: ship has no clause total"),
-        ("docs/PROVED.md", " (`Lots::total`)", "", "docs/PROVED.md: 1.3: it names nothing that carries it"),
-        ("docs/PROVED.md", "**1.3**", "**1.4**", "docs/PROVED.md: 1.4 doesn't follow 1.2"),
+        (
+            "docs/engineering/PROVED.md",
+            "`ship` (`enough`)",
+            "`check_amount`",
+            "docs/engineering/PROVED.md: 1.1: check_amount is not public",
+        ),
+        (
+            "docs/engineering/PROVED.md",
+            "(`enough`)",
+            "(`decides`, `total`)",
+            "docs/engineering/PROVED.md: 1.1: ship has no clause total",
+        ),
+        (
+            "docs/engineering/PROVED.md",
+            " (`Lots::total`)",
+            "",
+            "docs/engineering/PROVED.md: 1.3: it names nothing that carries it",
+        ),
+        ("docs/engineering/PROVED.md", "**1.3**", "**1.4**", "docs/engineering/PROVED.md: 1.4 doesn't follow 1.2"),
         ("tools/docs/tests.txt", "1.1", "2.1", "tools/docs/tests.txt: 2.1 is no promise"),
         (
             "tools/docs/tests.txt",
@@ -196,16 +213,34 @@ def test_the_page_of_the_repository_has_each_wrong_body_once() -> None:
             "tools/docs/tests.txt: there is no test what_is_gone_is_shipped",
         ),
         ("README.md", "`ship`", "`sink`", "README.md:1: there is no sink"),
-        ("README.md", "docs/PROVED.md", "docs/LOST.md", "README.md:1: the link docs/LOST.md leads to nothing"),
+        (
+            "README.md",
+            "docs/engineering/PROVED.md",
+            "docs/LOST.md",
+            "README.md:1: the link docs/LOST.md leads to nothing",
+        ),
         ("README.md", "2 crates", "3 crates", "README.md: the program has 2 crates"),
         ("README.md", "Of ", "Of " * 700, "README.md: 707 words, not at most 700"),
         ("CONTRIBUTING.md", "Lots::total", "Lots::sum", "CONTRIBUTING.md:1: there is no sum"),
         ("CONTRIBUTING.md", "`shipping.rt`", "`sinking.rt`", "CONTRIBUTING.md:1: there is no sinking.rt"),
         ("CONTRIBUTING.md", "`ship_checks`", "`sink_checks`", "CONTRIBUTING.md:1: there is no sink_checks"),
-        ("docs/DEFINITIONS.md", "|4|", "|5|", "docs/DEFINITIONS.md:3: 4 lines, not 5"),
+        ("docs/engineering/DEFINITIONS.md", "|4|", "|5|", "docs/engineering/DEFINITIONS.md:3: 4 lines, not 5"),
         ("docs/operations.md", "80", "81", "docs/operations.md:1: the block is no lines of a file of packaging/"),
         ("docs/operations.md", "site.conf", "sites.conf", "docs/operations.md:4: there is no packaging/sites.conf"),
+        (
+            "docs/engineering/testing.md",
+            "k-docs",
+            "k-all",
+            "docs/engineering/testing.md:1: there is no tools/check-all",
+        ),
         ("docs/operations.md", "See ", "See [more](more.md) in ", "docs/operations.md:4: there is no more.md"),
+        ("docs/operations.md", "See ", "See [more](#a-site) in ", "docs/operations.md:4: there is no #a-site"),
+        (
+            "README.md",
+            "PROVED.md",
+            "PROVED.md#stocks",
+            "README.md:1: the link docs/engineering/PROVED.md#stocks leads to nothing",
+        ),
     ],
 )
 def test_a_fault_on_a_page_is_a_mistake(repository: Path, name: str, old: str, new: str, mistake: str) -> None:

@@ -40,6 +40,7 @@ class Clone:
         self.environment = {**os.environ, "PATH": f"{folder}/bin:/usr/bin:/bin", "PYTHONPATH": str(folder / "site")}
         self.environment.pop("TOLL", None)
         self.has(*MODULES)
+        script(folder / "bin" / "rt", "true")
 
     def builds(self, then: str) -> None:
         script(self.folder / "clone" / "tools" / "build-program", BUILDER.format(folder=self.folder, then=then))
@@ -101,6 +102,40 @@ def test_where_apt_get_installs_nothing_what_is_missing_is_told_and_nothing_comp
     assert (status, out) == (2, "") and not (clone.folder / "began").exists()
     missing = "these are missing, and nothing is served: python3-odf. As root: apt-get install python3-odf"
     assert err.splitlines()[-1] == f"demo/page: {missing}"
+
+
+def test_without_the_toolchain_nothing_is_installed(clone: Clone) -> None:
+    (clone.folder / "bin" / "rt").unlink()
+    clone.lacks("odf")
+    clone.apt("true")
+    status, out, err = clone.run()
+    assert (status, out) == (3, "") and not (clone.folder / "asked").exists()
+    assert err.startswith("demo/page: the toolchain's command rt isn't here, and nothing is served")
+
+
+@pytest.mark.skipif(os.geteuid() != 0, reason="only root installs packages")
+def test_why_apt_get_failed_is_told(clone: Clone) -> None:
+    clone.lacks("odf")
+    clone.apt('printf "W: old\nE: Unable to locate package python3-odf\n" >&2; exit 100')
+    err = clone.run()[2]
+    assert "demo/page: apt-get update ended with 100: E: Unable to locate package python3-odf\n" in err
+    assert "demo/page: apt-get install ended with 100: E: Unable to locate package python3-odf\n" in err
+
+
+@pytest.mark.skipif(os.geteuid() != 0, reason="only root installs packages")
+@pytest.mark.parametrize("number", [signal.SIGINT, signal.SIGTERM, signal.SIGHUP])
+def test_a_signal_while_packages_are_installed_ends_it_behind_that_step(clone: Clone, number: signal.Signals) -> None:
+    clone.lacks("odf")
+    clone.apt(f"touch {clone.folder}/waits; while test -e {clone.folder}/waits; do sleep 0.1; done")
+    process = clone.start(start_new_session=True)
+    assert eventually(lambda: (clone.folder / "waits").exists())
+    process.send_signal(number)
+    assert process.poll() is None
+    (clone.folder / "waits").unlink()
+    out, err = process.communicate(timeout=PATIENCE)
+    assert (process.returncode, out) == (128 + number, "") and not (clone.folder / "began").exists()
+    assert err.endswith("demo/page: it was ended, and nothing is served; what apt-get installed stays\n")
+    assert len((clone.folder / "asked").read_text().splitlines()) == 1  # no install behind the update
 
 
 @pytest.mark.parametrize("status", [3, 130])

@@ -88,6 +88,12 @@ def test_pages_have_the_names_that_are_installed(unpacked: pathlib.Path) -> None
     assert ".Xr hilpoven 1" in (ROOT / "docs" / "toll.1").read_text()
 
 
+def test_the_pages_of_engineers_stay_in_the_sources(unpacked: pathlib.Path) -> None:
+    theirs = {page.name for page in (ROOT / "docs/engineering").iterdir()}
+    assert {"PROVED.md", "testing.md"} <= theirs
+    assert [page for page in unpacked.rglob("*") if page.name in theirs | {"engineering"}] == []
+
+
 def test_what_a_page_links_to_is_packaged(unpacked: pathlib.Path) -> None:
     """Pages and their pictures, and what /owner/ serves."""
     share = unpacked / "usr/share"
@@ -99,8 +105,14 @@ def test_what_a_page_links_to_is_packaged(unpacked: pathlib.Path) -> None:
     assert [
         (page, target) for page, target in inner if not os.path.exists(os.path.normpath(page.parent / target))
     ] == []
-    cited = set(re.findall(r"`docs/([\w-]+\.md)`", (share / "toll/page/http.md").read_text()))
-    assert {"commands.md", "refusals.md"} <= cited <= set(os.listdir(share / "toll/page"))
+    cited = set(re.findall(r"\]\(([\w-]+\.(?:md|yaml))", (share / "toll/page/http.md").read_text()))
+    assert {"commands.md", "openapi.yaml"} <= cited <= set(os.listdir(share / "toll/page"))
+
+
+def test_a_link_to_what_is_not_installed_is_its_words() -> None:
+    text = "See [a](b.md), [c](../d.md#e), ![f](g/h.png) and [i](https://j.example/k.md)."
+    assert documents.linked(text, "docs", {"docs/b.md", "docs/g/h.png"}) == text.replace("[c](../d.md#e)", "c")
+    assert documents.linked("[a](docs/b.md#c), [d](e.md)", ".", {"docs/b.md"}) == "[a](docs/b.md#c), d"
 
 
 @pytest.mark.parametrize(
@@ -114,6 +126,7 @@ def test_what_a_page_links_to_is_packaged(unpacked: pathlib.Path) -> None:
         ("`demo/run day`", "`/usr/share/doc/toll/examples/demo day`"),
         ("`tools/check-docs`", "`SOURCES/tools/check-docs`"),
         ("`packaging/toll@.service`", "`/usr/lib/systemd/system/toll@.service`"),
+        ("`docs/engineering/PROVED.md`", "`SOURCES/docs/engineering/PROVED.md`"),
     ],
 )
 def test_a_name_becomes_that_which_is_installed(source: str, installed: pathlib.Path) -> None:
@@ -154,7 +167,7 @@ def test_the_packages_and_the_command_have_the_version(packages: pathlib.Path, u
 
 def test_no_other_page_or_file_says_a_version() -> None:
     form = r"(?:toll|hilpoven|papers)[_-]\d+\.\d[\w.-]*"
-    pages = [ROOT / "README.md", *(ROOT / "docs").glob("*.md")]
+    pages = [ROOT / "README.md", *(ROOT / "docs").rglob("*.md")]
     named = {page.name: names for page in pages if (names := re.findall(form, page.read_text()))}
     assert named == {"packages.md": ["toll_1.0-1_amd64.deb"]}
 

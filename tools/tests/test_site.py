@@ -367,11 +367,18 @@ def test_who_sends_nothing_is_dropped(site: Proxy, head: str) -> None:
 # What stands where
 
 
-@pytest.mark.parametrize("name", ["openapi.yaml", "http.md", "commands.md", "refusals.md"])
+BESIDE = ("openapi.yaml", "http.md", "commands.md")
+LINK = re.compile(r"\[([^\]]+)\]\(([^):#]+)?(#[^)]*)?\)")
+
+
+@pytest.mark.parametrize("name", BESIDE)
 def test_the_contract_stands_beside_the_page(site: Proxy, name: str) -> None:
+    """Its pages link what stands beside them alone; other links are their words."""
     reply = ask(site, f"/owner/{name}")
     assert (reply.status, reply.fields["content-type"]) == (200, "text/plain; charset=utf-8")
-    assert reply.body == (ROOT / "docs" / name).read_bytes()
+    text, source = reply.body.decode(), (ROOT / "docs" / name).read_text()
+    assert LINK.sub(r"\1", text) == LINK.sub(r"\1", source)
+    assert {page for _, page, _ in LINK.findall(text)} <= {"", *BESIDE}
     page = ask(site, "/owner/").body
     assert b'href="openapi.yaml"' in page and b'href="http.md"' in page
 
