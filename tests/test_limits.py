@@ -79,6 +79,14 @@ def is_answered(server: Server) -> bool:
     return server.send(request("/orders")).startswith("HTTP/1.1 200")
 
 
+def test_no_other_address_of_the_machine_leads_to_the_owners_port(serve: Callable[..., Server]) -> None:
+    """A server that is started by hand has no TLS before it, and keys would go through the network in the clear."""
+    server = serve()
+    server.connect().close()
+    with pytest.raises(ConnectionRefusedError):
+        socket.create_connection(("127.0.0.2", server.port or 0), SOON)
+
+
 def test_silent_clients_block_neither_an_owner_nor_the_plant(office: Office, serve: Callable[..., Server]) -> None:
     server = serve()
     with contextlib.ExitStack() as stack:
