@@ -4,7 +4,7 @@ use Rattle.std.specs.Prelude.{◌≢◌}
 use Rattle.toll_desk.proofs.Common.{History, Change, nat_eq-exact, IsLawful, Meaning, Content, content_after, AllChangesFit, CallEffect, IsReading, KeepFault, OverContent, goes_then, goes_as, goes_fault, settles}
 use Rattle.toll_keep.proofs.Calls.{Rests}
 use Rattle.toll_keep.specs.CallEffects.{FindsNoDamage}
-use Rattle.toll_keep.specs.declared.fault.KeepFault.TheVariants.{Damaged}
+use Rattle.toll_keep.specs.declared.keep_fault.KeepFault.TheVariants.{Damaged}
 use Rattle.toll_desk.proofs.KeptRules.{represented_keeps_rules}
 use Rattle.toll_desk.proofs.StepLemmas.{answered_step, store_of}
 use Rattle.toll_desk.specs.Outcome.{CommitEffect, LeavesOr, finished}

@@ -77,7 +77,7 @@ pub use Rattle.toll_keep.specs.CallEffects.{CallEffect, IsReading, Keeps}
 pub use Rattle.toll_keep.specs.Holding.{IsEdgeOfSome, IsHolder, is_on}
 pub use Rattle.toll_keep.specs.Meaning.{Meaning, OverContent}
 pub use Rattle.toll_keep.specs.Slices.{has_slice, is_slice_of}
-pub use Rattle.toll_keep.specs.declared.fault.KeepFault.{KeepFault}
+pub use Rattle.toll_keep.specs.declared.keep_fault.KeepFault.{KeepFault}
 pub use Rattle.toll_stock.specs.LotTotals.{totals_given}
 pub use Rattle.toll_trace.proofs.Members.{Contains-cases, Contains-here, Contains-later, Contains-none}
 pub use Rattle.toll_trace.specs.Chain.{IsChain}

@@ -1,7 +1,7 @@
 -- How a recall goes: reading calls that succeed, and then one more, or damage that it reports.
 use Rattle.std.proofs.Common.{◌≡◌, Result, Ok, Err, inl, inr}
 use Rattle.toll_desk.proofs.Common.{Meaning, IsReading, KeepFault, reads_then, read_ok, read_fault}
-use Rattle.toll_keep.specs.declared.fault.KeepFault.TheVariants.{Damaged}
+use Rattle.toll_keep.specs.declared.keep_fault.KeepFault.TheVariants.{Damaged}
 use Rattle.toll_desk.specs.Questions.{IsRecallEffect}
 
 module _ {K : Type 0} (meaning : Meaning K) (old new : K) where

@@ -3,7 +3,7 @@ use Rattle.std.proofs.Common.{◌≡◌, ◌++◌, false, Option, Some, None, Li
 use Rattle.toll_answers.proofs.OwnReplies.{lawful-after_plant}
 use Rattle.toll_answers.specs.declared.plant_cmd.PlantCmd.TheVariants.{Unread}
 use Rattle.toll_keep.specs.StagedChanges.{IsOver, OverLaid, ReadsThrough}
-use Rattle.toll_keep.specs.declared.fault.KeepFault.TheVariants.{Memory}
+use Rattle.toll_keep.specs.declared.keep_fault.KeepFault.TheVariants.{Memory}
 use Rattle.toll_keep.specs.declared.staged_changes.StagedChanges.{StagedChanges}
 use Rattle.toll_desk.proofs.Common.{append-nil, changes_of, Change, Decision, Refusal, verdict_of, History, Refused as RefusedFor, IsLawful, IsValidAction, Content, content_after, Meaning, OverContent, KeepFault, Command, IsPlantAnswer, IsQuestionAnswer, IsVerdictOr, Judged, PlantAnswer, PlantCmd, after_plant, recorded_command, concerned}
 use Rattle.toll_desk.proofs.CommandPlans.{recorded_valid}

@@ -5,7 +5,7 @@ use Rattle.toll_desk.proofs.Common.{History, IsPlantAnswer, IsReading, Judged, K
 use Rattle.toll_answers.specs.declared.plant_cmd.PlantCmd.TheVariants as cmd
 use Rattle.toll_keep.proofs.Calls.{Rests}
 use Rattle.toll_keep.proofs.Outcomes.{on_err_always}
-use Rattle.toll_keep.specs.declared.fault.KeepFault.TheVariants.{Damaged}
+use Rattle.toll_keep.specs.declared.keep_fault.KeepFault.TheVariants.{Damaged}
 use Rattle.toll_desk.proofs.KeptRules.{represented_keeps_rules}
 use Rattle.toll_desk.proofs.StepLemmas.{read_step, store_of, store_uncalled}
 use Rattle.toll_desk.specs.OfficeSteps.{PlantCalls, plant_steps}

@@ -5,7 +5,7 @@ use Rattle.toll_desk.proofs.Common.{IfOk-weaker, CallEffect, Content, History, I
 use Rattle.toll_keep.proofs.Calls.{Rests, answered, failed_call}
 use Rattle.toll_keep.proofs.Outcomes.{on_err_always}
 use Rattle.toll_keep.specs.CallEffects.{FindsNoDamage, Settles}
-use Rattle.toll_keep.specs.declared.fault.KeepFault.TheVariants.{Damaged, Memory}
+use Rattle.toll_keep.specs.declared.keep_fault.KeepFault.TheVariants.{Damaged, Memory}
 use Rattle.toll_desk.specs.Outcome.{LeavesOr}
 use Rattle.toll_desk.specs.Reads.{Over}
 use Rattle.toll_desk.specs.Representing.{Represents}

@@ -24,7 +24,7 @@ pub use Rattle.toll_keep.specs.Content.{Content, ContentKeepsRules, AllChangesFi
 pub use Rattle.toll_keep.specs.CallEffects.{CallEffect, IsReading, IsSpared, Settles}
 pub use Rattle.toll_keep.specs.Meaning.{Meaning, OverContent}
 pub use Rattle.toll_keep.specs.Reads.{HaveRead}
-pub use Rattle.toll_keep.specs.declared.fault.KeepFault.{KeepFault}
-pub use Rattle.toll_keep.specs.declared.fault.KeepFault.TheVariants.{Damaged, Memory}
+pub use Rattle.toll_keep.specs.declared.keep_fault.KeepFault.{KeepFault}
+pub use Rattle.toll_keep.specs.declared.keep_fault.KeepFault.TheVariants.{Damaged, Memory}
 pub use Rattle.toll_trace.specs.declared.step.Step.{Step}
 pub use Rattle.toll_trace.specs.declared.way.Way.{Way}

@@ -2,7 +2,7 @@
 use Rattle.std.proofs.Common.{IsSome, Contains, ◌≡◌, ◌≢◌, false, Some, Result, Ok, Err, OnOk, OnErr, sym, subst}
 use Rattle.toll_keep.proofs.Common.{false≢true, All-nil, Contains-none, Content, ContentKeepsRules, slice_of, CallEffect, IsReading, AreOf, AreCachedRows, IsNothing, IsCacheOf, OnlyKnownHaveRows, Meaning, meaning_of, HaveRead, KeepFault}
 use Rattle.std.proofs.Math.Logic.{∥∥₁_elim}
-use Rattle.toll_keep.specs.declared.fault.KeepFault.TheVariants.{Damaged}
+use Rattle.toll_keep.specs.declared.keep_fault.KeepFault.TheVariants.{Damaged}
 use Rattle.toll_keep.specs.declared.keep.Keep.{Ghosts}
 use Rattle.toll_keep.specs.declared.cache.Cache.{Cache}
 use Rattle.toll_keep.specs.declared.cached_keep.CachedKeep.{CachedKeep}

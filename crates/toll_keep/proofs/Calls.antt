@@ -2,7 +2,7 @@
 use Rattle.std.proofs.Common.{◌≡◌, false, [], ◌∷◌, Result, Ok, Err, inl, inr, refl, sym, subst, ◌∙◌, ◌≢◌, ◌↔◌, ◌⊎◌, IsTrue, OnErr, OnOk}
 use Rattle.toll_keep.proofs.Common.{Content, ContentKeepsRules, CallEffect, Keeps, IsReading, IsSpared, Settles, closes_keep, Meaning, OverContent, KeepFault}
 use mathlib.Core.Bool.{false≢true}
-use Rattle.toll_keep.specs.declared.fault.KeepFault.TheVariants.{Memory, Disk, Damaged, Closed}
+use Rattle.toll_keep.specs.declared.keep_fault.KeepFault.TheVariants.{Memory, Disk, Damaged, Closed}
 
 -- the result of a call that was answered, and of one that failed
 abbrev pub answered : {X : Type 0} → X → Result X KeepFault

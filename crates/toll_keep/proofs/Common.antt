@@ -22,7 +22,7 @@ pub use Rattle.toll_keep.specs.Meaning.{Meaning, OverContent, meaning_of}
 pub use Rattle.toll_keep.specs.Reads.{HaveRead, IsContentKept}
 pub use Rattle.toll_keep.specs.Remembered.{AreCachedRows, AreOf, IsCacheOf, IsNothing, OnlyKnownHaveRows, is_addition, is_put_for}
 pub use Rattle.toll_keep.specs.Slices.{IsOneEach, Kept, content_of, has_slice, is_slice_of, put_slice, rows_in}
-pub use Rattle.toll_keep.specs.declared.fault.KeepFault.{KeepFault}
+pub use Rattle.toll_keep.specs.declared.keep_fault.KeepFault.{KeepFault}
 pub use Rattle.toll_trace.proofs.Common.{Contains-append_cases, Contains-append_left, Contains-append_right, Edge, IsTotalOrder, Ordering, edge_cmp, is_eq, or_left, or_right, ordering_reverse, take_more}
 pub use Rattle.toll_trace.proofs.Members.{Contains-cases, Contains-here, Contains-later, Contains-none, kept_in_order, member_of_all}
 pub use Rattle.toll_trace.proofs.Orders.{edges_exact}

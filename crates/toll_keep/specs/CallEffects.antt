@@ -3,8 +3,8 @@ use Rattle.std.specs.Prelude.{◌≡◌, ◌≢◌, ◌↔◌, ◌⊎◌, Bool, 
 use Rattle.std.proofs.Common.{inl, inr}
 use Rattle.toll_keep.specs.Content.{Content, ContentKeepsRules}
 use Rattle.toll_keep.specs.Meaning.{Meaning, OverContent, OverLive}
-use Rattle.toll_keep.specs.declared.fault.KeepFault.{KeepFault}
-use Rattle.toll_keep.specs.declared.fault.KeepFault.TheVariants.{Memory, Disk, Damaged, Closed}
+use Rattle.toll_keep.specs.declared.keep_fault.KeepFault.{KeepFault}
+use Rattle.toll_keep.specs.declared.keep_fault.KeepFault.TheVariants.{Memory, Disk, Damaged, Closed}
 
 -- whether this answer closes the keep
 abbrev pub closes_keep : {X : Type 0} → Result X KeepFault → Bool

@@ -3,7 +3,7 @@ use Rattle.std.specs.Prelude.{Ok, Result}
 use Rattle.toll_keep.specs.Content.{Content}
 use Rattle.toll_keep.specs.CallEffects.{IsReading}
 use Rattle.toll_keep.specs.Meaning.{Meaning}
-use Rattle.toll_keep.specs.declared.fault.KeepFault.{KeepFault}
+use Rattle.toll_keep.specs.declared.keep_fault.KeepFault.{KeepFault}
 
 module _ {K : Type 0} (meaning : Meaning K) (old new : K) where
   -- Reading calls led from the one keep to the other, and each was answered.

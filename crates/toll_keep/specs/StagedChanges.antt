@@ -6,7 +6,7 @@ use Rattle.toll_keep.specs.CallEffects.{IsReading}
 use Rattle.toll_keep.specs.Meaning.{Meaning, OverContent}
 use Rattle.toll_keep.specs.Reads.{HaveRead, IsContentKept}
 use Rattle.toll_keep.specs.Remembered.{AreOf, is_addition}
-use Rattle.toll_keep.specs.declared.fault.KeepFault.{KeepFault}
+use Rattle.toll_keep.specs.declared.keep_fault.KeepFault.{KeepFault}
 use Rattle.toll_keep.specs.declared.staged_changes.StagedChanges.{StagedChanges}
 
 -- The staged slices are slices of the content with the staged changes, none of which adds an owner or a unit.

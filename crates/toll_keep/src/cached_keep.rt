@@ -5,9 +5,9 @@ ghost use Rattle.toll_keep.specs.Remembered.{IsNothing, IsCacheOf, OnlyKnownHave
 
 use crate::cache::Cache;
 use crate::cached_reading::{read_rows, read_slice};
-use crate::fault::KeepFault;
 use crate::holder::Holder;
 use crate::keep::Keep;
+use crate::keep_fault::KeepFault;
 use crate::tracing::read_trace;
 use std::alloc::Global;
 use std::mem;

@@ -6,8 +6,8 @@ ghost use Rattle.toll_keep.specs.Meaning.{OverContent};
 ghost use Rattle.toll_keep.specs.Reads.{HaveRead, IsContentKept};
 ghost use Rattle.toll_keep.specs.Remembered.{AreOf, AreCachedRows, OverPut};
 
-use crate::fault::KeepFault;
 use crate::keep::Keep;
+use crate::keep_fault::KeepFault;
 use crate::plant_row::PlantRow;
 use crate::remembered::{remember, remembered};
 use std::alloc::Global;

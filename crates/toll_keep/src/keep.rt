@@ -6,8 +6,8 @@ ghost use Rattle.toll_keep.specs.CallEffects.{CallEffect, IsReading, IsSpared};
 ghost use Rattle.toll_keep.specs.Holding.{IsHolder, IsEdgeOfSome, GivesTrace};
 ghost use Rattle.toll_keep.specs.Meaning.{Meaning, OverContent, OverLive};
 
-use crate::fault::KeepFault;
 use crate::holder::Holder;
+use crate::keep_fault::KeepFault;
 use std::alloc::Global;
 use toll_base::{Change, Edge, LotId, Name, OwnerRow, Slice, UnitRow};
 use toll_trace::{Step, Way};

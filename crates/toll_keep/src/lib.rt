@@ -6,10 +6,10 @@ mod cached_keep;
 mod cached_reading;
 mod drawing;
 mod everyone;
-mod fault;
 mod ghosts;
 mod holder;
 mod keep;
+mod keep_fault;
 mod known_graph;
 mod mem_keep;
 mod plant_row;
@@ -19,12 +19,12 @@ mod staged_changes;
 mod tracing;
 
 pub use cached_keep::CachedKeep;
-pub use fault::KeepFault;
 pub use ghosts::{
     a_cached_keep_has_the_content_inside, a_cached_keep_is_as_open_as_the_one_inside,
     a_keep_in_memory_has_its_content, a_keep_in_memory_is_always_open,
 };
 pub use holder::Holder;
 pub use keep::Keep;
+pub use keep_fault::KeepFault;
 pub use mem_keep::MemKeep;
 pub use staged_changes::StagedChanges;

@@ -9,9 +9,9 @@ ghost use Rattle.toll_trace.specs.Recorded.{Draws};
 ghost use Rattle.toll_keep.specs.Slices.{content_of, rows_in};
 
 use crate::everyone::edges_among;
-use crate::fault::KeepFault;
 use crate::holder::{Holder, holder_among};
 use crate::keep::Keep;
+use crate::keep_fault::KeepFault;
 use crate::slices::{index_of_slice, put_for, shared_each, shared_of};
 use std::alloc::{AllocError, Global};
 use std::marker::Model;

@@ -3,8 +3,8 @@ ghost use Rattle.std.specs.Prelude.{◌≡◌, IfOk};
 ghost use Rattle.toll_keep.specs.CallEffects.{IsReading};
 ghost use Rattle.toll_keep.specs.Meaning.{OverContent};
 
-use crate::fault::KeepFault;
 use crate::keep::Keep;
+use crate::keep_fault::KeepFault;
 use std::alloc::Global;
 use toll_base::{OwnerRow, UnitRow};
 

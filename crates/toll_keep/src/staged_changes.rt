@@ -6,8 +6,8 @@ ghost use Rattle.toll_keep.specs.StagedChanges.{IsOver, OverLaid, ReadsThrough};
 
 use crate::cache::has_addition;
 use crate::cached_reading::read_slice;
-use crate::fault::KeepFault;
 use crate::keep::Keep;
+use crate::keep_fault::KeepFault;
 use crate::remembered::follow_all;
 use std::alloc::{AllocError, Global};
 use std::mem;

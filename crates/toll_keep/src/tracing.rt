@@ -12,8 +12,8 @@ ghost use Rattle.toll_keep.specs.Remembered.{IfOf, IsNothing, IsCacheOf, OnlyKno
 
 use crate::cache::Cache;
 use crate::cached_reading::read_rows;
-use crate::fault::KeepFault;
 use crate::keep::Keep;
+use crate::keep_fault::KeepFault;
 use crate::known_graph::KnownGraph;
 use crate::remembered::remembered;
 use std::alloc::{AllocError, Global};

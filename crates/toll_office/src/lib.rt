@@ -4,11 +4,11 @@
 #![tactic(auto)]
 
 mod descriptors;
+mod one_connection;
 mod plant_listener;
 mod programs;
 mod readiness;
 mod resolving;
-mod serving;
 mod socket_connector;
 mod socket_file;
 mod socket_stream;
@@ -16,6 +16,6 @@ mod sockets;
 mod timed;
 
 pub use descriptors::connections_within;
+pub use one_connection::{Served, serve_one};
 pub use programs::run;
-pub use serving::{Served, serve_one};
 pub use sockets::Sockets;

@@ -1,6 +1,6 @@
 //! The sockets of the system.
 ghost use Rattle.std.specs.Prelude.{◌≤◌, Some};
-ghost use Rattle.toll_server.specs.declared.network.TheConstants.{MOST_CONNECTIONS};
+ghost use Rattle.toll_server.specs.declared.network.TheConstants.{MOST_OPEN_CONNECTIONS};
 
 use crate::descriptors::most_connections;
 use crate::plant_listener::{ListenerFault, PlantListener};
@@ -15,6 +15,7 @@ use std::os::fd::AsRawFd;
 use std::time::{Duration, Instant};
 use toll_files::{FaultLog, ServingFault};
 use toll_server::{Accepted, Listener, Network, NetworkFault};
+use toll_service::Announcing;
 
 /// How many events one wait gives.
 const MOST_EVENTS: usize = 256;
@@ -41,7 +42,7 @@ pub struct Sockets<'a> {
     resources: FaultLog,
     since: Instant,
     ghost least: { 1 ≤ most_open },
-    ghost most: { most_open ≤ MOST_CONNECTIONS },
+    ghost most: { most_open ≤ MOST_OPEN_CONNECTIONS },
 }
 
 impl<'a> Sockets<'a> {
@@ -198,5 +199,13 @@ impl Network for Sockets<'_> {
             Ok(gone) => u64::try_from(gone.as_millis()).unwrap_or(u64::MAX),
             Err(_) => u64::MAX,
         }
+    }
+}
+
+impl Announcing for Sockets<'_> {
+    // Prints the port.
+    fn announce(&self, rt: &HostRuntime) -> io::Result<()> {
+        let port = self.port()?;
+        println!(rt; "listening {port}")
     }
 }

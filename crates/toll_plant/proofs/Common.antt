@@ -34,6 +34,6 @@ pub use Rattle.toll_history.specs.Command.{Command, Record, by}
 pub use Rattle.toll_history.specs.History.{adds_owner, owner_known}
 pub use Rattle.toll_history.specs.Movements.{has_move_key, movement_of, movements, voided_in, voids_key}
 pub use Rattle.toll_history.specs.Verdict.{grow, grown, verdict}
-pub use Rattle.toll_keep.specs.declared.fault.KeepFault.TheVariants.{Closed, Disk}
+pub use Rattle.toll_keep.specs.declared.keep_fault.KeepFault.TheVariants.{Closed, Disk}
 pub use Rattle.toll_plant.specs.Common.{Accepted, AllByRecursion, BadAmount, BadName, Bytes, Content, Damaged, CallEffect, History, IsLawful, IsPlantAnswer, IsValidCommand, Judged, KeepFault, Meaning, Memory, OverContent, PlantCmd, PlantAnswer, Refusal, Refused, Repeated, Represents, Verdict, acts, content_after, after_plant, bytes_eq, recorded_command, is_some_where, list_all, list_any, same_bytes, where_so}
 pub use mathlib.Core.Bool.{false≢true}

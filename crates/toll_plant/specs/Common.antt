@@ -13,5 +13,5 @@ pub use Rattle.toll_history.specs.Verdict.{Accepted, IsLawful, Refused, Repeated
 pub use Rattle.toll_keep.specs.Content.{Content, content_after}
 pub use Rattle.toll_keep.specs.CallEffects.{CallEffect}
 pub use Rattle.toll_keep.specs.Meaning.{Meaning, OverContent}
-pub use Rattle.toll_keep.specs.declared.fault.KeepFault.{KeepFault}
-pub use Rattle.toll_keep.specs.declared.fault.KeepFault.TheVariants.{Damaged, Memory}
+pub use Rattle.toll_keep.specs.declared.keep_fault.KeepFault.{KeepFault}
+pub use Rattle.toll_keep.specs.declared.keep_fault.KeepFault.TheVariants.{Damaged, Memory}

@@ -1,8 +1,8 @@
 -- The names of faults.
 use Rattle.std.specs.Prelude.{codes}
 use Rattle.toll_base.specs.Bytes.{Bytes}
-use Rattle.toll_plant.specs.declared.fault.WordsFault.{WordsFault}
-use Rattle.toll_plant.specs.declared.fault.WordsFault.TheVariants as words
+use Rattle.toll_plant.specs.declared.words_fault.WordsFault.{WordsFault}
+use Rattle.toll_plant.specs.declared.words_fault.WordsFault.TheVariants as words
 use Rattle.toll_plant.specs.declared.import_fault.ImportFault.{ImportFault}
 use Rattle.toll_plant.specs.declared.import_fault.ImportFault.TheVariants as imports
 

@@ -9,8 +9,8 @@ use Rattle.toll_plant.specs.Table.{command_lines}
 use Rattle.toll_plant.specs.Usages.{usage_text}
 use Rattle.toll_plant.specs.declared.argument.ArgumentValue.{ArgumentValue}
 use Rattle.toll_plant.specs.declared.command.CommandName.{CommandName}
-use Rattle.toll_plant.specs.declared.fault.WordsFault.{WordsFault}
-use Rattle.toll_plant.specs.declared.fault.WordsFault.TheVariants.{Memory, Usage}
+use Rattle.toll_plant.specs.declared.words_fault.WordsFault.{WordsFault}
+use Rattle.toll_plant.specs.declared.words_fault.WordsFault.TheVariants.{Memory, Usage}
 
 -- a value in front of the values after it, or the refusal of the first that can't be read
 abbrev pub in_front : Result ArgumentValue Refusal → Result (List ArgumentValue) Refusal → Result (List ArgumentValue) Refusal

@@ -9,10 +9,10 @@ ghost use Rattle.toll_plant.specs.Usages.{named_by};
 ghost use Rattle.toll_plant.specs.Words.{IsUsageOf, IsUsageOnlyOf, command_of_words};
 
 use crate::clap_words::values_of;
-use crate::fault::WordsFault;
 use crate::line::{LINES, Line};
 use crate::usage::{usage_of_all, usage_of_line};
 use crate::values::read;
+use crate::words_fault::WordsFault;
 use std::alloc::{AllocError, Global};
 use toll_desk::PlantCmd;
 

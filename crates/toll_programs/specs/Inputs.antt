@@ -1,11 +1,11 @@
 -- The input of a script.
 use Rattle.std.specs.Prelude.{◌≡◌, ◌+◌, ◌≤◌, ℕ, Option, length}
 use Rattle.toll_programs.specs.Common.{Consumes, IsAtEnd, Bytes}
-use Rattle.toll_programs.specs.declared.input.TheConstants.{TEXT_LIMIT}
+use Rattle.toll_programs.specs.declared.input.TheConstants.{SCRIPT_LIMIT}
 
 -- how many bytes a script may have
 abbrev pub script_limit : ℕ
-script_limit = TEXT_LIMIT
+script_limit = SCRIPT_LIMIT
 
 -- The input is all that the reader had left, up to its end, and no longer than a script may be.
 pub record IsWholeInput (old new : Option Bytes) (input : Bytes) : Type 0 where

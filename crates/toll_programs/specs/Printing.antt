@@ -4,7 +4,7 @@ use Rattle.toll_programs.specs.Common.{starts_with, Bytes, PlantReply, Answer}
 use Rattle.toll_base.specs.Refusal.{refusal_code, title_of}
 use Rattle.toll_base.specs.declared.refusal.Refusal.{Refusal}
 use Rattle.toll_desk.specs.declared.plant_cmd.PlantReply.TheVariants as plant
-use Rattle.toll_keep.specs.declared.fault.KeepFault.{KeepFault}
+use Rattle.toll_keep.specs.declared.keep_fault.KeepFault.{KeepFault}
 use Rattle.toll_keep.specs.Fault.{fault_word}
 use Rattle.toll_wire.specs.OutTexts.{out_bytes}
 use Rattle.toll_wire.specs.declared.event.Answer.TheVariants as answer

@@ -2,7 +2,7 @@
 use Rattle.std.specs.Prelude.{ℕ, List, [], ◌∷◌, codes, Option, Some, None, if◌then◌else◌, option_map, option_and_then, unwrap_or}
 use Rattle.toll_programs.specs.Common.{bytes_eq, Bytes}
 use Rattle.toll_plant.specs.Readings.{number_within}
-use Rattle.toll_programs.specs.declared.task.TheConstants.{IMPORT_USAGE, MOST_CONNECTIONS, SERVE_USAGE, USAGE}
+use Rattle.toll_programs.specs.declared.task.TheConstants.{IMPORT_USAGE, MOST_CONNECTIONS_SERVED, SERVE_USAGE, USAGE}
 
 -- the task of the program: a script; or, over the office in a file, a command or question in these words, an import, or serving so many
 -- connections on a port
@@ -14,7 +14,7 @@ pub data RequestedTask : Type 0 where
 
 -- A port has 16 bits, and there is at least one connection.
 abbrev pub serve_task : (file port count : Bytes) → Option RequestedTask
-serve_task file port count = option_and_then (λ p. option_map (Serve file p) (number_within 1 MOST_CONNECTIONS count)) (number_within 0 65535 port)
+serve_task file port count = option_and_then (λ p. option_map (Serve file p) (number_within 1 MOST_CONNECTIONS_SERVED count)) (number_within 0 65535 port)
 
 -- After `serve` come a port and a count.
 abbrev pub serving_task : (file : Bytes) → List Bytes → Option RequestedTask

@@ -10,7 +10,7 @@ use thiserror::Error;
 use toll_protocol::{Source, read_behind};
 
 /// How many bytes a script may have.
-const TEXT_LIMIT: usize = 1_048_576;
+const SCRIPT_LIMIT: usize = 1_048_576;
 
 /// Why a script was not read.
 #[derive(Clone, Copy)]
@@ -42,8 +42,8 @@ pub fn read_input<R: Source>(alloc: Global, reader: &mut R) -> Result<Vec<u8>, I
     ensures failed { result ≡ Err InputFault.Read → HasFailed (R.has_failed reader.old) (R.has_failed reader.new) }
     ensures sound { result ≢ Err InputFault.Read → NoneFailed (R.has_failed reader.old) (R.has_failed reader.new) }
 {
-    match read_front(alloc, reader, TEXT_LIMIT) {
-        Ok(text) if text.len() > TEXT_LIMIT => Err(InputFault::TooLong),
+    match read_front(alloc, reader, SCRIPT_LIMIT) {
+        Ok(text) if text.len() > SCRIPT_LIMIT => Err(InputFault::TooLong),
         Ok(text) => Ok(text),
         Err(FrontFault::Memory) => Err(InputFault::Memory),
         Err(FrontFault::Read) => Err(InputFault::Read),

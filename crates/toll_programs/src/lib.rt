@@ -34,7 +34,7 @@ pub use reporting::{numbered, report, warn};
 pub use request_line::RequestLine;
 pub use scripts::{ScriptEnd, script};
 pub use status::Status;
-pub use task::{MOST_CONNECTIONS, Task, task_of, usage_of};
+pub use task::{MOST_CONNECTIONS_SERVED, Task, task_of, usage_of};
 pub use toll_plant::MOST_FILE_BYTES;
 pub use tracked_stream::{TrackedStream, TracksReads};
 pub use version::VERSION;

@@ -29,7 +29,7 @@ pub enum Task<'a> {
 }
 
 /// How many connections may be asked for.
-pub const MOST_CONNECTIONS: u64 = 1_000_000;
+pub const MOST_CONNECTIONS_SERVED: u64 = 1_000_000;
 
 /// The usage of the program.
 pub const USAGE: &str = "toll 1.1, office format 2
@@ -115,7 +115,7 @@ fn task_of_serving<'a>(file: &'a str, words: &'a [&'a str]) -> Option<Task<'a>>
     };
     let port = u16::try_from(number(port.as_bytes())?).ok()?;
     let count = number(count.as_bytes())?;
-    if count == 0 || count > MOST_CONNECTIONS {
+    if count == 0 || count > MOST_CONNECTIONS_SERVED {
         return None;
     }
     Some(Task::Serve { file, port, count })

@@ -2,8 +2,8 @@
 //! plant and the server of a file exchange in them.
 
 mod call;
+mod encode_fault;
 mod encoding;
-mod fault;
 mod frame;
 mod handshakes;
 mod laws;
@@ -11,8 +11,8 @@ mod response;
 mod words;
 
 pub use call::{Call, MOST_CALL_BYTES};
+pub use encode_fault::EncodeFault;
 pub use encoding::{content_of, encode, is_enough};
-pub use fault::EncodeFault;
 pub use frame::Frame;
 pub use handshakes::{MOST_HANDSHAKE_BYTES, handshake, is_handshake};
 pub use laws::{a_call_is_read_back, a_frame_is_read_back, a_response_is_read_back};

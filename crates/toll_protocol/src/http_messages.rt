@@ -18,5 +18,5 @@ pub use laws::{a_text_comes_to_one_thing, limits_are_those_defined};
 pub use messages::message;
 pub use reading::{ReadFault, read_request};
 pub use request_reader::RequestReader;
-pub use settled::TEXT_LIMIT;
+pub use settled::REQUEST_TEXT_LIMIT;
 pub use verb::Verb;

@@ -12,8 +12,8 @@ pub use frames::{
     handshake, is_enough, is_handshake,
 };
 pub use http_messages::{
-    BODY_LIMIT, FIELD_LIMIT, Failure, HEAD_LIMIT, HttpRequest, ReadFault, RequestReader,
-    TEXT_LIMIT, Verb, a_text_comes_to_one_thing, limits_are_those_defined, message, parse_http,
+    BODY_LIMIT, FIELD_LIMIT, Failure, HEAD_LIMIT, HttpRequest, REQUEST_TEXT_LIMIT, ReadFault,
+    RequestReader, Verb, a_text_comes_to_one_thing, limits_are_those_defined, message, parse_http,
     read_request,
 };
 pub use streams::{

@@ -7,8 +7,8 @@ use Rattle.toll_server.specs.declared.network.Accepted.TheVariants.{Connected, A
 use Rattle.toll_server.specs.declared.connections.AcceptState.{AcceptState}
 use Rattle.toll_server.specs.declared.connections.AcceptState.TheVariants.{Open, Backlogged, Paused}
 use Rattle.toll_server.specs.declared.network.TheConstants.{MOST_READY}
-use Rattle.toll_server.specs.declared.serving.ServingEnd.{ServingEnd}
-use Rattle.toll_server.specs.declared.serving.ServingEnd.TheVariants.{All, Fault, Spent}
+use Rattle.toll_server.specs.declared.event_loop.ServingEnd.{ServingEnd}
+use Rattle.toll_server.specs.declared.event_loop.ServingEnd.TheVariants.{All, Fault, Spent}
 
 -- a connection that was accepted: its key, the listener at which it came, and its stream
 pub record Arrival (S : Type 0) : Type 0 where

@@ -5,7 +5,7 @@ ghost use Rattle.toll_server.specs.Connections.{AddsNext, ClosesExpired, Hears, 
 ghost use Rattle.toll_server.specs.Steps.{waiting_of};
 ghost use Rattle.toll_server.specs.Networks.{Accepts, IsPaused, IsPausedAt, ListensFor, Tallies, owners_at};
 ghost use Rattle.toll_server.specs.declared.listener.Listener.{Listener};
-ghost use Rattle.toll_server.specs.declared.network.TheConstants.{MOST_CONNECTIONS};
+ghost use Rattle.toll_server.specs.declared.network.TheConstants.{MOST_OPEN_CONNECTIONS};
 
 use crate::connection::Connection;
 use crate::expiry::{
@@ -45,7 +45,7 @@ pub enum AcceptState {
 /// The open connections, how many there may be, how many owners are still to be accepted, and the number of
 /// events so far: requests that became whole, and turns that the service took. It never holds more connections
 /// than there may be, and there may be at least one and at most
-/// [`MOST_CONNECTIONS`](crate::MOST_CONNECTIONS).
+/// [`MOST_OPEN_CONNECTIONS`](crate::MOST_OPEN_CONNECTIONS).
 #[derive(Drop)]
 pub struct Connections<S, T, P> {
     pub slots: Slab<Connection<S, T, P>>,
@@ -54,7 +54,7 @@ pub struct Connections<S, T, P> {
     pub accept_state: AcceptState,
     pub event_count: u128,
     ghost least: { 1 ≤ most_open },
-    ghost most: { most_open ≤ MOST_CONNECTIONS },
+    ghost most: { most_open ≤ MOST_OPEN_CONNECTIONS },
     ghost within: { slab_len slots ≤ most_open },
 }
 

@@ -23,7 +23,7 @@ pub enum Accepted<S> {
 }
 
 /// How many connections are open at once, at most.
-pub const MOST_CONNECTIONS: usize = 900;
+pub const MOST_OPEN_CONNECTIONS: usize = 900;
 
 /// How many connections may advance after one wait.
 pub const MOST_READY: usize = 4096;
@@ -46,7 +46,7 @@ pub trait Network {
     /// program opens. It is asked once, before the first wait.
     fn most_connections(&self) -> usize
         ensures least { 1 ≤ result }
-        ensures most { result ≤ MOST_CONNECTIONS }
+        ensures most { result ≤ MOST_OPEN_CONNECTIONS }
         ensures known { IfSome (limit self.now) (λ most. result ≡ most) };
 
     /// Waits until a connection comes or may advance, or this number of milliseconds is over. Returns the

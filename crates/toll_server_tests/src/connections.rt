@@ -1,4 +1,4 @@
-//! Peers of a world of memory, in which a wait gives the next of some events, or else is over at once.
+//! A network in memory, in which a wait gives the next of some events, or else is over at once.
 mod crowd;
 mod script;
 mod wire;

@@ -2,8 +2,8 @@
 use Rattle.std.proofs.Common.{◌≡◌, ◌⊎◌, ℕ, Bool, List, [], Option, None, Some, true, Contains, sym, subst, inl, inr, arith}
 use Rattle.std.specs.Prelude.{⊤, IfSome}
 use Rattle.std.specs.Global.{Vec}
-use Rattle.toll_keep.specs.declared.fault.KeepFault.{KeepFault}
-use Rattle.toll_keep.specs.declared.fault.KeepFault.TheVariants.{Memory, Disk, Damaged, Closed}
+use Rattle.toll_keep.specs.declared.keep_fault.KeepFault.{KeepFault}
+use Rattle.toll_keep.specs.declared.keep_fault.KeepFault.TheVariants.{Memory, Disk, Damaged, Closed}
 use Rattle.toll_service.specs.Common.{Bytes, Meaning, Listener, Owners, Plant, Poll, ImportState}
 use Rattle.toll_service.specs.Damages.{AreOwnersFound, HasFoundDamage, IsNoted, StaysWhere}
 use Rattle.toll_service.specs.Listeners.{IsTurnFault, ReportsFault}

@@ -6,7 +6,7 @@ use Rattle.std.specs.Global.{Vec}
 use Rattle.toll_base.specs.Bytes.{same_bytes}
 use Rattle.toll_base.specs.declared.slice.Slice.{Slice}
 use Rattle.toll_keep.specs.CallEffects.{IsReading}
-use Rattle.toll_keep.specs.declared.fault.KeepFault.TheVariants.{Damaged}
+use Rattle.toll_keep.specs.declared.keep_fault.KeepFault.TheVariants.{Damaged}
 use Rattle.toll_service.specs.Common.{Bytes, Meaning, Listener, Owners, Plant}
 use Rattle.toll_service.specs.Parties.{IsBy}
 use Rattle.toll_service.specs.declared.damage.Damage.{Damage}

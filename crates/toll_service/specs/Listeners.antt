@@ -2,8 +2,8 @@
 use Rattle.std.specs.Prelude.{◌≡◌, ◌≢◌, ◌⊎◌, ◌==◌, ℕ, Bool, true, false, not, List, [], Option, Ok, Err, Contains}
 use Rattle.std.specs.Global.{Vec}
 use Rattle.toll_service.specs.Common.{Bytes, Meaning, IsCall, IsResponse, outcomes_in, Listener, Owners, Plant, Poll, Ready, Pending, AreNumberedFrom, IsResumed, IsBegun, ImportState, ImportFault, ImportReport, exit_code, IsImportPrintout, Printout, Failed, Usage, out_bytes}
-use Rattle.toll_keep.specs.declared.fault.KeepFault.{KeepFault}
-use Rattle.toll_keep.specs.declared.fault.KeepFault.TheVariants.{Memory}
+use Rattle.toll_keep.specs.declared.keep_fault.KeepFault.{KeepFault}
+use Rattle.toll_keep.specs.declared.keep_fault.KeepFault.TheVariants.{Memory}
 use Rattle.toll_plant.specs.ImportFaults.{IsRefusedFor}
 use Rattle.toll_plant.specs.Table.{command_lines}
 use Rattle.toll_plant.specs.Usages.{usage_text}

@@ -10,8 +10,8 @@ use Rattle.toll_files.specs.declared.office_fault.OfficeFault.{OfficeFault}
 use Rattle.toll_files.specs.declared.office_fault.OfficeFault.TheVariants.{Damaged, Memory}
 use Rattle.toll_keep.specs.CallEffects.{IsReading}
 use Rattle.toll_keep.specs.Meaning.{Meaning}
-use Rattle.toll_keep.specs.declared.fault.KeepFault.{KeepFault}
-use Rattle.toll_keep.specs.declared.fault.KeepFault.TheVariants.{Damaged as FoundDamaged}
+use Rattle.toll_keep.specs.declared.keep_fault.KeepFault.{KeepFault}
+use Rattle.toll_keep.specs.declared.keep_fault.KeepFault.TheVariants.{Damaged as FoundDamaged}
 use Rattle.toll_service.specs.Damages.{IsKnown, IsNoted, KnowsNoMore, KnowsNothing, StaysWhere}
 use Rattle.toll_service.specs.Openings.{IsOneOpened, IsRefusedAfter, IsSomeRefused, IsNoneOpened, Openings}
 use Rattle.toll_service.specs.declared.damage.Damage.{Damage}

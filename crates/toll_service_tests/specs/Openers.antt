@@ -8,7 +8,7 @@ use Rattle.toll_files.specs.declared.office_fault.OfficeFault.{OfficeFault}
 use Rattle.toll_files.specs.declared.office_fault.OfficeFault.TheVariants.{Memory}
 use Rattle.toll_keep.specs.Content.{slice_of}
 use Rattle.toll_keep.specs.Meaning.{Meaning, OverContent}
-use Rattle.toll_keep.specs.declared.fault.KeepFault.{KeepFault}
+use Rattle.toll_keep.specs.declared.keep_fault.KeepFault.{KeepFault}
 use Rattle.toll_plant.specs.ImportStates.{ImportState}
 use Rattle.toll_server.specs.declared.listener.Listener.{Listener}
 use Rattle.toll_server.specs.declared.listener.Listener.TheVariants.{Plant}

@@ -45,5 +45,5 @@ pub use Rattle.toll_base.specs.declared.rows.TestRow.{TestRow}
 pub use Rattle.toll_base.specs.declared.rows.UnitRow.{UnitRow}
 pub use Rattle.toll_base.specs.declared.rows.VoidRow.{VoidRow}
 pub use Rattle.toll_keep.specs.Content.{Content, empty_content}
-pub use Rattle.toll_keep.specs.declared.fault.KeepFault.{KeepFault}
-pub use Rattle.toll_keep.specs.declared.fault.KeepFault.TheVariants.{Closed, Damaged, Disk, Memory}
+pub use Rattle.toll_keep.specs.declared.keep_fault.KeepFault.{KeepFault}
+pub use Rattle.toll_keep.specs.declared.keep_fault.KeepFault.TheVariants.{Closed, Damaged, Disk, Memory}

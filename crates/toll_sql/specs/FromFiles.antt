@@ -9,7 +9,7 @@ use Rattle.sqlite.specs.declared.error.ErrorCode.TheVariants as code
 use Rattle.sqlite.specs.declared.file.Leftover.{Leftover}
 use Rattle.sqlite.specs.Disk.{MoreFaults}
 use Rattle.sqlite_store.specs.FileStore.{faults, view}
-use Rattle.toll_keep.specs.declared.fault.KeepFault.TheVariants as keep
+use Rattle.toll_keep.specs.declared.keep_fault.KeepFault.TheVariants as keep
 use Rattle.sqlite_wal.specs.Reads.{AreClean}
 use Rattle.toll_sql.specs.Opening.{Adopts, Creates, open_refusal, succeeds}
 use Rattle.toll_sql.specs.declared.open_fault.OpenFault.{OpenFault}

@@ -11,7 +11,7 @@ ghost use Rattle.toll_sql.specs.Cells.{columns_from};
 ghost use Rattle.toll_sql.specs.EdgeRows.{AreEdgesOf, AreOwnersEdges, AreOwnersPairs, AreEdgesReadFrom, ForAllMoves, ForMoves, HasNoEdge, LacksAtEdge, ShowEdges, edge_cells};
 
 use crate::edge_cells::edge_at;
-use crate::fault::MemoryLack;
+use crate::store_errors::MemoryLack;
 use sqlite::types::ValueRef;
 use sqlite::{Alter, Connection, Error, Row};
 use std::alloc::Global;

@@ -9,7 +9,7 @@ ghost use Rattle.toll_sql.specs.Asking.{ForContent, IsLooking, IsQuerying, OverO
 ghost use Rattle.toll_sql.specs.HolderRows.{AreBatchRows, AreBatchesOn, HasNoBatch, IsHolderOf, IsRowOfBatch, IsShownIn, ShowHolders, ShowsNoBatch, ReportsHolder, open_on};
 
 use crate::cells::name_at;
-use crate::fault::MemoryLack;
+use crate::store_errors::MemoryLack;
 use crate::stored::StoredRow;
 use sqlite::types::ValueRef;
 use sqlite::{Alter, Connection, Error, Row};

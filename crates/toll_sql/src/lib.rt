@@ -7,7 +7,6 @@ mod creating;
 mod edge_cells;
 mod edges;
 mod encode;
-mod fault;
 mod ghosts;
 mod holding;
 mod last_puts;
@@ -26,6 +25,7 @@ mod rows_of_work;
 mod schema_check;
 mod slice_reading;
 mod sql_keep;
+mod store_errors;
 mod stored;
 mod table_kind;
 mod version;
@@ -34,10 +34,10 @@ mod writing;
 pub use adopting::adopt_tables;
 pub use creating::create_tables;
 pub use edges::read_edges;
-pub use fault::MemoryLack;
 pub use ghosts::{
     a_keep_over_sqlite_has_the_content_of_its_tables, a_keep_over_sqlite_is_as_honest_as_its_disk,
 };
 pub use open_fault::OpenFault;
 pub use slice_reading::read_slice;
 pub use sql_keep::SqlKeep;
+pub use store_errors::MemoryLack;

@@ -11,9 +11,9 @@ ghost use Rattle.toll_sql.specs.Shown.{AreReported};
 ghost use Rattle.toll_sql.specs.StoredLaws.{AreStoredOfPlant};
 ghost use Rattle.toll_sql.specs.Schema.{width_of};
 
-use crate::fault::MemoryLack;
 use crate::plant_row::StoredPlantRow;
 use crate::queries::all_rows;
+use crate::store_errors::MemoryLack;
 use sqlite::{Alter, Connection, Row as Stored};
 use std::alloc::Global;
 use toll_base::{OwnerRow, UnitRow};

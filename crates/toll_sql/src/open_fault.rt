@@ -3,7 +3,7 @@ ghost use Rattle.std.specs.Prelude.{◌≡◌, ◌⊎◌, false, IsTrue};
 ghost use Rattle.toll_sql.specs.Causes.{is_disk_fault};
 ghost use Rattle.toll_sql.specs.Opening.{open_fault_word};
 
-use crate::fault::fault_of;
+use crate::store_errors::fault_of;
 use sqlite::Error as StoreError;
 use thiserror::Error;
 use toll_keep::KeepFault;

@@ -10,9 +10,9 @@ ghost use Rattle.toll_sql.specs.Stores.{HoldsIn};
 
 use crate::adopting::{adopt_tables, new_office};
 use crate::creating::create_tables;
-use crate::fault::{MemoryLack, fault_of};
 use crate::open_fault::OpenFault;
 use crate::sql_keep::SqlKeep;
+use crate::store_errors::{MemoryLack, fault_of};
 use sqlite::{Alter, Connection, Error, ErrorCode, FileFrom, FileStore, MemStore, Start};
 use std::alloc::Global;
 use std::rt::HostRuntime;

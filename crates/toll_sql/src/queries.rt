@@ -7,7 +7,7 @@ ghost use Rattle.toll_sql.specs.Asking.{IsFinding, IsQuerying, OverOurs, OverOwn
 ghost use Rattle.toll_sql.specs.Rows.{AreOfOwner, AreAll};
 ghost use Rattle.toll_sql.specs.Schema.{is_owned, select_text};
 
-use crate::fault::MemoryLack;
+use crate::store_errors::MemoryLack;
 use crate::table_kind::TableKind;
 use sqlite::types::ValueRef;
 use sqlite::{Alter, Connection, Error, Row};

@@ -12,8 +12,8 @@ ghost use Rattle.toll_sql.specs.Reading.{ForOwned, ForRow, ForStored, ReadsNext,
 ghost use Rattle.toll_sql.specs.Shown.{AreOwnedBy, IsRowOfOwner};
 ghost use Rattle.toll_sql.specs.StoredLaws.{AreStoredOfOwner};
 
-use crate::fault::MemoryLack;
 use crate::queries::owners_rows;
+use crate::store_errors::MemoryLack;
 use crate::stored::StoredRow;
 use crate::table_kind::TableKind;
 use sqlite::{Alter, Connection, Row as Stored};

@@ -16,9 +16,9 @@ ghost use Rattle.toll_sql.specs.Schema.{is_owned};
 ghost use Rattle.toll_sql.specs.declared.table_kind.TableKind.TheVariants.{Materials};
 
 use crate::creating::every_table;
-use crate::fault::MemoryLack;
 use crate::listing::read_owners;
 use crate::reading::read_table;
+use crate::store_errors::MemoryLack;
 use crate::table_kind::TableKind;
 use sqlite::{Alter, Connection};
 use std::alloc::Global;

@@ -17,11 +17,11 @@ ghost use Rattle.toll_sql.specs.Kinds.{owner_kind, unit_kind};
 ghost use Rattle.toll_sql.specs.Shown.{AreReported, IsReportedUnknown, ShowsOwnRows, ShowsSlice, tables_of_owners};
 
 use crate::edges::{read_all_edges, read_edges};
-use crate::fault::MemoryLack;
 use crate::holding::read_holder;
 use crate::listing::{read_owners, read_units};
 use crate::queries::find_open;
 use crate::slice_reading::{read_rows_of, read_slice};
+use crate::store_errors::MemoryLack;
 use crate::writing::make_changes;
 use sqlite::{Alter, Connection};
 use std::alloc::{AllocError, Global};

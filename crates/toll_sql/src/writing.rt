@@ -13,8 +13,8 @@ use crate::encode::{
     recipe_values, requirement_values, result_values, sublot_values, test_values, unit_values,
     void_values,
 };
-use crate::fault::fault_of;
 use crate::last_puts::last_puts;
+use crate::store_errors::fault_of;
 use crate::table_kind::TableKind;
 use sqlite::types::ValueRef;
 use sqlite::{Alter, Connection, Error, Transaction};

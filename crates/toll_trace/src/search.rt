@@ -161,14 +161,14 @@ fn face_all(parts: &mut Vec<Part<'_>>, lots: &[LotId]) -> Result<(), AllocError>
 
 /// For each place where a span of so many joints may end, the first of the walked joints before that
 /// place: none yet.
-fn nothing_walked(alloc: Global, joints: usize) -> Result<Vec<usize>, AllocError>
-    requires { joints + 1 < 2 ^ 64 }
-    ensures length { IfOk result (λ lows. length lows.items ≡ joints + 1) }
+fn nothing_walked(alloc: Global, joint_count: usize) -> Result<Vec<usize>, AllocError>
+    requires { joint_count + 1 < 2 ^ 64 }
+    ensures length { IfOk result (λ lows. length lows.items ≡ joint_count + 1) }
     ensures lows { IfOk result
-        (λ lows. (end : ℕ) → end < joints + 1 → slice_index lows.items end ≡ end) }
+        (λ lows. (end : ℕ) → end < joint_count + 1 → slice_index lows.items end ≡ end) }
 {
     let mut lows = Vec::new(alloc);
-    for end in 0..joints + 1 {
+    for end in 0..joint_count + 1 {
         lows.push(end)?;
     }
     Ok(lows)

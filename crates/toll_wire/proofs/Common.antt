@@ -46,8 +46,8 @@ pub use Rattle.toll_history.specs.Verdict.{Accepted, IsLawful, IsValidAction, Re
 pub use Rattle.toll_keep.specs.CallEffects.{CallEffect, IsReading}
 pub use Rattle.toll_keep.specs.Content.{Content}
 pub use Rattle.toll_keep.specs.Meaning.{Meaning}
-pub use Rattle.toll_keep.specs.declared.fault.KeepFault.{KeepFault}
-pub use Rattle.toll_keep.specs.declared.fault.KeepFault.TheVariants.{Closed, Damaged, Disk, Memory}
+pub use Rattle.toll_keep.specs.declared.keep_fault.KeepFault.{KeepFault}
+pub use Rattle.toll_keep.specs.declared.keep_fault.KeepFault.TheVariants.{Closed, Damaged, Disk, Memory}
 unfoldable pub use Rattle.toll_protocol.specs.HttpMessages.{reply_text}
 pub use Rattle.toll_protocol.specs.Parsing.{ParseResult, refused, request}
 pub use Rattle.toll_protocol.specs.declared.http_messages.failure.Failure.{Failure}

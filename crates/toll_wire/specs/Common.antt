@@ -14,8 +14,8 @@ pub use Rattle.toll_history.specs.History.{History, part}
 pub use Rattle.toll_history.specs.Verdict.{Accepted, IsLawful}
 pub use Rattle.toll_keep.specs.Content.{Content}
 pub use Rattle.toll_keep.specs.Meaning.{Meaning}
-pub use Rattle.toll_keep.specs.declared.fault.KeepFault.{KeepFault}
-pub use Rattle.toll_keep.specs.declared.fault.KeepFault.TheVariants.{Memory}
+pub use Rattle.toll_keep.specs.declared.keep_fault.KeepFault.{KeepFault}
+pub use Rattle.toll_keep.specs.declared.keep_fault.KeepFault.TheVariants.{Memory}
 pub use Rattle.toll_protocol.specs.declared.http_messages.failure.Failure.{Failure}
 pub use Rattle.toll_protocol.specs.declared.http_messages.failure.Failure.TheVariants.{Forbidden}
 pub use Rattle.toll_protocol.specs.declared.http_messages.verb.Verb.{Verb}

@@ -3,10 +3,10 @@ ghost use Rattle.std.specs.Prelude.{◌≡◌, ◌++◌, Option, option_map, map
 ghost use Rattle.toll_base.specs.Bytes.{Bytes};
 ghost use Rattle.toll_protocol.specs.PlantMessages.{FitsCall, IsNoCall, IsReadCall, call_text, file_text};
 ghost use Rattle.toll_protocol.specs.Frames.{frame};
-ghost use Rattle.toll_protocol.specs.declared.frames.fault.EncodeFault.{EncodeFault};
+ghost use Rattle.toll_protocol.specs.declared.frames.encode_fault.EncodeFault.{EncodeFault};
 
+use crate::frames::encode_fault::EncodeFault;
 use crate::frames::encoding::{content_of, encode, front_of};
-use crate::frames::fault::EncodeFault;
 use crate::frames::words::{are_words, text_of, words_of};
 use std::alloc::{AllocError, Global};
 

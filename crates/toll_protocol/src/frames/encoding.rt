@@ -2,9 +2,9 @@
 ghost use Rattle.std.specs.Prelude.{◌≡◌, ◌<◌, ◌↔◌, IfNone, IfOk, IfSome, IsTrue, Err, length};
 ghost use Rattle.toll_base.specs.Bytes.{Bytes};
 ghost use Rattle.toll_protocol.specs.Frames.{HasFrame, IsEnough, IsFrameOf, claimed_length, frame};
-ghost use Rattle.toll_protocol.specs.declared.frames.fault.EncodeFault.{EncodeFault};
+ghost use Rattle.toll_protocol.specs.declared.frames.encode_fault.EncodeFault.{EncodeFault};
 
-use crate::frames::fault::EncodeFault;
+use crate::frames::encode_fault::EncodeFault;
 use std::alloc::Global;
 
 /// How many bytes the length has, before the content.

@@ -2,10 +2,10 @@
 ghost use Rattle.std.specs.Prelude.{◌≡◌, ◌<◌, ◌↔◌, IfOk, IsTrue, Err, codes, length};
 ghost use Rattle.toll_protocol.specs.PlantMessages.{handshake_text};
 ghost use Rattle.toll_protocol.specs.Frames.{IsFrameOf, frame};
-ghost use Rattle.toll_protocol.specs.declared.frames.fault.EncodeFault.{EncodeFault};
+ghost use Rattle.toll_protocol.specs.declared.frames.encode_fault.EncodeFault.{EncodeFault};
 
+use crate::frames::encode_fault::EncodeFault;
 use crate::frames::encoding::{content_of, encode};
-use crate::frames::fault::EncodeFault;
 use std::alloc::{AllocError, Global};
 
 /// How many bytes a handshake may have.

@@ -2,10 +2,10 @@
 ghost use Rattle.std.specs.Prelude.{◌≡◌, ◌<◌, ◌≤◌, ◌∷◌, ◌++◌, IfNone, IfOk, IfSome, Err, length};
 ghost use Rattle.toll_protocol.specs.PlantMessages.{IsNoResponse, IsReadResponse, text_of_response};
 ghost use Rattle.toll_protocol.specs.Frames.{frame};
-ghost use Rattle.toll_protocol.specs.declared.frames.fault.EncodeFault.{EncodeFault};
+ghost use Rattle.toll_protocol.specs.declared.frames.encode_fault.EncodeFault.{EncodeFault};
 
+use crate::frames::encode_fault::EncodeFault;
 use crate::frames::encoding::{content_of, encode, front_of};
-use crate::frames::fault::EncodeFault;
 use std::alloc::{AllocError, Global};
 
 /// How many bytes a message to the plant may have: as many as a frame can.

@@ -5,7 +5,7 @@ ghost use Rattle.toll_protocol.specs.Parsing.{IsParsedAs, ParseResult, ReadsUnse
 ghost use Rattle.toll_protocol.specs.Streams.{HasFailed, NoneFailed};
 
 use crate::http_messages::request_reader::RequestReader;
-use crate::http_messages::settled::TEXT_LIMIT;
+use crate::http_messages::settled::REQUEST_TEXT_LIMIT;
 use crate::streams::{ReadStatus, Source};
 use std::alloc::Global;
 use std::fmt;
@@ -41,7 +41,7 @@ impl fmt::Display for ReadFault {
 /// for the reply need send nothing more, and a later failure doesn't matter.
 pub fn read_request<R: Source>(alloc: Global, reader: &mut R) -> Result<Vec<u8>, ReadFault>
     ensures given { IfOk result (λ text. Consumes (R.unread reader.old) (R.unread reader.new) text.items) }
-    ensures bound { IfOk result (λ text. length text.items ≤ TEXT_LIMIT) }
+    ensures bound { IfOk result (λ text. length text.items ≤ REQUEST_TEXT_LIMIT) }
     ensures same { IfOk result (λ text. IfSome (R.unread reader.old) (λ stream.
         (outcome : ParseResult) → IsParsedAs text.items outcome ↔ IsParsedAs stream outcome)) }
     ensures no_further { ReadsUntilSettled [] (R.reads reader.old) (R.reads reader.new) }

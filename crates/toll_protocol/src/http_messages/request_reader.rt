@@ -8,7 +8,7 @@ ghost use Rattle.toll_protocol.specs.Streams.{AppendsRead, HasFailed, NoneBlocke
 
 use crate::http_messages::failure::Failure;
 use crate::http_messages::http_request::{HttpRequest, parse_http, parse_with_head};
-use crate::http_messages::settled::{HeadSearch, TEXT_LIMIT};
+use crate::http_messages::settled::{HeadSearch, REQUEST_TEXT_LIMIT};
 use crate::streams::{ReadStatus, Source, read_behind};
 use std::alloc::{AllocError, Global};
 use std::marker::Model;
@@ -39,7 +39,7 @@ impl RequestReader {
         ensures { IfOk result (λ request. request ≡ []) }
     {
         Ok(RequestReader {
-            text: vec![in alloc; 0u8; TEXT_LIMIT]?,
+            text: vec![in alloc; 0u8; REQUEST_TEXT_LIMIT]?,
             filled: 0,
             search: HeadSearch::Searched(0),
         })
@@ -48,7 +48,7 @@ impl RequestReader {
     /// The bytes that have come.
     pub fn bytes(&self) -> &[u8]
         ensures value { result.now ≡ self.now }
-        ensures bound { length self.now ≤ TEXT_LIMIT }
+        ensures bound { length self.now ≤ REQUEST_TEXT_LIMIT }
     {
         &self.text[..self.filled]
     }
@@ -56,7 +56,7 @@ impl RequestReader {
     /// The bytes that have come; no more will.
     pub fn into_bytes(mut self) -> Vec<u8>
         ensures value { result.items ≡ self }
-        ensures bound { length self ≤ TEXT_LIMIT }
+        ensures bound { length self ≤ REQUEST_TEXT_LIMIT }
     {
         self.text.truncate(self.filled);
         self.text
@@ -65,7 +65,7 @@ impl RequestReader {
     /// The request that these bytes are, or the first check that they fail. A head that has come isn't read again.
     pub fn parsed(&self) -> Result<HttpRequest<'_>, Failure>
         ensures value { IsParsedAs self.now (parse_outcome result) }
-        ensures bound { length self.now ≤ TEXT_LIMIT }
+        ensures bound { length self.now ≤ REQUEST_TEXT_LIMIT }
     {
         match &self.search {
             HeadSearch::Read(head) => parse_with_head(&self.text[..self.filled], head),

@@ -10,7 +10,7 @@ use crate::http_messages::head::{HEAD_LIMIT, Head, head_at, head_len};
 use crate::http_messages::http_request::BODY_LIMIT;
 
 /// How many bytes of a request are read: a head and a body at their largest.
-pub const TEXT_LIMIT: usize = HEAD_LIMIT + BODY_LIMIT as usize;
+pub const REQUEST_TEXT_LIMIT: usize = HEAD_LIMIT + BODY_LIMIT as usize;
 
 /// How far the search for the head of a text has come.
 #[derive(Clone, Copy)]
@@ -28,7 +28,7 @@ impl HeadSearch {
         requires { IsSearch text.now self.old }
         ensures search { IsSearch text.now self.new }
         ensures settled { IsTrue result ↔ IsSettled text.now }
-        ensures full { TEXT_LIMIT ≤ length text.now → IsTrue result }
+        ensures full { REQUEST_TEXT_LIMIT ≤ length text.now → IsTrue result }
     {
         match self {
             HeadSearch::Read(head) => is_whole(text, head),
@@ -50,7 +50,7 @@ impl HeadSearch {
         requires short { len ≤ HEAD_LIMIT }
         ensures search { IsSearch text.now self.new }
         ensures settled { IsTrue result ↔ IsSettled text.now }
-        ensures full { TEXT_LIMIT ≤ length text.now → IsTrue result }
+        ensures full { REQUEST_TEXT_LIMIT ≤ length text.now → IsTrue result }
     {
         let Some(head) = head_at(text, len) else {
             return true;
@@ -64,7 +64,7 @@ impl HeadSearch {
 fn is_whole(text: &[u8], head: &Head) -> bool
     requires { IsHeadAt text.now head.now }
     ensures settled { IsTrue result ↔ IsSettled text.now }
-    ensures full { TEXT_LIMIT ≤ length text.now → IsTrue result }
+    ensures full { REQUEST_TEXT_LIMIT ≤ length text.now → IsTrue result }
 {
     let (front, rest) = text.split_at(head.line.len);
     has_body(front, rest, head)

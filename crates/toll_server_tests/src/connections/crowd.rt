@@ -2,7 +2,7 @@
 //! by the keys under which the server knows them.
 use crate::connections::wire::{Log, Plan, Wire};
 use std::alloc::Global;
-use toll_server::{Accepted, MOST_CONNECTIONS, Network, NetworkFault};
+use toll_server::{Accepted, MOST_OPEN_CONNECTIONS, Network, NetworkFault};
 
 /// The clients that come, one after another, in groups of this size. The next group comes once the one before
 /// was reported.
@@ -49,7 +49,7 @@ impl<'l> Network for Crowd<'l> {
     type Stream = Wire<'l>;
 
     fn most_connections(&self) -> usize {
-        self.log.most.get().clamp(1, MOST_CONNECTIONS)
+        self.log.most.get().clamp(1, MOST_OPEN_CONNECTIONS)
     }
 
     fn wait(&mut self, most: Option<u64>) -> Result<u64, NetworkFault> {

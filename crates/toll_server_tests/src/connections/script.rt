@@ -1,8 +1,8 @@
-//! A world by a script, and an office that writes down what it is asked.
+//! A network by a script, and a service that writes down what it is asked.
 use crate::connections::wire::{Log, Plan, Wire};
 use std::alloc::Global;
 use toll_server::{
-    Accepted, Listener, MOST_CONNECTIONS, Network, NetworkFault, Poll, RequestBuffer, Service,
+    Accepted, Listener, MOST_OPEN_CONNECTIONS, Network, NetworkFault, Poll, RequestBuffer, Service,
 };
 
 /// The clients that come, and those that advance, one after another. If none does, a wait is as long as it
@@ -31,7 +31,7 @@ impl<'l> Network for Script<'l> {
     type Stream = Wire<'l>;
 
     fn most_connections(&self) -> usize {
-        self.log.most.get().clamp(1, MOST_CONNECTIONS)
+        self.log.most.get().clamp(1, MOST_OPEN_CONNECTIONS)
     }
 
     fn wait(&mut self, most: Option<u64>) -> Result<u64, NetworkFault> {

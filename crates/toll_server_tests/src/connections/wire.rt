@@ -3,7 +3,7 @@ use std::cell::Cell;
 use std::io;
 use std::io::{ErrorKind, Read, Write};
 use toll_protocol::Stream;
-use toll_server::{Listener, MOST_CONNECTIONS};
+use toll_server::{Listener, MOST_OPEN_CONNECTIONS};
 
 /// What follows the last piece.
 #[derive(Clone, Copy)]
@@ -42,7 +42,7 @@ pub struct Pace {
     pub milliseconds: u64,
 }
 
-/// What a world and its office have done.
+/// What a network and its service have done.
 #[derive(Drop)]
 pub struct Log {
     pub pace: Pace,
@@ -81,7 +81,7 @@ impl Log {
             tasks: Cell::new(0),
             turns: Cell::new(0),
             aborted: Cell::new(0),
-            most: Cell::new(MOST_CONNECTIONS),
+            most: Cell::new(MOST_OPEN_CONNECTIONS),
             closed: Cell::new(None),
         }
     }

@@ -4,7 +4,7 @@ use std::cell::Cell;
 use std::io;
 use std::io::{ErrorKind, Read, Write};
 use toll_protocol::Stream;
-use toll_server::{Accepted, Listener, MOST_CONNECTIONS, Network, NetworkFault};
+use toll_server::{Accepted, Listener, MOST_OPEN_CONNECTIONS, Network, NetworkFault};
 
 /// How many clients had exactly the replies that they should have, and at which listener the last of them
 /// came.
@@ -49,7 +49,7 @@ impl<'l> Network for FakeNetwork<'l> {
     type Stream = Guest<'l>;
 
     fn most_connections(&self) -> usize {
-        MOST_CONNECTIONS
+        MOST_OPEN_CONNECTIONS
     }
 
     fn wait(&mut self, most: Option<u64>) -> Result<u64, NetworkFault> {

@@ -1,5 +1,5 @@
 use Rattle.std.proofs.Common.{◌≡◌, ◌∙◌, ap, inl, inr, rules, sym}
-use Rattle.toll_keep.specs.declared.fault.KeepFault.TheVariants.{Damaged}
+use Rattle.toll_keep.specs.declared.keep_fault.KeepFault.TheVariants.{Damaged}
 use Rattle.toll_server.specs.RequestBuffers.{bytes_received, listener_of}
 use Rattle.toll_service.proofs.DamageLemmas.{noted_call}
 use Rattle.toll_service.proofs.office_session.OfficeSession.note_damage.Goals as goal

@@ -29,7 +29,7 @@ impl fmt::Display for WordsFault {
 
 impl From<AllocError> for WordsFault {
     ghost use Rattle.std.specs.Prelude.{◌≡◌};
-    ghost use Rattle.toll_plant.specs.declared.fault.WordsFault.TheVariants.{Memory};
+    ghost use Rattle.toll_plant.specs.declared.words_fault.WordsFault.TheVariants.{Memory};
 
     ghost from_gives = { λ _ fault. fault ≡ Memory };
 

@@ -3,7 +3,7 @@ use Rattle.toll_server.proofs.Common.{Accepting, EndsSo, IsNew, ListensTill, ser
 use Rattle.toll_server.proofs.ConnectionLemmas.{empty_none, no_connection}
 use Rattle.toll_server.proofs.RoundLemmas.{turned}
 use Rattle.toll_server.proofs.TallyLemmas.{tallies_at}
-use Rattle.toll_server.proofs.serving.serve.Goals as goal
+use Rattle.toll_server.proofs.event_loop.serve.Goals as goal
 
 pub returns : goal.returns
 returns g c =

@@ -1,5 +1,5 @@
 use Rattle.toll_server.proofs.ServingLemmas.{waited_so}
-use Rattle.toll_server.proofs.serving.wait_and_advance.Goals as goal
+use Rattle.toll_server.proofs.event_loop.wait_and_advance.Goals as goal
 
 pub returns-clause-waited : goal.returns-clause-waited
 returns-clause-waited g c = (

@@ -4,8 +4,8 @@ use Rattle.toll_server.proofs.ListenLemmas.{accepted_listening, begins_listening
 use Rattle.toll_server.proofs.RoundLemmas.{quiet_within, ran_none}
 use Rattle.toll_server.proofs.ServingLemmas.{Asks, accepted_then, asked_once, asks_first, asks_kept, serves_quietly, serves_turn, serves_unheard, serves_waited}
 use Rattle.toll_server.proofs.TallyLemmas.{OnlyClock, OnlyListening, clock_went_on, on_err, tallies_begin, tallies_then, tallies_weaker}
-use Rattle.toll_server.specs.declared.serving.ServingEnd.TheVariants.{All, Fault}
-use Rattle.toll_server.proofs.serving.serve_all.Goals as goal
+use Rattle.toll_server.specs.declared.event_loop.ServingEnd.TheVariants.{All, Fault}
+use Rattle.toll_server.proofs.event_loop.serve_all.Goals as goal
 
 pub loop-init : goal.loop-init
 loop-init g c = record {

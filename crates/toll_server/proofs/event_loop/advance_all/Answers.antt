@@ -1,6 +1,6 @@
 use Rattle.std.proofs.Common.{◌∙◌, arith, refl}
 use Rattle.toll_server.proofs.ServingLemmas.{all_heard, most_heard, none_heard, one_heard}
-use Rattle.toll_server.proofs.serving.advance_all.Goals as goal
+use Rattle.toll_server.proofs.event_loop.advance_all.Goals as goal
 
 pub loop-init : goal.loop-init
 loop-init g c = record {

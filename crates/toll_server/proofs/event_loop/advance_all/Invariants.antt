@@ -1,7 +1,7 @@
 -- This many ready connections were read, one after another.
 use Rattle.std.proofs.Common.{◌≡◌, ◌≤◌, ◌+◌}
 use Rattle.toll_server.proofs.ServingLemmas.{HeardSoFar}
-use Rattle.toll_server.proofs.serving.advance_all.Given as goal
+use Rattle.toll_server.proofs.event_loop.advance_all.Given as goal
 
 abbrev pub invariant-loop : goal.invariant-loop
 invariant-loop g l = record {

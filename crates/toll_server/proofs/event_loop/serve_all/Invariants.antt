@@ -5,7 +5,7 @@ use Rattle.toll_server.proofs.Common.{Accepting, Open, ServesFrom, Tallies, serv
 use Rattle.toll_server.proofs.ListenLemmas.{ListensSoFar}
 use Rattle.toll_server.proofs.ServingLemmas.{Asks}
 use Rattle.toll_server.specs.declared.network.TheConstants.{MOST_READY}
-use Rattle.toll_server.proofs.serving.serve_all.Given as goal
+use Rattle.toll_server.proofs.event_loop.serve_all.Given as goal
 
 abbrev pub invariant-loop : goal.invariant-loop
 invariant-loop g l = record {

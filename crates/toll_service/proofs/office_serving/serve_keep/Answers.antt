@@ -1,5 +1,5 @@
 use Rattle.toll_service.proofs.EventLemmas.{has_served}
-use Rattle.toll_service.proofs.serving.serve_keep.Goals as goal
+use Rattle.toll_service.proofs.office_serving.serve_keep.Goals as goal
 
 pub returns-clause-served : goal.returns-clause-served
 returns-clause-served g c =

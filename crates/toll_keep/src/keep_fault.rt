@@ -49,7 +49,7 @@ impl fmt::Display for KeepFault {
 
 impl From<AllocError> for KeepFault {
     ghost use Rattle.std.specs.Prelude.{◌≡◌};
-    ghost use Rattle.toll_keep.specs.declared.fault.KeepFault.TheVariants.{Memory};
+    ghost use Rattle.toll_keep.specs.declared.keep_fault.KeepFault.TheVariants.{Memory};
 
     ghost from_gives = { λ _ fault. fault ≡ Memory };
 

@@ -24,21 +24,21 @@ use toll_server::{Network, ServingEnd, serve};
 /// [`serve_file`].
 pub fn serve_keep<W: Network, K: Keep>(
     alloc: Global,
-    world: &mut W,
+    network: &mut W,
     service: &mut KeepService<K>,
     count: u64,
 ) -> ServingEnd
     ensures in_turn { IsServedInTurn ⟦<Party as PartialEq>⟧.eq IsBy
         (AnswersOver K.meaning (λ service. service.keep)) (ResumesOver K.meaning (λ service. service.keep)) service.old service.new }
     ensures events { (most : ℕ) × IsServed ⟦<Party as PartialEq>⟧.eq W.Stream.Source W.Stream.Sink most IsBy
-        (AnswersOver K.meaning (λ service. service.keep)) (ResumesOver K.meaning (λ service. service.keep)) (W.limit world.old) count
-        (result ≡ ServingEnd.All) service.old service.new (W.tally world.old) (W.tally world.new) }
+        (AnswersOver K.meaning (λ service. service.keep)) (ResumesOver K.meaning (λ service. service.keep)) (W.limit network.old) count
+        (result ≡ ServingEnd.All) service.old service.new (W.tally network.old) (W.tally network.new) }
     ensures served { HasServed K.meaning service.old.keep service.new.keep (result ≡ ServingEnd.All) }
-    ensures end { Tallies (EndsSo result count) (W.tally world.old) (W.tally world.new) }
-    ensures listens { Tallies (ListensTill count) (W.tally world.old) (W.tally world.new) }
-    ensures asks { Tallies (λ t u. 0 < count → t.accepts < u.accepts) (W.tally world.old) (W.tally world.new) }
+    ensures end { Tallies (EndsSo result count) (W.tally network.old) (W.tally network.new) }
+    ensures listens { Tallies (ListensTill count) (W.tally network.old) (W.tally network.new) }
+    ensures asks { Tallies (λ t u. 0 < count → t.accepts < u.accepts) (W.tally network.old) (W.tally network.new) }
 {
-    serve(alloc, world, service, count)
+    serve(alloc, network, service, count)
 }
 
 /// A network that announces that it listens.
@@ -53,26 +53,26 @@ pub trait Announcing: Network {
 /// All that clients ask is served by turns of an [`OfficeService`] that had served nobody before, each in turn,
 /// and by nothing else. An `Err` if the network can't announce that it listens: no client was served.
 pub fn serve_file<W: Announcing, K: Keep + Drop, O: KeepOpener<K>>(
-    world: &mut W,
+    network: &mut W,
     office_path: OfficePath<'_, O>,
     count: u64,
 ) -> io::Result<ServingEnd>
     ensures served { IfOk result (λ end. IsFileServed K.meaning O.is_opened O.is_found O.is_probed O.openings
-        ⟦<Party as PartialEq>⟧.eq W.Stream.Source W.Stream.Sink (W.limit world.old) count office_path.entry.opener
-        (W.tally world.old) (W.tally world.new) (end ≡ ServingEnd.All)) }
-    ensures end { IfOk result (λ end. Tallies (EndsSo end count) (W.tally world.old) (W.tally world.new)) }
-    ensures listens { OnOk result (Tallies (ListensTill count) (W.tally world.old) (W.tally world.new)) }
-    ensures asks { OnOk result (Tallies (λ t u. 0 < count → t.accepts < u.accepts) (W.tally world.old) (W.tally world.new)) }
-    ensures err { OnErr result (world.new ≡ world.old) }
+        ⟦<Party as PartialEq>⟧.eq W.Stream.Source W.Stream.Sink (W.limit network.old) count office_path.entry.opener
+        (W.tally network.old) (W.tally network.new) (end ≡ ServingEnd.All)) }
+    ensures end { IfOk result (λ end. Tallies (EndsSo end count) (W.tally network.old) (W.tally network.new)) }
+    ensures listens { OnOk result (Tallies (ListensTill count) (W.tally network.old) (W.tally network.new)) }
+    ensures asks { OnOk result (Tallies (λ t u. 0 < count → t.accepts < u.accepts) (W.tally network.old) (W.tally network.new)) }
+    ensures err { OnErr result (network.new ≡ network.old) }
 {
     let rt = office_path.rt;
     let mut service = OfficeService::new(office_path);
     service.open_ahead();
-    if let Err(fault) = world.announce(rt) {
+    if let Err(fault) = network.announce(rt) {
         service.close();
         return Err(fault);
     }
-    let served = serve(rt.alloc(), world, &mut service, count);
+    let served = serve(rt.alloc(), network, &mut service, count);
     service.close();
     Ok(served)
 }

@@ -1,11 +1,9 @@
-//! Serving owners on a socket.
-use crate::sockets::Sockets;
+//! Serving one connection on a socket.
 use crate::timed::Timed;
-use std::io;
 use std::net::{TcpListener, TcpStream};
 use toll_keep::Keep;
 use toll_protocol::{ReadFault, read_request, write_whole};
-use toll_service::{Announcing, KeepOpener, OfficePath, Out, answer_once};
+use toll_service::{KeepOpener, OfficePath, Out, answer_once};
 
 /// The outcome of one connection.
 #[derive(Clone, Copy)]
@@ -35,14 +33,6 @@ pub fn serve_one<K: Keep, O: KeepOpener<K>>(
     match take_request(rt, &socket) {
         Ok(request) => give(rt, &socket, &answer_once(office_path, &request)),
         Err(_) => Served::ReadFault,
-    }
-}
-
-impl Announcing for Sockets<'_> {
-    // Prints the port.
-    fn announce(&self, rt: &HostRuntime) -> io::Result<()> {
-        let port = self.port()?;
-        println!(rt; "listening {port}")
     }
 }
 

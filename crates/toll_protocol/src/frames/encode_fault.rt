@@ -15,7 +15,7 @@ pub enum EncodeFault {
 
 impl From<AllocError> for EncodeFault {
     ghost use Rattle.std.specs.Prelude.{◌≡◌};
-    ghost use Rattle.toll_protocol.specs.declared.frames.fault.EncodeFault.TheVariants.{Memory};
+    ghost use Rattle.toll_protocol.specs.declared.frames.encode_fault.EncodeFault.TheVariants.{Memory};
 
     ghost from_gives = { λ _ fault. fault ≡ Memory };
 

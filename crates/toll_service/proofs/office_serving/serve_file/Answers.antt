@@ -1,6 +1,6 @@
 use Rattle.std.proofs.Common.{subst}
 use Rattle.toll_service.specs.FileServing.{IsFresh}
-use Rattle.toll_service.proofs.serving.serve_file.Goals as goal
+use Rattle.toll_service.proofs.office_serving.serve_file.Goals as goal
 
 pub returns-clause-served : goal.returns-clause-served
 returns-clause-served g c = record {
