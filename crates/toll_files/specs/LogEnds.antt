@@ -100,7 +100,7 @@ module _ (bytes : List ℕ) (end : LogEnd) where
   abbrev pub HasEnd : Type 0
   HasEnd = HasSalts × (page_bytes_of bytes ≡ bytes_of end.page_size) × IsReached
 
-  -- what became of it
+  -- what became of the end in the log
   abbrev pub IsFoundAs : FoundEnd → Type 0
   IsFoundAs Stands = HasEnd
   IsFoundAs Gone = HasSalts × (¬ HasEnd)

@@ -7,7 +7,7 @@ use crate::notes::Notes;
 use crate::office_fault::OfficeFault;
 use std::fmt;
 
-/// A fault that a server meets.
+/// A fault that a server reports to its operator.
 #[derive(Clone, Copy, Debug, PartialEq, Eq)]
 pub enum ServingFault {
     /// The office was not opened.
@@ -34,15 +34,18 @@ impl ServingFault {
     }
 }
 
-/// What an operator reads of a fault.
+/// A line of the operator's log.
 #[derive(Clone, Copy, Debug, PartialEq, Eq)]
 pub enum FaultNote {
+    /// The server had this fault, and has it no more.
     Ended(ServingFault),
+    /// The server has this fault from now on.
     Began(ServingFault),
 }
 
 impl FaultNote {
-    /// That the fault before ended, and that the new one began.
+    /// The lines of a change from one fault to another: that the first ended, and that the second began. A fault that
+    /// there isn't has no line.
     pub fn of_change(
         was: Option<ServingFault>,
         found: Option<ServingFault>,
@@ -78,7 +81,7 @@ pub struct FaultLog {
 }
 
 impl FaultLog {
-    /// No fault is met yet.
+    /// The log of a server that has no fault yet.
     pub fn new() -> Self
         ensures { result.fault ≡ None }
     {

@@ -101,7 +101,7 @@ impl OpenLog {
         Ok(OpenLog { file })
     }
 
-    // The log as it is now.
+    // The log, with its stamp of now. An `Err` if its metadata can't be read.
     fn now(&self) -> io::Result<StampedLog<'_>> {
         Ok(StampedLog {
             file: &self.file,
@@ -134,7 +134,7 @@ impl ReadAt for StampedLog<'_> {
 /// What other programs did to the files of an office.
 #[derive(Clone, Copy, Debug, PartialEq, Eq)]
 pub enum FileChange {
-    /// Nothing.
+    /// They changed nothing.
     Same,
     /// They wrote the files.
     ByOthers,
@@ -309,6 +309,7 @@ impl LeftFiles {
     }
 }
 
+// The path of the log of the office at this path. An `Err` if there is no memory for it.
 fn log_path(rt: &HostRuntime, path: &str) -> io::Result<String> {
     Ok(format!(in rt.alloc(); "{path}-wal")?)
 }

@@ -16,7 +16,7 @@ pub struct Lease {
 }
 
 impl Lease {
-    /// Releases the lock.
+    /// Releases the lock to other programs, and closes its file.
     pub fn release(self) {
         let _ = self.lock.file.unlock();
     }
@@ -34,7 +34,7 @@ pub struct LockFile {
 }
 
 impl LockFile {
-    /// It isn't open yet.
+    /// A lock file that isn't open yet.
     pub fn new() -> Self {
         LockFile { open: None }
     }

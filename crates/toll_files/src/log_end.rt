@@ -11,10 +11,13 @@ use sqlite_wal::{PageSize, checksum_of};
 use std::io;
 use std::io::ErrorKind;
 
+/// How many bytes the header of a log has.
 const HEADER_BYTES: usize = 32;
 
+/// How many bytes the header of a frame has.
 const FRAME_HEADER_BYTES: usize = 24;
 
+/// How many bytes a frame has at most: its header and the longest page.
 const MOST_FRAME_BYTES: usize = FRAME_HEADER_BYTES + 65_536;
 
 /// How many bytes are read ahead: up to the header of the fourth frame, if pages have 4,096 bytes.
@@ -133,7 +136,7 @@ pub enum FoundEnd {
 }
 
 impl LogEnd {
-    /// What became of it in the log. All frames up to it are read, and their sums computed. An `Err` if the log
+    /// What became of this end in the log. All frames up to it are read, and their sums computed. An `Err` if the log
     /// can't be read.
     pub fn find<F: ReadAt>(&self, log: &F) -> io::Result<FoundEnd>
         ensures { IfOk result (λ found. IfSome (F.content log.now) (λ bytes. IsFoundAs bytes self.now found)) }

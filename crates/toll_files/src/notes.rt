@@ -1,4 +1,4 @@
-//! Lines on standard error.
+//! Lines for the operator on standard error.
 ghost use Rattle.std.specs.Prelude.{◌≡◌, ◌⊎◌, ◌+◌, ◌-◌, ◌^◌, min};
 
 use mio::unix::SourceFd;
@@ -7,6 +7,7 @@ use std::fmt::Display;
 use std::io;
 use std::time::Duration;
 
+/// The descriptor of standard error.
 const STANDARD_ERROR: i32 = 2;
 
 /// Writes lines for the operator on standard error. A line is dropped if writing it would have to wait
@@ -19,7 +20,7 @@ pub struct Notes {
 }
 
 impl Notes {
-    /// None was dropped yet.
+    /// No line was dropped yet.
     pub fn new() -> Self
         ensures { result.dropped ≡ 0 }
     {
@@ -60,6 +61,7 @@ fn takes_lines(rt: &HostRuntime) -> bool {
     }
 }
 
+// Whether the descriptor that the poll has registered is ready, without waiting. An `Err` if the system can't say it.
 fn is_ready(poll: &mut Poll, events: &mut Events) -> io::Result<bool> {
     poll.poll(events, Some(Duration::ZERO))?;
     Ok(!events.is_empty())

@@ -48,7 +48,7 @@ impl OfficeFault {
     }
 }
 
-/// The fault's name.
+/// Prints its name, as [`OfficeFault::name`] gives it.
 impl fmt::Display for OfficeFault {
     ghost use Rattle.std.specs.Prelude.{Some};
     ghost use Rattle.toll_files.specs.Faults.{office_fault_name};

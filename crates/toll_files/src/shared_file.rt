@@ -26,7 +26,7 @@ impl SharedFile {
         Ok(SharedFile { descriptor })
     }
 
-    /// Locks the file. An `Err` if another program has it.
+    /// Locks the file without waiting. An `Err` if another program has it, or if the system refuses.
     pub fn lock(&self) -> io::Result<()> {
         set_lock(self.descriptor, RangeLock::Exclusive)
     }

@@ -5,7 +5,7 @@ use toll_keep::Keep;
 use toll_protocol::{ReadFault, read_request, write_whole};
 use toll_service::{KeepOpener, OfficePath, Out, answer_once};
 
-/// The outcome of one connection.
+/// How the serving of one connection ended.
 #[derive(Clone, Copy)]
 pub enum Served {
     /// A reply was written. It may say that the office is unavailable.
@@ -14,7 +14,7 @@ pub enum Served {
     ReadFault,
     /// The reply could not be written whole, or not in time.
     WriteFault,
-    /// No connection came.
+    /// No connection could be accepted.
     AcceptFault,
 }
 

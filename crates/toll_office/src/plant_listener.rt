@@ -1,4 +1,4 @@
-//! The plant's listener of a server.
+//! The listener at which a server accepts the plant's commands.
 use crate::socket_file::{SocketFile, is_taken};
 use mio::net::UnixStream;
 use mio::{Registry, Token};
@@ -51,7 +51,8 @@ impl<'a> PlantListener<'a> {
     }
 
     /// Listens for the office in this file, under its lock. The lock isn't taken if something else is in the
-    /// place of the socket file.
+    /// place of the socket file. Locked if the lock isn't taken, Taken if something else is in that place, Socket
+    /// if the listener can't be made.
     pub fn open(rt: &'a HostRuntime, office: &str) -> Result<Self, ListenerFault> {
         let Ok(path) = socket_path(rt, office) else {
             return Err(ListenerFault::Socket);
@@ -80,7 +81,7 @@ impl<'a> PlantListener<'a> {
         }
     }
 
-    /// Registers the listener by this token, which reports that a client connects.
+    /// Registers the listener by this token, which reports that a client connects. An `Err` if the system refuses.
     pub fn register(&mut self, registry: &Registry, token: Token) -> io::Result<()> {
         self.file.register(registry, token)
     }
@@ -90,8 +91,8 @@ impl<'a> PlantListener<'a> {
         self.file.as_raw_fd()
     }
 
-    /// The next connection, which was sent the handshake, or `WouldBlock` if none waits. A client that can't
-    /// be sent the handshake has gone, which is `ConnectionAborted`.
+    /// The next connection, which was sent the handshake. `WouldBlock` if none waits. A client that can't be sent the
+    /// handshake has gone, which is `ConnectionAborted`. Any other fault is that of the system.
     pub fn accept(&self) -> io::Result<UnixStream> {
         let mut stream = self.file.accept()?;
         match stream.write(&self.handshake) {
@@ -109,7 +110,7 @@ fn taken(rt: &HostRuntime) -> ListenerFault {
     }
 }
 
-/// The path of the socket file of the office in this file.
+/// The path of the socket file of the office in this file. An `Err` if there is no memory for it.
 pub fn socket_path(rt: &HostRuntime, office: &str) -> Result<String, AllocError> {
     format!(in rt.alloc(); "{office}.sock")
 }

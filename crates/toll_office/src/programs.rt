@@ -1,4 +1,4 @@
-//! The programs.
+//! The program's tasks, over files, sockets and the standard streams.
 use crate::resolving::resolved;
 use crate::socket_connector::SocketConnector;
 use crate::sockets::Sockets;
@@ -15,7 +15,7 @@ use toll_programs::{
 use toll_server::ServingEnd;
 use toll_service::{KeepOpener, OfficePath, do_file, do_words, serve_file};
 
-/// How many standard streams there are.
+/// How many standard streams a program has: input, output and error.
 const STREAMS: usize = 3;
 
 /// Does what the program's words ask for, and gives the exit status: a script by `run_script`, and all else

@@ -36,8 +36,9 @@ impl Drop for SocketFile<'_> {
 
 impl<'a> SocketFile<'a> {
     /// Listens at this path, and makes the socket file there. A socket file that a stopped server left there
-    /// is replaced. It is a fault if a server listens there, if the file there is not a socket file or
-    /// belongs to another user, or if the path is longer than 107 bytes. The file there then stays.
+    /// is replaced. An `Err` if a server listens there, if the file there is not a socket file or belongs to
+    /// another user, or if the path is longer than 107 bytes: the file there then stays. Also an `Err` if the
+    /// system refuses to listen.
     pub fn listen(rt: &'a HostRuntime, path: String) -> io::Result<Self> {
         clear(rt, path.as_str())?;
         let listener = UnixListener::bind(rt, path.as_str())?;
@@ -53,7 +54,7 @@ impl<'a> SocketFile<'a> {
         Ok(file)
     }
 
-    /// Whether the file is still there.
+    /// Whether the socket file that was made is still at its path.
     pub fn is_there(&self) -> bool {
         is_at(self.rt, self.path.as_str(), self.made)
     }
@@ -67,7 +68,7 @@ impl<'a> SocketFile<'a> {
         }
     }
 
-    /// Registers the listener by this token, which reports that a client connects.
+    /// Registers the listener by this token, which reports that a client connects. An `Err` if the system refuses.
     pub fn register(&mut self, registry: &Registry, token: Token) -> io::Result<()> {
         registry.register(&mut self.listener, token, Interest::READABLE)
     }
@@ -77,7 +78,7 @@ impl<'a> SocketFile<'a> {
         self.listener.as_raw_fd()
     }
 
-    /// The next connection, or `WouldBlock` if none waits.
+    /// The next connection. `WouldBlock` if none waits; any other fault is that of the system.
     pub fn accept(&self) -> io::Result<UnixStream> {
         let (stream, _) = self.listener.accept()?;
         Ok(stream)

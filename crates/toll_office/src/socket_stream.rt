@@ -1,4 +1,4 @@
-//! A connection.
+//! A connection of an owner or of the plant, on the system's sockets.
 use mio::net::{TcpStream, UnixStream};
 use mio::{Interest, Registry, Token};
 use std::io;
@@ -13,7 +13,8 @@ pub enum SocketStream {
 }
 
 impl SocketStream {
-    /// Registers the connection by this token, which from now on reports that it may advance.
+    /// Registers the connection by this token, which from now on reports that it may advance. An `Err` if the system
+    /// refuses.
     pub fn register(&mut self, registry: &Registry, token: Token) -> io::Result<()> {
         let both = Interest::READABLE | Interest::WRITABLE;
         match self {

@@ -1,4 +1,4 @@
-//! The sockets of the system.
+//! The network of a server, on the system's sockets.
 ghost use Rattle.std.specs.Prelude.{◌≤◌, Some};
 ghost use Rattle.toll_server.specs.declared.network.TheConstants.{MOST_OPEN_CONNECTIONS};
 
@@ -17,7 +17,7 @@ use toll_files::{FaultLog, ServingFault};
 use toll_server::{Accepted, Listener, Network, NetworkFault};
 use toll_service::Announcing;
 
-/// How many events one wait gives.
+/// How many events one wait gives at most.
 const MOST_EVENTS: usize = 256;
 
 /// The listeners' tokens. The tokens of connections follow: each is its key and [`FIRST_CONNECTION`].
@@ -49,7 +49,7 @@ impl<'a> Sockets<'a> {
     /// Listens at this port of this machine alone, or at a free port if it is 0. Listens also for the plant
     /// at the socket file beside the office's file, if one can be made. If another program has the office's
     /// lock or listens there, or the socket file is gone later, that is retried after each wait until the
-    /// listeners are closed.
+    /// listeners are closed. An `Err` if it can't listen at the port, or the system gives no poll, clock or memory.
     pub fn listen(rt: &'a HostRuntime, port: u16, office: &'a str) -> io::Result<Self> {
         let address = SocketAddr::V4(SocketAddrV4::new(Ipv4Addr::LOCALHOST, port));
         let mut owners = TcpListener::bind(rt, address)?;
@@ -73,7 +73,7 @@ impl<'a> Sockets<'a> {
         Ok(sockets)
     }
 
-    /// The port of the owners' listener. An `Err` if it is closed.
+    /// The port of the owners' listener. An `Err` if it is closed, or the system can't say it.
     pub fn port(&self) -> io::Result<u16> {
         match &self.owners {
             Some(owners) => Ok(owners.local_addr()?.port()),
@@ -203,7 +203,7 @@ impl Network for Sockets<'_> {
 }
 
 impl Announcing for Sockets<'_> {
-    // Prints the port.
+    // Prints `listening PORT` on standard output.
     fn announce(&self, rt: &HostRuntime) -> io::Result<()> {
         let port = self.port()?;
         println!(rt; "listening {port}")

@@ -16,13 +16,13 @@ pub struct Timed<'a> {
 }
 
 impl<'a> Timed<'a> {
-    /// The time runs from now on.
+    /// Starts the time of this socket, which is over in [`MOST_SECONDS`]. An `Err` if the clock can't be read.
     pub fn new(rt: &'a HostRuntime, socket: &'a TcpStream) -> io::Result<Self> {
         let since = Instant::now(rt)?;
         Ok(Timed { rt, socket, since })
     }
 
-    // The time that is left.
+    // The time that is left. `TimedOut` if none is.
     fn left(&self) -> io::Result<Duration> {
         let gone = self.since.elapsed(self.rt)?;
         match Duration::from_secs(MOST_SECONDS).checked_sub(gone) {

@@ -50,7 +50,7 @@ module _ {S : Type 0} (from : source.Ghosts S) (sent now : S) where
   abbrev pub IsNoAnswer : Bytes → Type 0
   IsNoAnswer text = ¬ (IsResponseText text) × (IsEnough MOST_RESPONSE_BYTES text ⊎ IsAtEnd (from.unread now))
 
-  -- A read has failed since then.
+  -- A read has failed since the whole request was sent.
   abbrev pub HasBroken : Type 0
   HasBroken = HasFailed (from.has_failed sent) (from.has_failed now)
 
@@ -122,7 +122,7 @@ module _ {S : Type 0} (c : Connections S) where
   abbrev pub IsUntried : Type 0
   IsUntried = c.now_tries ≡ c.tries
 
-  -- One was tried.
+  -- One connection was tried.
   abbrev pub IsTriedOnce : (is_made : Bool) → Type 0
   IsTriedOnce is_made = c.now_tries ≡ option_map (after_try is_made) c.tries
 
@@ -134,6 +134,6 @@ module _ {S : Type 0} (c : Connections S) where
     pub once : IsTriedOnce true
     pub ran : IsRunOnServer c.from c.to VERSION.now requested first last s status
 
-  -- The same, or there was no connection.
+  -- The request was sent over a new connection, and the outcome is printed. Or there was no connection.
   abbrev pub IsServerAsked : Bytes → Streams → Option ℕ → Type 0
   IsServerAsked requested s status = (IsNone status × IsTriedOnce false) ⊎ IsSentOver requested s status

@@ -94,6 +94,7 @@ fn exchange<S: TracksReads>(
     }
 }
 
+// Reads the server's handshake, and returns whether it is that of this version.
 fn has_handshake<S: TracksReads>(alloc: Global, stream: &mut S, version: &str) -> bool
     ensures greeted { IsTrue result → HasHandshake version.now (S.Source.unread stream.old) }
     ensures unsent { S.Sink.held stream.new ≡ S.Sink.held stream.old }

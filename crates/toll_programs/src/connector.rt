@@ -17,7 +17,7 @@ pub trait Connector<S> {
     // Whether each try so far gave a connection, if that is known.
     ghost tries: { Self → Option (List Bool) } = { λ _. None };
 
-    /// A connection to the server, if the office has one.
+    /// A connection to the server of the office at this path. `None` if it has no server that can be connected to.
     fn connect(&mut self, rt: &HostRuntime, path: &str) -> Option<S>
         ensures is { IfSome result is_new }
         ensures tried { tries self.new ≡ option_map (after_try (is_some result)) (tries self.old) };

@@ -10,7 +10,7 @@ use std::alloc::{AllocError, Global};
 use toll_plant::{WordsFault, command_of};
 use toll_wire::Event;
 
-/// Why a script gave no events.
+/// Why the lines of a script can't be read as events.
 #[derive(Clone, Copy)]
 pub enum ScriptFault {
     /// There was no memory to read a line. No line before it is bad.
@@ -22,11 +22,14 @@ pub enum ScriptFault {
 /// Why a line gave no event.
 #[derive(Clone, Copy)]
 enum LineFault {
+    /// There was no memory for the line's event.
     Memory,
+    /// The line is no event, no comment and not empty.
     Bad,
 }
 
-/// The events of the lines of a script, in order.
+/// The events of the lines of a script, in order. Fails at the first line that is bad, or for which there is no
+/// memory.
 pub fn events_of(alloc: Global, text: &[u8]) -> Result<Vec<Event>, ScriptFault>
     ensures events { IfOk result (λ events. IsScriptOf text.now (script_events_of events.items)) }
     ensures fault { IfErr result (IsFaultOfScript text.now) }

@@ -19,22 +19,23 @@ pub enum InputFault {
     Memory,
     /// The input has more bytes than a script may have. One byte more than that was read.
     TooLong,
-    /// A read failed.
+    /// A read failed. What came before it is lost.
     Read,
 }
 
-/// Why a stream was not read.
+/// Why the front of a stream was not read.
 #[derive(Clone, Copy, Debug, PartialEq, Eq, Drop, Error)]
 pub enum FrontFault {
     /// There was no memory. Nothing was read.
     #[error("Memory")]
     Memory,
-    /// A read failed.
+    /// A read failed. What came before it is lost.
     #[error("Read")]
     Read,
 }
 
-/// All bytes that the reader gives up to its end.
+/// The script that a reader gives: all bytes up to its end. Fails if there is no memory for a script of
+/// [`SCRIPT_LIMIT`] bytes, if the reader gives more than that, or if a read fails.
 pub fn read_input<R: Source>(alloc: Global, reader: &mut R) -> Result<Vec<u8>, InputFault>
     ensures whole { IfOk result (λ text. IsWholeInput (R.unread reader.old) (R.unread reader.new) text.items) }
     ensures unread { result ≡ Err InputFault.Memory → reader.new ≡ reader.old }
@@ -50,7 +51,8 @@ pub fn read_input<R: Source>(alloc: Global, reader: &mut R) -> Result<Vec<u8>, I
     }
 }
 
-/// The bytes that the reader gives up to its end, or `most + 1` bytes if it gives more than `most`.
+/// The bytes that the reader gives up to its end, or `most + 1` bytes if it gives more than `most`. Fails if there is
+/// no memory for `most + 1` bytes, or if a read fails.
 pub fn read_front<R: Source>(
     alloc: Global,
     reader: &mut R,

@@ -1,4 +1,4 @@
-//! The output of the program.
+//! What an operation prints, and its exit status.
 ghost use Rattle.std.specs.Prelude.{◌≡◌, [], OnErr, OnOk};
 ghost use Rattle.std.specs.Cow.{cow_slice_items};
 ghost use Rattle.toll_programs.specs.Outputs.{on_error, on_output, printout_in, printout_of};
@@ -18,7 +18,7 @@ pub struct Output {
 }
 
 impl Output {
-    /// A text on standard output.
+    /// This text on standard output, and none on standard error.
     pub fn on_stdout(status: Status, text: CowSlice<'static, u8>) -> Self
         ensures { printout_of result ≡ on_output status (cow_slice_items text.entry) }
     {
@@ -29,7 +29,7 @@ impl Output {
         }
     }
 
-    /// A text on standard error.
+    /// This text on standard error, and none on standard output.
     pub fn on_stderr(status: Status, text: CowSlice<'static, u8>) -> Self
         ensures { printout_of result ≡ on_error status (cow_slice_items text.entry) }
     {
@@ -47,7 +47,7 @@ impl Output {
         Output::on_stderr(Status::Failed, CowSlice::Borrowed(line))
     }
 
-    /// The same as a server's response.
+    /// The response by which a server sends it to the program.
     pub fn as_response(&self) -> Response<'_>
         ensures { printout_in result ≡ printout_of self.now }
     {
@@ -80,7 +80,7 @@ pub fn print<W: Sink, E: Sink>(response: &Response<'_>, output: &mut W, error: &
     }
 }
 
-// Writes a text, if it has bytes.
+// Writes a text. If it has no bytes, the writer isn't used.
 fn write_text<W: Sink>(writer: &mut W, text: &[u8]) -> Result<(), WriteFault>
     ensures written { OnOk result (IsWritten (stream_of W.Sink writer.old writer.new) text.now) }
     ensures cut { OnErr result (IsCut (stream_of W.Sink writer.old writer.new) text.now) }

@@ -8,7 +8,8 @@ use toll_desk::PlantReply;
 use toll_keep::KeepFault;
 use toll_wire::Answer;
 
-/// The lines of the answers, in order: for a reply its status and its body, for the plant its answer.
+/// The lines of the answers, in order: for a reply its status and its body, for the plant its answer. An `Err` if
+/// there is no memory for them.
 pub fn printed(alloc: Global, answers: &[Answer]) -> Result<Vec<u8>, AllocError>
     ensures { IfOk result (λ text. text.items ≡ spec.printed answers.now) }
 {
@@ -47,8 +48,10 @@ fn print_body(text: &mut Vec<u8>, body: &[u8]) -> Result<(), AllocError>
     text.extend_from_slice(body)
 }
 
+/// The place of the status in a reply: after `HTTP/1.1 `.
 const STATUS_BEGINS: usize = 9;
 
+/// How many digits a status has.
 const STATUS_LEN: usize = 3;
 
 // The three digits after `HTTP/1.1 `.
@@ -97,7 +100,7 @@ fn print_refusal(alloc: Global, text: &mut Vec<u8>, refusal: &Refusal) -> Result
     text.extend_from_slice(line.as_bytes())
 }
 
-/// The line of a refusal.
+/// The line that reports a refusal: `refused`, its code and its title. An `Err` if there is no memory for it.
 pub fn refusal_text(alloc: Global, refusal: &Refusal) -> Result<String, AllocError>
     ensures { IfOk result (λ line. line.bytes.items ≡ spec.refusal_line refusal.now) }
 {
@@ -106,7 +109,7 @@ pub fn refusal_text(alloc: Global, refusal: &Refusal) -> Result<String, AllocErr
     format!(in alloc; "refused {code} {title}\n")
 }
 
-/// The line of a fault of the keep. It takes no memory.
+/// The line that reports a fault of the keep: `fault` and its name. It takes no memory.
 pub fn fault_line(fault: KeepFault) -> &'static [u8]
     ensures { result.now ≡ spec.fault_line fault }
 {

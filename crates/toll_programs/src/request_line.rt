@@ -1,4 +1,4 @@
-//! The line of an owner's request.
+//! The line of a script that makes an owner's request.
 ghost use Rattle.std.specs.Prelude.{◌≡◌, ◌++◌, ◌∷◌, ◌||◌, List, ℕ, IfOk, OnOk, flat_map, option_map};
 ghost use Rattle.std.specs.List.{join_with_byte};
 ghost use Rattle.toll_programs.specs.Pieces.{is_empty, pieces_at};
@@ -8,7 +8,7 @@ ghost use Rattle.toll_programs.specs.ShownRequest.{shown_request};
 use crate::cutting::cut;
 use std::alloc::{AllocError, Global};
 
-/// `OWNER KEY METHOD TARGET`, and the body after one more space.
+/// The parts of the line `OWNER KEY METHOD TARGET`, which has the body after one more space.
 #[derive(Clone, Copy)]
 pub struct RequestLine<'a> {
     pub owner: &'a [u8],
@@ -39,7 +39,8 @@ impl<'a> RequestLine<'a> {
         })
     }
 
-    /// The bytes of the request.
+    /// The HTTP request that the line makes. If OWNER or KEY is `-`, the request has no such field. An `Err` if there
+    /// is no memory for it.
     pub fn text(&self, alloc: Global) -> Result<Vec<u8>, AllocError>
         ensures { IfOk result (λ text. text.items ≡ request_text (shown_request self.now)) }
     {

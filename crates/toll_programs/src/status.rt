@@ -1,4 +1,4 @@
-//! How the program ends.
+//! The exit statuses of the program.
 ghost use Rattle.std.specs.Prelude.{◌≡◌};
 ghost use Rattle.toll_programs.specs.Statuses.{exit_code};
 
@@ -16,7 +16,7 @@ pub enum Status {
 }
 
 impl Status {
-    /// The exit status.
+    /// The number of the exit status, 0 to 3.
     pub fn code(self) -> u8
         ensures { result ≡ exit_code self }
     {

@@ -20,7 +20,7 @@ pub enum Task<'a> {
         file: &'a str,
         actuals: &'a str,
     },
-    /// This number of connections on this port.
+    /// The serving of this number of connections on this port.
     Serve {
         file: &'a str,
         port: u16,
@@ -28,10 +28,10 @@ pub enum Task<'a> {
     },
 }
 
-/// How many connections may be asked for.
+/// How many connections one `serve` serves at most: the greatest COUNT.
 pub const MOST_CONNECTIONS_SERVED: u64 = 1_000_000;
 
-/// The usage of the program.
+/// The usage of the program, with all its forms.
 pub const USAGE: &str = "toll 1.1, office format 2
 usage: toll script
        toll --db FILE import CSV
@@ -64,12 +64,12 @@ usage: toll script
 What each does is told by the manual: man toll, or docs/commands.md.
 ";
 
-/// The usage of an import of a file of actuals.
+/// The usage of the form that imports a file of actuals.
 pub const IMPORT_USAGE: &str = "usage: toll --db FILE import CSV
 CSV is a file of actuals, of at most 1,048,576 bytes: man toll, or docs/csv.md.
 ";
 
-/// The usage of serving owners.
+/// The usage of the form that serves owners.
 pub const SERVE_USAGE: &str = "usage: toll --db FILE serve PORT COUNT
 PORT is 0 to 65535, and 0 takes a free one; COUNT, from 1 to 1000000, is how many connections are served.
 ";
@@ -98,6 +98,7 @@ fn task_of_office<'a>(file: &'a str, words: &'a [&'a str]) -> Option<Task<'a>>
     }
 }
 
+// The import that these words ask for: `None` unless they are the path of one file.
 fn task_of_import<'a>(file: &'a str, words: &'a [&'a str]) -> Option<Task<'a>>
     ensures { option_map shown_task result ≡ import_task file.now (map (λ w. w.now) words.entry.now) }
 {
@@ -107,6 +108,8 @@ fn task_of_import<'a>(file: &'a str, words: &'a [&'a str]) -> Option<Task<'a>>
     }
 }
 
+// The serving that these words ask for: `None` unless they are a port and a number of connections, within their
+// limits.
 fn task_of_serving<'a>(file: &'a str, words: &'a [&'a str]) -> Option<Task<'a>>
     ensures { option_map shown_task result ≡ serving_task file.now (map (λ w. w.now) words.entry.now) }
 {

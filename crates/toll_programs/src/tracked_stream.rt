@@ -7,7 +7,7 @@ use toll_protocol::{Sink, Source, Stream};
 pub trait TracksReads: Stream {
     ghost use Rattle.std.specs.Prelude.{◌≡◌, Some};
 
-    /// Whether a read has failed.
+    /// Whether a read of the connection has failed since it was made.
     fn has_failed(&self) -> bool
         ensures { Self.Source.has_failed self.now ≡ Some result };
 }
@@ -20,7 +20,7 @@ pub struct TrackedStream<S> {
 }
 
 impl<S: Drop> TrackedStream<S> {
-    /// No read has failed yet.
+    /// Tracks the reads of this stream from now on.
     pub fn new(stream: S) -> Self {
         TrackedStream {
             stream,

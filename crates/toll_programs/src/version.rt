@@ -1,4 +1,4 @@
-//! The version of this build.
+//! The version by which a server and a command know that they are of one build.
 
 /// The version of this build, as in the first line of the program's usage after `toll`. A server and a
 /// command of different versions exchange nothing.

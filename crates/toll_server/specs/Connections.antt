@@ -130,7 +130,7 @@ module _ {S T P : Type 0} where
   abbrev pub IsEvicted : Slab (Connection S T P) → ℕ → ℕ → Type 0
   IsEvicted connections key deadline = (filter : Filter) × GoesFirst connections filter × IsEarliest filter connections key deadline
 
-  -- That connection is closed.
+  -- The connection that has been reading longest, of those that go first, is closed.
   pub record EvictsReader (old new : Slab (Connection S T P)) : Type 0 where
     pub key : ℕ
     pub deadline : ℕ
@@ -138,7 +138,7 @@ module _ {S T P : Type 0} where
     pub out : Updates old new key None
     pub one_less : slab_len new + 1 ≡ slab_len old
 
-  -- The same, if any is reading.
+  -- That connection is closed, if any is reading. Otherwise none is.
   abbrev pub EvictsOldest : Slab (Connection S T P) → Slab (Connection S T P) → Type 0
   EvictsOldest old new = (NoneIncluded Reading old × SameValues old new × (slab_len new ≡ slab_len old)) ⊎ EvictsReader old new
 
@@ -211,7 +211,7 @@ module _ {S T P : Type 0} where
     pub one_more : slab_len «with» ≡ slab_len old + 1
     pub shed : ((slab_len «with» ≤ most) × (new ≡ «with»)) ⊎ ((most < slab_len «with») × EvictsOldest «with» new)
 
-  -- The same, with the slab's next key.
+  -- A connection came, and has the slab's next key.
   abbrev pub AddsNext : ℕ → ℕ → Listener → S → Slab (Connection S T P) → Slab (Connection S T P) → Type 0
   AddsNext most now listener stream old new = AddsConnection most now (record { key = old.vacant_key; listener = listener; stream = stream }) old new
 

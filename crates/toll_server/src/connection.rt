@@ -38,7 +38,8 @@ pub struct TurnOutcome<T, P> {
 }
 
 impl<S: Stream, T: Drop, P: Drop> Connection<S, T, P> {
-    /// A connection from which nothing was received yet.
+    /// A connection that was accepted at this listener now, and from which nothing was received yet. An `Err` if there
+    /// is no memory for its request.
     pub fn new(alloc: Global, listener: Listener, stream: S, now: u64) -> Result<Self, AllocError>
         ensures stream { IfOk result (λ connection. connection.stream ≡ stream) }
         ensures request { IfOk result (λ connection. (bytes_received connection.request ≡ []) × (listener_of connection.request ≡ listener)) }
@@ -78,7 +79,8 @@ impl<S: Stream, T: Drop, P: Drop> Connection<S, T, P> {
     }
 
     /// Has the service take a turn for the connection, if it waits for one: its request is answered, or its
-    /// task is resumed. The outcome is to be [stored](Connection::store_poll).
+    /// task is resumed. The outcome is to be [stored](Connection::store_poll). `None` if the connection doesn't wait
+    /// for a turn: nothing is done then.
     pub fn take_turn<O: Service<Task = T, Party = P>>(
         &mut self,
         alloc: Global,

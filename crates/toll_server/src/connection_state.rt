@@ -6,10 +6,10 @@ use crate::poll::Poll;
 use crate::ticket::Ticket;
 use toll_protocol::ResponseWriter;
 
-/// The state of a connection.
+/// How far a connection is between its first byte and the last of its reply.
 #[derive(Drop)]
 pub enum ConnectionState<T, P> {
-    /// Its request is not whole.
+    /// Its request isn't whole yet.
     Reading,
     /// Its request is whole, and waits for its turn.
     Queued(Ticket<P>),
@@ -36,7 +36,7 @@ impl<T: Drop, P: Drop> ConnectionState<T, P> {
         }
     }
 
-    /// Its place in the queue, if it waits for its turn.
+    /// Its place in the queue: `None` unless it waits for its turn.
     pub fn ticket(&self) -> Option<&Ticket<P>>
         ensures { option_copied result ≡ ticket_of self.now }
     {

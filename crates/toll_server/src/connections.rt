@@ -35,6 +35,7 @@ const PLACES_FOR_EACH: usize = 2;
 /// Whether connections are accepted.
 #[derive(Clone, Copy, Debug, PartialEq, Eq)]
 pub enum AcceptState {
+    /// Connections are accepted as they come.
     Open,
     /// More connections may be waiting. They are accepted after the open ones were served.
     Backlogged,
@@ -89,7 +90,8 @@ impl<S: Stream, T: Drop, P: Eq + Drop> Connections<S, T, P> {
     }
 
     /// How many milliseconds to wait at most, so that no connection stays longer than its time. The limit is
-    /// 0 while a connection waits for its turn.
+    /// 0 while a connection waits for its turn. `None`, which is no limit, if no connection is open and new ones are
+    /// accepted as they come.
     pub fn wait_limit(&self, now: u64) -> Option<u64>
         ensures in_time { IsInTime result now self.now.slots }
         ensures cause { IfSome result (λ most. IsDueAt self.now.accept_state now most ⊎ IsDueTo self.now.slots now most) }
@@ -111,7 +113,8 @@ impl<S: Stream, T: Drop, P: Eq + Drop> Connections<S, T, P> {
     /// Accepts connections that wait at a listener, while owners are still to be accepted, and times them
     /// from now on. If too many are open then, the connection that has been reading longest is closed. It is
     /// also closed if there are no resources for one more, after the connections that came just now were
-    /// read. If no connection is reading then, none is accepted for a while.
+    /// read. If no connection is reading then, none is accepted for a while. An `Err` if no connection can ever be
+    /// accepted again, as the network reports.
     pub fn accept<W: Network<Stream = S>>(
         &mut self,
         alloc: Global,

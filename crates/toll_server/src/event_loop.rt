@@ -1,4 +1,4 @@
-//! Serving connections side by side.
+//! The event loop of a server, which serves connections side by side.
 ghost use Rattle.std.specs.Prelude.{◌≡◌, ◌≤◌, ◌<◌, ◌+◌, ◌^◌, ℕ, OnErr, OnOk};
 ghost use Rattle.slab.specs.Slab.{slab_len};
 ghost use Rattle.toll_server.specs.Queues.{IsServedInTurn};
@@ -88,7 +88,7 @@ fn serve_all<W: Network, O: Service>(
 }
 
 // Waits, advances the connections that may advance then, and closes those whose time was over when the wait
-// ended.
+// ended. Fails if the network can't be waited for: no connection was advanced or closed then.
 fn wait_and_advance<W: Network, O: Service>(
     network: &mut W,
     connections: &mut Connections<W::Stream, O::Task, O::Party>,

@@ -1,4 +1,4 @@
-//! Searching the open connections.
+//! Searching the open connections: whose time is over, which is closed to make room, and which has the next turn.
 ghost use Rattle.std.specs.Prelude.{◌≡◌, ◌↔◌, ◌≤◌, ◌+◌, ℕ, IfSome, IfNone, IsTrue, option_map};
 ghost use Rattle.slab.specs.Slab.{get, slab_len};
 ghost use Rattle.toll_server.specs.Connections.{ClosesExpired, ClosesReaders, EvictsOldest, EvictsReader, IsBefore, IsEarliest, IsEvicted, IsExpired, IsLonger, NobodyWaits, NoneIncluded, OnlyAt, connection_behind, evicted_first, is_included_at, is_place_of, number_of, places_of, queue_in, wait_in};
@@ -21,7 +21,7 @@ pub struct Earliest {
     pub deadline: u64,
 }
 
-/// The connection, of these, whose time is over first.
+/// The connection whose time is over first, of those that the filter includes. `None` if it includes none.
 pub fn earliest_of<S: Stream, T: Drop, P: Drop>(
     connections: &Slab<Connection<S, T, P>>,
     filter: Filter,
@@ -212,7 +212,7 @@ pub struct Next {
     pub wait: Wait,
 }
 
-/// The connection that has waited longest for its turn.
+/// The connection that has waited longest for its turn. `None` if none waits.
 pub fn next_of<S: Stream, T: Drop, P: Drop>(connections: &Slab<Connection<S, T, P>>) -> Option<Next>
     ensures found { IfSome result (λ next. IsNext (queue_in connections.now) next.key) }
     ensures none { IfNone result (NobodyWaits connections.now) }

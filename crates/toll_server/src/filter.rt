@@ -1,4 +1,4 @@
-//! Some of the open connections.
+//! Selections of the open connections.
 ghost use Rattle.std.specs.Prelude.{◌≡◌, ◌↔◌, IsTrue};
 ghost use Rattle.toll_server.specs.Connections.{IsIncluded, is_included};
 
@@ -24,7 +24,7 @@ pub enum Filter {
 }
 
 impl Filter {
-    /// Whether this connection is one of them.
+    /// Whether the selection includes this connection.
     pub fn includes<S, T, P>(self, connection: &Connection<S, T, P>) -> bool
         ensures includes { IsTrue result ↔ IsIncluded self connection.now }
         ensures answer { result ≡ is_included self connection.now }

@@ -1,4 +1,4 @@
-//! The listener at which a connection was accepted.
+//! The two listeners of a server.
 
 /// The listener at which a connection was accepted.
 #[derive(Clone, Copy, Debug, PartialEq, Eq)]

@@ -8,7 +8,7 @@ use toll_protocol::Stream;
 #[error("Net")]
 pub struct NetworkFault;
 
-/// The result of accepting a connection.
+/// The result of an attempt to accept a connection.
 #[derive(Drop)]
 pub enum Accepted<S> {
     /// This connection, at that listener.
@@ -49,18 +49,20 @@ pub trait Network {
         ensures most { result ≤ MOST_OPEN_CONNECTIONS }
         ensures known { IfSome (limit self.now) (λ most. result ≡ most) };
 
-    /// Waits until a connection comes or may advance, or this number of milliseconds is over. Returns the
-    /// clock's time then. A connection advances until its reads and writes would wait, and is then reported
-    /// again. A connection that waits at a listener and was not accepted need not be reported again.
+    /// Waits until a connection comes or may advance, or this number of milliseconds is over. `None` is no limit.
+    /// Returns the clock's time then. A connection advances until its reads and writes would wait, and is then
+    /// reported again. A connection that waits at a listener and was not accepted need not be reported again. An `Err`
+    /// if it can't wait.
     fn wait(&mut self, most: Option<u64>) -> Result<u64, NetworkFault>
         ensures { Tallies (WaitsOnce most result) (tally self.old) (tally self.new) };
 
     /// The next connection that may advance since the last wait, by its key. There are at most [`MOST_READY`]
-    /// of them.
+    /// of them. `None` if all were given.
     fn next_ready(&mut self) -> Option<usize>
         ensures { Tallies (HandsOut result) (tally self.old) (tally self.new) };
 
-    /// Accepts the next connection that waits at a listener. It has this key from then on.
+    /// Accepts the next connection that waits at a listener. It has this key from then on. An `Err` if none can ever
+    /// be accepted again.
     fn accept_next(&mut self, key: usize) -> Result<Accepted<Self::Stream>, NetworkFault>
         ensures { tally self.new ≡ option_map (after_accept key result) (tally self.old) };
 

@@ -17,7 +17,7 @@ pub enum RequestBuffer {
 }
 
 impl RequestBuffer {
-    /// No byte was received yet.
+    /// A request at this listener, of which no byte was received yet. An `Err` if there is no memory to receive it.
     pub fn new(alloc: Global, listener: Listener) -> Result<Self, AllocError>
         ensures { IfOk result (λ request. (bytes_received request ≡ []) × (listener_of request ≡ listener)) }
     {
@@ -30,7 +30,7 @@ impl RequestBuffer {
         }
     }
 
-    /// The listener at which it was accepted.
+    /// The listener that accepted the request's connection.
     pub fn listener(&self) -> Listener
         ensures { result ≡ listener_of self.now }
     {
@@ -40,7 +40,7 @@ impl RequestBuffer {
         }
     }
 
-    /// All bytes that were received.
+    /// All bytes of the request that were received so far.
     pub fn bytes(&self) -> &[u8]
         ensures { result.now ≡ bytes_received self.now }
     {

@@ -27,7 +27,7 @@ pub trait Service {
     // The service before resumes this task with this result, and becomes the service after.
     ghost resumes: { Self → Self.Task → Poll Self.Task → Self → Type 0 };
 
-    /// The party of a request.
+    /// The party whose turn this request takes.
     fn party(request: &RequestBuffer) -> Self::Party
         ensures { is_by (listener_of request.now) (bytes_received request.now) result };
 
@@ -35,7 +35,7 @@ pub trait Service {
     fn answer(&mut self, alloc: Global, request: &RequestBuffer) -> Poll<Self::Task>
         ensures { answers self.old (listener_of request.now) (bytes_received request.now) result self.new };
 
-    /// Resumes the task that a turn left.
+    /// Resumes the task that an earlier turn left: the reply, or what is left to do before there is one.
     fn resume(&mut self, alloc: Global, task: Self::Task) -> Poll<Self::Task>
         ensures { resumes self.old task result self.new };
 }

@@ -12,7 +12,7 @@ pub enum StepResult {
     Waits,
     /// Its request is whole, and joins the queue for the service.
     Joins,
-    /// Its reply is written.
+    /// Its reply is written whole.
     Answered,
     /// A read or a write failed, or there was no memory.
     Failed,

@@ -1,4 +1,4 @@
-//! An office over a keep.
+//! A service over a keep that is open.
 ghost use Rattle.std.specs.Prelude.{◌≡◌};
 ghost use Rattle.toll_server.specs.RequestBuffers.{bytes_received, listener_of};
 ghost use Rattle.toll_service.specs.Parties.{IsBy};
@@ -20,7 +20,7 @@ pub struct KeepService<K> {
 }
 
 impl<K> KeepService<K> {
-    /// Over this keep.
+    /// A service that answers clients over this keep.
     pub fn new(keep: K) -> Self
         ensures { result.keep ≡ keep }
     {

@@ -55,7 +55,7 @@ impl<K: Drop> Drop for OfficeSession<K> {
 }
 
 impl<K: Keep + Drop> OfficeSession<K> {
-    /// No file is open yet.
+    /// A session that has opened no file yet.
     pub fn new(alloc: Global) -> Self
         ensures { IsNewSession result }
     {
@@ -88,9 +88,9 @@ impl<K: Keep + Drop> OfficeSession<K> {
         Ok(())
     }
 
-    /// The answer to a request, over the office in the file, or the import that they begin.
-    /// No bytes if there is no memory. An `Err` if the lock isn't taken or the file isn't opened. After an
-    /// answer that reports a fault, the file is opened anew.
+    /// The answer to a request, over the office in the file, or the import that it begins. The answer has no bytes if
+    /// there is no memory. An `Err` if the lock isn't taken or the file isn't opened. After an answer that reports a
+    /// fault, the file is opened anew.
     pub fn answer<O: KeepOpener<K>>(
         &mut self,
         office_path: &mut OfficePath<'_, O>,

@@ -1,4 +1,4 @@
-//! An office that was opened.
+//! An open office, whose files may be released to other programs between two turns.
 ghost use Rattle.std.specs.Prelude.{◌≡◌, IfErr, IfOk, IfSome, OnOk};
 ghost use Rattle.toll_service.specs.Openings.{IsOneOpened, IsOneRefused, IsNoneOpened};
 
@@ -13,13 +13,14 @@ pub struct OpenOffice<K> {
     files: Option<Files>,
 }
 
-/// By hand, as a session's.
+/// By hand, since derived code is written out at every exit of every function that owns one.
 impl<K: Drop> Drop for OpenOffice<K> {
     fn drop(self) {
         let OpenOffice { keep: _, files: _ } = self;
     }
 }
 
+/// The files of an open office, and whether they were released since it was opened.
 #[derive(Drop)]
 struct Files {
     database: SharedFile,
@@ -68,7 +69,7 @@ impl<K: Keep + Drop> OpenOffice<K> {
         None
     }
 
-    /// Locks the files again. Returns whether no other program has them.
+    /// Locks the files again, and returns whether that succeeded. It fails if another program has them.
     pub fn reacquire(&self, _lease: &Lease) -> bool {
         match &self.files {
             Some(files) => files.database.lock().is_ok(),
@@ -84,7 +85,7 @@ impl<K: Keep + Drop> OpenOffice<K> {
         }
     }
 
-    /// Closes them.
+    /// Closes the office and its files.
     pub fn close<O: KeepOpener<K>>(self, opener: &mut O, lease: &Lease)
         ensures { IsNoneOpened (O.openings opener.old) (O.openings opener.new) }
     {
@@ -108,7 +109,7 @@ impl Files {
         })
     }
 
-    // The files, unless they can't be released.
+    // Releases the files to other programs. `None` if the system refuses that.
     fn release(self) -> Option<Self> {
         match self.database.unlock() {
             Ok(()) => Some(Files {

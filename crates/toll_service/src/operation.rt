@@ -15,7 +15,7 @@ pub enum Operation<'a> {
 }
 
 impl<'a> Operation<'a> {
-    /// Does it over a keep.
+    /// Does the operation over a keep, and gives what the program prints for it.
     pub fn run<K: Keep>(self, alloc: Global, keep: &mut K) -> Output
         ensures { IsOperationDone K.meaning self.entry keep.old keep.new (printout_of result) }
     {

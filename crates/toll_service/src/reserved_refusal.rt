@@ -12,7 +12,7 @@ use toll_files::OfficeFault;
 use toll_server::RequestBuffer;
 use toll_wire::Out;
 
-/// The length limit in bytes of a refusal.
+/// How many bytes a refusal has at most.
 const MOST_REFUSAL_BYTES: usize = 160;
 
 /// Memory for the reply to a client if no office is available. It is taken before anything is done, so a fault
@@ -27,7 +27,7 @@ pub struct ReservedRefusal {
 impl ReservedRefusal {
     ghost use Rattle.toll_service.specs.Sessions.{IsRefusal};
 
-    /// Takes the memory. An `Err` if there isn't as much.
+    /// Takes memory for the longest refusal. An `Err` if there is none.
     pub fn new(alloc: Global) -> Result<Self, AllocError> {
         let bytes = Vec::with_capacity(alloc, MOST_REFUSAL_BYTES)?;
         Ok(ReservedRefusal { bytes })

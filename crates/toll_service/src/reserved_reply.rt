@@ -25,7 +25,7 @@ impl ReservedReply {
     ghost use Rattle.toll_service.specs.Listeners.{IsReadyWith, IsFailureResponse, IsFrameResponse, IsFrameResponseIfRoom};
     ghost use Rattle.toll_service.specs.Unwritten.{status_alone, status_unwritten};
 
-    /// Takes the memory. An `Err` if there isn't as much.
+    /// Takes memory for a reply without output. An `Err` if there is none.
     pub fn new(alloc: Global) -> Result<Self, AllocError> {
         let done = Response {
             status: Status::Done.code(),

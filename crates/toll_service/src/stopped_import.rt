@@ -10,7 +10,9 @@ use toll_server::Poll;
 /// An import that can't go on, since the office was closed and can't be opened.
 #[derive(Drop)]
 pub struct StoppedImport {
+    /// Why the office can't be opened.
     pub fault: OfficeFault,
+    /// The import, with the outcomes of its records so far.
     pub import: PendingImport,
 }
 

@@ -14,7 +14,8 @@ use toll_files::{Lease, LeftFiles, Notes, OfficeFault, OpenLog};
 use toll_keep::{Keep, KeepFault};
 
 impl<K: Keep + Drop> OfficeSession<K> {
-    // The office as it was left, or opened anew, and the lease under which it may be used.
+    // The office as it was left, or opened anew, and the lease under which it may be used. Fails if the lock isn't
+    // taken, if committed changes are gone, or if the office isn't opened.
     pub(super) fn check_out<O: KeepOpener<K>>(
         &mut self,
         office_path: &mut OfficePath<'_, O>,
@@ -45,7 +46,8 @@ impl<K: Keep + Drop> OfficeSession<K> {
     }
 
     // The lease, and the office as it was left, if one was left open and no other program has changed it. If
-    // another program has changed it, the known damage is forgotten.
+    // another program has changed it, the known damage is forgotten. Fails if the lock isn't taken, or if committed
+    // changes are gone.
     pub(super) fn check_out_left<O: KeepOpener<K>>(
         &mut self,
         office_path: &mut OfficePath<'_, O>,
@@ -78,7 +80,7 @@ impl<K: Keep + Drop> OfficeSession<K> {
         Ok((None, lease))
     }
 
-    // Whether no other program has changed the files since they were left.
+    // Whether no other program has changed the files since they were left. Fails if committed changes are gone.
     fn is_as_left<O: KeepOpener<K>>(
         &self,
         office_path: &mut OfficePath<'_, O>,
@@ -98,7 +100,8 @@ impl<K: Keep + Drop> OfficeSession<K> {
         }
     }
 
-    // The same, if a fault counts as a change.
+    // Whether no other program has changed the files since they were left. If committed changes are gone, they count
+    // as changed.
     pub(super) fn are_files_as_left<O: KeepOpener<K>>(
         &self,
         office_path: &mut OfficePath<'_, O>,
@@ -110,7 +113,8 @@ impl<K: Keep + Drop> OfficeSession<K> {
         matches!(self.is_as_left(office_path, lease), Ok(true))
     }
 
-    // The office, opened once more.
+    // Opens the office, and counts the opening. Fails if the office isn't opened, or the openings can't be counted any
+    // further.
     fn open<O: KeepOpener<K>>(
         &mut self,
         office_path: &mut OfficePath<'_, O>,
@@ -184,7 +188,8 @@ impl<K: Keep + Drop> OfficeSession<K> {
         };
     }
 
-    // The lease, if the files are as they were left: the one that is kept, or one that is taken.
+    // The lease, if the files are as they were left: the one that is kept, or one that is taken. `None` if the lock
+    // isn't taken, or if another program has changed the files.
     pub(super) fn lease_unchanged<O: KeepOpener<K>>(
         &mut self,
         office_path: &mut OfficePath<'_, O>,
