@@ -40,7 +40,7 @@ wound_then same from to most a old new was is (inr kept) events owners p = subst
     (λ i. record { slots = sym kept.0 i; event_count = sym events i; owners_left = sym owners i; stage = Accepting }) p
 
 -- Connections were accepted, and the end has begun if no owner is left.
-pub accepted_then : {S T P : Type 0} (same : P → P → Bool) (from : source.Ghosts S) (to : sink.Ghosts S) (most : ℕ) (old middle new : Connections S T P) (a b c : Option (Tally S)) → old.most_open ≡ most
+accepted_then : {S T P : Type 0} (same : P → P → Bool) (from : source.Ghosts S) (to : sink.Ghosts S) (most : ℕ) (old middle new : Connections S T P) (a b c : Option (Tally S)) → old.most_open ≡ most
     → RunsQuietly same from to old.most_open (server_at old Accepting) (server_at middle Accepting) a b → Tallies OnlyListening b c
     → WindsDown middle.owners_left middle.slots new.slots → new.event_count ≡ middle.event_count → new.owners_left ≡ middle.owners_left
     → RunsQuietly same from to most (server_at old Accepting) (server_at new Accepting) a c
@@ -247,6 +247,16 @@ module _ {S T P O : Type 0} (same : P → P → Bool) (is_by : Listener → List
       → RunsQuietly same from to most b c reported is → ServesFrom same is_by answers resumes from to most a c old new was is
   serves_quietly most a b c old new was reported is p q = serves_more most a b c q.0.events old new new was reported is p q.0.run
       (subst (λ h. Serves is_by answers resumes new h new) (sym q.1) refl) q.0.net
+
+  -- Connections were accepted, and the end has begun if no owner is left.
+  pub serves_accepted : (most : ℕ) (first : Server S T P) (old middle new : Connections S T P) (before service : O) (was a b c : Option (Tally S))
+      → ServesFrom same is_by answers resumes from to most first (server_at old Accepting) before service was a → old.most_open ≡ most
+      → RunsQuietly same from to old.most_open (server_at old Accepting) (server_at middle Accepting) a b → Tallies OnlyListening b c
+      → WindsDown middle.owners_left middle.slots new.slots → new.event_count ≡ middle.event_count → new.owners_left ≡ middle.owners_left
+      → ServesFrom same is_by answers resumes from to most first (server_at new Accepting) before service was c
+  serves_accepted most first old middle new before service was a b c served is ran stops winds events owners =
+      serves_quietly most first (server_at old Accepting) (server_at new Accepting) before service was a c served
+      (accepted_then same from to most old middle new a b c is ran stops winds events owners)
 
   -- One wait, with all that advanced after it.
   pub serves_waited : (most now : ℕ) (a : Server S T P) (b c : Connections S T P) (old new : O) (was reported is : Option (Tally S))

@@ -2,7 +2,7 @@ use Rattle.std.proofs.Common.{◌≡◌, ◌∙◌, ◌+◌, ap, arith, refl}
 use Rattle.toll_server.proofs.Common.{Accepting, Accepts, Agrees, BreaksDown, EndsSo, server_at}
 use Rattle.toll_server.proofs.ListenLemmas.{accepted_listening, begins_listening, broken_listening, clocked_listening, failed_listening, listens_till, stopped_listening, waited_listening}
 use Rattle.toll_server.proofs.RoundLemmas.{quiet_within, ran_none}
-use Rattle.toll_server.proofs.ServingLemmas.{Asks, accepted_then, asked_once, asks_first, asks_kept, serves_quietly, serves_turn, serves_unheard, serves_waited}
+use Rattle.toll_server.proofs.ServingLemmas.{Asks, asked_once, asks_first, asks_kept, serves_accepted, serves_quietly, serves_turn, serves_unheard, serves_waited}
 use Rattle.toll_server.proofs.TallyLemmas.{OnlyClock, OnlyListening, clock_went_on, on_err, tallies_begin, tallies_then, tallies_weaker}
 use Rattle.toll_server.specs.declared.event_loop.ServingEnd.TheVariants.{All, Fault}
 use Rattle.toll_server.proofs.event_loop.serve_all.Goals as goal
@@ -35,9 +35,8 @@ loop-preserved g c =
     record {
       served = serves_turn g.O.Party.PartialEq.eq g.O.Service.is_by g.O.Service.answers g.O.Service.resumes g.W.Stream.Source g.W.Stream.Sink most first c.wait_and_advance.new.connections later before service c.take_turn.new.service _ _ _
           (serves_waited g.O.Party.PartialEq.eq g.O.Service.is_by g.O.Service.answers g.O.Service.resumes g.W.Stream.Source g.W.Stream.Sink most now first c.wind_down.new.self c.wait_and_advance.new.connections before service _ _ _
-          (serves_quietly g.O.Party.PartialEq.eq g.O.Service.is_by g.O.Service.answers g.O.Service.resumes g.W.Stream.Source g.W.Stream.Sink most first (server_at c.loop.connections Accepting) (server_at c.wind_down.new.self Accepting) before service _ _ _ c.loop.invariant.served
-          (accepted_then g.O.Party.PartialEq.eq g.W.Stream.Source g.W.Stream.Sink most c.loop.connections c.accept.new.self c.wind_down.new.self _ _ _ c.loop.invariant.most_open c.accept.ensures.ran c.stop_listening.ensures.rest
-          c.wind_down.ensures.readers c.wind_down.ensures.event_count c.wind_down.ensures.owners_left)) kept c.wait_and_advance.ensures.owners_left w)
+          (serves_accepted g.O.Party.PartialEq.eq g.O.Service.is_by g.O.Service.answers g.O.Service.resumes g.W.Stream.Source g.W.Stream.Sink most first c.loop.connections c.accept.new.self c.wind_down.new.self before service _ _ _ _
+          c.loop.invariant.served c.loop.invariant.most_open c.accept.ensures.ran c.stop_listening.ensures.rest c.wind_down.ensures.readers c.wind_down.ensures.event_count c.wind_down.ensures.owners_left) kept c.wait_and_advance.ensures.owners_left w)
           (c.wait_and_advance.ensures.most_open ∙ kept) c.take_turn.ensures.owners_left c.take_turn.ensures.turn clock;
       event_count = omega (arith, c.take_turn.ensures.more, c.wait_and_advance.ensures.event_count, c.wind_down.ensures.event_count, c.accept.ensures.event_count, c.loop.invariant.event_count);
       most_open = c.take_turn.ensures.most_open ∙ (c.wait_and_advance.ensures.most_open ∙ kept);
@@ -89,9 +88,8 @@ returns-then-is_over g c =
     let before = c.args.service.now in
     let service = c.loop.service in
     let waits = c.loop.counter + 1 in
-    let served = serves_quietly g.O.Party.PartialEq.eq g.O.Service.is_by g.O.Service.answers g.O.Service.resumes g.W.Stream.Source g.W.Stream.Sink most first (server_at c.loop.connections Accepting) (server_at c.wind_down.new.self Accepting) before service _ _ _ c.loop.invariant.served
-    (accepted_then g.O.Party.PartialEq.eq g.W.Stream.Source g.W.Stream.Sink most c.loop.connections c.accept.new.self c.wind_down.new.self _ _ _ c.loop.invariant.most_open c.accept.ensures.ran c.stop_listening.ensures.rest
-    c.wind_down.ensures.readers c.wind_down.ensures.event_count c.wind_down.ensures.owners_left) in
+    let served = serves_accepted g.O.Party.PartialEq.eq g.O.Service.is_by g.O.Service.answers g.O.Service.resumes g.W.Stream.Source g.W.Stream.Sink most first c.loop.connections c.accept.new.self c.wind_down.new.self before service _ _ _ _
+    c.loop.invariant.served c.loop.invariant.most_open c.accept.ensures.ran c.stop_listening.ensures.rest c.wind_down.ensures.readers c.wind_down.ensures.event_count c.wind_down.ensures.owners_left in
     record {
       served = served;
       over = λ _. (c.is_over.ensures.0 c.if-is_over.true).1;
@@ -110,9 +108,8 @@ returns-in-Err g c =
     let before = c.args.service.now in
     let service = c.loop.service in
     let waits = c.loop.counter + 1 in
-    let served = serves_quietly g.O.Party.PartialEq.eq g.O.Service.is_by g.O.Service.answers g.O.Service.resumes g.W.Stream.Source g.W.Stream.Sink most first (server_at c.loop.connections Accepting) (server_at c.wind_down.new.self Accepting) before service _ _ _ c.loop.invariant.served
-    (accepted_then g.O.Party.PartialEq.eq g.W.Stream.Source g.W.Stream.Sink most c.loop.connections c.accept.new.self c.wind_down.new.self _ _ _ c.loop.invariant.most_open c.accept.ensures.ran c.stop_listening.ensures.rest
-    c.wind_down.ensures.readers c.wind_down.ensures.event_count c.wind_down.ensures.owners_left) in
+    let served = serves_accepted g.O.Party.PartialEq.eq g.O.Service.is_by g.O.Service.answers g.O.Service.resumes g.W.Stream.Source g.W.Stream.Sink most first c.loop.connections c.accept.new.self c.wind_down.new.self before service _ _ _ _
+    c.loop.invariant.served c.loop.invariant.most_open c.accept.ensures.ran c.stop_listening.ensures.rest c.wind_down.ensures.readers c.wind_down.ensures.event_count c.wind_down.ensures.owners_left in
     let last = c.wait_and_advance.new.connections in
     record {
       served = serves_unheard g.O.Party.PartialEq.eq g.O.Service.is_by g.O.Service.answers g.O.Service.resumes g.W.Stream.Source g.W.Stream.Sink most first c.wind_down.new.self last before service _ _ _ c.in-Err.ensures.unheard served c.in-Err.ensures.fails;
