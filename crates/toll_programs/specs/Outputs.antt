@@ -1,9 +1,13 @@
 -- What the program prints of a command, a question or an import, and its exit status.
-use Rattle.std.specs.Prelude.{◌≡◌, ◌⊎◌, ℕ, List, [], Result, Ok, Err, codes}
+use Rattle.std.specs.Prelude.{◌≡◌, ◌⊎◌, ℕ, List, [], Contains, Result, Ok, Err, codes}
 use Rattle.std.specs.Cow.{cow_slice_items}
 use Rattle.toll_programs.specs.Common.{Bytes, PlantReply, ImportFault, Memory, TooLong, BadHeader, ImportReport}
 use Rattle.toll_desk.specs.declared.plant_cmd.PlantReply.TheVariants as plant
+use Rattle.toll_keep.specs.declared.keep_fault.KeepFault.{KeepFault}
+use Rattle.toll_keep.specs.declared.keep_fault.KeepFault.TheVariants.{Memory as NoMemory}
 use Rattle.toll_plant.specs.ImportTexts.{import_text}
+use Rattle.toll_plant.specs.Imports.{outcomes_in}
+use Rattle.toll_plant.specs.declared.outcome.Outcome.TheVariants as came
 use Rattle.toll_plant.specs.declared.report.ImportLine.{ImportLine}
 use Rattle.toll_programs.specs.Printing.{plant_reply_text, refusal_line}
 use Rattle.toll_programs.specs.Statuses.{status_after_lines, status_after_reply, exit_code}
@@ -56,6 +60,11 @@ refused_file BadHeader = on_error Usage (codes "bad header\n")
 abbrev pub IsImportPrintout : Result ImportReport ImportFault → Printout → Type 0
 IsImportPrintout (Ok report) p = IsShownIfRoom (status_after_lines report.lines.items) (import_text report.lines.items) p
 IsImportPrintout (Err fault) p = p ≡ refused_file fault
+
+-- A record of the import met the fault, or there was no memory.
+abbrev pub IsMetByImport : Result ImportReport ImportFault → KeepFault → Type 0
+IsMetByImport (Ok report) fault = (fault ≡ NoMemory) ⊎ Contains (outcomes_in report.lines.items) (came.Fault fault)
+IsMetByImport (Err why) fault = fault ≡ NoMemory
 
 -- The printout has the outcomes of the records so far, if there is memory for them, and why no more act. Its status is that of a failure.
 pub record IsStoppedImportPrintout (lines : List ImportLine) (why : Bytes) (p : Printout) : Type 0 where

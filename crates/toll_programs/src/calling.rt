@@ -6,8 +6,7 @@ ghost use Rattle.toll_programs.specs.StreamOutput.{IsWarned, stream_of, streams_
 ghost use Rattle.toll_programs.specs.declared.status.Status.{Status};
 ghost use Rattle.toll_programs.specs.ServerCalls.{CanBeOutcome, HasHandshake, IsResponseText, IsExchange, IsRunOnServer, IsWrittenOf, lost_line};
 
-use crate::output::print;
-use crate::reporting::warn;
+use crate::reporting::{print, warn};
 use crate::status::Status;
 use crate::tracked_stream::TracksReads;
 use crate::version::VERSION;

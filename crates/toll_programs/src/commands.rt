@@ -1,12 +1,13 @@
 //! One command or question of the plant, as the program answers it.
+ghost use Rattle.std.specs.Prelude.{◌≡◌, IfSome};
 ghost use Rattle.toll_programs.specs.Done.{IsCommandDone};
-ghost use Rattle.toll_programs.specs.Outputs.{IsReplyPrintout, IsShownIfRoom, printout_of};
-ghost use Rattle.toll_programs.specs.Printing.{refusal_line};
+ghost use Rattle.toll_programs.specs.Outputs.{IsReplyPrintout, IsShownIfRoom, on_error, printout_of};
+ghost use Rattle.toll_programs.specs.Printing.{fault_line, refusal_line};
+ghost use Rattle.toll_programs.specs.declared.status.Status.TheVariants.{Failed, Refused};
 ghost use Rattle.toll_programs.specs.StreamOutput.{IsSomePrinted, streams_of};
 
 use crate::output::Output;
-use crate::printing::{fault_line, refusal_text};
-use crate::status::Status;
+use crate::printing::refusal_text;
 use std::alloc::{AllocError, Global};
 use std::borrow::CowSlice;
 use toll_base::Refusal;
@@ -31,30 +32,33 @@ pub fn plant_line<K: Keep, W: Sink, E: Sink>(
 
 /// Does a command of the plant or answers a question, and gives what [`plant_line`] prints for it.
 pub fn execute<K: Keep>(alloc: Global, keep: &mut K, command: &PlantCmd) -> Output
-    ensures { IsCommandDone K.meaning keep.old keep.new command.now (printout_of result) }
+    ensures done { IsCommandDone K.meaning keep.old keep.new command.now (printout_of result) }
+    ensures fault { IfSome result.fault (λ fault. printout_of result ≡ on_error Failed (fault_line fault)) }
 {
     output_of(alloc, plant_do(alloc, keep, command))
 }
 
 // The output for an answer: a fault on standard error, and any other answer on standard output.
 fn output_of(alloc: Global, reply: PlantReply) -> Output
-    ensures { IsReplyPrintout reply (printout_of result) }
+    ensures printed { IsReplyPrintout reply (printout_of result) }
+    ensures fault { IfSome result.fault (λ fault. printout_of result ≡ on_error Failed (fault_line fault)) }
 {
     match reply {
-        PlantReply::Accepted => Output::on_stdout(Status::Done, CowSlice::Borrowed(b"accepted\n")),
-        PlantReply::Repeated => Output::on_stdout(Status::Done, CowSlice::Borrowed(b"repeated\n")),
+        PlantReply::Accepted => Output::done(CowSlice::Borrowed(b"accepted\n")),
+        PlantReply::Repeated => Output::done(CowSlice::Borrowed(b"repeated\n")),
         PlantReply::Refused(why) => output_of_refusal(alloc, &why),
-        PlantReply::Text(lines) => Output::on_stdout(Status::Done, CowSlice::Owned(lines)),
-        PlantReply::Fault(fault) => Output::fault(fault_line(fault)),
+        PlantReply::Text(lines) => Output::done(CowSlice::Owned(lines)),
+        PlantReply::Fault(fault) => Output::fault(fault),
     }
 }
 
 // The line of a refusal, or that there was no memory for it.
 fn output_of_refusal(alloc: Global, why: &Refusal) -> Output
-    ensures { IsShownIfRoom Status.Refused (refusal_line why.now) (printout_of result) }
+    ensures printed { IsShownIfRoom Refused (refusal_line why.now) (printout_of result) }
+    ensures fault { IfSome result.fault (λ fault. printout_of result ≡ on_error Failed (fault_line fault)) }
 {
     match refusal_text(alloc, why) {
-        Ok(text) => Output::on_stdout(Status::Refused, CowSlice::Owned(text.into_bytes())),
-        Err(AllocError) => Output::fault(fault_line(KeepFault::Memory)),
+        Ok(text) => Output::refused(CowSlice::Owned(text.into_bytes())),
+        Err(AllocError) => Output::fault(KeepFault::Memory),
     }
 }

@@ -1,10 +1,11 @@
 //! Importing a file of actuals, as the program does it.
-ghost use Rattle.std.specs.Prelude.{◌≡◌};
+ghost use Rattle.std.specs.Prelude.{◌≡◌, ◌⊎◌, Contains, IfSome};
 ghost use Rattle.std.specs.List.{list_any};
 ghost use Rattle.toll_plant.specs.ImportTexts.{import_text};
+ghost use Rattle.toll_plant.specs.Imports.{outcomes_in};
 ghost use Rattle.toll_plant.specs.Outcomes.{is_fault_outcome};
 ghost use Rattle.toll_programs.specs.Done.{IsImportDone};
-ghost use Rattle.toll_programs.specs.Outputs.{IsImportPrintout, IsShownIfRoom, IsStoppedImportPrintout, printout_of, refused_file};
+ghost use Rattle.toll_programs.specs.Outputs.{IsImportPrintout, IsMetByImport, IsShownIfRoom, IsStoppedImportPrintout, printout_of, refused_file};
 ghost use Rattle.toll_programs.specs.Statuses.{status_after_lines, is_turned_away};
 ghost use Rattle.toll_programs.specs.StreamOutput.{IsSomePrinted, streams_of};
 
@@ -12,7 +13,7 @@ use crate::output::Output;
 use crate::status::Status;
 use std::alloc::{AllocError, Global};
 use std::borrow::CowSlice;
-use toll_keep::Keep;
+use toll_keep::{Keep, KeepFault};
 use toll_plant::{ImportFault, ImportLine, ImportReport, Outcome, import_actuals, import_text};
 use toll_protocol::Sink;
 
@@ -42,7 +43,8 @@ pub fn import_file<K: Keep>(alloc: Global, keep: &mut K, file: &[u8]) -> Output
 
 /// What [`plant_import`] prints for an import, or for a file that was not imported.
 pub fn output_of_import(alloc: Global, imported: Result<ImportReport, ImportFault>) -> Output
-    ensures { IsImportPrintout imported (printout_of result) }
+    ensures printed { IsImportPrintout imported (printout_of result) }
+    ensures fault { IfSome result.fault (IsMetByImport imported) }
 {
     match imported {
         Ok(report) => output_of_report(alloc, &report),
@@ -63,30 +65,36 @@ pub fn output_of_stopped_import(alloc: Global, report: &ImportReport, why: &'sta
         status: Status::Failed,
         stdout,
         stderr: CowSlice::Borrowed(why),
+        fault: Some(KeepFault::Closed),
     }
 }
 
 // The text of an import, or that there was no memory for it.
 fn output_of_report(alloc: Global, report: &ImportReport) -> Output
-    ensures { IsShownIfRoom (status_after_lines report.now.lines.items) (import_text report.now.lines.items) (printout_of result) }
+    ensures printed { IsShownIfRoom (status_after_lines report.now.lines.items) (import_text report.now.lines.items) (printout_of result) }
+    ensures fault { IfSome result.fault (λ fault. (fault ≡ KeepFault.Memory) ⊎ Contains (outcomes_in report.now.lines.items) (Outcome.Fault fault)) }
 {
-    match import_text(alloc, report) {
-        Ok(text) => Output::on_stdout(status_of(&report.lines), CowSlice::Owned(text)),
-        Err(AllocError) => output_of_fault(ImportFault::Memory),
+    let Ok(text) = import_text(alloc, report) else {
+        return Output::fault(KeepFault::Memory);
+    };
+    let status = status_of(&report.lines);
+    Output {
+        status,
+        stdout: CowSlice::Owned(text),
+        stderr: CowSlice::Borrowed(b""),
+        fault: (status == Status::Failed).then_some(last_fault(&report.lines)),
     }
 }
 
 // The output for a file that was not imported.
 fn output_of_fault(fault: ImportFault) -> Output
-    ensures { printout_of result ≡ refused_file fault }
+    ensures printed { printout_of result ≡ refused_file fault }
+    ensures fault { IfSome result.fault (λ fault. fault ≡ KeepFault.Memory) }
 {
     match fault {
-        ImportFault::Memory => Output::fault(b"fault Memory\n"),
-        ImportFault::TooLong => Output::on_stderr(Status::Usage, CowSlice::Borrowed(b"too long\n")),
-        ImportFault::BadHeader => Output::on_stderr(
-            Status::Usage,
-            CowSlice::Borrowed(b"bad header\n"),
-        ),
+        ImportFault::Memory => Output::fault(KeepFault::Memory),
+        ImportFault::TooLong => Output::usage(CowSlice::Borrowed(b"too long\n")),
+        ImportFault::BadHeader => Output::usage(CowSlice::Borrowed(b"bad header\n")),
     }
 }
 
@@ -100,6 +108,21 @@ fn status_of(lines: &[ImportLine]) -> Status
         Status::Refused
     } else {
         Status::Done
+    }
+}
+
+// The fault that the last record met, or Memory.
+fn last_fault(lines: &[ImportLine]) -> KeepFault
+    ensures { (result ≡ KeepFault.Memory) ⊎ Contains (outcomes_in lines.now) (Outcome.Fault result) }
+{
+    match lines.last() {
+        Some(
+            ImportLine {
+                outcome: Outcome::Fault(fault),
+                ..
+            },
+        ) => *fault,
+        _ => KeepFault::Memory,
     }
 }
 

@@ -1,9 +1,16 @@
 -- The outcome of a turn of the plant, which has a printout if there is memory for it.
-use Rattle.std.proofs.Common.{◌≡◌, Bool, List, [], Option, Ok, refl, sym, subst, inl}
-use Rattle.toll_service.proofs.Common.{Bytes, Meaning, IsCall, AreNumberedFrom, ImportLine, IsImportPrintout, Printout, Plant, Poll, Ready, Pending, ImportState}
+use Rattle.std.proofs.Common.{◌≡◌, ◌⊎◌, Bool, List, [], Contains, Option, None, Some, Ok, refl, sym, subst, inl, inr}
+use Rattle.std.specs.Prelude.{IfSome}
+use Rattle.toll_keep.specs.declared.keep_fault.KeepFault.{KeepFault}
+use Rattle.toll_keep.specs.declared.keep_fault.KeepFault.TheVariants.{Memory}
+use Rattle.toll_plant.specs.declared.outcome.Outcome.TheVariants.{Fault}
+use Rattle.toll_service.proofs.Common.{Bytes, Meaning, IsCall, AreNumberedFrom, outcomes_in, ImportLine, IsImportPrintout, Printout, Plant, Poll, Ready, Pending, ImportState}
+use Rattle.toll_plant.specs.ImportStates.{IsResumed}
 use Rattle.toll_plant.specs.declared.report.ImportReport.{ImportReport}
-use Rattle.toll_programs.specs.Outputs.{IsStoppedImportPrintout, refused_file}
-use Rattle.toll_service.specs.Listeners.{BeginsOrRefuses, ImportYields, IsRequestedDone, IsImportAborted, IsReadyWith, IsInputServed, IsFrameResponseIfRoom}
+use Rattle.toll_programs.specs.Outputs.{IsMetByImport, IsStoppedImportPrintout, on_error, refused_file}
+use Rattle.toll_programs.specs.Printing.{fault_line}
+use Rattle.toll_programs.specs.declared.status.Status.TheVariants.{Failed}
+use Rattle.toll_service.specs.Listeners.{BeginsOrRefuses, ImportYields, IsRequestedDone, IsImportAborted, IsImportFault, IsReadyWith, IsInputServed, IsFailureResponse, IsFrameResponseIfRoom, IsTurnFault}
 use Rattle.toll_service.specs.Requested.{ImportFile, requested_by_call}
 
 -- A frame was answered.
@@ -35,3 +42,29 @@ pub turn_aborted : (lines : List ImportLine) (why : Bytes) (poll : Poll ImportSt
     → IsReadyWith poll (IsFrameResponseIfRoom keep_usable p) → IsReadyWith poll (λ reported. IsImportAborted lines why reported keep_usable)
 turn_aborted lines why (Ready reported) keep_usable p stopped telling = (p, stopped, telling)
 turn_aborted lines why (Pending import) keep_usable p stopped never = absurd never
+
+-- the fault of a turn: there was no memory for the response; or it is that of the output, whose failure is reported
+abbrev IsMetBy : Option KeepFault → Poll ImportState → Printout → KeepFault → Type 0
+IsMetBy noted poll p fault = (fault ≡ Memory) ⊎ ((noted ≡ Some fault) × IsReadyWith poll (IsFailureResponse p))
+
+-- The response reports the fault of a command.
+pub turn_met : {K : Type 0} (meaning : Meaning K) (old new : K) (poll : Poll ImportState) (p : Printout) (noted met : Option KeepFault)
+    → IfSome noted (λ fault. p ≡ on_error Failed (fault_line fault)) → IfSome met (IsMetBy noted poll p) → IfSome met (IsTurnFault meaning old new Plant poll)
+turn_met meaning old new poll p noted None shown none = tt
+turn_met meaning old new poll p noted (Some fault) shown (inl memory) = inl memory
+turn_met meaning old new (Ready reported) p noted (Some fault) shown (inr (is, ready)) =
+    let its = subst (λ n. IfSome n (λ fault. p ≡ on_error Failed (fault_line fault))) is shown in
+    inr (subst (λ q. IsReadyWith (Ready reported) (IsFailureResponse q)) its ready).0
+turn_met meaning old new (Pending import) p noted (Some fault) shown (inr (is, never)) = absurd never
+
+-- A record of an import met its fault.
+pub import_met : {K : Type 0} (meaning : Meaning K) (old new : K) (was now : ImportState) (report : ImportReport) (poll : Poll ImportState) (p : Printout)
+    (noted met : Option KeepFault) → IsResumed meaning old new was now → report.lines.items ≡ now.lines → IfSome noted (IsMetByImport (Ok report))
+    → IfSome met (IsMetBy noted poll p) → IfSome met (IsImportFault meaning old new was)
+import_met meaning old new was now report poll p noted None resumed its reports none = tt
+import_met meaning old new was now report poll p noted (Some fault) resumed its reports (inl memory) = inl memory
+import_met meaning old new was now report poll p noted (Some fault) resumed its reports (inr (is, ready)) =
+    elim (subst (λ n. IfSome n (IsMetByImport (Ok report))) is reports) [
+      | inl memory ↦ inl memory
+      | inr there ↦ inr (now, resumed, subst (λ lines. Contains (outcomes_in lines) (Fault fault)) its there)
+    ]

@@ -1,8 +1,6 @@
 //! An import that the plant asked a server for.
-ghost use Rattle.std.specs.Prelude.{◌≡◌, ◌⊎◌, Contains, IfSome, is_none};
+ghost use Rattle.std.specs.Prelude.{◌≡◌, IfSome, is_none};
 ghost use Rattle.toll_files.specs.Faults.{fault_text};
-ghost use Rattle.toll_plant.specs.Imports.{outcomes_in};
-ghost use Rattle.toll_plant.specs.declared.outcome.Outcome.{Outcome};
 ghost use Rattle.toll_service.specs.Listeners.{ImportResumed, IsImportAborted, IsImportFault, IsReadyWith};
 
 use crate::reserved_reply::ReservedReply;
@@ -10,8 +8,8 @@ use crate::turn_result::TurnResult;
 use std::alloc::Global;
 use std::marker::Model;
 use toll_files::OfficeFault;
-use toll_keep::{Keep, KeepFault};
-use toll_plant::{Import, ImportLine, ImportReport, Outcome};
+use toll_keep::Keep;
+use toll_plant::Import;
 use toll_programs::{output_of_import, output_of_stopped_import};
 use toll_server::Poll;
 
@@ -47,10 +45,8 @@ impl PendingImport {
     {
         self.import.resume(alloc, keep);
         if self.import.is_over() {
-            let report = self.import.into_report();
-            let met = fault_in(&report);
-            self.reserved
-                .write(alloc, &output_of_import(alloc, Ok(report)), met)
+            let done = output_of_import(alloc, Ok(self.import.into_report()));
+            self.reserved.write(alloc, &done)
         } else {
             TurnResult {
                 poll: Poll::Pending(self),
@@ -67,21 +63,6 @@ impl PendingImport {
     {
         let report = self.import.into_report();
         let done = output_of_stopped_import(alloc, &report, fault.line());
-        self.reserved.write(alloc, &done, KeepFault::Closed)
-    }
-}
-
-// The fault that the last record of an import met, or Memory.
-fn fault_in(report: &ImportReport) -> KeepFault
-    ensures { (result ≡ KeepFault.Memory) ⊎ Contains (outcomes_in report.now.lines.items) (Outcome.Fault result) }
-{
-    match report.lines.last() {
-        Some(
-            ImportLine {
-                outcome: Outcome::Fault(fault),
-                ..
-            },
-        ) => *fault,
-        _ => KeepFault::Memory,
+        self.reserved.write(alloc, &done)
     }
 }

@@ -1,8 +1,8 @@
 //! What the plant asks of a server.
-ghost use Rattle.std.specs.Cow.{cow_slice_items};
-ghost use Rattle.std.specs.Prelude.{◌≡◌, ◌⊎◌, map, [], IfNone, IfOk, IfSome, OnErr, is_none};
-ghost use Rattle.toll_programs.specs.Outputs.{printout_of};
+ghost use Rattle.std.specs.Prelude.{◌≡◌, map, IfNone, IfOk, IfSome, OnErr, is_none};
+ghost use Rattle.toll_programs.specs.Outputs.{on_error, printout_of};
 ghost use Rattle.toll_programs.specs.Printing.{fault_line};
+ghost use Rattle.toll_programs.specs.declared.status.Status.TheVariants.{Failed};
 ghost use Rattle.toll_server.specs.declared.listener.Listener.{Listener};
 ghost use Rattle.toll_service.specs.Listeners.{BeginsOrRefuses, IsRequestedDone, IsInputServed, IsTurnFault};
 ghost use Rattle.toll_service.specs.Requested.{ImportFile, is_import, requested_by_words, requested_in};
@@ -14,7 +14,7 @@ use std::alloc::{AllocError, Global};
 use std::borrow::CowSlice;
 use toll_keep::{Keep, KeepFault};
 use toll_plant::{Import, WordsFault, command_of};
-use toll_programs::{Output, Status, execute, output_of_import};
+use toll_programs::{Output, execute, output_of_import};
 use toll_protocol::Call;
 use toll_server::Poll;
 
@@ -40,7 +40,7 @@ pub fn answer_plant<K: Keep>(
         Some(file) => Ok(begin(alloc, file, reserved)),
         None => {
             let done = execute_words(alloc, keep, &call.words)?;
-            Ok(reserved.write(alloc, &done, fault_in(&done)))
+            Ok(reserved.write(alloc, &done))
         }
     }
 }
@@ -68,7 +68,7 @@ fn begin(alloc: Global, file: &[u8], reserved: ReservedReply) -> TurnResult
         },
         Err(fault) => {
             let done = output_of_import(alloc, Err(fault));
-            reserved.write(alloc, &done, KeepFault::Memory)
+            reserved.write(alloc, &done)
         }
     }
 }
@@ -77,32 +77,12 @@ fn begin(alloc: Global, file: &[u8], reserved: ReservedReply) -> TurnResult
 fn execute_words<K: Keep>(alloc: Global, keep: &mut K, words: &[&str]) -> Result<Output, AllocError>
     ensures err { OnErr result (keep.new ≡ keep.old) }
     ensures done { IfOk result (λ done. IsRequestedDone K.meaning keep.old keep.new (requested_by_words (map (λ w. w.now) words.now)) (printout_of done)) }
+    ensures fault { IfOk result (λ done. IfSome done.fault (λ fault. printout_of done ≡ on_error Failed (fault_line fault))) }
 {
     match command_of(alloc, words) {
         Ok(command) => Ok(execute(alloc, keep, &command)),
-        Err(WordsFault::Usage(usage)) => Ok(Output::on_stderr(
-            Status::Usage,
-            CowSlice::Owned(usage),
-        )),
+        Err(WordsFault::Usage(usage)) => Ok(Output::usage(CowSlice::Owned(usage))),
         Err(WordsFault::Memory) => Err(AllocError),
-    }
-}
-
-// The fault of which an output has the line and nothing else, or Memory.
-fn fault_in(done: &Output) -> KeepFault
-    ensures { (result ≡ KeepFault.Memory) ⊎ ((cow_slice_items done.now.stdout ≡ []) × (cow_slice_items done.now.stderr ≡ fault_line result)) }
-{
-    let line: &[u8] = &done.stderr;
-    if !done.stdout.is_empty() {
-        KeepFault::Memory
-    } else if line == b"fault Damaged\n".as_slice() {
-        KeepFault::Damaged
-    } else if line == b"fault Disk\n".as_slice() {
-        KeepFault::Disk
-    } else if line == b"fault Closed\n".as_slice() {
-        KeepFault::Closed
-    } else {
-        KeepFault::Memory
     }
 }
 

@@ -20,7 +20,7 @@ pub struct ReservedReply {
 }
 
 impl ReservedReply {
-    ghost use Rattle.std.specs.Prelude.{◌≡◌, ◌⊎◌, IfSome, is_none};
+    ghost use Rattle.std.specs.Prelude.{◌≡◌, ◌⊎◌, IfSome, Some, is_none};
     ghost use Rattle.toll_programs.specs.Outputs.{printout_of};
     ghost use Rattle.toll_service.specs.Listeners.{IsReadyWith, IsFailureResponse, IsFrameResponse, IsFrameResponseIfRoom};
     ghost use Rattle.toll_service.specs.Unwritten.{status_alone, status_unwritten};
@@ -38,18 +38,18 @@ impl ReservedReply {
         }
     }
 
-    /// The reply to the plant, and the fault that was met if the output is that of a failure. If there is no
-    /// memory for all of the output, the reply is the exit status alone, as of a program that can write nothing,
-    /// and the fault of a failure is Memory.
-    pub fn write(self, alloc: Global, done: &Output, met: KeepFault) -> TurnResult
+    /// The reply to the plant, and the fault of the output. If there is no memory for all of the output, the
+    /// reply is the exit status alone, as of a program that can write nothing, and the fault of a failure is
+    /// Memory.
+    pub fn write(self, alloc: Global, done: &Output) -> TurnResult
         ensures frame { IsReadyWith result.poll (IsFrameResponseIfRoom (is_none result.fault) (printout_of done.now)) }
         ensures met { IfSome result.fault (λ fault. (fault ≡ KeepFault.Memory)
-            ⊎ ((fault ≡ met) × IsReadyWith result.poll (λ reported. IsFailureResponse (printout_of done.now) reported))) }
+            ⊎ ((done.now.fault ≡ Some fault) × IsReadyWith result.poll (λ reported. IsFailureResponse (printout_of done.now) reported))) }
     {
         match done.as_response().encode(alloc) {
             Ok(frame) => TurnResult {
                 poll: Poll::Ready(frame),
-                fault: (done.status == Status::Failed).then_some(met),
+                fault: done.fault,
             },
             Err(_) => self.write_status(ReservedReply::code_unwritten(done)),
         }

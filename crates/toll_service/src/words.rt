@@ -8,10 +8,10 @@ ghost use Rattle.toll_service.specs.Doing.{AreWordsOver, IsDoneByServerOrHere, I
 use crate::doing::with_keep;
 use crate::office_path::{KeepOpener, OfficePath};
 use crate::operation::Operation;
-use toll_keep::Keep;
+use toll_keep::{Keep, KeepFault};
 use toll_plant::{WordsFault, command_of};
-use toll_programs::{Connector, Output, Status, TracksReads, report, try_server};
-use toll_protocol::Sink;
+use toll_programs::{Connector, Output, Status, TracksReads, print, report, try_server};
+use toll_protocol::{Response, Sink};
 
 /// Does what these words of the plant ask for, and gives the exit status. If the office has a server, the
 /// server does it. Otherwise it is done over the office, as [`plant_line`](toll_programs::plant_line) does
@@ -50,7 +50,7 @@ pub fn do_words<
             )
         }
         Err(WordsFault::Usage(usage)) => report(error, &usage, Status::Usage),
-        Err(WordsFault::Memory) => Output::fault(b"fault Memory\n").print(output, error),
+        Err(WordsFault::Memory) => Output::fault(KeepFault::Memory).print(output, error),
     }
 }
 
@@ -112,6 +112,13 @@ fn serve_or_do<K: Keep, O: KeepOpener<K>, S: TracksReads + Drop, C: Connector<S>
     { operation.run(alloc, keep) };
     match with_keep(office_path, run) {
         Ok(done) => done.print(output, error),
-        Err(fault) => Output::fault(fault.line()).print(output, error),
+        Err(fault) => {
+            let refused = Response {
+                status: Status::Failed.code(),
+                output: b"",
+                error: fault.line(),
+            };
+            print(&refused, output, error)
+        }
     }
 }
