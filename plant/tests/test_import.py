@@ -8,7 +8,6 @@ import shutil
 import signal
 import sys
 import threading
-import time
 import types
 
 import openpyxl
@@ -344,15 +343,15 @@ def test_seventeen_thousand_actuals_go_in_but_for_three(program, tmp_path):
         assert old in lines[row - 1], lines[row - 1]
         lines[row - 1] = lines[row - 1].replace(old, new)
     path = sheet(plant, "".join(lines))
-    begun = time.monotonic()
+    before = sum(os.times()[:4])
     done = plant.run("import", path)
-    took = time.monotonic() - begun
+    seconds = sum(os.times()[:4]) - before  # of processors, with those of `toll`
     text = done.out + done.err
     assert done.out.splitlines()[-1] == "17,000 actuals: 16,997 accepted, 0 there already, 1 refused, 2 can't be read" and done.status == 1
     assert "row 5000 (OWNER-01 " in done.out and "row 9002, column I (lot)" in text and "row 16500, column L (day)" in text
     again = plant.run("import", path)
     assert again.out.splitlines()[-1] == "17,000 actuals: 0 accepted, 16,997 there already, 1 refused, 2 can't be read; nothing was new"
-    assert took < 60
+    assert seconds < 60
 
 
 @pytest.mark.parametrize("again", [("007", "103"), ("7", "0103"), ("0000000007", "103"), ("7", "103")])
