@@ -17,12 +17,12 @@ TESTS, PROVED, PROMISES = "tools/docs/tests.txt", "docs/engineering/PROVED.md", 
 MOST_DEFINITIONS, MOST_WRONG_BODIES = 3, 6  # of a promise; of a crate
 INTRODUCTION = """# Promises
 
-`tools/check-docs promises` makes this page. A line leads from a promise, by its number in [PROVED](PROVED.md), to the \
-laws and contracts that carry it (with some clauses), definitions in those clauses, the code, wrong bodies (files of a \
-crate's `must-fail/`), and tests. Files are below `crates/`. `-`: the clauses carry the promise alone.
+`tools/check-docs promises` makes this page. A line leads from a promise, by its number in [PROVED](PROVED.md), which \
+has its laws and clauses, to definitions in those clauses, the code, wrong bodies (files of a crate's `must-fail/`), and \
+tests. Files are below `crates/`. `-`: the clauses carry the promise alone.
 
-|promise|law or contract|definition|code|wrong body|test|
-|---|---|---|---|---|---|
+|promise|definition|code|wrong body|test|
+|---|---|---|---|---|
 """
 
 
@@ -106,7 +106,6 @@ class Promises:
 
     def cells(self, promise: Promise) -> Iterator[str]:
         yield promise.number
-        yield ", ".join(f"`{name}`" + (f" ({quoted(clauses)})" if clauses else "") for name, clauses in promise.laws)
         yield definitions_of(promise, self.sources)
         yield quoted(f"{item.crate}/{item.file}" for item, _ in promise.items)
         yield quoted(body.path.stem for body in self.wrong_bodies if body.promise == promise.number)

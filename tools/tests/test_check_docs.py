@@ -105,21 +105,20 @@ def change(root: Path, name: str, old: str, new: str) -> None:
 
 def rows(root: Path) -> dict[str, list[str]]:
     lines = (line.split("|") for line in Promises(root, Sources(root)).page().split("\n"))
-    return {cells[1]: cells[2:-1] for cells in lines if len(cells) == 8 and cells[1][0].isdigit()}
+    return {cells[1]: cells[2:-1] for cells in lines if len(cells) == 7 and cells[1][0].isdigit()}
 
 
 def test_a_promise_leads_to_all_that_belongs_to_it(repository: Path) -> None:
     by_number = rows(repository)
     enough = "`toll_stock/specs/Enough.antt`: `IsEnough`"
     assert by_number["1.1"] == [
-        "`ship` (`enough`)",
         enough,
         "`toll_stock/src/shipping.rt`",
         "`more_shipped_than_there_is`",
         "`what_is_there_is_shipped`",
     ]
-    assert by_number["1.2"][1] == f"`toll_history/specs/Verdict.antt`: `ship_checks`, `Decides`; {enough}"
-    assert by_number["1.3"] == ["`Lots::total`", "-", "`toll_stock/src/shipping.rt`", "-", "-"]
+    assert by_number["1.2"][0] == f"`toll_history/specs/Verdict.antt`: `ship_checks`, `Decides`; {enough}"
+    assert by_number["1.3"] == ["-", "`toll_stock/src/shipping.rt`", "-", "-"]
 
 
 def add_wrong_body(root: Path, name: str, *, promise: str, old: str = "    { 0 }") -> None:
@@ -129,7 +128,7 @@ def add_wrong_body(root: Path, name: str, *, promise: str, old: str = "    { 0 }
 
 def test_a_wrong_body_names_its_promise(repository: Path) -> None:
     add_wrong_body(repository, "a_total_is_one_more", promise="# promise 1.3: A lot has a total")
-    bodies = [cells[3] for cells in rows(repository).values()]
+    bodies = [cells[2] for cells in rows(repository).values()]
     assert bodies == ["`more_shipped_than_there_is`", "-", "`a_total_is_one_more`"]
     assert mistakes(repository) == []
 
