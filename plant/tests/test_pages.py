@@ -88,7 +88,7 @@ def test_each_command_has_an_example_of_itself():
 
 def test_the_clerks_page_says_of_each_command_what_its_mistake_can_still_be():
     part = (ROOT / "docs" / "hilpoven.md").read_text().split("## I recorded it wrongly")[1].split("\n## ")[0]
-    first = " ".join(re.findall(r"^\| (.+?) \|", part, re.M))
+    first = " ".join(re.findall(r"^- (.+?): ", part, re.M))
     assert {line.name for line in grammar.LINES.values() if not line.is_question} <= set(re.findall(r"`([a-z-]+)`", first))
 
 
