@@ -29,7 +29,9 @@ class Clone:
         self.folder, self.page = folder, folder / "clone" / "demo" / "page"
         for name in ("demo", "tools", "plant/bin"):
             (folder / "clone" / name).mkdir(parents=True)
-        shutil.copy(ROOT / "demo" / "page", self.page)
+        self.kit = folder / "kit"
+        self.page.write_text((ROOT / "demo" / "page").read_text().replace('"/opt/rattle"', repr(str(self.kit))))
+        self.page.chmod(0o755)
         shutil.copytree(ROOT / "tools" / "checking", folder / "clone" / "tools" / "checking")
         script(folder / "clone" / "plant" / "bin" / "hilpoven", 'echo "$TOLL $*"')
         self.builds("true")
@@ -111,6 +113,13 @@ def test_without_the_toolchain_nothing_is_installed(clone: Clone) -> None:
     status, out, err = clone.run()
     assert (status, out) == (3, "") and not (clone.folder / "asked").exists()
     assert err.startswith("demo/page: the toolchain's command rt isn't here, and nothing is served")
+
+
+def test_the_toolchain_is_found_where_its_kit_lies(clone: Clone) -> None:
+    (clone.kit / "bin").mkdir(parents=True)
+    (clone.folder / "bin" / "rt").rename(clone.kit / "bin" / "rt")
+    status, out, _ = clone.run()
+    assert (status, out) == (0, f"{clone.folder}/clone/out/quick/toll demo\n")
 
 
 @pytest.mark.skipif(os.geteuid() != 0, reason="only root installs packages")
