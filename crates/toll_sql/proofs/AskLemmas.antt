@@ -36,6 +36,13 @@ module _ (sql : List ℕ) (params : Row) (old new : State) (plain : (others : Ot
       let shown = λ (clean : HasCleanDisk new). subst₂ (λ t p. IfOk r (λ x. Shown t p old new (items x))) is are (ok clean) in
       (querying items r mode shown (λ clean. subst₂ (λ t p. IfErr r (FailsToQuery t p old new)) is are (err clean)) (subst₂ (λ t p. Survives old new (CommitsShowing t p old)) is are survives), shown)
 
+  -- The same of an answer that was passed on.
+  pub select_passed : {X : Type 0} (items : X → List Row) (r passed : Result X Error) → passed ≡ r → (text : List ℕ) (given : Row) → text ≡ sql → given ≡ params → (old.in_transaction ≡ false → new.in_transaction ≡ false)
+      → (HasCleanDisk new → IfOk r (λ x. Shown text given old new (items x))) → (HasCleanDisk new → IfErr r (FailsToQuery text given old new)) → Survives old new (CommitsShowing text given old)
+      → IsQuerying old new passed × (HasCleanDisk new → IfOk passed (λ x. Shown sql params old new (items x)))
+  select_passed items r passed same text given is are mode ok err survives =
+      subst (λ a. IsQuerying old new a × (HasCleanDisk new → IfOk a (λ x. Shown sql params old new (items x)))) (sym same) (select_answered items r text given is are mode ok err survives)
+
 -- ---- columns, keys and tests
 
 columns_shown : (at n : ℕ) (params row : Row) → eval_all (terms_from 1 at n) (params ∷ row ∷ []) ≡ columns_from at n row

@@ -1,15 +1,20 @@
 -- The calls of a keep, by what its store did.
-use Rattle.std.proofs.Common.{◌≡◌, ◌≢◌, ◌⊎◌, inl, inr, false, None, List, [], ◌∷◌, Ok, Err, Result, IfOk, OnErr, OnOk, IsTrue, arith, sym, ap, subst, ◌∙◌}
+use Rattle.std.proofs.Common.{◌≡◌, ◌≢◌, ◌⊎◌, ◌+◌, ◌%◌, ◌^◌, ℕ, inl, inr, false, None, List, [], ◌∷◌, Ok, Err, Result, IfOk, OnErr, OnOk, IsTrue, arith, sym, ap, subst, ◌∙◌}
 use Rattle.toll_sql.proofs.Common.{false≢true, cases_Bool, Database, State, Survives, HasCleanDisk, Trees, Change, Content, ContentKeepsRules, content_after, KeepFault, Memory, Disk, Damaged, Closed, IsFinding, IsLooking, IsProbedAfter, LeavesStore, ForIdle, Held, state, Holds, sql_meaning, HoldsIn, IsOurs, LeavesIn, LiesOpen, HasApplied, PutsAll, HasOurs, goes_then, reads_then, read_fault, spared, CallEffect, IsReading, IsSpared, among-more, closes_keep}
 use Rattle.sqlite_trees.specs.declared.store.Store.{Ghosts}
 use Rattle.toll_keep.proofs.Calls.{answered, failed_call}
 use Rattle.toll_keep.specs.Content.{AllChangesFit}
 use Rattle.toll_keep.specs.Meaning.{Meaning}
-use Rattle.toll_sql.specs.Causes.{HasCause, Reason}
+use Rattle.toll_sql.specs.Causes.{CountsOneMore, HasCause, Reason}
 use Rattle.toll_sql.proofs.HoldsAfter.{holds_all}
 use Rattle.toll_sql.proofs.PassLemmas.{IsMadeOrRefused, PassesOn, looks_on, made_on, ok_on, passing, spared_on, told_out, undamaged_on}
 use Rattle.toll_sql.specs.Laws.{leaves_one}
 use Rattle.toll_sql.specs.declared.sql_keep.SqlKeep.{SqlKeep}
+
+-- ---- the count of calls that lacked memory
+
+pub counted : {first mid last : ℕ} → CountsOneMore mid last → mid ≡ first → CountsOneMore first last
+counted more same = more ∙ ap (λ n. (n + 1) % 2 ^ 64) same
 
 -- ---- the store
 

@@ -1,5 +1,5 @@
 -- The cause of an error of the store.
-use Rattle.std.specs.Prelude.{◌≡◌, ◌≤◌, ◌⊎◌, Bool, true, false, IsTrue}
+use Rattle.std.specs.Prelude.{◌≡◌, ◌≤◌, ◌⊎◌, ◌+◌, ◌%◌, ◌^◌, ℕ, Bool, true, false, IsTrue}
 use Rattle.toll_sql.specs.Common.{State, Error, SqliteFailure}
 use Rattle.sqlite.specs.Disk.{MoreFaults}
 use Rattle.sqlite.specs.declared.error.ErrorCode.TheVariants as code
@@ -22,3 +22,7 @@ IsErrorCaused old new e = IsTrue (is_disk_fault e) → Reason old new
 -- Between the first state and the second the store met a cause of a fault of the disk.
 abbrev pub HasCause : State → State → Type 0
 HasCause old new = (old.faults ≤ new.faults) × Reason old new
+
+-- A count of 64 bits went on by one.
+abbrev pub CountsOneMore : ℕ → ℕ → Type 0
+CountsOneMore old new = new ≡ (old + 1) % 2 ^ 64

@@ -74,7 +74,7 @@ fn adopt_ours<S: Alter>(conn: &mut Connection<S>) -> Result<(), OpenFault>
                 Err(misfit(stored_version, FIRST_VERSION))
             }
         },
-        Err(error) => Err(open_fault_of(error)),
+        Err(error) => Err(open_fault_of(error.into_error())),
     }
 }
 

@@ -4,16 +4,15 @@ ghost use Rattle.sqlite.specs.Held.{state};
 ghost use Rattle.sqlite.specs.State.{HasCleanDisk};
 ghost use Rattle.toll_trace.specs.Edges.{AreEdges, IsEdge};
 ghost use Rattle.toll_keep.specs.Holding.{IsEdgeOfSome};
-ghost use Rattle.toll_sql.specs.Asked.{AreReadWith};
 ghost use Rattle.toll_sql.specs.AskedTexts.{all_text};
-ghost use Rattle.toll_sql.specs.Asking.{IsLooking, IsQuerying};
+ghost use Rattle.toll_sql.specs.Asking.{IsLooking};
 ghost use Rattle.toll_sql.specs.Cells.{columns_from};
-ghost use Rattle.toll_sql.specs.EdgeRows.{AreEdgesOf, AreOwnersEdges, AreOwnersPairs, AreEdgesReadFrom, ForAllMoves, ForMoves, HasNoEdge, LacksAtEdge, ShowEdges, edge_cells};
+ghost use Rattle.toll_sql.specs.EdgeRows.{AreEdgesOf, AreOwnersEdges, AreEdgesReadFrom, ForAllMoves, ForMoves, HasNoEdge, LacksAtEdge, edge_cells};
 
 use crate::edge_cells::edge_at;
+use crate::queries::{all_pairs, owners_pairs};
 use crate::store_errors::MemoryLack;
-use sqlite::types::ValueRef;
-use sqlite::{Alter, Connection, Error, Row};
+use sqlite::{Alter, Connection, Row};
 use std::alloc::Global;
 use toll_base::{Edge, Name};
 use toll_keep::KeepFault;
@@ -65,31 +64,6 @@ pub fn read_all_edges<S: Alter>(
     }
 }
 
-// The lots of each consumption and each production of one batch of the owner, if neither is voided and the
-// consumption's segment isn't above the production's.
-fn owners_pairs<S: Alter>(conn: &mut Connection<S>, owner: &Name) -> Result<Vec<Row>, Error>
-    ensures asks { IsQuerying (state S.Store conn.old) (state S.Store conn.new) result }
-    ensures read { HasCleanDisk (state S.Store conn.new) → IfOk result (λ rows. AreOwnersPairs (state S.Store conn.old).now owner.now rows.items) }
-    ensures rows { ForMoves owner.now (state S.Store conn.old) (state S.Store conn.new) (λ s. IfOk result (λ rows. ShowEdges (IsEdge s) rows.items)) }
-{
-    conn.query_all(
-        "SELECT c.lot_owner, c.lot, p.lot_owner, p.lot FROM moves AS c JOIN moves AS p ON p.owner = c.owner AND p.ord = c.ord AND p.number = c.number LEFT JOIN voids AS v ON v.owner = c.owner AND v.mkey = c.mkey LEFT JOIN voids AS w ON w.owner = p.owner AND w.mkey = p.mkey WHERE c.owner = ?1 AND c.kind = 4 AND p.kind = 5 AND c.segment <= p.segment AND v.mkey IS NULL AND w.mkey IS NULL",
-        &[ValueRef::Text(owner.as_bytes())],
-    )
-}
-
-// The same for the batches of all owners.
-fn all_pairs<S: Alter>(conn: &mut Connection<S>) -> Result<Vec<Row>, Error>
-    ensures asks { IsQuerying (state S.Store conn.old) (state S.Store conn.new) result }
-    ensures read { HasCleanDisk (state S.Store conn.new) → IfOk result (λ rows. AreReadWith (state S.Store conn.old).now all_text [] rows.items) }
-    ensures rows { ForAllMoves (state S.Store conn.old) (state S.Store conn.new) (λ c. IfOk result (λ rows. ShowEdges (IsEdgeOfSome c) rows.items)) }
-{
-    conn.query_all(
-        "SELECT c.lot_owner, c.lot, p.lot_owner, p.lot FROM moves AS c JOIN moves AS p ON p.owner = c.owner AND p.ord = c.ord AND p.number = c.number LEFT JOIN voids AS v ON v.owner = c.owner AND v.mkey = c.mkey LEFT JOIN voids AS w ON w.owner = p.owner AND w.mkey = p.mkey WHERE c.kind = 4 AND p.kind = 5 AND c.segment <= p.segment AND v.mkey IS NULL AND w.mkey IS NULL",
-        &[],
-    )
-}
-
 // The edges in the rows, in order, each once.
 fn edges_shown(alloc: Global, lack: &mut MemoryLack, rows: &[Row]) -> Result<Vec<Edge>, KeepFault>
     ensures read { IfOk result (λ edges. AreEdgesReadFrom rows.now edges.items) }
@@ -118,10 +92,7 @@ fn edges_in(alloc: Global, lack: &mut MemoryLack, rows: &[Row]) -> Result<Vec<Ed
         let Some(edge) = edge_at(row) else {
             return Err(KeepFault::Damaged);
         };
-        match edges.push(edge) {
-            Ok(()) => (),
-            Err(error) => return Err(lack.fault_of_row(error.into())),
-        }
+        lack.append(&mut edges, edge)?;
     }
     Ok(edges)
 }

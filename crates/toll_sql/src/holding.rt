@@ -1,18 +1,18 @@
 //! The batch that holds a unit, read from the tables.
-ghost use Rattle.std.specs.Prelude.{◌≡◌, ◌≢◌, [], ◌∷◌, Err, None, IfOk, IfSome, IsTrue, OnOk, IsPermutation};
+ghost use Rattle.std.specs.Prelude.{◌≡◌, ◌≢◌, [], ◌∷◌, Err, None, IfOk, IfSome, IsTrue, OnOk};
 ghost use Rattle.sqlite.specs.Held.{state};
 ghost use Rattle.sqlite.specs.declared.types.Value.TheVariants.{Text};
 ghost use Rattle.sqlite.specs.State.{HasCleanDisk};
 ghost use Rattle.toll_keep.specs.Holding.{IsHolder};
 ghost use Rattle.toll_sql.specs.AskedTexts.{unit_text};
-ghost use Rattle.toll_sql.specs.Asking.{ForContent, IsLooking, IsQuerying, OverOurs};
-ghost use Rattle.toll_sql.specs.HolderRows.{AreBatchRows, AreBatchesOn, HasNoBatch, IsHolderOf, IsRowOfBatch, IsShownIn, ShowHolders, ShowsNoBatch, ReportsHolder, open_on};
+ghost use Rattle.toll_sql.specs.Asking.{ForContent, IsLooking, OverOurs};
+ghost use Rattle.toll_sql.specs.HolderRows.{AreBatchRows, HasNoBatch, IsHolderOf, IsRowOfBatch, IsShownIn, ShowsNoBatch, ReportsHolder};
 
 use crate::cells::name_at;
+use crate::queries::open_batches;
 use crate::store_errors::MemoryLack;
 use crate::stored::StoredRow;
-use sqlite::types::ValueRef;
-use sqlite::{Alter, Connection, Error, Row};
+use sqlite::{Alter, Connection, Row};
 use toll_base::{BatchRow, Name};
 use toll_keep::{Holder, KeepFault};
 
@@ -37,19 +37,6 @@ pub fn read_holder<S: Alter>(
         Ok(rows) => holder_in(&rows),
         Err(error) => Err(lack.fault_of(error)),
     }
-}
-
-// The batches on the unit, of all owners, that aren't closed.
-fn open_batches<S: Alter>(conn: &mut Connection<S>, unit: &Name) -> Result<Vec<Row>, Error>
-    ensures asks { IsQuerying (state S.Store conn.old) (state S.Store conn.new) result }
-    ensures read { HasCleanDisk (state S.Store conn.new) → IfOk result (λ rows. AreBatchesOn (state S.Store conn.old).now unit.now rows.items) }
-    ensures rows { ForContent (state S.Store conn.old) (state S.Store conn.new) (λ c. IfOk result (λ rows. ShowHolders c unit.now rows.items)) }
-    ensures found { OverOurs (state S.Store conn.old) (state S.Store conn.new) (λ db. IfOk result (λ rows. IsPermutation (open_on unit.now db) rows.items)) }
-{
-    conn.query_all(
-        "SELECT owner, ord, number, unit, state, closed FROM batches WHERE unit = ?1 AND closed = 0",
-        &[ValueRef::Text(unit.as_bytes())],
-    )
 }
 
 // The batch of the rows: that of the last row, if there are several. Each must be a batch's row.

@@ -89,10 +89,7 @@ fn list_rows<X: StoredPlantRow>(
         let Some(it) = X::read(row) else {
             return Err(KeepFault::Damaged);
         };
-        match listed.push(it) {
-            Ok(()) => (),
-            Err(error) => return Err(lack.fault_of_row(error.into())),
-        }
+        lack.append(&mut listed, it)?;
     }
     Ok(listed)
 }

@@ -12,7 +12,7 @@ use crate::adopting::{adopt_tables, new_office};
 use crate::creating::create_tables;
 use crate::open_fault::OpenFault;
 use crate::sql_keep::SqlKeep;
-use crate::store_errors::{MemoryLack, fault_of};
+use crate::store_errors::{LackCount, fault_of};
 use sqlite::{Alter, Connection, Error, ErrorCode, FileFrom, FileStore, MemStore, Start};
 use std::alloc::Global;
 use std::rt::HostRuntime;
@@ -29,7 +29,7 @@ impl<S: Alter> SqlKeep<S> {
             conn,
             closed: false,
             unsure: true,
-            lack: MemoryLack::none(),
+            lacks: LackCount::zero(),
         }
     }
 
@@ -68,7 +68,7 @@ impl<S: Alter> SqlKeep<S> {
             conn,
             closed: _,
             unsure: _,
-            lack: _,
+            lacks: _,
         } = self;
         conn
     }

@@ -93,8 +93,5 @@ fn put_read(slice: &mut Slice, lack: &mut MemoryLack, row: Row) -> Result<(), Ke
     if !slice.fits(&row) {
         return Err(KeepFault::Damaged);
     }
-    match slice.put(row) {
-        Ok(()) => Ok(()),
-        Err(error) => Err(lack.fault_of_row(error)),
-    }
+    lack.put(slice, row)
 }

@@ -10,6 +10,7 @@ ghost use Rattle.toll_keep.specs.Holding.{DrawsFor, GivesRows, GivesTrace, IsEdg
 ghost use Rattle.toll_keep.specs.Meaning.{OverContent};
 ghost use Rattle.toll_keep.specs.Reads.{IsContentKept, ReadsOneMore};
 ghost use Rattle.toll_sql.specs.AskedTexts.{all_text};
+ghost use Rattle.toll_sql.specs.Causes.{CountsOneMore};
 ghost use Rattle.toll_sql.specs.Asking.{ForIdle, IsProbedAfter, LeavesStore};
 ghost use Rattle.toll_sql.specs.EdgeRows.{AreEdgesOf, AreOwnersEdges};
 ghost use Rattle.toll_sql.specs.HolderRows.{ReportsHolder};
@@ -21,7 +22,7 @@ use crate::holding::read_holder;
 use crate::listing::{read_owners, read_units};
 use crate::queries::find_open;
 use crate::slice_reading::{read_rows_of, read_slice};
-use crate::store_errors::MemoryLack;
+use crate::store_errors::{LackCount, MemoryLack};
 use crate::writing::make_changes;
 use sqlite::{Alter, Connection};
 use std::alloc::{AllocError, Global};
@@ -33,7 +34,7 @@ use toll_trace::{Graph, Recorded, Step, Way};
 /// what it needs, and each `apply` is one transaction.
 ///
 /// The clauses `shown` and `known` of its reading calls hold whatever rows the tables have: a call that succeeds
-/// has read rows of the office alone. By `lack`, Memory is the fault only if the call lacked memory. So of a
+/// has read rows of the office alone. By `lack`, Memory is the fault only if this call lacked memory. So of a
 /// broken row a call reports Damaged, unless it lacked memory, met a fault of the disk, or was closed before.
 /// `trace`, which no program calls on it, has none of these clauses.
 #[derive(Drop)]
@@ -42,8 +43,8 @@ pub struct SqlKeep<S: Alter> {
     pub(crate) closed: bool,
     // Whether the store is open isn't known: no call was answered yet, or there was no memory to ask it.
     pub(crate) unsure: bool,
-    // Whether the latest call lacked memory.
-    pub(crate) lack: MemoryLack,
+    // How many calls lacked memory.
+    pub(crate) lacks: LackCount,
     ghost idle: { conn.in_transaction ≡ false },
     ghost unlimited: { conn.step_limit ≡ None },
     ghost sure: { unsure ≡ false → HasCleanDisk (state S.Store conn) → IsTrue (state S.Store conn).is_open },
@@ -59,17 +60,19 @@ impl<S: Alter> SqlKeep<S> {
         ensures reading { IsReading (sql_meaning S.Store) self.old self.new result }
         ensures stays { OnOk result (LeavesStore (state S.Store self.old.conn) (state S.Store self.new.conn) result) }
         ensures undamaged { result ≢ Err KeepFault.Damaged }
-        ensures lack { result ≡ Err KeepFault.Memory → IsTrue self.new.lack.is_noted }
+        ensures lack { result ≡ Err KeepFault.Memory → CountsOneMore self.old.lacks.count self.new.lacks.count }
+        ensures same { OnOk result (self.new.lacks.count ≡ self.old.lacks.count) }
     {
         if self.closed {
             return Err(KeepFault::Closed);
         }
-        self.lack = MemoryLack::none();
         if !self.unsure {
             self.unsure = true;
             return Ok(());
         }
-        let found = find_open(&mut self.conn, &mut self.lack);
+        let mut lack = MemoryLack::none();
+        let found = find_open(&mut self.conn, &mut lack);
+        self.lacks.add(lack);
         self.closed = match &found {
             Ok(()) | Err(KeepFault::Memory) => false,
             Err(_) => true,
@@ -79,15 +82,16 @@ impl<S: Alter> SqlKeep<S> {
 
     // Passes the answer on. If it is Disk or Damaged, the keep is closed from now on. After Memory the store
     // may have shut itself: the keep asks it, and if it has, the answer is Disk.
-    fn pass_on<X>(&mut self, answer: Result<X, KeepFault>) -> Result<X, KeepFault>
+    fn pass_on<X>(&mut self, answer: Result<X, KeepFault>, lack: MemoryLack) -> Result<X, KeepFault>
         requires { HasCleanDisk (state S.Store self.old.conn) → OnOk answer (IsTrue (state S.Store self.old.conn).is_open) }
         ensures same { answer ≢ Err KeepFault.Memory → (result ≡ answer) × (self.new.conn ≡ self.old.conn) }
         ensures requested { answer ≡ Err KeepFault.Memory → IsProbedAfter (state S.Store self.old.conn) (state S.Store self.new.conn) result self.new.unsure }
         ensures closed { self.new.closed ≡ closes_keep result }
-        ensures lack { (answer ≡ Err KeepFault.Memory → IsTrue self.old.lack.is_noted) → result ≡ Err KeepFault.Memory → IsTrue self.new.lack.is_noted }
+        ensures lack { (answer ≡ Err KeepFault.Memory → IsTrue lack.is_noted) → result ≡ Err KeepFault.Memory
+            → CountsOneMore self.old.lacks.count self.new.lacks.count }
     {
         let answer = match answer {
-            Err(KeepFault::Memory) => return self.probe_after(),
+            Err(KeepFault::Memory) => return self.probe_after(lack),
             answer => answer,
         };
         self.closed = answer.is_err();
@@ -96,13 +100,13 @@ impl<S: Alter> SqlKeep<S> {
     }
 
     // The answer after Memory.
-    fn probe_after<X>(&mut self) -> Result<X, KeepFault>
+    fn probe_after<X>(&mut self, lack: MemoryLack) -> Result<X, KeepFault>
         ensures requested { IsProbedAfter (state S.Store self.old.conn) (state S.Store self.new.conn) result self.new.unsure }
         ensures closed { self.new.closed ≡ closes_keep result }
-        ensures lack { self.new.lack ≡ self.old.lack }
+        ensures lack { IsTrue lack.is_noted → CountsOneMore self.old.lacks.count self.new.lacks.count }
     {
-        let mut lack = self.lack;
-        let found = find_open(&mut self.conn, &mut lack);
+        self.lacks.add(lack);
+        let found = find_open(&mut self.conn, &mut MemoryLack::none());
         self.unsure = found.is_err();
         let fault = match found {
             Ok(()) => KeepFault::Memory,
@@ -116,12 +120,13 @@ impl<S: Alter> SqlKeep<S> {
     fn rows_of(&mut self, alloc: Global, owner: &Name) -> Result<Slice, KeepFault>
         ensures reading { IsReading (sql_meaning S.Store) self.old self.new result }
         ensures reads { OverContent (sql_meaning S.Store) self.old self.new (λ c. GivesRows c owner.now result) }
-        ensures lack { result ≡ Err KeepFault.Memory → IsTrue self.new.lack.is_noted }
+        ensures lack { result ≡ Err KeepFault.Memory → CountsOneMore self.old.lacks.count self.new.lacks.count }
         ensures shown { ShowsOwnRows tables_of_owners owner.now (state S.Store self.old.conn) (state S.Store self.new.conn) result }
     {
         self.begin()?;
-        let read = read_rows_of(&mut self.conn, &mut self.lack, alloc, owner);
-        self.pass_on(read)
+        let mut lack = MemoryLack::none();
+        let read = read_rows_of(&mut self.conn, &mut lack, alloc, owner);
+        self.pass_on(read, lack)
     }
 
     // The lots that the batches of these owners consumed and produced.
@@ -159,73 +164,79 @@ impl<S: Alter> Keep for SqlKeep<S> {
     fn slice(&mut self, alloc: Global, owner: &Name) -> Result<Option<Slice>, KeepFault>
         ensures reading { IsReading (sql_meaning S.Store) self.old self.new result }
         ensures reads { OverContent (sql_meaning S.Store) self.old self.new (λ c. IfOk result (λ slice. slice ≡ slice_of c owner.now)) }
-        ensures lack { result ≡ Err KeepFault.Memory → IsTrue self.new.lack.is_noted }
+        ensures lack { result ≡ Err KeepFault.Memory → CountsOneMore self.old.lacks.count self.new.lacks.count }
         ensures shown { ShowsSlice owner.now (state S.Store self.old.conn) (state S.Store self.new.conn) result }
         ensures known { ForIdle (state S.Store self.old.conn) (state S.Store self.new.conn)
             (λ db. IfOk result (λ slice. slice ≡ None → IsReportedUnknown db owner.now)) }
     {
         self.begin()?;
-        let read = read_slice(&mut self.conn, &mut self.lack, alloc, owner);
-        self.pass_on(read)
+        let mut lack = MemoryLack::none();
+        let read = read_slice(&mut self.conn, &mut lack, alloc, owner);
+        self.pass_on(read, lack)
     }
 
     fn owners(&mut self, alloc: Global) -> Result<Vec<OwnerRow>, KeepFault>
         ensures reading { IsReading (sql_meaning S.Store) self.old self.new result }
         ensures reads { OverContent (sql_meaning S.Store) self.old self.new (λ c. IfOk result (λ rows. rows.items ≡ c.owners)) }
-        ensures lack { result ≡ Err KeepFault.Memory → IsTrue self.new.lack.is_noted }
+        ensures lack { result ≡ Err KeepFault.Memory → CountsOneMore self.old.lacks.count self.new.lacks.count }
         ensures shown { ForIdle (state S.Store self.old.conn) (state S.Store self.new.conn)
             (λ db. IfOk result (λ rows. AreReported owner_kind db rows.items)) }
     {
         self.begin()?;
-        let read = read_owners(&mut self.conn, &mut self.lack, alloc);
-        self.pass_on(read)
+        let mut lack = MemoryLack::none();
+        let read = read_owners(&mut self.conn, &mut lack, alloc);
+        self.pass_on(read, lack)
     }
 
     fn units(&mut self, alloc: Global) -> Result<Vec<UnitRow>, KeepFault>
         ensures reading { IsReading (sql_meaning S.Store) self.old self.new result }
         ensures reads { OverContent (sql_meaning S.Store) self.old self.new (λ c. IfOk result (λ rows. rows.items ≡ c.units)) }
-        ensures lack { result ≡ Err KeepFault.Memory → IsTrue self.new.lack.is_noted }
+        ensures lack { result ≡ Err KeepFault.Memory → CountsOneMore self.old.lacks.count self.new.lacks.count }
         ensures shown { ForIdle (state S.Store self.old.conn) (state S.Store self.new.conn)
             (λ db. IfOk result (λ rows. AreReported unit_kind db rows.items)) }
     {
         self.begin()?;
-        let read = read_units(&mut self.conn, &mut self.lack, alloc);
-        self.pass_on(read)
+        let mut lack = MemoryLack::none();
+        let read = read_units(&mut self.conn, &mut lack, alloc);
+        self.pass_on(read, lack)
     }
 
     fn holder(&mut self, _alloc: Global, unit: &Name) -> Result<Option<Holder>, KeepFault>
         ensures reading { IsReading (sql_meaning S.Store) self.old self.new result }
         ensures reads { OverContent (sql_meaning S.Store) self.old self.new (λ c. IfOk result (IsHolder c unit.now)) }
-        ensures lack { result ≡ Err KeepFault.Memory → IsTrue self.new.lack.is_noted }
+        ensures lack { result ≡ Err KeepFault.Memory → CountsOneMore self.old.lacks.count self.new.lacks.count }
         ensures shown { ForIdle (state S.Store self.old.conn) (state S.Store self.new.conn) (λ db. ReportsHolder unit.now db.trees result) }
     {
         self.begin()?;
-        let read = read_holder(&mut self.conn, &mut self.lack, unit);
-        self.pass_on(read)
+        let mut lack = MemoryLack::none();
+        let read = read_holder(&mut self.conn, &mut lack, unit);
+        self.pass_on(read, lack)
     }
 
     fn edges(&mut self, alloc: Global, owner: &Name) -> Result<Vec<Edge>, KeepFault>
         ensures reading { IsReading (sql_meaning S.Store) self.old self.new result }
         ensures reads { OverContent (sql_meaning S.Store) self.old self.new (λ c. IfOk result (λ edges. AreEdges (IsEdge (c.rows owner.now)) edges.items)) }
-        ensures lack { result ≡ Err KeepFault.Memory → IsTrue self.new.lack.is_noted }
+        ensures lack { result ≡ Err KeepFault.Memory → CountsOneMore self.old.lacks.count self.new.lacks.count }
         ensures shown { ForIdle (state S.Store self.old.conn) (state S.Store self.new.conn)
             (λ db. IfOk result (λ edges. AreOwnersEdges db owner.now edges.items)) }
     {
         self.begin()?;
-        let read = read_edges(&mut self.conn, &mut self.lack, alloc, owner);
-        self.pass_on(read)
+        let mut lack = MemoryLack::none();
+        let read = read_edges(&mut self.conn, &mut lack, alloc, owner);
+        self.pass_on(read, lack)
     }
 
     fn all_edges(&mut self, alloc: Global) -> Result<Vec<Edge>, KeepFault>
         ensures reading { IsReading (sql_meaning S.Store) self.old self.new result }
         ensures reads { OverContent (sql_meaning S.Store) self.old self.new (λ c. IfOk result (λ edges. AreEdges (IsEdgeOfSome c) edges.items)) }
-        ensures lack { result ≡ Err KeepFault.Memory → IsTrue self.new.lack.is_noted }
+        ensures lack { result ≡ Err KeepFault.Memory → CountsOneMore self.old.lacks.count self.new.lacks.count }
         ensures shown { ForIdle (state S.Store self.old.conn) (state S.Store self.new.conn)
             (λ db. IfOk result (λ edges. AreEdgesOf db all_text [] edges.items)) }
     {
         self.begin()?;
-        let read = read_all_edges(&mut self.conn, &mut self.lack, alloc);
-        self.pass_on(read)
+        let mut lack = MemoryLack::none();
+        let read = read_all_edges(&mut self.conn, &mut lack, alloc);
+        self.pass_on(read, lack)
     }
 
     fn trace(
@@ -244,7 +255,7 @@ impl<S: Alter> Keep for SqlKeep<S> {
     fn apply(&mut self, alloc: Global, changes: &[Change]) -> Result<(), KeepFault> {
         self.begin()?;
         let made = make_changes(&mut self.conn, alloc, changes);
-        self.pass_on(made)
+        self.pass_on(made, MemoryLack::none())
     }
 
     ghost use Rattle.toll_keep.specs.CallEffects.{among-more};

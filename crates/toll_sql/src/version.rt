@@ -13,7 +13,7 @@ ghost use Rattle.toll_sql.specs.Stores.{LiesIdle};
 ghost use Rattle.toll_sql.specs.declared.table_kind.TableKind.TheVariants.{Meta};
 
 use crate::cells::number_at;
-use crate::queries::all_rows;
+use crate::queries::{StoreError, all_rows};
 use crate::table_kind::TableKind;
 use sqlite::types::ValueRef;
 use sqlite::{Alter, Connection, Error, Row, Transaction};
@@ -45,7 +45,7 @@ pub(crate) fn version_in(rows: &[Row]) -> Option<u64>
 }
 
 /// The version of the store, if it has one, or the error of the store. Its tables are ours.
-pub(crate) fn read_version<S: Alter>(conn: &mut Connection<S>) -> Result<Option<u64>, Error>
+pub(crate) fn read_version<S: Alter>(conn: &mut Connection<S>) -> Result<Option<u64>, StoreError>
     ensures asks { IsQuerying (state S.Store conn.old) (state S.Store conn.new) result }
     ensures version { OverOurs (state S.Store conn.old) (state S.Store conn.new)
         (λ db. (n : ℕ) → HasVersion n db → IfOk result (λ reported. reported ≡ Some n)) }

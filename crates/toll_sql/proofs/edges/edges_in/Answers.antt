@@ -4,8 +4,8 @@ use Rattle.toll_sql.proofs.ListLemmas.{more_shown}
 use Rattle.toll_sql.proofs.SoFar.{first_good}
 use Rattle.toll_sql.proofs.edges.edges_in.Goals as goal
 
-pub returns-in-Err-clause-lacks : goal.returns-in-Err-clause-lacks
-returns-in-Err-clause-lacks c _ = first_good ShowsEdge c.args.rows.now c.loop-row.row-index c.row-item.result c.loop-row-test.true c.row-item.is c.loop-row.invariant.first (c.in-Some.edge, c.in-Some.ensures.valid, c.in-Some.ensures.some)
+pub returns-in_err-append-clause-lacks : goal.returns-in_err-append-clause-lacks
+returns-in_err-append-clause-lacks c _ = first_good ShowsEdge c.args.rows.now c.loop-row.row-index c.row-item.result c.loop-row-test.true c.row-item.is c.loop-row.invariant.first (c.in-Some.edge, c.in-Some.ensures.valid, c.in-Some.ensures.some)
 
 pub loop-row-preserved : goal.loop-row-preserved
 loop-row-preserved c =
@@ -14,7 +14,7 @@ loop-row-preserved c =
     let rows = c.args.rows.now in
     let row = c.row-item.result in
     let edge = c.in-Some.edge in
-    let pushed = c.in-Ok.ensures.items in
+    let pushed = c.in_ok-append.ensures.items in
     let more = more_shown edge_cells (columns_from 0 4) rows i lt row c.row-item.is c.loop-row.edges.items edge c.loop-row.invariant.read c.in-Some.ensures.some in
     record {
       read = search rules;

@@ -10,7 +10,7 @@ loop-row-preserved g c =
     let i = c.loop-row.row-index in
     let lt = c.loop-row-test.true in
     let rows = c.args.rows.now in
-    let pushed = c.in-Ok.ensures.items in
+    let pushed = c.in_ok-append.ensures.items in
     record {
       reads = λ alone l are valid.
           let is = c.row-item.is ∙ list_item_is X.kind alone l rows are valid i lt c.row-item.result in

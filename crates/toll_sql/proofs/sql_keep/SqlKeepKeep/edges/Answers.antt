@@ -1,7 +1,7 @@
 use Rattle.std.proofs.Common.{IfOk, rules}
 use Rattle.toll_sql.proofs.Common.{state, AreOwnersEdges}
 use Rattle.toll_sql.proofs.EdgesShown.{moves_part}
-use Rattle.toll_sql.proofs.KeepLemmas.{asked, unbegun}
+use Rattle.toll_sql.proofs.KeepLemmas.{asked, counted, unbegun}
 use Rattle.toll_sql.proofs.sql_keep.SqlKeepKeep.edges.Goals as goal
 
 pub returns-in_err-begin-clause-reading : goal.returns-in_err-begin-clause-reading
@@ -13,4 +13,4 @@ returns g c =
     let it = asked g.S.Store (λ k live db may. g.met.S.Store.settled k.conn.store db live.is_open may) c.pass_on.new.self c.in_ok-begin.ensures.reading c.in_ok-begin.ensures.stays c.pass_on.ensures.same c.pass_on.ensures.requested c.pass_on.ensures.closed read.looks
     (λ clean content held keeps. read.whole clean (content.rows c.args.owner.now) (moves_part (state g.S.Store c.begin.new.self.conn) content held c.args.owner.now)) _ (λ clean content held. read.reads clean (content.rows c.args.owner.now) (moves_part (state g.S.Store c.begin.new.self.conn) content held c.args.owner.now))
     (λ db r. IfOk r (λ edges. AreOwnersEdges db c.args.owner.now edges.items)) (λ _ _ _. tt) (λ clean has idle. read.shown clean) in
-    record { reading = it.reading; reads = it.reads; shown = it.shown; lack = c.pass_on.ensures.lack read.lack }
+    record { reading = it.reading; reads = it.reads; shown = it.shown; lack = λ is. counted (c.pass_on.ensures.lack read.lack is) c.in_ok-begin.ensures.same }

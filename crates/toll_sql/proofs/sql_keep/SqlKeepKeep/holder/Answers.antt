@@ -1,7 +1,7 @@
 use Rattle.std.proofs.Common.{◌≡◌, Err, rules, sym, ap, subst}
 use Rattle.toll_sql.proofs.Common.{state, ReportsHolder}
 use Rattle.toll_sql.proofs.HolderShown.{no_holder}
-use Rattle.toll_sql.proofs.KeepLemmas.{asked, unbegun}
+use Rattle.toll_sql.proofs.KeepLemmas.{asked, counted, unbegun}
 use Rattle.toll_sql.proofs.sql_keep.SqlKeepKeep.holder.Goals as goal
 
 pub returns-in_err-begin-clause-reading : goal.returns-in_err-begin-clause-reading
@@ -19,4 +19,4 @@ returns g c =
     let it = asked g.S.Store (λ k live db may. g.met.S.Store.settled k.conn.store db live.is_open may) c.pass_on.new.self c.in_ok-begin.ensures.reading c.in_ok-begin.ensures.stays c.pass_on.ensures.same c.pass_on.ensures.requested c.pass_on.ensures.closed read.looks
     (λ clean content held keeps. read.whole clean content held) _ read.reads
     (λ db r. ReportsHolder c.args.unit.now db.trees r) (λ db fault other. no_holder c.args.unit.now db.trees fault other) (λ clean has idle. read.alone clean has) in
-    record { reading = it.reading; reads = it.reads; shown = it.shown; lack = c.pass_on.ensures.lack read.lack }
+    record { reading = it.reading; reads = it.reads; shown = it.shown; lack = λ is. counted (c.pass_on.ensures.lack read.lack is) c.in_ok-begin.ensures.same }
