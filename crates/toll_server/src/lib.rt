@@ -20,7 +20,7 @@ mod ticket;
 pub use connection::{Connection, MOST_MILLISECONDS, TurnOutcome};
 pub use connection_state::ConnectionState;
 pub use event_loop::{ServingEnd, serve};
-pub use laws::what_is_served_is_served_in_rounds;
+pub use laws::{limits_are_those_defined, what_is_served_is_served_in_rounds};
 pub use listener::Listener;
 pub use network::{Accepted, MOST_OPEN_CONNECTIONS, MOST_READY, Network, NetworkFault};
 pub use poll::Poll;
