@@ -1,12 +1,12 @@
 -- What holds while connections are accepted.
 use Rattle.std.proofs.Common.{◌≡◌, ◌∙◌, ◌+◌, ◌≤◌, ◌⊎◌, ℕ, inl, inr, List, [], ◌∷◌, ◌++◌, length, ap, refl, sym, subst, arith}
-use Rattle.toll_server.proofs.Common.{Slab, Accepting, Agrees, HasAccepted, IsStep, Server, ServerEvent, arrival_in, queue_event, server_at, wake_in, AddsConnection, AddsAll, AddsNext, MakesRoom, Accepts, Arrival, IsPausedAt, Lacks, NoneWaits, ShowsTime, Tallies, Tally, after_accept, owners_at, Connection, Open, Backlogged, Connections, Listener}
+use Rattle.toll_server.proofs.Common.{Slab, Accepting, Agrees, EvictsReader, HasAccepted, IsStep, MayEvict, Server, ServerEvent, arrival_in, queue_event, server_at, shortage_in, wake_in, AddsConnection, AddsAll, AddsNext, MakesRoom, Accepts, Arrival, IsPausedAt, Lacks, NoneWaits, ShowsTime, Tallies, Tally, after_accept, owners_at, Connection, Open, Backlogged, Connections, Listener}
 use Rattle.std.specs.List.{cons_option}
 use Rattle.std.specs.Prelude.{Bool, None, Ok, OnOk, Option, Result, Some, option_map}
 use Rattle.toll_protocol.specs.declared.streams.sink.Sink as sink
 use Rattle.toll_protocol.specs.declared.streams.source.Source as source
-use Rattle.toll_server.specs.Networks.{arrived, owners_accepted}
-use Rattle.toll_server.specs.ServerEvents.{Comes, Evicts, IsLost}
+use Rattle.toll_server.specs.Networks.{arrived, owners_accepted, short}
+use Rattle.toll_server.specs.ServerEvents.{Comes, IsLost, IsShort}
 use Rattle.toll_server.specs.declared.connections.TheConstants.{MOST_ACCEPTS}
 use Rattle.toll_server.specs.declared.network.Accepted.{Accepted}
 use Rattle.toll_server.specs.declared.network.Accepted.TheVariants.{Connected, Aborted, NoResources}
@@ -161,10 +161,11 @@ more_counts before left count later key listener stream a b c is one p = tallies
 
 -- The network was asked for a connection, and none was accepted.
 pub no_arrival : {S T P : Type 0} (server : Server S T P) (key : ℕ) (r : Result (Accepted S) NetworkFault) (b c : Option (Tally S)) → owners_accepted r ≡ 0 → arrived key r ≡ []
-    → c ≡ option_map (after_accept key r) b → Tallies (Agrees server [] server) b c
-no_arrival server key r b c owners none is = tallies_more (λ t u. u ≡ t) (Agrees server [] server) (after_accept key r) b b c is (λ t u same. record {
+    → short key r ≡ [] → c ≡ option_map (after_accept key r) b → Tallies (Agrees server [] server) b c
+no_arrival server key r b c owners none enough is = tallies_more (λ t u. u ≡ t) (Agrees server [] server) (after_accept key r) b b c is (λ t u same. record {
   owners = omega (arith, owners, ap (λ x. x.owners) same);
   accepted = ap (λ l. l ++ u.arrivals) none ∙ ap (λ x. x.arrivals) same;
+  short = ap (λ l. l ++ u.shortages) enough ∙ ap (λ x. x.shortages) same;
   waited = ap (λ x. x.wakes) same;
   none_missed = λ unheard. (ap (λ x. x.unheard) same ∙ unheard, ap (λ x. x.missed) same);
 }) (tallies_begin (λ t u. u ≡ t) b b refl (λ t. refl))
@@ -172,14 +173,15 @@ no_arrival server key r b c owners none is = tallies_more (λ t u. u ≡ t) (Agr
 module _ {S T P : Type 0} (same : P → P → Bool) (from : source.Ghosts S) (to : sink.Ghosts S) (most : ℕ) where
   -- One connection was accepted: it is stored, or there was no memory for it.
   came_then : (event : ServerEvent S T P) (a b c : Server S T P) (key : ℕ) (listener : Listener) (stream : S) (was reported is : Option (Tally S))
-      → arrival_in event ≡ Some (record { key = key; listener = listener; stream = stream }) → wake_in event ≡ None → queue_event event ≡ None → IsStep same from to most event b c
+      → arrival_in event ≡ Some (record { key = key; listener = listener; stream = stream }) → shortage_in event ≡ None → wake_in event ≡ None → queue_event event ≡ None → IsStep same from to most event b c
       → c.owners_left + owners_at listener ≡ b.owners_left → is ≡ option_map (after_accept {E = NetworkFault} key (Ok (Connected listener stream))) reported
       → RunsQuietly same from to most a b was reported → RunsQuietly same from to most a c was is
-  came_then event a b c key listener stream was reported is came wake queue step owners called p =
+  came_then event a b c key listener stream was reported is came enough wake queue step owners called p =
       quiet_then same from to most a b c (event ∷ []) was reported is p (b, refl, step) (ap (λ o. cons_option o []) queue)
       (tallies_more (λ t u. u ≡ t) (Agrees b (event ∷ []) c) (after_accept {E = NetworkFault} key (Ok (Connected listener stream))) reported reported is called (λ t u same. record {
         owners = omega (arith, owners, ap (λ x. x.owners) same);
         accepted = ap (λ l. record { key = key; listener = listener; stream = stream } ∷ l) (ap (λ x. x.arrivals) same) ∙ ap (λ o. cons_option o [] ++ t.arrivals) (sym came);
+        short = ap (λ x. x.shortages) same ∙ ap (λ o. cons_option o [] ++ t.shortages) (sym enough);
         waited = ap (λ x. x.wakes) same ∙ ap (λ o. cons_option o [] ++ t.wakes) (sym wake);
         none_missed = λ unheard. (ap (λ x. x.unheard) same ∙ unheard, ap (λ x. x.missed) same);
       }) (tallies_begin (λ t u. u ≡ t) reported reported refl (λ t. refl)))
@@ -189,29 +191,35 @@ module _ {S T P : Type 0} (same : P → P → Bool) (from : source.Ghosts S) (to
       → new.owners_left + owners_at listener ≡ old.owners_left → is ≡ option_map (after_accept {E = NetworkFault} key (Ok (Connected listener stream))) reported
       → RunsQuietly same from to most a (server_at old Accepting) was reported → RunsQuietly same from to most a (server_at new Accepting) was is
   comes_then now a old new key listener stream was reported is adds count owners =
-      came_then (Comes (record { key = key; listener = listener; stream = stream }) now) a (server_at old Accepting) (server_at new Accepting) key listener stream was reported is refl refl refl
+      came_then (Comes (record { key = key; listener = listener; stream = stream }) now) a (server_at old Accepting) (server_at new Accepting) key listener stream was reported is refl refl refl refl
       (record { stage = (refl, refl); owners = owners; event_count = omega (arith, count); slots = adds }) owners
 
-  pub lost_then : (a : Server S T P) (old new : Connections S T P) (key : ℕ) (listener : Listener) (stream : S) (was reported is : Option (Tally S))
-      → new.slots.slots ≡ old.slots.slots → new.event_count ≡ old.event_count
-      → new.owners_left + owners_at listener ≡ old.owners_left → is ≡ option_map (after_accept {E = NetworkFault} key (Ok (Connected listener stream))) reported
+  -- Memory or resources lacked: one that is reading was closed, or nothing changed.
+  may_evict : (count now : ℕ) (old new : Connections S T P) → MakesRoom count now old.slots new.slots new.accept_state → MayEvict old.slots new.slots
+  may_evict count now old new (inl some) = inl some.1
+  may_evict count now old new (inr (inl none)) = inl none.2
+  may_evict count now old new (inr (inr one)) = inr one.1
+
+  pub lost_then : (count now : ℕ) (a : Server S T P) (old full new : Connections S T P) (key : ℕ) (listener : Listener) (stream : S) (was reported is : Option (Tally S))
+      → full.slots.slots ≡ old.slots.slots → full.event_count ≡ old.event_count → full.owners_left + owners_at listener ≡ old.owners_left
+      → MakesRoom count now full.slots new.slots new.accept_state → new.event_count ≡ full.event_count → new.owners_left ≡ full.owners_left
+      → is ≡ option_map (after_accept {E = NetworkFault} key (Ok (Connected listener stream))) reported
       → RunsQuietly same from to most a (server_at old Accepting) was reported → RunsQuietly same from to most a (server_at new Accepting) was is
-  lost_then a old new key listener stream was reported is kept count owners =
-      came_then (IsLost (record { key = key; listener = listener; stream = stream })) a (server_at old Accepting) (server_at new Accepting) key listener stream was reported is refl refl refl
-      (record { stage = (refl, refl); owners = owners; event_count = omega (arith, count); slots = kept }) owners
+  lost_then count now a old full new key listener stream was reported is kept events owners room events_so owners_so =
+      came_then (IsLost (record { key = key; listener = listener; stream = stream })) a (server_at old Accepting) (server_at new Accepting) key listener stream was reported is refl refl refl refl
+      (record { stage = (refl, refl); owners = omega (arith, owners, owners_so); event_count = omega (arith, events, events_so); slots = (full.slots, kept, may_evict count now full new room) })
+      (omega (arith, owners, owners_so))
 
-  -- Resources lacked: one that is reading was closed, or none was.
-  pub room_then : (count now : ℕ) (a : Server S T P) (old new : Connections S T P) (was is : Option (Tally S)) → MakesRoom count now old.slots new.slots new.accept_state
-      → new.event_count ≡ old.event_count → new.owners_left ≡ old.owners_left → RunsQuietly same from to most a (server_at old Accepting) was is
-      → RunsQuietly same from to most a (server_at new Accepting) was is
-  room_then count now a old new was is room events owners p = each room where
-    kept : new.slots ≡ old.slots → RunsQuietly same from to most a (server_at new Accepting) was is
-    kept slots = subst (λ server. RunsQuietly same from to most a server was is)
-        (λ i. record { slots = sym slots i; event_count = sym events i; owners_left = sym owners i; stage = Accepting }) p
-
-    each : MakesRoom count now old.slots new.slots new.accept_state → RunsQuietly same from to most a (server_at new Accepting) was is
-    each (inl some) = kept some.1
-    each (inr (inl none)) = kept none.2
-    each (inr (inr one)) = quiet_then same from to most a (server_at old Accepting) (server_at new Accepting) (Evicts ∷ []) was is is p
-        (server_at old Accepting, refl, record { stage = (refl, refl); owners = omega (arith, owners); event_count = omega (arith, events); slots = one.1 }) refl
-        (tallies_begin (Agrees (server_at old Accepting) (Evicts ∷ []) (server_at new Accepting)) is is refl (λ t. record { owners = ap (λ n. t.owners + n) owners; accepted = refl; waited = refl; none_missed = λ none. (none, refl) }))
+  pub short_then : (count now : ℕ) (a : Server S T P) (old new : Connections S T P) (key : ℕ) (was reported is : Option (Tally S)) → MakesRoom count now old.slots new.slots new.accept_state
+      → new.event_count ≡ old.event_count → new.owners_left ≡ old.owners_left → is ≡ option_map (after_accept {E = NetworkFault} key (Ok NoResources)) reported
+      → RunsQuietly same from to most a (server_at old Accepting) was reported → RunsQuietly same from to most a (server_at new Accepting) was is
+  short_then count now a old new key was reported is room events owners called p =
+      quiet_then same from to most a (server_at old Accepting) (server_at new Accepting) (IsShort key ∷ []) was reported is p
+      (server_at old Accepting, refl, record { stage = (refl, refl); owners = omega (arith, owners); event_count = omega (arith, events); slots = may_evict count now old new room }) refl
+      (tallies_more (λ t u. u ≡ t) (Agrees (server_at old Accepting) (IsShort key ∷ []) (server_at new Accepting)) (after_accept {E = NetworkFault} key (Ok NoResources)) reported reported is called (λ t u same. record {
+        owners = omega (arith, owners, ap (λ x. x.owners) same);
+        accepted = ap (λ x. x.arrivals) same;
+        short = ap (λ x. key ∷ x.shortages) same;
+        waited = ap (λ x. x.wakes) same;
+        none_missed = λ unheard. (ap (λ x. x.unheard) same ∙ unheard, ap (λ x. x.missed) same);
+      }) (tallies_begin (λ t u. u ≡ t) reported reported refl (λ t. refl)))

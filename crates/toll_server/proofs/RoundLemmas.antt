@@ -1,6 +1,6 @@
 -- What holds of a server's run, by its events.
 use Rattle.std.proofs.Common.{◌≡◌, ◌∙◌, ◌+◌, ◌≤◌, ◌==◌, ◌++◌, ℕ, arith, inl, inr, List, [], ◌∷◌, length, map, Bool, Option, None, Some, ap, refl, subst, sym, append-nil, append_assoc, length-append}
-use Rattle.toll_server.proofs.Common.{eqb_tells, Slab, get, Accepting, Agrees, AreRounds, Arrival, BreaksDown, Changes, Connection, Connections, HandsOut, HasHeard, HasRun, HasWaited, HasWaitedLonger, Hearing, Hears, IsDueAt, IsDueTo, IsInTime, IsNew, IsNext, IsSentBySome, IsServedInTurn, IsServerRun, IsServiceRun, IsStep, IsWhatWaits, Joining, KeepsTasks, Listener, MayJoin, Passes, Poll, QueueEvent, Server, ServerEvent, Serves, ServesFrom, Serving, ShowsTime, Stage, TakesTurn, Tallies, Tally, Turn, Waiting, WaitsOnce, Wake, ClosesExpired, advanced_in, arrival_in, expired_in, joined_in, last_poll, newly, no_tasks, pending_task, queue_after, queue_event, queue_events, queue_in, queue_of, queue_with, queued_behind, server_at, task_of, tasks_in, tasks_of, waiting_of, waits_on, wake_in}
+use Rattle.toll_server.proofs.Common.{eqb_tells, Slab, get, Accepting, Agrees, AreRounds, Arrival, BreaksDown, Changes, Connection, Connections, HandsOut, HasHeard, HasRun, HasWaited, HasWaitedLonger, Hearing, Hears, IsDueAt, IsDueTo, IsInTime, IsNew, IsNext, IsSentBySome, IsServedInTurn, IsServerRun, IsServiceRun, IsStep, IsWhatWaits, Joining, KeepsTasks, Listener, MayEvict, MayJoin, NoneNew, Passes, Poll, QueueEvent, Server, ServerEvent, Serves, ServesFrom, Serving, ShowsTime, Stage, TakesTurn, Tallies, Tally, Turn, Waiting, WaitsOnce, Wake, ClosesExpired, advanced_in, arrival_in, expired_in, joined_in, last_poll, newly, no_tasks, pending_task, queue_after, queue_event, queue_events, queue_in, queue_of, queue_with, queued_behind, server_at, shortage_in, task_of, tasks_in, tasks_of, waiting_of, waits_on, wake_in}
 use Rattle.slab.proofs.SlabLemmas.{Contains-cons_cases}
 use Rattle.std.specs.Cmp.{IsEquivalence}
 use Rattle.std.specs.List.{Contains}
@@ -13,7 +13,7 @@ use Rattle.toll_server.proofs.ConnectionLemmas.{Keeps, added_keeps, closed_keeps
 use Rattle.toll_server.proofs.QueueLemmas.{IsHistoryIn, named, none_twice, same_history, service_ran}
 use Rattle.toll_server.proofs.StandLemmas.{StandsByKey, asked_at, closed_new, each_some, removed_new, same_new, stands_added, stands_fewer, stands_heard, stands_kept, stands_lost, turn_requests}
 use Rattle.toll_server.proofs.TallyLemmas.{tallies_begin, tallies_then, tallies_weaker}
-use Rattle.toll_server.specs.ServerEvents.{Advances, Comes, Ends, Evicts, Expires, IsLost, Takes, Waits}
+use Rattle.toll_server.specs.ServerEvents.{Advances, Comes, Ends, Expires, IsLost, IsShort, Takes, Waits}
 use Rattle.toll_server.specs.declared.network.NetworkFault.{NetworkFault}
 use Rattle.toll_server.specs.declared.network.TheConstants.{MOST_READY}
 
@@ -37,7 +37,7 @@ module _ {S T P : Type 0} where
   paced : (event : ServerEvent S T P) (before : List (ServerEvent S T P)) (old new : Stage) → Passes event old new → Keeps_pace before old → Keeps_pace (event ∷ before) new
   paced (Comes came at) before old new p q = subst (Keeps_pace before) (p.0 ∙ sym p.1) q
   paced (IsLost came) before old new p q = subst (Keeps_pace before) (p.0 ∙ sym p.1) q
-  paced Evicts before old new p q = subst (Keeps_pace before) (p.0 ∙ sym p.1) q
+  paced (IsShort key) before old new p q = subst (Keeps_pace before) (p.0 ∙ sym p.1) q
   paced Ends before old new p q = subst (Keeps_pace before) (p.0 ∙ sym p.1) q
   paced (Waits wake) before old new p q = let pace = subst (Keeps_pace before) p.0 q in
       subst (Keeps_pace (Waits wake ∷ before)) (sym p.1) (ap (λ l. reverse wake.ready ++ l) pace.0, ap (λ l. wake.at ∷ l) pace.1)
@@ -76,15 +76,27 @@ module _ {S T P : Type 0} (same : P → P → Bool) (from : source.Ghosts S) (to
   abbrev At : List (QueueEvent T P) → Server S T P → Type 0
   At h server = IsHistoryIn same (λ listener request party. ⊤) h server.event_count server.slots
 
+  keeps_then : (a b c : Slab (Connection S T P)) → Keeps a b → Keeps b c → Keeps a c
+  keeps_then a b c p q = (λ k. q.0 k ∙ p.0 k, λ k. q.1 k ∙ p.1 k)
+
+  may_keep : (old new : Slab (Connection S T P)) → MayEvict old new → Keeps old new
+  may_keep old new (inl same_slots) = (λ k. ap (λ s. queue_in s k) same_slots, λ k. ap (λ s. tasks_in s k) same_slots)
+  may_keep old new (inr one) = evicted_keeps old new one
+
+  none_new : (old new : Slab (Connection S T P)) → MayEvict old new → NoneNew old new
+  none_new old new (inl same_slots) = same_new old new (λ k. ap (λ s. get s k) same_slots)
+  none_new old new (inr one) = removed_new old new one.key one.out
+
   kept : (h : List (QueueEvent T P)) (old new : Server S T P) → new.event_count ≡ old.event_count + 0 → Keeps old.slots new.slots → At h old → At h new
   kept h old new is both q = same_history same (λ listener request party. ⊤) h old.event_count new.event_count old.slots new.slots (omega (arith, is)) both.0 both.1 q
 
   stepped : (event : ServerEvent S T P) (before : List (ServerEvent S T P)) (old new : Server S T P) → IsStep same from to most event old new
       → At (queue_events before) old → At (queue_events (event ∷ before)) new
   stepped (Comes came at) before old new p q = kept (queue_events before) old new p.event_count (added_keeps most at came old.slots new.slots p.slots) q
-  stepped (IsLost came) before old new p q = kept (queue_events before) old new p.event_count
-      (λ k. ap (λ l. option_and_then waiting_of (slice_index_or l k None)) p.slots, λ k. ap (λ l. option_and_then (λ c. task_of c.state) (slice_index_or l k None)) p.slots) q
-  stepped Evicts before old new p q = kept (queue_events before) old new p.event_count (evicted_keeps old.slots new.slots p.slots) q
+  stepped (IsLost came) before old new p q = let (full, same_slots, evicts) = p.slots in kept (queue_events before) old new p.event_count
+      (keeps_then old.slots full new.slots (λ k. ap (λ l. option_and_then waiting_of (slice_index_or l k None)) same_slots, λ k. ap (λ l. option_and_then (λ c. task_of c.state) (slice_index_or l k None)) same_slots)
+      (may_keep full new.slots evicts)) q
+  stepped (IsShort key) before old new p q = kept (queue_events before) old new p.event_count (may_keep old.slots new.slots p.slots) q
   stepped Ends before old new p q = let (none, owners, closes) = p.slots in kept (queue_events before) old new p.event_count (closed_keeps old.slots new.slots closes) q
   stepped (Waits wake) before old new p q = kept (queue_events before) old new p.event_count (λ k. ap (λ s. queue_in s k) p.slots, λ k. ap (λ s. tasks_in s k) p.slots) q
   stepped (Advances whose None) before old new p q = let (hears, tasks, queue) = p.slots in kept (queue_events before) old new p.event_count (queue, tasks) q
@@ -136,12 +148,13 @@ module _ {S T P : Type 0} (same : P → P → Bool) (from : source.Ghosts S) (to
 
   stood : (event : ServerEvent S T P) (before : List (ServerEvent S T P)) (old new : Server S T P) → IsStep same from to most event old new → Stands before old.slots → Stands (event ∷ before) new.slots
   stood (Comes came at) before old new p q = (more_came came before q.0, stands_added from.unread most at (filter_map arrival_in before) came old.slots new.slots p.slots q.1)
-  stood (IsLost came) before old new p q = (
+  stood (IsLost came) before old new p q = let (full, same_slots, evicts) = p.slots in (
     more_came came before q.0,
-    stands_fewer from.unread (came ∷ filter_map arrival_in before) old.slots new.slots
-        (same_new old.slots new.slots (λ k. ap (λ l. slice_index_or l k None) p.slots)) (stands_lost from.unread (filter_map arrival_in before) came old.slots q.1),
+    stands_fewer from.unread (came ∷ filter_map arrival_in before) full new.slots (none_new full new.slots evicts)
+        (stands_fewer from.unread (came ∷ filter_map arrival_in before) old.slots full
+        (same_new old.slots full (λ k. ap (λ l. slice_index_or l k None) same_slots)) (stands_lost from.unread (filter_map arrival_in before) came old.slots q.1)),
   )
-  stood Evicts before old new p q = (q.0, stands_fewer from.unread (filter_map arrival_in before) old.slots new.slots (removed_new old.slots new.slots p.slots.key p.slots.out) q.1)
+  stood (IsShort key) before old new p q = (q.0, stands_fewer from.unread (filter_map arrival_in before) old.slots new.slots (none_new old.slots new.slots p.slots) q.1)
   stood Ends before old new p q = let (none, owners, closes) = p.slots in let (readers, keeps, fewer) = closes in
       (q.0, stands_fewer from.unread (filter_map arrival_in before) old.slots new.slots fewer q.1)
   stood (Waits wake) before old new p q = subst (Stands before) (sym p.slots) q
@@ -232,6 +245,8 @@ agrees_then a b c es fs t u v p q = record {
   owners = omega (arith, p.owners, q.owners);
   accepted = q.accepted ∙ (ap (λ l. filter_map arrival_in fs ++ l) p.accepted ∙ (sym (append_assoc (filter_map arrival_in fs) (filter_map arrival_in es) t.arrivals)
       ∙ ap (λ l. l ++ t.arrivals) (sym (filter_map-append arrival_in fs es))));
+  short = q.short ∙ (ap (λ l. filter_map shortage_in fs ++ l) p.short ∙ (sym (append_assoc (filter_map shortage_in fs) (filter_map shortage_in es) t.shortages)
+      ∙ ap (λ l. l ++ t.shortages) (sym (filter_map-append shortage_in fs es))));
   waited = q.waited ∙ (ap (λ l. filter_map wake_in fs ++ l) p.waited ∙ (sym (append_assoc (filter_map wake_in fs) (filter_map wake_in es) t.wakes)
       ∙ ap (λ l. l ++ t.wakes) (sym (filter_map-append wake_in fs es))));
   none_missed = λ none. let (unheard, missed) = p.none_missed none in let (later, more) = q.none_missed unheard in (later, more ∙ missed);
@@ -252,7 +267,7 @@ module _ {S T P : Type 0} (same : P → P → Bool) (from : source.Ghosts S) (to
   ran_none most a was = record {
     events = [];
     run = refl;
-    net = tallies_begin (Agrees a [] a) was was refl (λ t. record { owners = refl; accepted = refl; waited = refl; none_missed = λ none. (none, refl) });
+    net = tallies_begin (Agrees a [] a) was was refl (λ t. record { owners = refl; accepted = refl; short = refl; waited = refl; none_missed = λ none. (none, refl) });
   }
 
   -- The same with events that don't change the queue.

@@ -1,6 +1,6 @@
 -- Rounds of serving, step by step.
 use Rattle.std.proofs.Common.{◌≡◌, ◌∙◌, ◌+◌, ◌≤◌, ◌<◌, ◌⊎◌, ◌++◌, ℕ, arith, inl, inr, List, [], ◌∷◌, length, Bool, false, Option, None, Some, ap, refl, subst, sym, append-nil, append_assoc, length-append, Result}
-use Rattle.toll_server.proofs.Common.{Accepting, Accepts, Agrees, BreaksDown, ClosesExpired, Connection, Connections, HandsOut, HasHeard, HasWaited, Hearing, Hears, IsDueAt, IsDueTo, IsInTime, IsPaused, IsServerRun, IsStep, Joining, KeepsTasks, Listener, MayJoin, Open, Poll, QueueEvent, Server, ServerEvent, Serves, ServesFrom, Serving, ShowsTime, Slab, Tallies, TakesNext, Tally, WaitsOnce, Wake, WindsDown, arrival_in, get, queue_event, queue_events, server_at, wake_in}
+use Rattle.toll_server.proofs.Common.{Accepting, Accepts, Agrees, BreaksDown, ClosesExpired, Connection, Connections, HandsOut, HasHeard, HasWaited, Hearing, Hears, IsDueAt, IsDueTo, IsInTime, IsPaused, IsServerRun, IsStep, Joining, KeepsTasks, Listener, MayJoin, Open, Poll, QueueEvent, Server, ServerEvent, Serves, ServesFrom, Serving, ShowsTime, Slab, Tallies, TakesNext, Tally, WaitsOnce, Wake, WindsDown, arrival_in, get, queue_event, queue_events, server_at, shortage_in, wake_in}
 use Rattle.std.specs.Prelude.{IfSome, Ok, filter_map, option_to_list}
 use Rattle.std.proofs.lemmas.Bool.{cases_lt}
 use Rattle.std.proofs.lemmas.List.Elements.{filter_map-append}
@@ -35,7 +35,7 @@ pub wound_then : {S T P : Type 0} (same : P → P → Bool) (from : source.Ghost
 wound_then same from to most a old new was is (inl ends) events owners p = let (none, gone, closes) = ends in
     quiet_then same from to most a (server_at old Accepting) (server_at new Accepting) (Ends ∷ []) was is is p
     (server_at old Accepting, refl, record { stage = (refl, refl); owners = omega (arith, owners); event_count = omega (arith, events); slots = (none, gone, closes) }) refl
-    (tallies_begin (Agrees (server_at old Accepting) (Ends ∷ []) (server_at new Accepting)) is is refl (λ t. record { owners = ap (λ n. t.owners + n) owners; accepted = refl; waited = refl; none_missed = λ none. (none, refl) }))
+    (tallies_begin (Agrees (server_at old Accepting) (Ends ∷ []) (server_at new Accepting)) is is refl (λ t. record { owners = ap (λ n. t.owners + n) owners; accepted = refl; short = refl; waited = refl; none_missed = λ none. (none, refl) }))
 wound_then same from to most a old new was is (inr kept) events owners p = subst (λ server. RunsQuietly same from to most a server was is)
     (λ i. record { slots = sym kept.0 i; event_count = sym events i; owners_left = sym owners i; stage = Accepting }) p
 
@@ -58,7 +58,7 @@ module _ {S T P O : Type 0} (same : P → P → Bool) (is_by : Listener → List
     pub events : List (ServerEvent S T P)
     pub run : (at : ℕ) (rest : List ℕ) → IsServerRun same from to old.most_open (server_at old (Hearing (keys ++ rest) at)) events (server_at new (Hearing rest at))
     pub served : (service : O) → Serves is_by answers resumes service (queue_events events) service
-    pub alone : (filter_map arrival_in events ≡ []) × (filter_map wake_in events ≡ [])
+    pub alone : (filter_map arrival_in events ≡ []) × (filter_map wake_in events ≡ []) × (filter_map shortage_in events ≡ [])
     pub handed : Tallies (λ t u. (t.unheard ≡ keys ++ u.unheard) × (u ≡ record t { unheard = u.unheard })) was is
 
   pub none_heard : (connections : Connections S T P) (was is : Option (Tally S)) → is ≡ was → HeardSoFar connections connections 0 was is
@@ -68,7 +68,7 @@ module _ {S T P O : Type 0} (same : P → P → Bool) (is_by : Listener → List
     events = [];
     run = λ at rest. refl;
     served = λ service. refl;
-    alone = (refl, refl);
+    alone = (refl, refl, refl);
     handed = tallies_begin (λ t u. (t.unheard ≡ u.unheard) × (u ≡ record t { unheard = u.unheard })) was is unchanged (λ t. (refl, refl));
   }
 
@@ -161,6 +161,7 @@ module _ {S T P O : Type 0} (same : P → P → Bool) (is_by : Listener → List
     alone = (
       filter_map-append arrival_in p.events (Waits wake ∷ []) ∙ (append-nil (filter_map arrival_in p.events) ∙ p.alone.0),
       filter_map-append wake_in p.events (Waits wake ∷ []) ∙ ap (λ l. l ++ wake ∷ []) p.alone.1,
+      filter_map-append shortage_in p.events (Waits wake ∷ []) ∙ (append-nil (filter_map shortage_in p.events) ∙ p.alone.2),
     );
     known = named a d all;
   } where
@@ -267,6 +268,7 @@ module _ {S T P O : Type 0} (same : P → P → Bool) (is_by : Listener → List
       (tallies_weaker _ (Agrees (server_at b Accepting) w.events (server_at c Serving)) reported is w.known (λ t u r. let (clock, order, owners_so, listens, next) = r in record {
         owners = omega (arith, owners, ap (λ x. x.owners) next);
         accepted = ap (λ x. x.arrivals) next ∙ ap (λ l. l ++ t.arrivals) (sym w.alone.0);
+        short = ap (λ x. x.shortages) next ∙ ap (λ l. l ++ t.shortages) (sym w.alone.2);
         waited = ap (λ x. x.wakes) next ∙ ap (λ l. l ++ t.wakes) (sym w.alone.1);
         none_missed = λ none. (ap (λ x. x.unheard) next, ap (λ x. x.missed) next ∙ omega (arith, ap length none));
       }))
@@ -281,7 +283,7 @@ module _ {S T P O : Type 0} (same : P → P → Bool) (is_by : Listener → List
       (server_at b Serving, refl, subst (λ m. IsStep same from to m (Takes turn) (server_at b Serving) (server_at c Accepting)) most_is step) served
       (tallies_weaker OnlyClock (Agrees (server_at b Serving) (Takes turn ∷ []) (server_at c Accepting)) reported is clock (λ t u r.
       subst (Agrees (server_at b Serving) (Takes turn ∷ []) (server_at c Accepting) t) (sym r)
-      (record { owners = ap (λ n. t.owners + n) owners; accepted = refl; waited = refl; none_missed = λ none. (none, refl) })))
+      (record { owners = ap (λ n. t.owners + n) owners; accepted = refl; short = refl; waited = refl; none_missed = λ none. (none, refl) })))
 
 -- The network was asked for connections, once there was a wait, if owners were to come.
 abbrev pub Asks : {S : Type 0} → ℕ → ℕ → Tally S → Tally S → Type 0

@@ -59,12 +59,12 @@ on_ok_holds (Err e) is p = absurd (cc)
 module _ {S T P : Type 0} (server : Server S T P) (a b : Option (Tally S)) where
   pub clock_agrees : Tallies OnlyClock a b → Tallies (Agrees server [] server) a b
   clock_agrees p = tallies_weaker OnlyClock (Agrees server [] server) a b p
-      (λ t u r. subst (Agrees server [] server t) (sym r) (record { owners = refl; accepted = refl; waited = refl; none_missed = λ none. (none, refl) }))
+      (λ t u r. subst (Agrees server [] server t) (sym r) (record { owners = refl; accepted = refl; short = refl; waited = refl; none_missed = λ none. (none, refl) }))
 
   pub listening_agrees : Tallies OnlyListening a b → Tallies (Agrees server [] server) a b
   listening_agrees p = tallies_weaker OnlyListening (Agrees server [] server) a b p
-      (λ t u r. subst (Agrees server [] server t) (sym r) (record { owners = refl; accepted = refl; waited = refl; none_missed = λ none. (none, refl) }))
+      (λ t u r. subst (Agrees server [] server t) (sym r) (record { owners = refl; accepted = refl; short = refl; waited = refl; none_missed = λ none. (none, refl) }))
 
   pub broken_agrees : Tallies BreaksDown a b → Tallies (Agrees server [] server) a b
   broken_agrees p = tallies_weaker BreaksDown (Agrees server [] server) a b p
-      (λ t u r. subst (Agrees server [] server t) (sym r) (record { owners = refl; accepted = refl; waited = refl; none_missed = λ none. (none, refl) }))
+      (λ t u r. subst (Agrees server [] server t) (sym r) (record { owners = refl; accepted = refl; short = refl; waited = refl; none_missed = λ none. (none, refl) }))

@@ -142,6 +142,10 @@ module _ {S T P : Type 0} where
   abbrev pub EvictsOldest : Slab (Connection S T P) → Slab (Connection S T P) → Type 0
   EvictsOldest old new = (NoneIncluded Reading old × SameValues old new × (slab_len new ≡ slab_len old)) ⊎ EvictsReader old new
 
+  -- Nothing changes, or that connection is closed.
+  abbrev pub MayEvict : Slab (Connection S T P) → Slab (Connection S T P) → Type 0
+  MayEvict old new = (new ≡ old) ⊎ EvictsReader old new
+
   -- Connections that are queued or have a reply stay unchanged.
   abbrev pub KeepsSubmitted : Slab (Connection S T P) → Slab (Connection S T P) → Type 0
   KeepsSubmitted old new = (key : ℕ) → IfSome (get old key) (λ connection. connection.state ≢ ReadingState → get new key ≡ Some connection)

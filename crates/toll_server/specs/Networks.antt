@@ -32,7 +32,7 @@ pub data Backlog : Type 0 where
   Lacks : Backlog
 
 -- what a network has done: the number of owners' connections that it accepted, of calls to accept and of waits, and whether a call failed;
--- all accepted connections and all waits, newest first; the ready connections of the latest wait that it hasn't handed out yet, and how
+-- all accepted connections, the keys with which it was asked for one and had no resources, and all waits, newest first; the ready connections of the latest wait that it hasn't handed out yet, and how
 -- many it never handed out before a later wait; what it knows of connections that wait at the listeners; whether the listeners are open;
 -- the latest millisecond that its clock showed
 pub record Tally (S : Type 0) : Type 0 where
@@ -41,6 +41,7 @@ pub record Tally (S : Type 0) : Type 0 where
   pub waits : ℕ
   pub failed : Bool
   pub arrivals : List (Arrival S)
+  pub shortages : List ℕ
   pub wakes : List Wake
   pub unheard : List ℕ
   pub missed : ℕ
@@ -93,6 +94,14 @@ arrived key (Ok NoneWaiting) = []
 arrived key (Ok NoResources) = []
 arrived key (Err e) = []
 
+-- the key, if there were no resources for the connection that was asked for with it
+abbrev pub short : {S E : Type 0} → ℕ → Result (Accepted S) E → List ℕ
+short key (Ok (Connected listener stream)) = []
+short key (Ok Aborted) = []
+short key (Ok NoneWaiting) = []
+short key (Ok NoResources) = key ∷ []
+short key (Err e) = []
+
 abbrev pub backlog_after : {S E : Type 0} → Result (Accepted S) E → Backlog
 backlog_after (Ok (Connected listener stream)) = MayWait
 backlog_after (Ok Aborted) = MayWait
@@ -107,6 +116,7 @@ after_accept key r t = record t {
   accepts = t.accepts + 1;
   failed = t.failed || is_err r;
   arrivals = arrived key r ++ t.arrivals;
+  shortages = short key r ++ t.shortages;
   backlog = backlog_after r;
 }
 

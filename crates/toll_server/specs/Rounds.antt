@@ -7,7 +7,7 @@ use Rattle.toll_protocol.specs.declared.streams.source.Source as source
 use Rattle.toll_server.specs.Connections.{IsDueAt, IsDueTo, IsInTime}
 use Rattle.toll_server.specs.Networks.{Arrival, ListensFor, Tallies, Tally, Wake}
 use Rattle.toll_server.specs.Queues.{AreInTurn, Joining, NoneTwice, Serves}
-use Rattle.toll_server.specs.ServerEvents.{Accepting, Ends, HasRun, Hearing, IsNew, IsServerRun, IsStep, Server, ServerEvent, Serving, Takes, Waits, advanced_in, arrival_in, expired_in, joined_in, queue_events, server_at, wake_in}
+use Rattle.toll_server.specs.ServerEvents.{Accepting, Ends, HasRun, Hearing, IsNew, IsServerRun, IsStep, Server, ServerEvent, Serving, Takes, Waits, advanced_in, arrival_in, expired_in, joined_in, queue_events, server_at, shortage_in, wake_in}
 use Rattle.toll_server.specs.Runs.{Turn}
 use Rattle.toll_server.specs.declared.connections.Connections.{Connections}
 use Rattle.toll_server.specs.declared.listener.Listener.{Listener}
@@ -58,7 +58,7 @@ module _ {S T P O : Type 0} (same : P → P → Bool) (is_by : Listener → List
     pub events : List (ServerEvent S T P)
     pub run : (at : ℕ) → IsServerRun same from to old.most_open (server_at old (Hearing keys at)) events (server_at new (Hearing [] at))
     pub served : (service : O) → Serves is_by answers resumes service (queue_events events) service
-    pub alone : (filter_map arrival_in events ≡ []) × (filter_map wake_in events ≡ [])
+    pub alone : (filter_map arrival_in events ≡ []) × (filter_map wake_in events ≡ []) × (filter_map shortage_in events ≡ [])
     pub all : Tallies (λ t u. length t.unheard ≤ MOST_READY → (keys ≡ t.unheard) × (u ≡ record t { unheard = [] })) was is
 
   -- One wait: it ended before any connection's deadline, and not before the first thing that there may be to do. Then every ready
@@ -72,7 +72,7 @@ module _ {S T P O : Type 0} (same : P → P → Bool) (is_by : Listener → List
     pub events : List (ServerEvent S T P)
     pub run : IsServerRun same from to old.most_open (server_at old Accepting) events (server_at new Serving)
     pub served : (service : O) → Serves is_by answers resumes service (queue_events events) service
-    pub alone : (filter_map arrival_in events ≡ []) × (filter_map wake_in events ≡ wake ∷ [])
+    pub alone : (filter_map arrival_in events ≡ []) × (filter_map wake_in events ≡ wake ∷ []) × (filter_map shortage_in events ≡ [])
     pub known : Tallies (λ t u. (t.clock ≤ began) × (began ≤ now) × (wake.owners ≡ t.owners) × (wake.is_listening ≡ t.is_listening)
         × (u ≡ record t { waits = t.waits + 1; wakes = wake ∷ t.wakes; unheard = []; missed = t.missed + length t.unheard; clock = now })) was is
 

@@ -3,7 +3,7 @@ use Rattle.std.specs.Prelude.{◌≡◌, ◌+◌, ◌++◌, ℕ, Bool, List, [],
 use Rattle.slab.specs.Slab.{Slab, get}
 use Rattle.toll_protocol.specs.declared.streams.sink.Sink as sink
 use Rattle.toll_protocol.specs.declared.streams.source.Source as source
-use Rattle.toll_server.specs.Connections.{AddsConnection, ClosesExpired, ClosesReaders, EvictsReader, Hears, JoinsAt, KeepsTasks, NobodyWaits, NoneIncluded, TakesTurn}
+use Rattle.toll_server.specs.Connections.{AddsConnection, ClosesExpired, ClosesReaders, Hears, JoinsAt, KeepsTasks, MayEvict, NobodyWaits, NoneIncluded, TakesTurn}
 use Rattle.toll_server.specs.Networks.{Arrival, Tallies, Tally, Wake, owners_at}
 use Rattle.toll_server.specs.Queues.{Joining, Joins, QueueEvent, Serves, Takes as Turned}
 use Rattle.toll_server.specs.Runs.{Turn}
@@ -20,14 +20,14 @@ pub data Stage : Type 0 where
   Hearing : (keys : List ℕ) → (at : ℕ) → Stage
   Serving : Stage
 
--- an event: a connection was accepted, at a millisecond, and one too many is evicted; one was accepted for which there was no memory; there
--- were no resources, and one is evicted; no owner is left, and those that are reading are closed; a wait was over; the one with this key was
--- ready and advanced, and its request may have become whole; those whose deadlines were over at this millisecond are closed; the service took
--- a turn, or none waited for one
+-- an event: a connection was accepted, at a millisecond, and one too many is evicted; one was accepted for which there was no memory, and one
+-- may be evicted; the network had no resources for one with this key, and one may be evicted; no owner is left, and those that are reading are
+-- closed; a wait was over; the one with this key was ready and advanced, and its request may have become whole; those whose deadlines were over
+-- at this millisecond are closed; the service took a turn, or none waited for one
 pub data ServerEvent (S T P : Type 0) : Type 0 where
   Comes : (came : Arrival S) → (at : ℕ) → ServerEvent S T P
   IsLost : (came : Arrival S) → ServerEvent S T P
-  Evicts : ServerEvent S T P
+  IsShort : (key : ℕ) → ServerEvent S T P
   Ends : ServerEvent S T P
   Waits : (wake : Wake) → ServerEvent S T P
   Advances : (whose : ℕ) → (joined : Option (Joining P)) → ServerEvent S T P
@@ -49,6 +49,10 @@ module _ {S T P : Type 0} where
   arrival_in (Comes came at) = Some came
   arrival_in (IsLost came) = Some came
   arrival_in _ = None
+
+  abbrev pub shortage_in : ServerEvent S T P → Option ℕ
+  shortage_in (IsShort key) = Some key
+  shortage_in _ = None
 
   abbrev pub wake_in : ServerEvent S T P → Option Wake
   wake_in (Waits wake) = Some wake
@@ -89,10 +93,12 @@ module _ {S T P : Type 0} where
   Passes (Takes turn) old new = (old ≡ Serving) × (new ≡ Accepting)
   Passes _ old new = (old ≡ Accepting) × (new ≡ Accepting)
 
-  -- The network's tally agrees with these events: it has all connections that were accepted and all waits, and each ready connection advanced.
+  -- The network's tally agrees with these events: it has all connections that were accepted,
+  -- each time that it had no resources, and all waits, and each ready connection advanced.
   pub record Agrees (first : Server S T P) (events : List (ServerEvent S T P)) (last : Server S T P) (t u : Tally S) : Type 0 where
     pub owners : u.owners + last.owners_left ≡ t.owners + first.owners_left
     pub accepted : u.arrivals ≡ filter_map arrival_in events ++ t.arrivals
+    pub short : u.shortages ≡ filter_map shortage_in events ++ t.shortages
     pub waited : u.wakes ≡ filter_map wake_in events ++ t.wakes
     pub none_missed : t.unheard ≡ [] → (u.unheard ≡ []) × (u.missed ≡ t.missed)
 
@@ -107,8 +113,8 @@ module _ {S T P : Type 0} (same : P → P → Bool) (from : source.Ghosts S) (to
   -- what the event does to the open connections
   abbrev pub Changes : ServerEvent S T P → Server S T P → Slab (Connection S T P) → Type 0
   Changes (Comes came at) old new = AddsConnection most at came old.slots new
-  Changes (IsLost came) old new = new.slots ≡ old.slots.slots
-  Changes Evicts old new = EvictsReader old.slots new
+  Changes (IsLost came) old new = (full : Slab (Connection S T P)) × (full.slots ≡ old.slots.slots) × MayEvict full new
+  Changes (IsShort key) old new = MayEvict old.slots new
   Changes Ends old new = (old.owners_left ≡ 0) × NoneIncluded Owners old.slots × ClosesReaders old.slots new
   Changes (Waits wake) old new = new ≡ old.slots
   Changes (Advances whose joined) old new =

@@ -8,7 +8,7 @@ use Rattle.std.proofs.lemmas.List.Elements.{All-cons, All-contains, All-head, Al
 use Rattle.toll_server.specs.Networks.{Arrival, ListensFor, Tallies, Tally, Wake}
 use Rattle.toll_server.specs.Queues.{AreInTurn, QueueEvent, IsWhatWaits, Joining, Joins, Takes, Waiting, queued_behind, newly, queue_of, waits_on, tasks_of, turns_taken}
 use Rattle.toll_server.specs.Rounds.{IsSentBySome, ListensTill}
-use Rattle.toll_server.specs.ServerEvents.{Advances, Agrees, Comes, Ends, Evicts, Expires, IsLost, IsServed, ServerEvent, Takes as TakesTurn, Waits, arrival_in, joined_in, queue_events}
+use Rattle.toll_server.specs.ServerEvents.{Advances, Agrees, Comes, Ends, Expires, IsLost, IsServed, IsShort, ServerEvent, Takes as TakesTurn, Waits, arrival_in, joined_in, queue_events}
 use Rattle.toll_protocol.specs.declared.streams.sink.Sink as sink
 use Rattle.toll_protocol.specs.declared.streams.source.Source as source
 use Rattle.toll_server.proofs.QueueLemmas.{serves_turns}
@@ -99,7 +99,7 @@ module _ (owner : Option ℕ) (bytes : List ℕ) where
       all_joined [] p = tt
       all_joined (Comes came at ∷ before) p = all_joined before p
       all_joined (IsLost came ∷ before) p = all_joined before p
-      all_joined (Evicts ∷ before) p = all_joined before p
+      all_joined (IsShort key ∷ before) p = all_joined before p
       all_joined (Ends ∷ before) p = all_joined before p
       all_joined (Waits wake ∷ before) p = all_joined before p
       all_joined (Advances whose None ∷ before) p = all_joined before p

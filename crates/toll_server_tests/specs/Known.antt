@@ -14,6 +14,7 @@ new_tally = record {
   waits = 0;
   failed = false;
   arrivals = [];
+  shortages = [];
   wakes = [];
   unheard = [];
   missed = 0;

@@ -1,6 +1,6 @@
 //! A network with a known tally. It shows that a network can meet the clauses of `Network` about tallies, and
 //! what the clauses of `serve` about tallies say of it.
-ghost use Rattle.std.specs.Prelude.{◌≡◌, ◌≤◌, ◌+◌, ◌-◌, ◌∷◌, All, IsFalse, IsTrue, Some, length, true};
+ghost use Rattle.std.specs.Prelude.{◌≡◌, ◌≤◌, ◌+◌, ◌-◌, [], ◌∷◌, All, IsFalse, IsTrue, Some, length, true};
 ghost use Rattle.toll_server.specs.Networks.{ListensFor};
 ghost use Rattle.toll_server_tests.specs.Known.{ServesOwner, arrivals_of, backlog_of, known_keys, new_tally, count_of_owners, wake_of, wakes_of};
 
@@ -133,6 +133,7 @@ impl<'l> Network for KnownNetwork<'l> {
       waits = length network.waits.items;
       failed = network.has_failed;
       arrivals = arrivals_of (record { unread = network.request; written = network.written }) network.owner;
+      shortages = [];
       wakes = wakes_of network.wakes.items;
       unheard = known_keys network.ready;
       missed = length network.missed.items;

@@ -2,7 +2,7 @@ use Rattle.std.proofs.Common.{◌≡◌, ◌∙◌, ap, arith, refl, subst, sym,
 use Rattle.toll_server.proofs.Common.{Accepting, AddsConnection, AddsNext, ShowsTime, after_accept, server_at}
 use Rattle.toll_server.specs.declared.network.Accepted.TheVariants.{Aborted, Connected, NoneWaiting, NoResources}
 use Rattle.toll_server.specs.declared.network.NetworkFault.{NetworkFault}
-use Rattle.toll_server.proofs.AcceptLemmas.{Counts, HasCome, aborted, aborted_counts, all_asked, come_none, comes_then, counts_none, lost_newcomer, lost_then, more_come, more_counts, accept_reported, no_arrival, room_then, wanted}
+use Rattle.toll_server.proofs.AcceptLemmas.{Counts, HasCome, aborted, aborted_counts, all_asked, come_none, comes_then, counts_none, lost_newcomer, lost_then, more_come, more_counts, accept_reported, no_arrival, short_then, wanted}
 use Rattle.toll_server.proofs.RoundLemmas.{quiet_call, ran_none}
 use Rattle.toll_server.proofs.TallyLemmas.{clock_agrees, on_err, on_ok_holds, tallies_more, tallies_weaker, time_shown}
 use Rattle.toll_server.proofs.connections.Connections.accept.Goals as goal
@@ -18,10 +18,9 @@ returns-then-is_err-clause-ran g c =
     let kept = on_err c.add_connection.result (let e = c.is_err.ensures.value in let is = c.if-is_err.true in cc) c.add_connection.ensures.same in
     let most = c.args.self.now.most_open in
     let first = server_at c.args.self.now Accepting in
-    room_then g.P.PartialEq.eq g.S.Source g.S.Sink most c.loop.came c.now-now.result first c.add_connection.new.self c.make_room.new.self _ _ c.make_room.ensures.room c.make_room.ensures.event_count
-    c.make_room.ensures.owners_left
-    (lost_then g.P.PartialEq.eq g.S.Source g.S.Sink most first c.loop.self c.add_connection.new.self c.vacant_key.result c.in-Ok-Connected.listener c.in-Ok-Connected.stream _ _ _ kept
-    c.add_connection.ensures.event_count c.add_connection.ensures.owners_left (accept_reported _ _ _ _ _ c.in-Ok-Connected.field-0-is c.in-Ok-Connected.ensures) c.loop.invariant.ran)
+    lost_then g.P.PartialEq.eq g.S.Source g.S.Sink most c.loop.came c.now-now.result first c.loop.self c.add_connection.new.self c.make_room.new.self c.vacant_key.result c.in-Ok-Connected.listener c.in-Ok-Connected.stream _ _ _ kept
+    c.add_connection.ensures.event_count c.add_connection.ensures.owners_left c.make_room.ensures.room c.make_room.ensures.event_count c.make_room.ensures.owners_left
+    (accept_reported _ _ _ _ _ c.in-Ok-Connected.field-0-is c.in-Ok-Connected.ensures) c.loop.invariant.ran
 
 pub returns-in-Ok-NoResources-clause-added : goal.returns-in-Ok-NoResources-clause-added
 returns-in-Ok-NoResources-clause-added g c =
@@ -32,10 +31,9 @@ pub returns-in-Ok-NoResources-clause-ran : goal.returns-in-Ok-NoResources-clause
 returns-in-Ok-NoResources-clause-ran g c =
     let most = c.args.self.now.most_open in
     let first = server_at c.args.self.now Accepting in
-    room_then g.P.PartialEq.eq g.S.Source g.S.Sink most c.loop.came c.now-now.result first c.loop.self c.make_room-in-Ok-NoResources.new.self _ _ c.make_room-in-Ok-NoResources.ensures.room
+    short_then g.P.PartialEq.eq g.S.Source g.S.Sink most c.loop.came c.now-now.result first c.loop.self c.make_room-in-Ok-NoResources.new.self c.vacant_key.result _ _ _ c.make_room-in-Ok-NoResources.ensures.room
     c.make_room-in-Ok-NoResources.ensures.event_count c.make_room-in-Ok-NoResources.ensures.owners_left
-    (quiet_call g.P.PartialEq.eq g.S.Source g.S.Sink most first (server_at c.loop.self Accepting) _ _ _ c.loop.invariant.ran
-    (no_arrival (server_at c.loop.self Accepting) c.vacant_key.result (Ok NoResources) _ _ refl refl (accept_reported _ _ _ _ _ c.in-Ok-NoResources.field-0-is c.in-Ok-NoResources.ensures)))
+    (accept_reported _ _ _ _ _ c.in-Ok-NoResources.field-0-is c.in-Ok-NoResources.ensures) c.loop.invariant.ran
 
 pub loop-preserved : goal.loop-preserved
 loop-preserved g c =
@@ -70,7 +68,7 @@ loop-preserved-in-Ok-Aborted g c =
       tally = aborted_counts c.args.self.now.owners_left at.owners_left c.loop.counter key _ _ _ (accept_reported _ _ _ _ _ c.in-Ok-Aborted.field-0-is c.in-Ok-Aborted.ensures) c.loop.invariant.tally;
       come = aborted c.args.self.now.most_open c.now-now.result c.args.self.now.slots c.loop.came key at.slots _ _ _ (accept_reported _ _ _ _ _ c.in-Ok-Aborted.field-0-is c.in-Ok-Aborted.ensures) c.loop.invariant.come;
       ran = quiet_call g.P.PartialEq.eq g.S.Source g.S.Sink c.args.self.now.most_open (server_at c.args.self.now Accepting) (server_at at Accepting) _ _ _ c.loop.invariant.ran
-          (no_arrival (server_at at Accepting) key (Ok Aborted) _ _ refl refl (accept_reported _ _ _ _ _ c.in-Ok-Aborted.field-0-is c.in-Ok-Aborted.ensures));
+          (no_arrival (server_at at Accepting) key (Ok Aborted) _ _ refl refl refl (accept_reported _ _ _ _ _ c.in-Ok-Aborted.field-0-is c.in-Ok-Aborted.ensures));
       left = c.loop.invariant.left;
       listens = tallies_more (λ t u. u.is_listening ≡ t.is_listening) (λ t u. u.is_listening ≡ t.is_listening) (after_accept {E = NetworkFault} key (Ok Aborted)) _ _ _
           (accept_reported _ _ _ _ _ c.in-Ok-Aborted.field-0-is c.in-Ok-Aborted.ensures) (λ t u p. p) c.loop.invariant.listens;
@@ -112,9 +110,9 @@ pub returns-in-Ok-NoneWaiting-clause-ran : goal.returns-in-Ok-NoneWaiting-clause
 returns-in-Ok-NoneWaiting-clause-ran g c =
     let at = server_at c.loop.self Accepting in
     quiet_call g.P.PartialEq.eq g.S.Source g.S.Sink c.args.self.now.most_open (server_at c.args.self.now Accepting) at _ _ _ c.loop.invariant.ran
-    (no_arrival at c.vacant_key.result (Ok NoneWaiting) _ _ refl refl (accept_reported _ _ _ _ _ c.in-Ok-NoneWaiting.field-0-is c.in-Ok-NoneWaiting.ensures))
+    (no_arrival at c.vacant_key.result (Ok NoneWaiting) _ _ refl refl refl (accept_reported _ _ _ _ _ c.in-Ok-NoneWaiting.field-0-is c.in-Ok-NoneWaiting.ensures))
 
 pub returns-in-Err-clause-ran : goal.returns-in-Err-clause-ran
 returns-in-Err-clause-ran g c =
     let at = server_at c.loop.self Accepting in
-    quiet_call g.P.PartialEq.eq g.S.Source g.S.Sink c.args.self.now.most_open (server_at c.args.self.now Accepting) at _ _ _ c.loop.invariant.ran (no_arrival at c.vacant_key.result (Err c.in-Err.fault) _ _ refl refl c.in-Err.ensures)
+    quiet_call g.P.PartialEq.eq g.S.Source g.S.Sink c.args.self.now.most_open (server_at c.args.self.now Accepting) at _ _ _ c.loop.invariant.ran (no_arrival at c.vacant_key.result (Err c.in-Err.fault) _ _ refl refl refl c.in-Err.ensures)
