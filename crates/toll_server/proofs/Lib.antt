@@ -3,6 +3,7 @@ pub mod RunLemmas
 pub mod QueueLemmas
 pub mod TallyLemmas
 pub mod StandLemmas
+pub mod WholeLemmas
 pub mod ConnectionLemmas
 pub mod ExpiryLemmas
 pub mod TurnTimes

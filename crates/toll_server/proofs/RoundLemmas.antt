@@ -12,6 +12,7 @@ use Rattle.toll_protocol.specs.declared.streams.source.Source as source
 use Rattle.toll_server.proofs.ConnectionLemmas.{Keeps, added_keeps, closed_keeps, evicted_keeps, expired_closed, expired_queue, turn_queue, turn_tasks}
 use Rattle.toll_server.proofs.QueueLemmas.{IsHistoryIn, named, none_twice, same_history, service_ran}
 use Rattle.toll_server.proofs.StandLemmas.{StandsByKey, asked_at, closed_new, each_some, removed_new, same_new, stands_added, stands_fewer, stands_heard, stands_kept, stands_lost, turn_requests}
+use Rattle.toll_server.proofs.WholeLemmas.{handed_once}
 use Rattle.toll_server.proofs.TallyLemmas.{tallies_begin, tallies_then, tallies_weaker}
 use Rattle.toll_server.specs.ServerEvents.{Advances, Comes, Ends, Expires, IsLost, IsShort, Takes, Waits}
 use Rattle.toll_server.specs.declared.network.NetworkFault.{NetworkFault}
@@ -203,6 +204,7 @@ module _ {S T P : Type 0} (same : P → P → Bool) (from : source.Ghosts S) (to
       let even = subst (Keeps_pace events) rests pace in record {
         in_turn = in_turn;
         none_twice = none_twice same laws is_by (queue_events events) in_turn;
+        handed = handed_once same is_by (queue_events events) in_turn;
         requested = stands.0;
         advanced = even.0;
         expired = even.1;

@@ -7,4 +7,5 @@ pub mod Networks
 pub mod Connections
 pub mod Accepting
 pub mod ServerEvents
+pub mod WholeRequests
 pub mod Rounds

@@ -9,6 +9,7 @@ use Rattle.toll_server.specs.Networks.{Arrival, ListensFor, Tallies, Tally, Wake
 use Rattle.toll_server.specs.Queues.{AreInTurn, Joining, NoneTwice, Serves}
 use Rattle.toll_server.specs.ServerEvents.{Accepting, Ends, HasRun, Hearing, IsNew, IsServerRun, IsStep, Server, ServerEvent, Serving, Takes, Waits, advanced_in, arrival_in, expired_in, joined_in, queue_events, server_at, shortage_in, wake_in}
 use Rattle.toll_server.specs.Runs.{Turn}
+use Rattle.toll_server.specs.WholeRequests.{AreHandedOnce, AreWholeJoined}
 use Rattle.toll_server.specs.declared.connections.Connections.{Connections}
 use Rattle.toll_server.specs.declared.listener.Listener.{Listener}
 use Rattle.toll_server.specs.declared.network.TheConstants.{MOST_READY}
@@ -30,12 +31,13 @@ pub record IsSentBySome {S P : Type 0} (unread : S → Option (List ℕ)) (arriv
   pub rest : Option (List ℕ)
   pub begins : Consumes (unread came.stream) rest j.request
 
--- Each turn was of the connection that had waited longest, and no party had two while another one waited. Each request came from an accepted
--- connection. After each wait those advanced that were ready then, and those were closed whose deadlines were over when it ended. The end
+-- Each turn was of the connection that had waited longest, and no party had two while another one waited. Each request that joined was handed
+-- over once, or waits for its first turn, and it came from an accepted connection. After each wait those advanced that were ready then, and those were closed whose deadlines were over when it ended. The end
 -- began only once no owner was left.
 pub record AreRounds {S T P : Type 0} (same : P → P → Bool) (is_by : Listener → List ℕ → P → Type 0) (unread : S → Option (List ℕ)) (events : List (ServerEvent S T P)) (left : ℕ) : Type 0 where
   pub in_turn : AreInTurn same is_by (queue_events events)
   pub none_twice : NoneTwice same (queue_events events)
+  pub handed : AreHandedOnce same (queue_events events)
   pub requested : All (IsSentBySome unread (filter_map arrival_in events)) (filter_map joined_in events)
   pub advanced : filter_map advanced_in events ≡ flat_map (λ wake. reverse wake.ready) (filter_map wake_in events)
   pub expired : filter_map expired_in events ≡ map (λ wake. wake.at) (filter_map wake_in events)
@@ -43,10 +45,11 @@ pub record AreRounds {S T P : Type 0} (same : P → P → Bool) (is_by : Listene
 
 module _ {S T P O : Type 0} (same : P → P → Bool) (is_by : Listener → List ℕ → P → Type 0) (answers : O → Listener → List ℕ → Poll T → O → Type 0)
     (resumes : O → T → Poll T → O → Type 0) (from : source.Ghosts S) (to : sink.Ghosts S) where
-  -- If a new server served by these events, they are rounds.
+  -- If a new server served by these events, they are rounds. In each of them a request that became whole joined the queue, or its
+  -- connection was closed because its party had its share.
   abbrev pub IsServedInRounds : List (ServerEvent S T P) → Type 0
-  IsServedInRounds events = (most count : ℕ) (first last : Server S T P) (old new : O) → IsNew count first → IsServerRun same from to most first events last → last.stage ≡ Accepting
-      → Serves is_by answers resumes old (queue_events events) new → AreRounds same is_by from.unread events last.owners_left
+  IsServedInRounds events = (most count : ℕ) (first last : Server S T P) (old new : O) → IsNew count first → (run : IsServerRun same from to most first events last) → last.stage ≡ Accepting
+      → Serves is_by answers resumes old (queue_events events) new → AreRounds same is_by from.unread events last.owners_left × AreWholeJoined same from to most first events last run
 
   -- The one server became the other by events over a network, and the service did nothing but what these events have it do.
   abbrev pub ServesFrom : ℕ → Server S T P → Server S T P → O → O → Option (Tally S) → Option (Tally S) → Type 0

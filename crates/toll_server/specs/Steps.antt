@@ -114,10 +114,11 @@ module _ {S T P : Type 0} where
     pub blocked : step ≡ Waits → IsSome (reply_in_state new.state) → OneBlocked (to.blocked old.stream) (to.blocked new.stream)
     pub through : step ≢ Waits → IsSome (reply_in_state old.state) → NoneBlocked (to.blocked old.stream) (to.blocked new.stream)
 
-  -- A connection advanced as far as its stream allows: what it was given and what it read, and where it waits. It fails only if no read
-  -- would have waited.
+  -- A connection advanced as far as its stream allows: what it was given and what it read, and where it waits. A request that became whole
+  -- joins. It fails only if no read would have waited.
   pub record Advances (from : source.Ghosts S) (to : sink.Ghosts S) (old new : Connection S T P) (step : StepResult) : Type 0 where
     pub hears : ReceivesRequest from.unread old new
+    pub whole : old.state ≡ Reading → IsSome (ticket_of new.state) → step ≡ Joins
     pub writes : Writes to old new step
     pub waits : step ≡ Waits → IsReadBlocked from.blocked old new
     pub fails : step ≡ Failed → ReadsWithoutWaiting from.blocked old new

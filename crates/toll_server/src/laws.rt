@@ -30,7 +30,9 @@ pub fn limits_are_those_defined()
 {}
 
 /// What a server does is done in rounds. In each, one wait ends, all connections that are ready advance, those
-/// whose time is over are closed, and the service takes one turn for the connection that has waited longest.
+/// whose time is over are closed, and the service takes one turn for the connection that has waited longest. A
+/// request that is whole joins the queue and is handed to the service once, or waits for its turn, or its connection
+/// is closed because its party has its share.
 /// Connections that are reading are closed in the end only after the last owner was accepted.
 pub fn what_is_served_is_served_in_rounds<S: Stream, O: Service>()
     ensures { (events : List (ServerEvent S O.Task O.Party)) → IsServedInRounds O.Party.eq O.is_by O.answers O.resumes S.Source S.Sink events }
