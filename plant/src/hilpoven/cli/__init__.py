@@ -16,6 +16,7 @@ from ..core import roles
 from .building import Group, Maker, makers_of
 from .output import show, tell
 from .caller import end_by_signals, person
+from .table import PACKAGED
 from .words import PATH, at_terminal
 
 ABOUT = """The plant's command of the order and lot genealogy office.
@@ -29,6 +30,7 @@ Example: hilpoven stock ACME
 """
 
 RECORD, ASK = "Record", "Ask"  # the sections of the lines in the help
+AFTER = "Look after the office"  # that of packages' subcommands
 OF_ANOTHER_OFFICE = {"demo", "setup"}  # which that of the settings doesn't concern
 COMPLETION = "_HILPOVEN_COMPLETE"  # the variable by which a shell asks for completions
 MOST_LETTERS = 4_096  # of a word of a command
@@ -42,12 +44,20 @@ def line_command(name: str) -> click.Command:
     return LineCommand(LINES[name])
 
 
+def packaged_command(word: str) -> click.Command:
+    """The subcommand of a package of its own; whether that is there is looked at when it is called."""
+    from .packages import packaged
+
+    return packaged(word, PACKAGED[word][0])
+
+
 def makers() -> dict[str, Maker]:
     """How each subcommand is made, the lines of `toll` first."""
     lines = {}
     for name, line in LINES.items():
         lines[name] = Maker(partial(line_command, name), ASK if line.is_question else RECORD, line.about)
-    return {**lines, **makers_of()}
+    packaged = {word: Maker(partial(packaged_command, word), AFTER, about) for word, (_, about) in PACKAGED.items()}
+    return {**lines, **makers_of(), **packaged}
 
 
 class Commands(Group):

@@ -2,7 +2,7 @@
 group tells the nearest names of a subcommand that isn't there."""
 import re
 from collections import UserDict
-from collections.abc import Callable
+from collections.abc import Callable, Sequence
 from dataclasses import dataclass
 from functools import partial
 from importlib import import_module
@@ -78,10 +78,16 @@ def parts_of(entry: Entry) -> dict[str, Any]:
     def call(**given: Any) -> Any:
         ctx = click.get_current_context()
         if ctx.invoked_subcommand is None:
-            return getattr(import_module(f".{entry.module}", __package__), entry.function)(ctx.obj, **given)
+            return function_of(entry)(ctx.obj, **given)
         return None
 
     return {"params": [parameter_of(value) for value in entry.values], "callback": call}
+
+
+def function_of(entry: Entry) -> Callable[..., Any]:
+    """What does the subcommand of an entry, or what makes its subcommands."""
+    function: Callable[..., Any] = getattr(import_module(f"{entry.package}.{entry.module}"), entry.function)
+    return function
 
 
 def single_command_of(entry: Entry) -> click.Command:
@@ -163,20 +169,21 @@ class Group(click.Group):
                 formatter.write_dl([(name, about) for name, about in rows if about != HIDDEN])
 
 
-def makers_of(*group: str) -> dict[str, Maker]:
-    """How the table's subcommands of a group are made, or those that are in none."""
-    entries = [entry for entry in ENTRIES if entry.group == list(group) and (group or entry.name not in LINES)]
+def makers_of(*group: str, table: Sequence[Entry] = ENTRIES) -> dict[str, Maker]:
+    """How a table's subcommands of a group are made, or those that are in none."""
+    entries = [entry for entry in table if entry.group == list(group) and (group or entry.name not in LINES)]
     return {
-        entry.name: Maker(partial(command_of, entry), "" if group else entry.section, entry=entry) for entry in entries
+        entry.name: Maker(partial(command_of, entry, table), "" if group else entry.section, entry=entry)
+        for entry in entries
     }
 
 
-def command_of(entry: Entry) -> click.Command:
-    """The subcommand of an entry, which may be a group, of which a module may have the subcommands."""
+def command_of(entry: Entry, table: Sequence[Entry] = ENTRIES) -> click.Command:
+    """The subcommand of an entry of a table, which may be a group, of which a module may have the subcommands."""
     about = {"help": entry.help, "short_help": entry.about}
     if entry.is_made:
-        return Group(entry.name, getattr(import_module(f".{entry.module}", __package__), entry.function)(), **about)
-    makers = makers_of(*entry.group, entry.name)
+        return Group(entry.name, function_of(entry)(), **about)
+    makers = makers_of(*entry.group, entry.name, table=table)
     if makers and not entry.module:
         return Group(entry.name, makers, **about)
     if not makers:

@@ -34,6 +34,8 @@ KINDS = {
     }.items()
     for metavar in metavars.split()
 }
+# The packages that have subcommands of their own (`packages.py`), by these, with what lists say of each.
+PACKAGED = {"desk": ("hilpoven_desk", "serves the plant's screens, for people who don't type commands")}
 SHARED_LINES = """
 .sheet
   --digits COLUMN,.. *  Accepts names of only digits: 100000 may have been 1E5, 7 may have been 007.
@@ -796,10 +798,12 @@ VALUE = re.compile(r"([^=:!]+)(?:=(\w+))?(?::([^!]+))?(!?)")  # METAVAR=name:typ
 
 
 class Entry:
-    """A subcommand of the table. What stands below its first line is read when it is asked for."""
+    """A subcommand of the table. What stands below its first line is read when it is asked for. Its module is one of a
+    package of Python."""
 
-    def __init__(self, block: str, section: str) -> None:
+    def __init__(self, block: str, section: str, package: str) -> None:
         head, *self.lines = block.rstrip().split("\n")
+        self.package = package
         match = HEAD.fullmatch(head)
         assert match, head
         words, usage, colons, self.module, function = match.groups("")
@@ -873,14 +877,14 @@ def parameter_name(word: str) -> str:
     return word.lower().replace("-", "_")
 
 
-def read(text: str) -> Iterator[Entry]:
-    """The entries of a table, each with the section in which it stands."""
+def read(text: str, package: str = __package__) -> Iterator[Entry]:
+    """The entries of a table, each with the section in which it stands; a package has the modules that they name."""
     section = ""
     for block in re.split(r"\n(?=\S)", text.strip()):
         if block.startswith("["):
             section = block.strip("[]\n")
         else:
-            yield Entry(block, section)
+            yield Entry(block, section, package)
 
 
 SHARED = {block.split("\n")[0].strip(): block.rstrip().split("\n")[1:] for block in re.split(r"\n\.", SHARED_LINES)[1:]}
