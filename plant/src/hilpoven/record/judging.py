@@ -1,7 +1,7 @@
 """What the plant's quality says of a lot: that it is held, or signed, by one who recorded nothing of it, as the journal
 has it."""
 import contextlib
-from collections.abc import Iterable, Iterator, Sequence
+from collections.abc import Callable, Iterable, Iterator, Sequence
 from typing import Any, NamedTuple
 
 from ..core import lock, roles
@@ -32,11 +32,15 @@ class Judged(NamedTuple):
     remark: str = ""
 
 
-def sign(context: Context, lot: LotId, reason: str, day: int | None) -> Judged:
-    """Signs a lot, unless it is signed already."""
+def sign(
+    context: Context, lot: LotId, reason: str, day: int | None, require: Callable[[Desk], None] = lambda _: None
+) -> Judged:
+    """Signs a lot, unless it is signed already. `require` fails where something is otherwise than the signer saw it:
+    nobody else records between that and the signature."""
     note = Signed(*lot, context.day(day), reason)
     with desk_alone(context, note) as desk:
         asked = require_lot(desk.base, lot)
+        require(desk)
         register = register_of(context, desk.base)
         status = quality.statuses(desk.base, register, lot).get(lot)
         if status is not None and status.state == quality.QualityState.SIGNED:
