@@ -1,0 +1,4 @@
+"""The pages, each with its address and its forms."""
+from . import batches, entrance, lots, receipts, recalls, shipments, today
+
+ALL = [module.PAGE for module in (entrance, today, receipts, lots, batches, shipments, recalls)]

@@ -1,0 +1,22 @@
+"""Recalling: where a lot went, where that lies, and who has it."""
+import flask
+from hilpoven.model.rows import LotId
+
+from ..web import Answer, desk, label_in, name_typed, page, person, reading
+
+PAGE = flask.Blueprint("recalls", __name__)
+
+
+@PAGE.get("/recall")
+def recall() -> Answer:
+    """Where a lot went. Who was shown it is noted, as of a paper."""
+    word, context = name_typed("q"), desk().working(person())
+    label = label_in(word)
+    with reading(context) as office:
+        lots = office.lots_called(word) if word and not label else []
+        lot = label[0] if label else lots[0].id if len(lots) == 1 else None
+        if lot is None:
+            return page("recall.html", q=word, lots=lots, found=None, card=None)
+        card, found = office.card(lot), office.recall(lot)
+        context.office_to_export("desk", "recall", *lot)
+        return page("recall.html", q=word, lots=[], found=found, card=card, LotId=LotId)

@@ -1,0 +1,49 @@
+"""Shipping: the label first, then to whom and how much. Nothing of it is filled in beforehand."""
+import flask
+from flask import url_for
+from hilpoven.model.kinds import Role
+from werkzeug.wrappers import Response
+
+from ..web import Answer, day_typed, desk, done, form_key, label_in, name_typed, number_typed, page, person, reader
+from ..web import reading, record, text, typed, values_of_form
+from .receipts import shown_of
+
+PAGE = flask.Blueprint("shipments", __name__)
+
+
+@PAGE.route("/ship", methods=["GET", "POST"])
+def ship() -> Answer | Response:
+    """A shipment."""
+    context, outcome = desk().working(person()), None
+    values = values_of_form(key=form_key(context), day=reader().day_in_field(context.day()))
+    scan = values.get("scan", "").upper()
+    label = label_in(scan)
+    if flask.request.method == "POST" and label:
+        line = {
+            "OWNER": label[0].owner,
+            "KEY": name_typed("key"),
+            "LOT": label[0].name,
+            "SUBLOT": label[1],
+            "AMOUNT": number_typed("amount"),
+            "DAY": day_typed(context),
+        }
+        outcome = record("ship", line, {"party": name_typed("party"), "document": typed("document")})
+        if outcome.is_done:
+            said = text(
+                "%(amount)s of lot %(lot)s shipped to %(party)s", party=name_typed("party") or "?", **shown_of(line)
+            )
+            correction = text("Wrong? What comes back is received into a new lot, as a return.")
+            return done(outcome, said, url_for("shipments.ship"), correction)
+    with reading(context) as office:
+        card = office.card(label[0]) if label else None
+        return page(
+            "ship.html",
+            outcome,
+            values=values,
+            scan=scan,
+            card=card,
+            sublot=label[1] if label else "",
+            choices=[] if label or not scan else office.sublots_called(scan),
+            parties=office.parties(label[0].owner, Role.CUSTOMER) if label else [],
+            is_required=context.settings.require.recipient,
+        )
