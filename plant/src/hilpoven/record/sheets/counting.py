@@ -7,7 +7,7 @@ import hashlib
 import io
 import os
 from collections import Counter, defaultdict
-from collections.abc import Iterable, Iterator
+from collections.abc import Callable, Iterable, Iterator, Mapping, Sequence
 from dataclasses import dataclass, field
 from enum import Enum
 from typing import Any
@@ -29,8 +29,9 @@ from ...model.register.meant import HAS_KEY, HAS_LOT
 from .. import asking, making
 from ..making import Desk
 from .noting import check_days
+from .cells import Cell, Table
 from .reading import read_source
-from .sheet import Finding, Record, Sheet
+from .sheet import Asked, Finding, Record, Sheet
 from .values import COUNTS
 
 COLUMNS = ("owner", "lot", "sublot", "material", "measure", "disposition", "on_hand", "counted", "reason", "day")
@@ -152,18 +153,33 @@ def as_workbook(rows: Iterable[dict[str, Any]]) -> bytes:
 
 def read(context: Context, path: str, are_meant: bool, **given: Any) -> Count:
     """What a counted sheet of a file says, as options ask for it. `are_meant` says that days are, whatever they are."""
-    office = context.office()
     source, sha256 = read_source(path, {**given, "ignored": (*given["ignored"], *BESIDE)}, COUNTS)
+    origin = {"sheet": os.path.basename(path), "sheet_sha256": sha256}
+    return count_of(context, source, are_meant, lambda record: {"row": record.row, **origin})
+
+
+def of_rows(context: Context, rows: Sequence[Mapping[str, str]], are_meant: bool) -> Count:
+    """What rows say that were counted at a screen, by the names of a sheet's columns; empty ones weren't counted."""
+    columns = [*COUNTS.columns, *COUNTS.noted]
+    cells = [[Cell(row.get(name, ""), is_text=True) for name in columns] for row in rows]
+    header = [Cell(name, is_text=True) for name in columns]
+    return count_of(context, Sheet(Table([*enumerate([header, *cells], 1)]), COUNTS, Asked()), are_meant)
+
+
+def count_of(
+    context: Context, source: Sheet, are_meant: bool, origin_of: Callable[[Record], dict[str, Any]] = lambda _: {}
+) -> Count:
+    """What counted rows say of the office; the journal notes where each came from."""
+    office = context.office()
     if source.wrong:
         return Count(remarks=sorted([*source.wrong, *source.let]), is_wrong=True)
     if source.records:
         with earlier.tables_of(office) as bases:
             check_days(bases, context.settings.time_zone, source, are_meant, is_recorded)
-    origin = {"sheet": os.path.basename(path), "sheet_sha256": sha256}
     with making.desk(context) as desk:
         count = compare(desk, source)
         for each in count.differences:
-            count.beside[each.record.row] = {"row": each.record.row, **origin, **desk.all_members([each.note])}
+            count.beside[each.record.row] = {**origin_of(each.record), **desk.all_members([each.note])}
     count.remarks = sorted(source.let)
     return count
 
