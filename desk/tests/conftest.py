@@ -16,9 +16,9 @@ sys.modules["plants"] = plants
 spec.loader.exec_module(plants)
 from flask.testing import FlaskClient  # noqa: E402
 from hilpoven.core import settings as site  # noqa: E402
-from hilpoven.core.context import Context  # noqa: E402
 from hilpoven_desk import accounts  # noqa: E402
 from hilpoven_desk.app import application  # noqa: E402
+from hilpoven_desk.making import Contexts  # noqa: E402
 from hilpoven_desk.web import Desk  # noqa: E402
 
 pytest_plugins = ["plants"]  # whose offices these are
@@ -122,7 +122,7 @@ def office(at_work):
 @pytest.fixture
 def desk(office) -> Iterator[Desk]:
     """The screens of an office."""
-    served = Desk(lambda person: Context(site.load(), person=person), accounts.SampleAccounts(PERSONS), ORIGIN)
+    served = Desk(Contexts(settings=str(site.load.__defaults__[0])), accounts.SampleAccounts(PERSONS), ORIGIN)
     yield served
     served.tables.close()
 

@@ -1,5 +1,6 @@
 """What pages show, and what their forms record."""
 import pytest
+from conftest import text_of
 
 
 def asked(office) -> dict:
@@ -219,3 +220,38 @@ def test_what_is_not_there_is_said(browse):
     for path, status in (("/lot/ACME/NONE", 409), ("/batch/ACME/O-1/77", 409), ("/order/ACME/NONE", 404), ("/nothing", 404), ("/batch/ACME/O-1/100", 404)):
         anna.get(path)
         assert anna.status == status and "This can't be done" in anna.text, path
+
+
+def test_a_count_records_its_differences_once(browse, office):
+    anna = browse("anna")
+    anna.get("/count?owner=ACME&place=bay1")
+    assert "BAY1 · S-1" in anna.text and "on hand: 4,700 kg" in anna.text and "TOTE1" not in anna.text.replace("TOTE1 ", "")
+    form = {**anna.form(), "lot": "S-1", "sublot": "BAY1", "on_hand": "4700", "counted": "4690", "reason": ""}
+    anna.send("/count", **form)
+    assert anna.status == 409 and "a difference needs a reason" in anna.text, anna.text
+    form["reason"] = "spilled"
+    anna.send("/count", **form)
+    assert anna.status in (200, 409), anna.text
+    if anna.status == 409:  # the office's days are no dates, so today is unusual
+        anna.send("/count", **form, meant="yes")
+    assert anna.status == 200 and "S-1 BAY1: 4,700 → 4,690" in anna.text, anna.text
+    line = asked(office)
+    assert (line["login"], line["words"][0], line["words"][5], line["notes"][0]["reason"]) == ("anna", "scrap", "10", "spilled")
+    before = office.content()
+    anna.send("/count", **form, meant="yes")
+    assert office.content() == before and "1 place is as on hand." in anna.text
+
+
+def test_papers_and_labels_are_made_and_noted(browse, office, monkeypatch):
+    pytest.importorskip("weasyprint")
+    anna = browse("anna")
+    anna.get("/papers/lot/ACME/S-1")
+    assert "Certificate" in anna.text and "BAY1 4,700 kg" in anna.text
+    form = anna.form("labels")
+    for fields, name, first in (({"what": "labels", "sublot": "BAY1", "size": "100x50"}, "labels-ACME-S-1.pdf", b"%PDF"),
+                                ({"what": "lot"}, "lot-ACME-S-1.pdf", b"%PDF"), ({"what": "recall"}, "recall-ACME-S-1.zip", b"PK")):
+        reply = anna.client.post("/papers/lot/ACME/S-1", base_url="https://desk.example.com", headers={"Origin": "https://desk.example.com"}, data={**form, **fields})
+        assert reply.status_code == 200, text_of(reply.text)
+        assert reply.data.startswith(first) and name in reply.headers["Content-Disposition"]
+    exported = [line for line in office.lines() if line.get("event") == "exported"]
+    assert [(line["login"], line["words"][0]) for line in exported] == [("anna", "labels"), ("anna", "papers"), ("anna", "papers")]

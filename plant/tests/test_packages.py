@@ -7,7 +7,7 @@ from hilpoven import cli
 from hilpoven.cli import hilpoven
 from hilpoven.core import roles
 
-WORDS = """TABLE = '''
+TABLE = """TABLE = '''
 [Look after the office]
 
 greet : greeting
@@ -36,7 +36,7 @@ def with_package(monkeypatch, tmp_path):
     """A package with a subcommand `greet`, and one that isn't installed with `sing`."""
     folder = tmp_path / "polite_package"
     folder.mkdir()
-    for name, text in (("__init__", ""), ("words", WORDS), ("greeting", GREETING)):
+    for name, text in (("__init__", ""), ("table", TABLE), ("greeting", GREETING)):
         (folder / f"{name}.py").write_text(text)
     monkeypatch.syspath_prepend(tmp_path)
     for word, package in (("greet", "polite_package"), ("sing", "absent_package")):

@@ -387,3 +387,28 @@ def test_sudo_is_called_where_the_caller_may(machine, monkeypatch, groups, is_ca
     done = CliRunner(mix_stderr=False).invoke(hilpoven, words_for(machine))
     wanted = ["sudo", "--", "/usr/bin/hilpoven", *words_for(machine)]
     assert called == [wanted] * is_called and (is_called or done.exit_code == 2 and f"sudo -- /usr/bin/hilpoven setup north --host {HOST}" in done.stderr)
+
+
+def with_desk(machine, host="desk.north.example"):
+    return list(steps.take(steps.Setup(Plan("north", HOST, *machine.certificate, "", host), machine)))
+
+
+def test_the_plants_screens_have_a_host_of_their_own(machine, tmp_path):
+    with pytest.raises(Failure, match="hilpoven-desk isn't here"):
+        with_desk(machine)
+    machine.__dict__["more_units"] = ("toll-desk@.service",)
+    done = with_desk(machine)
+    assert "toll-desk@north.service" in done[-1].text and done[-1].is_new
+    assert {"toll-passwords.service", "toll-desk@north.service"} <= machine.active
+    assert "DESK_HOST=desk.north.example\n" in (tmp_path / "toll" / "north.env").read_text()
+    served = (tmp_path / "nginx" / "conf.d" / "toll-desk_north.conf").read_text()
+    assert "server_name desk.north.example;" in served and "unix:/run/toll-desk/north/socket:" in served and machine.certificate[0] in served
+    assert not any(each.is_new for each in with_desk(machine))
+    with pytest.raises(Failure, match="has screens at desk.north.example"):
+        with_desk(machine, "other.north.example")
+
+
+@pytest.mark.parametrize("host", [HOST, "a b", "x;y", "../x", "desk.example.com\nX=1", "-x"])
+def test_the_host_of_screens_is_a_host_name(machine, host):
+    with pytest.raises(Failure, match="--desk"):
+        with_desk(machine, host)

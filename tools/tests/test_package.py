@@ -58,6 +58,7 @@ def test_the_folder_gets_the_packages_and_nothing_else(packages: pathlib.Path) -
     }
     made_of_source = {f"hilpoven_V.{end}" for end in ("dsc", "orig.tar.gz", "debian.tar.xz")}
     binary = {"toll_V_amd64.deb", "hilpoven_V_all.deb", "hilpoven-papers_V_all.deb", "toll-V-x86_64.tar.gz"}
+    binary |= {"hilpoven-desk_V_all.deb"}
     assert files == {"program"} | binary | made_of_source
     assert not [file for file in packages.iterdir() if file.name.startswith((".", "package"))]
 

@@ -13,7 +13,7 @@ from hilpoven.core.rights import Person
 GROUP = "hilpoven"  # whose members may log in
 MOST_LOGIN, MOST_PASSWORD = 64, 512  # bytes
 FIRST_PERSON = 1000  # the number of the first account that isn't the system's
-SASLAUTHD = "/run/saslauthd/mux"
+SASLAUTHD = "/run/toll-passwords/mux"  # of toll-passwords.service
 SERVICE = "hilpoven-desk"  # of PAM: /etc/pam.d/hilpoven-desk
 PATIENCE = 15  # seconds for an answer of saslauthd
 PIECE = 1_024  # bytes

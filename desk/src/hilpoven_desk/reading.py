@@ -93,6 +93,10 @@ class Reading:
         words = (*lot,) if lot.owner == HOUSE else (lot.owner, *lot)
         return read_moves(self.base, f"{own} m.lot_owner = ? AND m.lot = ?", words)[: -MOST_MOVES - 1 : -1]
 
+    def shipments_of(self, lot: LotId) -> list[Move]:
+        """The latest shipments of a lot that stand, the last one first."""
+        return [move for move in self.moves_of(lot) if move.kind == Kind.SHIP and not move.is_void]
+
     def parties(self, owner: str, role: Role) -> list[Party]:
         """The parties of an owner with a role, by their names."""
         names = [name for name in self.register.parties if name[0] == owner]

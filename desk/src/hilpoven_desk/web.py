@@ -18,6 +18,7 @@ from werkzeug.wrappers import Response as BaseResponse
 from .accounts import MOST_LOGIN, MOST_PASSWORD, Accounts, DeskPerson, Unavailable
 from .delays import Delays, keys_of
 from .language import Reader
+from .making import Contexts, Made
 from .reading import Reading
 from .recording import Entry, Outcome, State, give, may, new_key
 from .sessions import Session, Sessions
@@ -35,13 +36,16 @@ BLANKS = re.compile(r"[ \u00a0\u2009\u202f]+")
 class Desk:
     """The screens of an office: how a request works on it, whose accounts there are, and where browsers find it."""
 
-    working: Callable[[DeskPerson], Context]
+    working: Contexts
     accounts: Accounts
     origin: str  # such as https://desk.example.com
     sessions: Sessions = field(default_factory=Sessions)
     delays: Delays = field(default_factory=Delays)
     tables: KeptTables = field(default_factory=KeptTables)
-    printing: Callable[[DeskPerson], list[str]] | None = None  # the words of a process that makes papers
+
+    def making(self, person: DeskPerson, what: str, names: Mapping[str, Any]) -> Made:
+        """A paper, or labels."""
+        return self.working.make(person, what, names)
 
     @property
     def is_secure(self) -> bool:

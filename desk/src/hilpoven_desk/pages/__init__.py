@@ -1,4 +1,4 @@
 """The pages, each with its address and its forms."""
-from . import batches, entrance, lots, receipts, recalls, shipments, today
+from . import batches, counts, entrance, lots, papers, receipts, recalls, shipments, today
 
-ALL = [module.PAGE for module in (entrance, today, receipts, lots, batches, shipments, recalls)]
+ALL = [module.PAGE for module in (entrance, today, receipts, lots, batches, shipments, recalls, counts, papers)]

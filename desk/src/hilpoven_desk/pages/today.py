@@ -15,8 +15,18 @@ PAGE = flask.Blueprint("today", __name__)
 def today() -> Answer:
     """What needs somebody today."""
     with reading() as office:
-        lists = {name: getattr(office, name)() for name in ("batches", "held", "expiring", "waiting", "orders")}
-        return page("today.html", today=office.today, most=MOST, **lists)
+        held = office.held()
+        are_held = {row.lot.id for row in held}
+        return page(
+            "today.html",
+            today=office.today,
+            most=MOST,
+            batches=office.batches(),
+            held=held,
+            expiring=office.expiring(),
+            waiting=[row for row in office.waiting() if row.lot.id not in are_held],
+            orders=office.orders(),
+        )
 
 
 @PAGE.get("/find")

@@ -25,6 +25,7 @@ from ..report.papers import guard
 from ..core.days import today
 from . import hilpoven
 from .caller import person
+from .packages import samples
 
 SETTINGS = "hilpoven.toml"
 EXAMPLES = ("recall HOUSE W-1102", "list lots --open", "board > board.html")
@@ -38,8 +39,9 @@ def demo(context: Context, port: int) -> None:
     program = program_of(context.settings)
     try:
         with temporary() as folder, week_in(folder, program) as week, listening(week, port) as listener:
-            show(week, listener.port, program)
-            listener.serve_forever()
+            with samples(os.path.join(folder, SETTINGS)) as lines:
+                show(week, listener.port, program, lines)
+                listener.serve_forever()
     except SystemExit:  # by a signal
         tell_line("hilpoven: the demo is ended: nothing is served, and all of the sample week is removed")
         raise
@@ -102,14 +104,17 @@ def listening(week: Week, port: int) -> Listener:
     return Listener(served, port, week_companions.refresh)
 
 
-def show(week: Week, port: int, program: str) -> None:
-    """Prints what can be tried on the plant's side, and last the page's address and the owners' keys."""
+def show(week: Week, port: int, program: str, of_packages: list[str]) -> None:
+    """Prints what can be tried on the plant's side, what packages of their own show, and last the page's address and
+    the owners' keys."""
     typed = "hilpoven" if shutil.which("hilpoven") == sys.argv[0] else shlex.quote(sys.argv[0])
     settings = shlex.quote(os.path.join(week.folder, SETTINGS))
     tell_line("hilpoven: the plant's side, in another terminal, for example:")
     tell_line(f"  export HILPOVEN_SETTINGS={settings}")
     for words in EXAMPLES:
         tell_line(f"  {typed} {words}")
+    for line in of_packages:
+        tell_line(line)
     unproved = "   (the quick build: NOTHING of it is proved)" if program.endswith(QUICK) else ""
     tell_line("hilpoven: the page is served; log in with a name and its key. Ctrl-C ends this and removes all of it")
     click.echo(f"http://127.0.0.1:{port}/owner/{unproved}")

@@ -762,6 +762,7 @@ setup NAME:plain : setup
   --cert FILE !  The host's certificate, with the chain, as PEM.
   --key FILE !  The certificate's private key, as PEM.
   --owner OWNER :plain ~  An owner to begin with, whose key is made and shown once.
+  --desk HOST ~  The host name of the plant's screens, such as desk.example.com, which the certificate has, too.
   Sets up an office with its site for owners: its settings in /etc/toll, with a free port, its folder, its file, its
   units, and nginx's site with TLS.
 

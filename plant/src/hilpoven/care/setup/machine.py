@@ -22,6 +22,7 @@ OK = 200
 FORBIDDEN = 403  # what a server answers to a request without a key
 NGINX_FILES = (("conf.d", ".conf"), ("sites-enabled", ""))
 TEMPLATES = (f"{site.CHECKOUT}/packaging/nginx.conf", f"{site.CHECKOUT}/toll/nginx.conf", "/usr/share/toll/nginx.conf")
+DESK_TEMPLATES = (f"{site.CHECKOUT}/packaging/desk/nginx.conf", "/usr/share/hilpoven-desk/nginx.conf")
 PAGES = ("/usr/share/toll/page", f"{site.CHECKOUT}/toll/page")
 RUNNING = "/run/systemd/system"  # which is there where systemd runs
 UNITS = ("/usr/lib/systemd/system", "/usr/local/lib/systemd/system", "/etc/systemd/system")
@@ -103,10 +104,11 @@ class Machine:
 
     def template(self) -> str:
         """The site's file, as it is installed."""
-        for path in TEMPLATES:
-            with contextlib.suppress(FileNotFoundError), open(path) as file:
-                return file.read()
-        raise Failure("the site's file isn't here", WRONG_USE, f"it is looked for in {', '.join(TEMPLATES)}")
+        return first_of(TEMPLATES)
+
+    def desk_template(self) -> str:
+        """The same of the plant's screens."""
+        return first_of(DESK_TEMPLATES)
 
     def page(self) -> str:
         """The folder of the owner's page."""
@@ -174,6 +176,14 @@ class Machine:
         except OSError:
             return False
         return True
+
+
+def first_of(paths: tuple[str, ...]) -> str:
+    """The text of the first of these files that is there."""
+    for path in paths:
+        with contextlib.suppress(FileNotFoundError), open(path) as file:
+            return file.read()
+    raise Failure("the site's file isn't here", WRONG_USE, f"it is looked for in {', '.join(paths)}")
 
 
 def is_of_service(port: int) -> bool:

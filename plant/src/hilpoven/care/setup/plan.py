@@ -16,14 +16,15 @@ EVERYBODY = 0o004  # may read it
 
 @dataclass(frozen=True)
 class Plan:
-    """An office by its name, the host name of its site, the files of its certificate, and an owner; empty if none is
-    asked for."""
+    """An office by its name, the host name of its site, the files of its certificate, an owner, and the host name of
+    the plant's screens; empty if none is asked for."""
 
     name: str
     host: str
     certificate: str
     key: str
     owner: str = ""
+    desk: str = ""
 
     def require_forms(self) -> None:
         """Fails where a value isn't of its form."""
@@ -31,6 +32,8 @@ class Plan:
             raise wrong("NAME", self.name, "is to be 1 to 32 letters, digits and -, not starting with -")
         if not HOST.fullmatch(self.host):
             raise wrong("--host", self.host, "is no host name, such as toll.example.com")
+        if self.desk and (not HOST.fullmatch(self.desk) or self.desk == self.host):
+            raise wrong("--desk", self.desk, "is no host name of its own, such as desk.example.com")
         for option, path in (("--cert", self.certificate), ("--key", self.key)):
             if not PATH.fullmatch(path) or os.path.normpath(path) != path:
                 raise wrong(option, path, "is to be a path of letters, digits and ._@+-/ without . or .. on its way")

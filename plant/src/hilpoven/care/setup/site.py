@@ -50,15 +50,15 @@ def site_of(machine: Machine, plan: Plan, port: int) -> Site:
     shared = next((path for path, text in texts.items() if path != once_path and ZONE.search(text)), "")
     path = f"{os.path.dirname(shared or once_path)}/{name}"
     others = {other: text for other, text in texts.items() if other not in (path, once_path)}
-    _, once, office = parts_of(machine)
+    _, once, office = parts_of(machine, machine.template())
     logs = "" if not any(LOG in text for text in others.values()) else plan.name
     office = filled(office, plan, port, logs).replace("/usr/share/toll/page/", f"{machine.page()}/")
     return Site(Written(once_path, once), Written(path, office), shared, others)
 
 
-def parts_of(machine: Machine) -> list[str]:
-    """The shipped file's head, the machine's part and an office's, without IPv6 where the machine has none."""
-    parts = [f"{part.strip()}\n" for part in PARTS.split(machine.template())]
+def parts_of(machine: Machine, text: str) -> list[str]:
+    """A shipped file's head, the machine's part and an office's, without IPv6 where the machine has none."""
+    parts = [f"{part.strip()}\n" for part in PARTS.split(text)]
     if len(parts) != 3:
         raise Failure("the site's file hasn't the two parts that this version knows")
     return parts if machine.has_ipv6() else [IPV6.sub("", part) for part in parts]
@@ -67,14 +67,36 @@ def parts_of(machine: Machine) -> list[str]:
 def filled(text: str, plan: Plan, port: int, log: str) -> str:
     """An office's part with its own values; its logs have its name where another office has those of the shipped
     file."""
-    for shipped, own in (
-        ("server_name toll.example.com;", f"server_name {plan.host};"),
-        ("/etc/ssl/toll.example.com.pem;", f"{plan.certificate};"),
-        ("/etc/ssl/private/toll.example.com.key;", f"{plan.key};"),
+    own = with_own(
+        text,
+        *of_certificate("toll.example.com", plan.host, plan),
         ("http://127.0.0.1:801", f"http://127.0.0.1:{port}"),
         ("toll.log ", f"toll-{log}.log " if log else "toll.log "),
-    ):
+    )
+    return own.replace("/toll-companion/NAME/", f"/toll-companion/{plan.name}/")
+
+
+def of_certificate(shipped: str, host: str, plan: Plan) -> tuple[tuple[str, str], ...]:
+    """What names a host in a shipped file, and the plan's host and certificate in its place."""
+    return (
+        (f"server_name {shipped};", f"server_name {host};"),
+        (f"/etc/ssl/{shipped}.pem;", f"{plan.certificate};"),
+        (f"/etc/ssl/private/{shipped}.key;", f"{plan.key};"),
+    )
+
+
+def with_own(text: str, *values: tuple[str, str]) -> str:
+    """A shipped text with own values in the place of its own."""
+    for shipped, own in values:
         if shipped not in text:
             raise Failure(f"the site's file has no `{shipped}`, which this version knows")
         text = text.replace(shipped, own)
-    return text.replace("/toll-companion/NAME/", f"/toll-companion/{plan.name}/")
+    return text
+
+
+def screens_of(machine: Machine, plan: Plan) -> list[Written]:
+    """The files of the site of an office's screens, which serves them at a host name of their own."""
+    _, once, office = parts_of(machine, machine.desk_template())
+    own = with_own(office, *of_certificate("desk.example.com", plan.desk, plan), ("/NAME/", f"/{plan.name}/"))
+    folder = f"{machine.nginx}/conf.d"
+    return [Written(f"{folder}/00-toll-desk.conf", once), Written(f"{folder}/toll-desk_{plan.name}.conf", own)]

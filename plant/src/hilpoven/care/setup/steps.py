@@ -3,6 +3,7 @@ import csv
 import io
 import os
 import pwd
+import re
 import stat
 from collections.abc import Callable, Iterator
 from dataclasses import dataclass
@@ -14,12 +15,13 @@ from ...core.office import has_bytes
 from . import files
 from .machine import Machine
 from .plan import Plan
-from .site import site_of
+from .site import screens_of, site_of
 
 ABOUT_HILPOVEN = (
     '# The settings of hilpoven. What can stand here: /usr/share/doc/toll/docs/administration.md, "Settings".\n'
 )
 ABOUT_SETTINGS = '# What else can stand here: /usr/share/doc/toll/docs/operations.md, "As a service".\n'
+DESK_HOST = re.compile(r"^DESK_HOST=(.*)$", re.M)
 IS = ("is-enabled", "is-active")
 OPTIONAL = ("toll-companion@{name}.timer",)  # units of later packages
 
@@ -168,6 +170,37 @@ def replaced(machine: Machine, wanted: list[files.Written]) -> bool:
     return bool(before)
 
 
+def screens(setup: Setup) -> Done | None:
+    """The plant's screens, by their unit and nginx."""
+    machine, plan = setup.machine, setup.plan
+    if not plan.desk:
+        return None
+    if not machine.has_unit("toll-desk@.service"):
+        raise Failure("the package hilpoven-desk isn't here, which has the screens", WRONG_USE)
+    is_named, names = named_host(setup), ["toll-passwords.service", f"toll-desk@{plan.name}.service"]
+    was_right = are_active(machine, names)
+    if not was_right:
+        machine.must(["systemctl", "enable", "--now", *names])
+    elif is_named:
+        machine.must(["systemctl", "restart", names[1]])
+    if is_new := replaced(machine, screens_of(machine, plan)):
+        machine.must(["systemctl", "reload", "nginx"])
+    return Done(is_named or not was_right or is_new, f"{', '.join(names)}: the plant's screens at {plan.desk}")
+
+
+def named_host(setup: Setup) -> bool:
+    """Has the office's settings name the host of its screens; whether they didn't. Fails where they name another."""
+    path, host = f"{setup.machine.offices}/{setup.plan.name}.env", setup.plan.desk
+    with open(path) as file:
+        text = file.read()
+    if match := DESK_HOST.search(text):
+        if match[1] != host:
+            raise Failure(f"{path} has screens at {match[1]}", WRONG_USE, f"DESK_HOST={host} there names another host")
+        return False
+    files.write(path, f"{text}DESK_HOST={host}\n", is_new=False)
+    return True
+
+
 def owner(setup: Setup) -> Done | None:
     """The first owner, with a key that is made and shown once."""
     name, machine = setup.plan.owner, setup.machine
@@ -188,6 +221,7 @@ STEPS: tuple[Callable[[Setup], Done | None], ...] = (
     units,
     backup,
     site_for_owners,
+    screens,
     owner,
 )
 

@@ -1,0 +1,63 @@
+"""Papers and labels to print: each is made when it is asked for, which the journal notes."""
+import threading
+
+import flask
+from flask import request
+from hilpoven.core.failure import WRONG_USE, Failure
+from hilpoven.core.forms import name_fault
+from hilpoven.model.rows import LotId
+from hilpoven.report.papers.labels import SIZES
+from werkzeug.wrappers import Response
+
+from ..making import MOST_AT_ONCE, Made
+from ..web import Answer, desk, page, person, reading, text, typed
+
+PAGE = flask.Blueprint("papers", __name__)
+AT_ONCE = threading.BoundedSemaphore(MOST_AT_ONCE)
+OF_LOT = ("lot", "certificate", "recall")
+
+
+@PAGE.route("/papers/lot/<owner>/<name>", methods=["GET", "POST"])
+def lot(owner: str, name: str) -> Answer | Response:
+    """The papers and the labels of a lot."""
+    with reading() as office:
+        card = office.card(LotId(owner, name))
+        if request.method == "GET":
+            return page("papers.html", card=card, sizes=list(SIZES), shipments=office.shipments_of(card.lot.id))
+        sublots = list(card.sublots)
+    what = typed("what")
+    if what == "labels":
+        chosen = [sublot for sublot in request.form.getlist("sublot") if sublot in sublots]
+        size = typed("size") if typed("size") in SIZES else next(iter(SIZES))
+        return sent({"owner": owner, "lot": name, "sublots": chosen, "size": size}, what)
+    if what in OF_LOT:
+        return sent({"owner": owner, "lot": name}, what)
+    if what in ("delivery-note", "shipment") and not name_fault(typed("key")):
+        if what == "shipment":
+            return sent({"owner": owner, "lot": name, "key": typed("key")}, "certificate")
+        return sent({"owner": owner, "key": typed("key")}, what)
+    flask.abort(400)
+
+
+@PAGE.post("/papers/batch/<owner>/<order>/<int(max=99):number>")
+def batch(owner: str, order: str, number: int) -> Response:
+    """The record of a batch."""
+    return sent({"owner": owner, "order": order, "number": number}, "batch")
+
+
+def sent(names: dict[str, object], what: str) -> Response:
+    """The file that is made. Few are made at once, because each takes a processor for seconds."""
+    if faults := [
+        fault for word in names.values() if isinstance(word, str) and what != "labels" and (fault := name_fault(word))
+    ]:
+        raise Failure(faults[0], WRONG_USE)
+    if not AT_ONCE.acquire(timeout=60):
+        raise Failure(text("Other papers are being made. Try again in a minute."))
+    try:
+        made: Made = desk().making(person(), what, names)
+    finally:
+        AT_ONCE.release()
+    response = flask.make_response(made.content)
+    response.headers["Content-Type"] = made.kind
+    response.headers["Content-Disposition"] = f'attachment; filename="{made.name}"'
+    return response
