@@ -1,6 +1,5 @@
 """A day of entries in a real browser, by a scanner and by touch, behind the real nginx, on small and large screens."""
 import contextlib
-import pathlib
 import shutil
 import socket
 import subprocess
@@ -149,7 +148,7 @@ def test_a_day_by_scanner_and_touch(screens, office):
     screen.log_in("frida")
     screen.touch("a.door[href='/receive']")
     screen.touch(".tiles a[href='?owner=ACME']")
-    screen.touch("input[value=SALT] + span")
+    screen.touch("input[value=SALT]")
     for name, word in (("lot", "s-9"), ("sublot", "bay1"), ("amount", "700")):
         screen.type(name, word)
     screen.type("day", "103")
@@ -178,7 +177,7 @@ def test_what_was_typed_is_kept_over_the_end_of_the_session(screens, desk, offic
     screen = screens()
     screen.log_in("anna")
     screen.open("/receive?owner=ACME")
-    screen.touch("input[value=SALT] + span")
+    screen.touch("input[value=SALT]")
     for name, word in (("lot", "S-9"), ("sublot", "BAY1"), ("amount", "5"), ("day", "103")):
         screen.type(name, word)
     for session in desk.sessions.by_digest.values():
@@ -200,7 +199,7 @@ def test_pages_work_without_a_script(screens, office):
     screen.log_in("anna")
     screen.open("/batch/ACME/O-1/1")
     screen.scan("ACME/S-1/BAY1")
-    screen.shows("S-1 released")
+    screen.shows("released")
     screen.type("amount", "10")
     screen.type("day", "103")
     screen.touch("form.take button.main")

@@ -1,6 +1,7 @@
 """A day at the screens leaves the rows and the journal's lines that the same words leave when they are typed."""
 import shutil
 
+from conftest import NOTED
 from plants import Plant
 
 DAY = "103"
@@ -53,16 +54,20 @@ def options(name: str, notes: list[dict] | None) -> list[str]:
 
 
 def test_the_same_words_typed_leave_the_same(browse, office, tmp_path):
+    settings = office.folder / "hilpoven.toml"
+    settings.write_text(f"{settings.read_text()}[quality]\npersons = 1\n")  # one person types all of it
     (tmp_path / "typed").mkdir()
     typed = Plant(office.program, tmp_path / "typed")
     first = len(office.lines())
-    for end in ("", "-wal", ".journal"):
+    for end in ("", "-wal"):
         if office.db.with_name(f"office.db{end}").exists():
             shutil.copyfile(f"{office.db}{end}", f"{typed.db}{end}")
+    for words in NOTED:
+        assert typed.run(*words).status == 0
     with office.serve() as server:
         entries(browse("anna"), browse("quinn"), server)
     lines = office.lines()[first:]
-    given = [line for line in lines if line.get("words") and line.get("event") in ("asked", "noted")]
+    given = [line for line in lines if line.get("words") and line.get("event") != "told"]
     assert len(given) == 15, [line["words"][0] for line in given]
     with typed.serve() as server:
         for line in given:

@@ -161,10 +161,15 @@ def test_nothing_is_left_where_it_ends_while_the_week_is_made(program, tmp_path)
     assert eventually(lambda: not os.listdir(tmp_path) and not users_of(str(tmp_path)), NOTHING_LEFT)
 
 
+OF_SCREENS = 5  # lines of the plant's screens: what they are, where, and three persons
+
+
 def test_the_address_and_the_keys_stand_last_and_the_end_is_told(program, tmp_path):
     how = {"stdout": subprocess.PIPE, "stderr": subprocess.STDOUT, "text": True, "env": environment(TOLL=program, TMPDIR=tmp_path)}
     with subprocess.Popen([ROOT / "demo" / "page"], **how) as process:
         lines = [process.stdout.readline() for _ in range(11)]
+        if any("screens" in line for line in lines):  # where their package is installed
+            lines += [process.stdout.readline() for _ in range(OF_SCREENS)]
         process.send_signal(signal.SIGINT)
         left = process.communicate(timeout=PATIENCE)[0]
     assert [line.split("/")[0].split()[0] for line in lines[-4:]] == ["http:", "ACME", "BOLT", "CERES"], lines

@@ -6,7 +6,7 @@ import secrets
 from collections.abc import Callable, Mapping
 from contextlib import ExitStack
 from dataclasses import dataclass, field, replace
-from typing import Any
+from typing import Any, overload
 
 from hilpoven.core import meanings, roles
 from hilpoven.core.context import Context, Question, Unanswered, answered_by
@@ -106,15 +106,23 @@ class Entry:
         return is_recorded(base, dict(self.values))
 
 
-def give(context: Context, entry: Entry, base: Base, register: Register) -> Outcome:
-    """Gives a line in the name of the context's person, once its fields are looked at."""
+def check(context: Context, entry: Entry, base: Base, register: Register) -> Outcome | None:
+    """What is wrong with the fields of a line, by tables that were read a moment ago; `None` if nothing is."""
+
+    def call() -> Outcome | None:
+        roles.require(context, entry.name)
+        wrong = {} if entry.is_known(base) else faults_of(context, entry, base, register)
+        return Outcome(State.FAULTY, faults=wrong) if wrong else None
+
+    return caught(context, call)
+
+
+def give(context: Context, entry: Entry) -> Outcome:
+    """Gives a line in the name of the context's person, whose fields were looked at."""
     lines = list[str]()
     context.tell, context.ask = lines.append, answered_by(entry.answers)
 
     def call() -> Outcome:
-        roles.require(context, entry.name)
-        if not entry.is_known(base) and (wrong := faults_of(context, entry, base, register)):
-            return Outcome(State.FAULTY, faults=wrong)
         noted = {name: word for name, word in entry.noted.items() if word}
         is_meant = "DAY" not in entry.line.values  # otherwise a day that is unusual is asked about
         given = giving.give(context, entry.line, entry.words, noted, is_meant)
@@ -176,7 +184,17 @@ def state_of(answer: Answer) -> State:
     return State.REFUSED if answer.status == REFUSED else State.LOST if "Lost" in answer.error else State.FAULT
 
 
+@overload
 def caught(context: Context, call: Callable[[], Outcome]) -> Outcome:
+    ...
+
+
+@overload
+def caught(context: Context, call: Callable[[], Outcome | None]) -> Outcome | None:
+    ...
+
+
+def caught(context: Context, call: Callable[[], Outcome | None]) -> Outcome | None:
     """What came of a call, also where it fails. A question that has no answer yet is a doubt. Where an answer couldn't
     be noted, the call was done all the same."""
     try:
@@ -184,7 +202,7 @@ def caught(context: Context, call: Callable[[], Outcome]) -> Outcome:
         with contextlib.suppress(Failure):
             context.end()
             return outcome
-        return replace(outcome, lines=(*outcome.lines, NOT_NOTED))
+        return replace(outcome, lines=(*outcome.lines, NOT_NOTED)) if outcome else None
     except Unanswered as unanswered:
         return Outcome(State.DOUBT, question=unanswered.question)
     except Failure as failure:

@@ -45,5 +45,6 @@ def shown(settings: str) -> Iterator[list[str]]:
             *(f"  {login} {passwords[login]}   ({PERSONS[login][0]})" for login in PERSONS),
         ]
     finally:
+        listener.shutdown(socket.SHUT_RDWR)
         server.close()
         desk.tables.close()

@@ -11,100 +11,96 @@ from hilpoven.core.office import Office
 from hilpoven.core.snapshot import Stamp
 from hilpoven.model.rows import Base
 
-FILE, LOG = "copy.db", "copy.db-wal"
-
-
-class Copy:
-    """A copy in a folder of its own, with the stamps of what was copied, and how many requests read it."""
-
-    def __init__(self, office: Office) -> None:
-        self.stack = ExitStack()
-        self.folder = self.stack.enter_context(scratch.folder(os.path.dirname(office.file)))
-        self.file_stamp: Stamp = (0, 0, 0)
-        self.log_stamp: Stamp = (0, 0, 0)
-        self.readers, self.is_replaced = 0, False
-
-    @property
-    def path(self) -> str:
-        """The path of the copied file."""
-        return os.path.join(self.folder, FILE)
+NAME = "copy.db"
+UNKNOWN = (-1, -1, -1)  # a stamp that no file has
 
 
 class KeptTables:
-    """Keeps the copy of one office's file. While a server runs, a command changes the file's log alone: then the copied
-    file stays, and the log is copied anew. A copy that others read goes behind the last of them."""
+    """Keeps the copy of one office's file, in a folder beside it. While a server runs, a command changes the file's log
+    alone: then the copied file stays, and the log is copied anew. That is done while nobody reads: SQLite has one index
+    of a log for all connections of a process. Whoever comes meanwhile waits, and reads the new one."""
 
     def __init__(self) -> None:
-        self.lock = threading.Lock()
-        self.copy: Copy | None = None
+        self.turn, self.readers = threading.Condition(), 0
+        self.stack, self.path = ExitStack(), ""  # of the copy, which is empty if there is none
+        self.file_stamp: Stamp = UNKNOWN
+        self.log_stamp: Stamp = UNKNOWN
 
     @contextlib.contextmanager
     def opened(self, office: Office) -> Iterator[Base]:
-        """The tables as they are now."""
-        with self.lock:
-            copy = self.current(office)
-            copy.readers += 1
+        """The tables as they are now. Who reads them opens them no second time."""
+        with self.turn:
+            self.renew(office)
+            self.readers += 1
         try:
-            with contextlib.closing(sqlite3.connect(f"file:{copy.path}?mode=ro", uri=True)) as base:
+            with contextlib.closing(sqlite3.connect(f"file:{self.path}?mode=ro", uri=True)) as base:
                 base.execute("PRAGMA temp_store = MEMORY")
                 yield base
         finally:
-            with self.lock:
-                copy.readers -= 1
-                if copy.is_replaced and not copy.readers:
-                    copy.stack.close()
+            with self.turn:
+                self.readers -= 1
+                self.turn.notify_all()
 
     def close(self) -> None:
+        """Removes the copy, once nobody reads it."""
+        with self.turn:
+            self.turn.wait_for(lambda: not self.readers)
+            self.drop()
+
+    def renew(self, office: Office) -> None:
+        """Has the copy be of the file as it is now."""
+        while not self.is_current(office):
+            if self.readers:
+                self.turn.wait()
+                continue
+            try:
+                self.take_log(office)
+                if not self.path:
+                    self.take_all(office)
+            except BaseException:
+                self.drop()
+                raise
+            return
+
+    def is_current(self, office: Office) -> bool:
+        """Whether the copy is of the file as it is now."""
+        stamps = snapshot.stamp_of(office.file), snapshot.stamp_of(log_of(office.file))
+        return bool(self.path) and stamps == (self.file_stamp, self.log_stamp)
+
+    def drop(self) -> None:
         """Removes the copy."""
-        with self.lock:
-            if self.copy:
-                self.replace(None)
+        self.stack.close()
+        self.path, self.file_stamp, self.log_stamp = "", UNKNOWN, UNKNOWN
 
-    def current(self, office: Office) -> Copy:
-        """A copy of the file as it is now."""
-        stamps = snapshot.stamp_of(office.file), snapshot.stamp_of(f"{office.file}-wal")
-        if self.copy and stamps == (self.copy.file_stamp, self.copy.log_stamp):
-            return self.copy
-        copy = Copy(office)
-        try:
-            if not (self.copy and stamps[0] == self.copy.file_stamp and self.take_log(office, self.copy, copy)):
-                self.take_all(office, copy)
-        except BaseException:
-            copy.stack.close()
-            raise
-        self.replace(copy)
-        return copy
-
-    def replace(self, copy: Copy | None) -> None:
-        """Has a copy take the place of another."""
-        before, self.copy = self.copy, copy
-        if before:
-            before.is_replaced = True
-            if not before.readers:
-                before.stack.close()
-
-    def take_log(self, office: Office, before: Copy, copy: Copy) -> bool:
-        """Copies the log beside a file that is copied already; whether the file is still the same."""
-        os.link(before.path, copy.path)
+    def take_log(self, office: Office) -> None:
+        """Copies the log anew; drops the copy if the file has changed, too."""
+        if not self.path:
+            return
         with lock.held(office.file, office.wait):
-            copy.log_stamp = known(snapshot.stamp_of(f"{office.file}-wal"))
-            snapshot.copy_log(office.file, copy.path)
-            copy.file_stamp = snapshot.stamp_of(office.file)
-        if copy.file_stamp == before.file_stamp:
-            return True
-        files.remove(copy.path, "", "-wal")
-        return False
+            if snapshot.stamp_of(office.file) == self.file_stamp:
+                self.log_stamp = known(snapshot.stamp_of(log_of(office.file)))
+                files.remove(self.path, "-wal", "-shm")
+                snapshot.copy_log(office.file, self.path)
+                return
+        self.drop()
 
-    def take_all(self, office: Office, copy: Copy) -> None:
+    def take_all(self, office: Office) -> None:
         """Copies the file and its log."""
-        copy.file_stamp = known(snapshot.stamp_of(office.file))
-        copy.log_stamp = known(snapshot.stamp_of(f"{office.file}-wal"))
-        snapshot.copy(office, copy.path)
-        with contextlib.closing(sqlite3.connect(f"file:{copy.path}?mode=ro", uri=True)) as base:
+        path = os.path.join(self.stack.enter_context(scratch.folder(os.path.dirname(office.file))), NAME)
+        self.file_stamp = known(snapshot.stamp_of(office.file))
+        self.log_stamp = known(snapshot.stamp_of(log_of(office.file)))
+        snapshot.copy(office, path)
+        with contextlib.closing(sqlite3.connect(f"file:{path}?mode=ro", uri=True)) as base:
             snapshot.require_office(base, office.file)
+        self.path = path
+
+
+def log_of(file: str) -> str:
+    """The log of a file."""
+    return f"{file}-wal"
 
 
 def known(stamp: Stamp) -> Stamp:
     """A stamp by which a later change is known; of a file that changed a moment ago one that no file has, so that it is
     copied once more."""
-    return stamp if snapshot.is_settled(stamp) else (-1, -1, -1)
+    return stamp if snapshot.is_settled(stamp) else UNKNOWN

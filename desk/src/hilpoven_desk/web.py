@@ -20,7 +20,7 @@ from .delays import Delays, keys_of
 from .language import Reader
 from .making import Contexts, Made
 from .reading import Reading
-from .recording import Entry, Outcome, State, give, may, new_key
+from .recording import Entry, Outcome, State, check, give, may, new_key
 from .sessions import Session, Sessions
 from .tables import KeptTables
 
@@ -207,7 +207,8 @@ def record(name: str, values: Mapping[str, str], noted: Mapping[str, Any] | None
         if seen and request.form.get("seen", "") != seen:
             return changed()
         with reading(context) as office:
-            return give(context, entry, office.base, office.register)
+            wrong = check(context, entry, office.base, office.register)
+        return wrong or give(context, entry)
 
     return once(do)
 
