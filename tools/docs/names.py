@@ -27,7 +27,7 @@ DECLARED = [
         r"\b(?:ensures|ghost) (\w+) ",
     )
 ]
-FOLDERS = "tools|demo|docs|page|packaging|crates|plant|bench|tests"
+FOLDERS = "tools|demo|desk|docs|page|packaging|crates|plant|bench|tests"
 FILE = re.compile(rf"[\w./-]+\.(?:rt|antt|py|md|txt|toll|out|yaml|csv|sql|png|svg|1)|(?:{FOLDERS})/[\w./-]*")
 PATH = re.compile(rf"(?:{FOLDERS})/[\w@./-]*\w")
 NAMES = re.compile(r"[A-Za-z_][\w']*(?:(?:::|\.)[A-Za-z_][\w']*)*")
@@ -81,6 +81,7 @@ class Pages:
             root / "docs" / "engineering",
             plant,
             *plant.glob("**/"),
+            root / "desk" / "src" / "hilpoven_desk",
             sources.crates,
             *crates,
             *(crate / "specs" for crate in crates),
