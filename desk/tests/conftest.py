@@ -16,7 +16,7 @@ sys.modules["plants"] = plants
 spec.loader.exec_module(plants)
 from flask.testing import FlaskClient  # noqa: E402
 from hilpoven.core import settings as site  # noqa: E402
-from hilpoven_desk import accounts  # noqa: E402
+from hilpoven_desk import accounts, web  # noqa: E402
 from hilpoven_desk.app import application  # noqa: E402
 from hilpoven_desk.making import Contexts  # noqa: E402
 from hilpoven_desk.web import Desk  # noqa: E402
@@ -102,6 +102,12 @@ class Browser:
 def text_of(page: str) -> str:
     """What a page says, without its marks."""
     return " ".join(html.unescape(re.sub(r"<[^>]+>", " ", page.partition("<main id=\"main\" tabindex=\"-1\">")[2].partition("<footer")[0])).split())
+
+
+@pytest.fixture(autouse=True)
+def wrong_passwords_take_no_time(monkeypatch):
+    """A wrong password takes a second otherwise."""
+    monkeypatch.setattr(web, "WRONG_TAKES", 0.0)
 
 
 @pytest.fixture

@@ -3,7 +3,7 @@ import time
 
 import pytest
 from conftest import ORIGIN, PERSONS
-from hilpoven_desk import delays, sessions
+from hilpoven_desk import delays, sessions, web
 from hilpoven_desk.accounts import DeskPerson, SampleAccounts, Unavailable
 
 # The addresses of forms, each with the role that it is of.
@@ -153,8 +153,9 @@ def test_only_members_log_in_and_wrong_ones_look_alike(browse):
     assert texts == {"Log in The name or the password is wrong. Name Password Log in The name and the password of your account on this machine."}
 
 
-def test_guessing_is_held_up_before_anybody_is_asked(browse, desk):
-    calls = []
+def test_guessing_is_held_up_before_anybody_is_asked(browse, desk, monkeypatch):
+    calls, clock = [], time.monotonic()
+    monkeypatch.setattr(delays.time, "monotonic", lambda: clock)  # a slow machine waits out no delay
     desk.accounts = CountedAccounts(calls)
     browser = browse()
     for guess in range(20):
@@ -164,7 +165,27 @@ def test_guessing_is_held_up_before_anybody_is_asked(browse, desk):
     assert browser.status == 401 and len(calls) == delays.FREE["login and address"] + 1  # the right one waits, too
     for guess in range(60):
         browser.send("/login", login=f"somebody {guess}", password="x", to="/")
-    assert len(calls) <= delays.FREE["address"] + 1
+    assert len(calls) == delays.FREE["address"] + 1
+
+
+def test_the_time_does_not_tell_whether_an_account_is_there(browse, desk, monkeypatch):
+    monkeypatch.setattr(web, "WRONG_TAKES", 0.3)
+    for login, password in (("anna", "wrong"), ("nobody", "wrong"), ("zoe", PERSONS["zoe"][0])):
+        begun = time.monotonic()
+        browse().send("/login", login=login, password=password, to="/")
+        assert time.monotonic() - begun >= 0.3
+
+
+def test_passwords_that_are_looked_at_hold_few_threads(browse, desk):
+    for _ in range(web.MOST_CHECKS):
+        assert desk.checks.acquire(blocking=False)
+    anna = browse()
+    anna.log_in("anna")
+    assert anna.status == 401 and "Too many log in at once" in anna.text
+    for _ in range(web.MOST_CHECKS):
+        desk.checks.release()
+    anna.log_in("anna")
+    assert "KETTLE" in anna.text
 
 
 def test_delays_forget_and_are_of_networks():

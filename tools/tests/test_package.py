@@ -234,6 +234,9 @@ def test_the_command_runs_from_the_tarball(unpacked: pathlib.Path) -> None:
     assert (local / "bin/toll").is_file() and not list(local.rglob("__pycache__"))
 
 
+OF_DESK = ("toll-desk@", "toll-passwords")  # units of the plant's screens, whose log-in is Debian's
+
+
 def test_the_tarball_has_what_the_packages_have(unpacked: pathlib.Path) -> Any:
     """Except what is Debian's alone. The settings of /etc are examples there."""
 
@@ -242,8 +245,9 @@ def test_the_tarball_has_what_the_packages_have(unpacked: pathlib.Path) -> Any:
         return {path for path in paths if not path.startswith(left_out)}
 
     debians = ("local/", "lib/python3/", "share/lintian/", "share/doc/hilpoven-papers/")
+    debians += ("share/doc/hilpoven-desk/", "share/hilpoven-desk/", *(f"lib/systemd/system/{unit}" for unit in OF_DESK))
     packaged = {path for path in files(unpacked / "usr", *debians) if not path.endswith("changelog.Debian.gz")}
-    examples = {f"share/doc/hilpoven/examples/{path}" for path in files(unpacked / "etc")}
+    examples = {f"share/doc/hilpoven/examples/{path}" for path in files(unpacked / "etc", "pam.d/")}
     assert len(examples) == 3 and files(unpacked / "usr/local", "share/hilpoven/") == packaged | examples
 
 

@@ -2,6 +2,8 @@
 import contextlib
 import re
 import secrets
+import threading
+import time
 from collections.abc import Callable, Iterator, Mapping
 from dataclasses import dataclass, field
 from typing import Any
@@ -28,6 +30,8 @@ Answer = BaseResponse | str | tuple[str, int]
 LANGUAGE_COOKIE = "desk-language"
 MOST_TEXT, MOST_FIELDS = 400, 60  # letters of a field, and fields of a form
 LEFT_OUT = {"token", "slip", "password", "asked", "answer", "seen"}  # fields that no form is filled in with again
+WRONG_TAKES = 1.0  # seconds that a wrong password takes
+MOST_CHECKS = 8  # passwords that are looked at, at once: other pages go on beside them
 STATUS = {State.FAULTY: 422, State.FAULT: 503, State.LOST: 503}  # of an answer to a form that isn't done; else 409
 BLANKS = re.compile(r"[ \u00a0\u2009\u202f]+")
 
@@ -42,6 +46,7 @@ class Desk:
     sessions: Sessions = field(default_factory=Sessions)
     delays: Delays = field(default_factory=Delays)
     tables: KeptTables = field(default_factory=KeptTables)
+    checks: threading.Semaphore = field(default_factory=lambda: threading.BoundedSemaphore(MOST_CHECKS))
 
     def making(self, person: DeskPerson, what: str, names: Mapping[str, Any]) -> Made:
         """A paper, or labels."""
@@ -103,11 +108,9 @@ def reading(context: Context | None = None) -> Iterator[Reading]:
 
 def allows(word: str) -> bool:
     """Whether the person has the role of a command."""
-    if "allowed" not in g:
-        g.allowed = {}
-    if word not in g.allowed:
-        g.allowed[word] = may(desk().working(person()), word)
-    return bool(g.allowed[word])
+    if "context" not in g:
+        g.context = desk().working(person())
+    return may(g.context, word)
 
 
 # Fields
@@ -239,20 +242,27 @@ def new_slip() -> str:
 
 
 def password_fault(login: str, password: str) -> str:
-    """Why a password isn't taken, in the reader's language; empty if it is. Of what may be wrong it says nothing."""
+    """Why a password isn't taken, in the reader's language; empty if it is. It doesn't say what is wrong, nor does the
+    time tell it: the machine looks at no password of an account that isn't there, which is quick."""
     keys = keys_of(login, request.remote_addr or "")
     if (left := desk().delays.begin(keys)) > 0:
         return text("Too many wrong passwords. Try again in %(seconds)s seconds.", seconds=int(left) + 1)
     is_askable = bool(login and password) and "\0" not in login + password
     if not is_askable or len(login.encode()) > MOST_LOGIN or len(password.encode()) > MOST_PASSWORD:
         return text("The name or the password is wrong.")
+    if not desk().checks.acquire(blocking=False):
+        desk().delays.take_back(keys)
+        return text("Too many log in at once. Try again in a moment.")
+    begun = time.monotonic()
     try:
-        is_right = desk().accounts.has_password(login, password)
+        if desk().accounts.has_password(login, password) and desk().accounts.person(login):
+            desk().delays.take_back(keys)
+            return ""
+        time.sleep(max(0.0, begun + WRONG_TAKES - time.monotonic()))
+        return text("The name or the password is wrong.")
     except Unavailable as unavailable:
         desk().delays.take_back(keys)
         flask.current_app.logger.error("passwords can't be checked: %s", unavailable)
         return text("Passwords can't be checked now. Tell whoever looks after this machine.")
-    if not is_right or desk().accounts.person(login) is None:
-        return text("The name or the password is wrong.")
-    desk().delays.take_back(keys)
-    return ""
+    finally:
+        desk().checks.release()

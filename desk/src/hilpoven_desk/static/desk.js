@@ -38,7 +38,7 @@ for (const form of document.querySelectorAll("form[data-draft]")) {
 
 function labelOf(field) {
   const holder = field.type === "radio" ? field.closest("fieldset") : field.closest("label");
-  return holder?.querySelector(".label")?.firstChild?.textContent.trim() ?? "";
+  return holder?.dataset.name ?? holder?.querySelector(".label")?.firstChild?.textContent.trim() ?? "";
 }
 
 function showMissing(form, line) {
