@@ -3,6 +3,7 @@ import argparse
 import contextlib
 import os
 import pathlib
+import shutil
 import signal
 import subprocess
 import sys
@@ -19,6 +20,13 @@ sys.path.insert(0, str(ROOT))
 def give_up(why: str) -> NoReturn:
     print(f"{NAME}: {why}", file=sys.stderr)
     sys.exit(2)
+
+
+def need(packages: dict[str, str], *files: pathlib.Path) -> None:
+    """Gives up if a program isn't here, by the name of Debian's package with it, or a file."""
+    missing = [f"{name} (Debian's package {package})" for name, package in packages.items() if not shutil.which(name)]
+    if missing := missing + [str(file) for file in files if not file.is_file()]:
+        give_up(f"these are missing: {', '.join(missing)}")
 
 
 class Words(argparse.ArgumentParser):
@@ -43,11 +51,17 @@ def built(program: pathlib.Path | None) -> pathlib.Path:
     return program.resolve()
 
 
+def exit_at_signals() -> None:
+    """Lets a signal end the tool as an exception does, so that folders are removed."""
+    for number in (signal.SIGINT, signal.SIGTERM, signal.SIGHUP):
+        if signal.getsignal(number) != signal.SIG_IGN:  # as under nohup
+            signal.signal(number, lambda number, _: sys.exit(128 + number))
+
+
 @contextlib.contextmanager
 def folder_of_trial(parent: str | None = None) -> Iterator[str]:
     """A folder that is removed at the end, also where the tool is ended by a signal."""
-    for number in (signal.SIGINT, signal.SIGTERM):
-        signal.signal(number, lambda number, _: sys.exit(128 + number))
+    exit_at_signals()
     os.umask(0o077)
     with tempfile.TemporaryDirectory(prefix=f"{NAME}.", dir=parent) as folder:
         yield folder

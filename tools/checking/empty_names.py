@@ -6,13 +6,8 @@ from collections.abc import Iterable, Iterator
 
 EMPTY = {"it", "found", "told", "look_at", "thing", "made", "said", "there", "what", "whose", "more"}
 # Fields of JSON that the documents name, and the ends of the paths of the sources that have them.
-FIELDS = {
-    "made": (
-        "plant/src/hilpoven/model/notes.py",
-        "plant/src/hilpoven/report/companion/contents.py",
-        "plant/tests/register/test_facts.py",
-    )
-}
+OF_NOTES = ("plant/src/hilpoven/model/notes.py", "plant/src/hilpoven/report/companion/contents.py")
+FIELDS = {"made": (*OF_NOTES, "plant/tests/register/test_facts.py")}
 PARTS = ("id", "arg", "attr", "name", "asname", "rest")  # where a node of a source has a name
 
 
@@ -21,9 +16,8 @@ def empty_names(source: str) -> Iterator[tuple[int, str]]:
     line."""
     for node in ast.walk(ast.parse(source)):
         if not isinstance(getattr(node, "ctx", None), ast.Load):
-            yield from (
-                (getattr(node, "lineno"), name) for name in EMPTY & {getattr(node, part, None) for part in PARTS}
-            )
+            names = EMPTY & {getattr(node, part, None) for part in PARTS}
+            yield from ((getattr(node, "lineno"), name) for name in names)
 
 
 def main(paths: Iterable[pathlib.Path]) -> bool:

@@ -4,11 +4,12 @@ import pathlib
 import tomllib
 from typing import Any, Self
 
+from machine import GB
+
 ROOT = pathlib.Path(__file__).resolve().parent.parent.parent
 PYTHON = "/usr/bin/python3"  # Debian's, which has Debian's packages
 PROGRAM, FOLDER = "PROGRAM", "FOLDER"
 COMMANDS = {"python3": [PYTHON], "pytest-3": [PYTHON, "-m", "pytest", "-q", "-p", "no:cacheprovider", "--tb=short"]}
-GB = 1_000_000_000
 TABLES = tomllib.loads(pathlib.Path(__file__).with_name("parts.toml").read_text())
 SKIPPED: dict[str, str] = TABLES["skipped"]
 

@@ -12,11 +12,14 @@ import signal
 import sys
 import tempfile
 import time
-from collections.abc import AsyncIterator, Iterable
-from typing import IO, NamedTuple
+from collections.abc import Iterable
+from typing import Any, NamedTuple
+
+from machine import GB, free_memory, processors
+from trial import Words
 
 from . import debian
-from .parts import BESIDE, FOLDER, GB, PROGRAM, PROOFS, ROOT, SKIPPED, UNPROVED, Part, parts
+from .parts import BESIDE, FOLDER, PROGRAM, PROOFS, ROOT, SKIPPED, UNPROVED, Part, parts
 
 BUILT = ROOT / "crates" / "toll" / "out" / "toll"
 QUICK = ROOT / "out" / "quick" / "toll"  # of which nothing is proved
@@ -71,23 +74,15 @@ class Ended(NamedTuple):
         return (faults or lines[-1:] or ["no output"])[0].strip()[:LONGEST_FAULT]
 
 
-def signal_to(process: asyncio.subprocess.Process, number: int) -> bool:
-    """Sends a signal to a process and all that it started in its group; whether any of them is there."""
-    with contextlib.suppress(ProcessLookupError, PermissionError):
-        os.killpg(process.pid, number)
-        return True
-    return False
-
-
 async def end(process: asyncio.subprocess.Process) -> None:
     """Ends a process and all of its session, which has ten seconds to clear away."""
     latest = time.monotonic() + SECONDS_TO_END
-    signal_to(process, signal.SIGTERM)
-    while signal_to(process, 0):
-        if time.monotonic() > latest:
-            signal_to(process, signal.SIGKILL)
-            break
-        await asyncio.sleep(0.02)
+    with contextlib.suppress(ProcessLookupError, PermissionError):  # nothing of it is there
+        os.killpg(process.pid, signal.SIGTERM)
+        while time.monotonic() < latest:
+            os.killpg(process.pid, 0)
+            await asyncio.sleep(0.02)
+        os.killpg(process.pid, signal.SIGKILL)
     await process.wait()
 
 
@@ -150,9 +145,10 @@ class Runner:
     async def run_one(self, part: Part) -> None:
         try:
             if part.needs_program() and not self.has_program():
-                self.note(Ended(part.name, 0, False, f"there is no program {self.program}"))
-            else:
-                await self.run(part, LOWERED if part in BESIDE and self.maker in self.running else 0)
+                raise FileNotFoundError(f"there is no program {self.program}")
+            await self.run(part, LOWERED if part in BESIDE and self.maker in self.running else 0)
+        except OSError as fault:
+            self.note(Ended(part.name, 0, False, str(fault)))
         finally:
             self.running.remove(part)
             self.is_program_there |= part == self.maker
@@ -167,46 +163,31 @@ class Runner:
         return True
 
     async def run(self, part: Part, lowered: int = 0) -> None:
-        """Runs a part, and notes and prints how it ended."""
+        """Runs a part, and notes and prints how it ended. Of what makes the program, lines are printed as they come."""
         began, status, why = time.monotonic(), 1, ""
-        with tempfile.NamedTemporaryFile("wb") as output:
+        room = tempfile.TemporaryDirectory(prefix="check.", dir=folder_for_tests(), ignore_cleanup_errors=True)
+        with tempfile.NamedTemporaryFile("wb") as output, room as folder:
+            words = [word.replace(PROGRAM, str(self.program)).replace(FOLDER, folder) for word in part.words]
+            how: dict[str, Any] = {"cwd": ROOT, "env": {**os.environ, "PYTHONDONTWRITEBYTECODE": "1"}}
+            how |= {"stdin": asyncio.subprocess.DEVNULL, "stdout": output, "stderr": asyncio.subprocess.STDOUT}
+            command = ["nice", "-n", str(lowered), *words]
+            process = await asyncio.create_subprocess_exec(*command, start_new_session=True, **how)
+            passing = asyncio.create_task(self.pass_on(process, output.name, part == self.maker))
             try:
-                async with self.started(part, lowered, output) as process:
-                    status = await asyncio.wait_for(process.wait(), 60 * part.minutes)
+                status = await asyncio.wait_for(process.wait(), 60 * part.minutes)
             except TimeoutError:
                 why = f"it had not ended after {part.minutes} minutes\n"
-            except OSError as fault:
-                why = f"{fault}\n"
+            finally:
+                await end(process)
+                await passing
             printed = pathlib.Path(output.name).read_text(errors="replace") + why
         is_ok = status == 0 and not (part.fault and re.search(part.fault, printed))
         before, self.spent = self.spent, processor_seconds()
         self.note(Ended(part.name, time.monotonic() - began, is_ok, printed, processor=self.spent - before))
 
-    @contextlib.asynccontextmanager
-    async def started(self, part: Part, lowered: int, output: IO[bytes]) -> AsyncIterator[asyncio.subprocess.Process]:
-        """A part's process. Of what makes the program, the lines are passed on as they come."""
-        with tempfile.TemporaryDirectory(prefix="check.", dir=folder_for_tests(), ignore_cleanup_errors=True) as folder:
-            words = [word.replace(PROGRAM, str(self.program)).replace(FOLDER, folder) for word in part.words]
-            process = await asyncio.create_subprocess_exec(
-                *("nice", "-n", str(lowered), *words),
-                cwd=ROOT,
-                env={**os.environ, "PYTHONDONTWRITEBYTECODE": "1"},
-                stdin=asyncio.subprocess.DEVNULL,
-                stdout=output,
-                stderr=asyncio.subprocess.STDOUT,
-                start_new_session=True,
-            )
-            passing = [self.pass_on(process, output.name)] if part == self.maker else []
-            tasks = [asyncio.create_task(task) for task in passing]
-            try:
-                yield process
-            finally:
-                await end(process)
-                await asyncio.gather(*tasks)
-
-    async def pass_on(self, process: asyncio.subprocess.Process, name: str) -> None:
-        """Prints lines as they come, and notes that the program is there as soon as one says so."""
-        rest, is_over = "", False
+    async def pass_on(self, process: asyncio.subprocess.Process, name: str, is_maker: bool) -> None:
+        """Prints a maker's lines as they come, and notes that the program is there as soon as one says so."""
+        rest, is_over = "", not is_maker
         with open(name, errors="replace") as output:
             while not is_over:
                 is_over = process.returncode is not None
@@ -247,12 +228,6 @@ def processor_seconds() -> float:
     return usage.ru_utime + usage.ru_stime
 
 
-def free_memory() -> int:
-    """Bytes that are free."""
-    (kilobytes,) = re.findall(r"MemAvailable: *(\d+)", pathlib.Path("/proc/meminfo").read_text())
-    return int(kilobytes) * 1024
-
-
 def maker_of(wanted: list[Part], processors: int, memory: float) -> Part | None:
     """The part that makes the program, if there is one, with what it takes of the machine."""
     if PROOFS not in wanted:
@@ -268,7 +243,7 @@ async def gate(program: pathlib.Path, wanted: list[Part]) -> Runner:
     """Runs the parts: the one that makes the program, beside it those that need none, and those that try the program
     once it is there. Behind all others, those that failed are run once more, each alone, since a failure may be bad
     luck."""
-    runner = Runner(program, len(os.sched_getaffinity(0)), free_memory())
+    runner = Runner(program, processors(), free_memory())
     maker = maker_of(wanted, runner.processors, runner.memory)
     others = [part for part in wanted if part not in MAKERS]
     await runner.run_all(others, maker, maker is None or program not in (BUILT, QUICK))
@@ -295,8 +270,7 @@ async def heeding_signals(program: pathlib.Path, wanted: list[Part]) -> Runner:
 
 
 def words_of(usage: str) -> argparse.Namespace:
-    formatter = argparse.RawDescriptionHelpFormatter
-    words = argparse.ArgumentParser(prog="check", description=usage, formatter_class=formatter, allow_abbrev=False)
+    words = Words(usage)
     words.add_argument("--quick", action="store_true")
     words.add_argument("--only", action="append", metavar="PART")
     words.add_argument("--program", type=pathlib.Path, metavar="FILE")
@@ -316,9 +290,7 @@ def wanted_by(words: argparse.Namespace) -> list[Part]:
 
 
 def described(part: Part) -> str:
-    need = (
-        "makes the program" if part in MAKERS else "needs the program" if part.needs_program() else "needs no program"
-    )
+    need = "makes the program" if part in MAKERS else f"needs {'the' if part.needs_program() else 'no'} program"
     return f"{part.name:20} {need:18} {' '.join(part.packages)}".rstrip()
 
 

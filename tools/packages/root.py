@@ -35,18 +35,9 @@ mount --bind "$archives" "$root/var/cache/apt/archives"
 exec chroot "$root" sh -c "$script" < /dev/null
 """
 UNSHARE = ["unshare", "--mount", "--pid", "--fork", "--kill-child"]
-BOOT = [
-    *UNSHARE,
-    "--mount-proc",
-    "systemd-nspawn",
-    "--boot",
-    "--register=no",
-    "--keep-unit",
-    "--private-network",
-    "--console=pipe",
-    "--capability=all",
-    "--system-call-filter=bpf",
-]
+SYSTEMD = """--mount-proc systemd-nspawn --boot --register=no --keep-unit --private-network --console=pipe
+    --capability=all --system-call-filter=bpf"""
+BOOT = [*UNSHARE, *SYSTEMD.split()]
 
 
 def make_base(folder: pathlib.Path, mirror: str) -> pathlib.Path:
@@ -88,13 +79,8 @@ class Root:
         unit.write_text("[Service]\nType=oneshot\nExecStart=sh /root/script\n")
         wanted = unit.parent / "multi-user.target.wants" / unit.name
         wanted.symlink_to(f"../{unit.name}")
-        console = output(
-            *BOOT,
-            "-D",
-            self.folder,
-            stdin=subprocess.DEVNULL,
-            env={**os.environ, "SYSTEMD_NSPAWN_UNIFIED_HIERARCHY": "1"},
-        )
+        variables = {**os.environ, "SYSTEMD_NSPAWN_UNIFIED_HIERARCHY": "1"}
+        console = output(*BOOT, "-D", self.folder, stdin=subprocess.DEVNULL, env=variables)
         wanted.unlink()
         unit.unlink()
         if not printed.exists():

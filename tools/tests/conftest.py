@@ -17,7 +17,7 @@ from tests.harness import eventually  # noqa: E402
 __all__ = ["PATIENCE", "ROOT", "TOOLS", "eventually", "quick_guesses", "script", "tool"]
 
 
-def tool(name: str, *words: object, **options: Any) -> "subprocess.CompletedProcess[str]":
+def tool(name: str | pathlib.Path, *words: object, **options: Any) -> "subprocess.CompletedProcess[str]":
     """What a tool of tools/ tells of these words."""
     options = {"capture_output": True, "text": True, "timeout": PATIENCE, **options}
     return subprocess.run(["/usr/bin/python3", TOOLS / name, *map(str, words)], **options)

@@ -8,18 +8,20 @@ import subprocess
 import time
 from collections.abc import Callable
 from pathlib import Path
-from typing import Any, NamedTuple
+from typing import Any
 
 import pytest
 from conftest import PATIENCE, ROOT, eventually
+from tests.harness import Result
 
 RT = r"""#!/usr/bin/python3
-import hashlib, os, pathlib, shutil, subprocess, sys, time
+import hashlib, os, pathlib, shutil, signal, subprocess, sys, time
 told = pathlib.Path(os.environ["TOLD"])
 verb, words = sys.argv[1], sys.argv[2:]
 if verb == "version":
     print((told / "version").read_text())
     sys.exit()
+assert not signal.pthread_sigmask(signal.SIG_BLOCK, []), "a signal doesn't end this"
 here, top = pathlib.Path.cwd(), pathlib.Path.cwd().parent.parent
 rows = {it.partition(":")[0]: it.partition(":")[2].split() for it in (top / "crates.txt").read_text().splitlines()}
 
@@ -51,6 +53,8 @@ if verb == "lib" and is_built(name):
 note(f"begin {name} {words[words.index('--jobs') + 1]}")
 text = (here / "src" / ("main.rt" if verb == "run" else "lib.rt")).read_text()
 (out / "incremental").mkdir(parents=True, exist_ok=True)
+with open(out / "incremental" / "log", "a") as log:
+    log.write("begun\n")
 with open(out / "incremental" / "kept.oantt.new", "w") as kept:
     kept.write(text)
 os.replace(out / "incremental" / "kept.oantt.new", out / "incremental" / "kept.oantt")
@@ -88,6 +92,7 @@ apart:
 toll_tests: low toll
 toll: short mid_c wide
 """
+WIDER = CRATES.replace("wide: low", "wide: low slab")
 LIBRARIES = "low mid_a mid_b mid_c short wide"
 ALL = "low mid_a mid_b mid_c short toll wide"
 STARTED_BY = "tools/build-program"
@@ -99,10 +104,10 @@ def heed_signals() -> None:
         signal.signal(number, signal.SIG_DFL)
 
 
-class Done(NamedTuple):
-    status: int
-    out: str
-    err: str
+def ended(process: "subprocess.Popen[str]", given: str = "") -> Result:
+    """How a process ends, and what it has written."""
+    out, err = process.communicate(given, timeout=PATIENCE)
+    return Result(process.returncode, out, err)
 
 
 class Repository:
@@ -116,7 +121,7 @@ class Repository:
         """Makes it, with nothing that is built."""
         for path in (self.folder / "tools", self.notes, self.rt.parent):
             path.mkdir(parents=True)
-        for name in ("toll", STARTED_BY):
+        for name in ("toll", STARTED_BY, "tools/machine.py", "tools/trial.py"):
             shutil.copy2(ROOT / name, self.folder / name)
         self.rt.write_text(RT)
         self.rt.chmod(0o755)
@@ -142,22 +147,15 @@ class Repository:
         process: subprocess.Popen[str] = subprocess.Popen([self.folder / program, *words], **how)
         return process
 
-    def toll(self, *words: str, program: str = "toll", given: str = "") -> Done:
-        process = self.start(*(words or ("script",)), program=program)
-        out, err = process.communicate(given, timeout=PATIENCE)
-        return Done(process.returncode, out, err)
+    def toll(self, *words: str, given: str = "") -> Result:
+        return ended(self.start(*(words or ("script",))), given)
 
-    def build(self, words: str = "") -> Done:
-        process = self.start(*words.split(), program=STARTED_BY)
-        out, err = process.communicate(timeout=PATIENCE)
-        return Done(process.returncode, out, err)
+    def build(self, words: str = "") -> Result:
+        return ended(self.start(*words.split(), program=STARTED_BY))
 
     def noted(self, event: str = "begin") -> str:
         """The crates with which this was done, in order."""
         return " ".join(line.split()[1] for line in self.log().splitlines() if line.split()[0] == event)
-
-    def events(self) -> list[str]:
-        return [line.split()[0] for line in self.log().splitlines()]
 
     def jobs(self) -> dict[str, str]:
         return dict(re.findall(r"begin (\w+) (\d)", self.log()))
@@ -247,7 +245,8 @@ def test_no_more_runs_than_memory_allows_and_one_after_another_if_it_is_too_litt
     repository: Repository, words: str
 ) -> None:
     assert repository.build(words).status == 0
-    assert repository.events() == ["begin", "end"] * 7 and set(repository.jobs().values()) == {"1"}
+    events = [line.split()[0] for line in repository.log().splitlines()]
+    assert events == ["begin", "end"] * 7 and set(repository.jobs().values()) == {"1"}
 
 
 # What is built anew
@@ -271,11 +270,7 @@ def forget_notes(built: Repository) -> None:
 
 CHANGES: dict[str, tuple[Callable[[Repository], object], str, str]] = {
     "a source": (lambda tree: tree.write("mid_b", "fn other\n"), "mid_b mid_c toll", ""),
-    "a line of the list": (
-        lambda tree: tree.list_crates(CRATES.replace("wide: low", "wide: low slab")),
-        "wide toll",
-        "",
-    ),
+    "a line of the list": (lambda tree: tree.list_crates(WIDER), "wide toll", ""),
     "a source that was only touched": (touch_all, "", ""),
     "wrong bodies and tests": (add_wrong_body, "", ""),
     "another toolchain": (lambda tree: (tree.notes / "version").write_text("kit 2"), "toll", LIBRARIES),
@@ -366,15 +361,6 @@ def test_ended_by_a_signal_it_leaves_nothing_but_what_was_finished(
     assert set(ALL.split()) - {"low", "short"} <= begun <= set(ALL.split()) - {"low"}
 
 
-def run_within(folder: Path, lines: str, *words: object) -> "subprocess.CompletedProcess[str]":
-    """Runs lines in the place of the builder's own beginning."""
-    text = (ROOT / STARTED_BY).read_text()
-    assert text.count("sys.exit(main())\n") == 1
-    (folder / "program.py").write_text(text.replace("sys.exit(main())\n", lines))
-    command = ["/usr/bin/python3", "-u", str(folder / "program.py"), *map(str, words)]
-    return subprocess.run(command, capture_output=True, text=True, timeout=PATIENCE, preexec_fn=heed_signals)
-
-
 MANY_SIGNALS = """
 import random, threading
 
@@ -386,34 +372,20 @@ def send():
 session = Session(0)
 threading.Thread(target=send, daemon=True).start()
 for _ in range(20):
-    session.is_over = False
-    with contextlib.suppress(InterruptedError):
+    with contextlib.suppress(Ended):
         while True:
             session.pause(lambda: "on it goes")
 os._exit(0)
 """
-# A crate is given back while a process of this build's has just begun, and doesn't run its own program yet.
-FORKING = """
-crate = type("Place", (), {"folder": Path(sys.argv[1])})
-with alone_in([crate]) as before:
-    child = os.fork()
-    if child == 0:
-        time.sleep(300)
-with alone_in([crate]) as after:
-    print("free" if before is None and after is None else "another rt works there")
-os.kill(child, signal.SIGKILL)
-os._exit(0)
-"""
 
 
-def test_a_signal_at_any_moment_ends_the_build(tmp_path: Path) -> None:
-    done = run_within(tmp_path, MANY_SIGNALS)
+def test_a_signal_at_any_moment_ends_the_build() -> None:
+    text = (ROOT / STARTED_BY).read_text().replace("sys.exit(main())\n", MANY_SIGNALS)
+    assert text.count(MANY_SIGNALS) == 1
+    words, environment = ["/usr/bin/python3", "-u", "-"], {**os.environ, "PYTHONPATH": str(ROOT / "tools")}
+    text = text.replace("Path(__file__)", f"Path({str(ROOT / STARTED_BY)!r})")
+    done = subprocess.run(words, input=text, capture_output=True, text=True, timeout=PATIENCE, env=environment)
     assert done.returncode == 0 and "on it goes" in done.stderr, done.stderr
-
-
-def test_a_process_that_has_just_begun_keeps_no_crate(tmp_path: Path) -> None:
-    done = run_within(tmp_path, FORKING, tmp_path)
-    assert (done.stdout, done.stderr) == ("free\n", "")
 
 
 def test_ctrl_c_ends_all_at_once(repository: Repository) -> None:
@@ -510,11 +482,12 @@ def test_it_copies_if_there_are_no_hard_links(repository: Repository, tmp_path: 
 
 
 def test_what_stands_in_the_tree_is_never_written_into(built: Repository) -> None:
-    kept = built.out("low") / "rlib" / "low.rlib" / "format"
-    with open(kept) as held:
+    library, kept = (built.out("low") / name for name in ("rlib/low.rlib/format", "incremental/log"))
+    with open(library) as library_before, open(kept) as kept_before:
         built.write("low", "fn other\n")
         assert built.build().status == 0
-        assert held.read() == "fn it\n" and kept.read_text() == "fn other\n"
+        assert (library_before.read(), kept_before.read()) == ("fn it\n", "begun\n")
+    assert (library.read_text(), kept.read_text()) == ("fn other\n", "begun\n" * 2)
 
 
 @pytest.mark.parametrize(
@@ -538,11 +511,12 @@ def test_a_list_that_is_wrong_is_refused(repository: Repository, text: str, why:
 # As `rt try`, it has the clang of its own kit compile a stub, then the program's module unoptimized and with a
 # sanitizer.
 TRYING = r"""#!/usr/bin/python3
-import os, pathlib, subprocess, sys, tempfile, time
+import os, pathlib, signal, subprocess, sys, tempfile, time
 kit, told = pathlib.Path(__file__).resolve().parent.parent, pathlib.Path(os.environ["TOLD"])
 if sys.argv[1] == "version":
     print("kit 1")
     sys.exit()
+assert not signal.pthread_sigmask(signal.SIG_BLOCK, []), "a signal doesn't end this"
 assert sys.argv[1] == "try" and (kit / "bin" / "rtlib.py").read_text() == "library" and (kit / "rlibs").is_dir()
 text = pathlib.Path("src/main.rt").read_text()
 rows = pathlib.Path("../../crates.txt").read_text().splitlines()
