@@ -9,6 +9,7 @@ import random
 import re
 import shutil
 import socket
+import socketserver
 import sqlite3
 import struct
 import subprocess
@@ -26,6 +27,7 @@ REPLY = re.compile(r"HTTP/1\.1 (\d{3}) [^\r\n]+\r\n((?:[a-z-]+: [^\r\n]*\r\n)*)\
 
 
 Holding = TypeVar("Holding")
+SomeServer = TypeVar("SomeServer", bound=socketserver.BaseServer)
 
 
 class Result(NamedTuple):
@@ -36,6 +38,7 @@ class Result(NamedTuple):
     err: str = ""
 
 
+OUTCOMES = ("accepted", "repeated", "refused", "bad", "fault")  # of an import's records
 ACCEPTED, REPEATED = Result(0, "accepted\n"), Result(0, "repeated\n")
 UNAVAILABLE = '503 {"error":"Unavailable"}'
 
@@ -55,11 +58,8 @@ def fault(name: str) -> Result:
 def import_report(outcomes: list[str]) -> str:
     """What an import with these outcomes prints."""
     lines = "".join(f"{number:6} {outcome}\n" for number, outcome in enumerate(outcomes, 1))
-    counts = [
-        sum(outcome.startswith(word) for outcome in outcomes)
-        for word in ("accepted", "repeated", "refused", "bad", "fault")
-    ]
-    return lines + "accepted %d repeated %d refused %d bad %d fault %d\n" % tuple(counts)
+    counts = {word: sum(outcome.startswith(word) for outcome in outcomes) for word in OUTCOMES}
+    return lines + " ".join(f"{word} {count}" for word, count in counts.items()) + "\n"
 
 
 def free_port() -> int:
@@ -123,19 +123,12 @@ def request(line: str) -> bytes:
     """The bytes of a script's line."""
     _, owner, key, method, target, *rest = line.split(" ", 5)
     body = "".join(rest)
-    return http_request(
-        method,
-        target,
-        body,
-        [("host", "127.0.0.1"), ("toll-owner", owner), ("toll-key", key), ("content-length", str(len(body)))],
-    )
+    fields = {"host": "127.0.0.1", "toll-owner": owner, "toll-key": key, "content-length": str(len(body))}
+    return http_request(method, target, body, fields.items())
 
 
-def read_all(peer: socket.socket) -> str:
-    received = b""
-    while chunk := peer.recv(65536):
-        received += chunk
-    return received.decode(errors="replace")
+def read_all(peer: socket.socket) -> bytes:
+    return b"".join(iter(lambda: peer.recv(65536), b""))
 
 
 def printed(reply: str) -> str:
@@ -168,15 +161,10 @@ class Server:
         descriptors: int = 0,
     ) -> None:
         self.errors = errors or tempfile.TemporaryFile()
-        limited = ["prlimit", f"--nofile={descriptors}"] if descriptors else []
-        self.process = subprocess.Popen(
-            [*limited, office.program, "--db", office.db, "serve", str(port), str(count)],
-            text=True,
-            stdout=subprocess.PIPE,
-            stderr=self.errors,
-            cwd=office.folder,
-            env={**os.environ, **(env or {})},
-        )
+        words = ["prlimit", f"--nofile={descriptors}"] if descriptors else []
+        words += [office.program, "--db", office.db, "serve", str(port), str(count)]
+        how: dict[str, Any] = {"text": True, "cwd": office.folder, "env": {**os.environ, **(env or {})}}
+        self.process = subprocess.Popen(words, stdout=subprocess.PIPE, stderr=self.errors, **how)
         assert self.process.stdout
         first_line = self.process.stdout.readline()
         self.port = int(first_line.split()[1]) if first_line.startswith("listening ") else None
@@ -194,7 +182,7 @@ class Server:
         try:
             with self.connect() as peer:
                 peer.sendall(message)
-                return read_all(peer)
+                return read_all(peer).decode(errors="replace")
         except OSError:
             return ""
 
@@ -233,15 +221,9 @@ class Office:
             # the shell itself is not preloaded
             command = ["sh", "-c", f'export LD_PRELOAD="$TRY_LIBRARY"; exec "$0" "$@" {closed}', *command]
             env = {**(env or {}), "TRY_LIBRARY": (env or {}).get("LD_PRELOAD", ""), "LD_PRELOAD": ""}
+        how: dict[str, Any] = {"cwd": self.folder, "env": {**os.environ, **(env or {})}}
         try:
-            done = subprocess.run(
-                command,
-                input=stdin,
-                capture_output=True,
-                timeout=PATIENCE,
-                cwd=self.folder,
-                env={**os.environ, **(env or {})},
-            )
+            done = subprocess.run(command, input=stdin, capture_output=True, timeout=PATIENCE, **how)
         except subprocess.TimeoutExpired:
             return Result(0, "", f"no end within {PATIENCE} s")
         return Result(done.returncode, done.stdout.decode(errors="replace"), done.stderr.decode(errors="replace"))
@@ -333,6 +315,19 @@ def meanwhile(*works: Callable[[threading.Event], None]) -> Iterator[None]:
         over.set()
         for thread in threads:
             thread.join()
+
+
+@contextlib.contextmanager
+def serving(server: SomeServer) -> Iterator[SomeServer]:
+    """Has one of Python's servers serve until the end."""
+    thread = threading.Thread(target=server.serve_forever, args=[0.05])
+    thread.start()
+    try:
+        yield server
+    finally:
+        server.shutdown()
+        thread.join()
+        server.server_close()
 
 
 SomeOffice = TypeVar("SomeOffice", bound=Office)

@@ -7,22 +7,22 @@ says without a server is checked by tools/tests/test_openapi.py.
 """
 import contextlib
 import fcntl
+import functools
 import json
 import random
+import re
 import sqlite3
 import threading
 import time
 from collections.abc import Callable
 from typing import Any, NamedTuple
 
-import jsonschema
 import pytest
-import yaml
 
+from tests.contract import PAGE, examples_of, faults_of, operations, resolved
 from tests.harness import ACCEPTED, REPLY, ROOT, Office, Server, content, http_request, meanwhile, put
 from tests.lines import SERVED
 
-PAGE = yaml.safe_load((ROOT / "docs" / "openapi.yaml").read_text())
 LIMIT_REACHED = {"code": 39, "error": "LimitReached"}
 KILLS = 20
 
@@ -48,13 +48,8 @@ class Reply(NamedTuple):
 
 def ask(server: Server, asked: Ask) -> Reply | None:
     """The reply, which is well formed and as long as it says; none where there is none."""
-    usual = {
-        "host": ["127.0.0.1"],
-        "toll-owner": ["ACME"],
-        "toll-key": ["ACMEKEY1"],
-        "content-length": [str(len(asked.body))],
-    }
-    usual.update(asked.fields)
+    usual = {"host": ["127.0.0.1"], "toll-owner": ["ACME"], "toll-key": ["ACMEKEY1"]}
+    usual |= {"content-length": [str(len(asked.body))]} | asked.fields
     lines = [(name, value) for name, values in usual.items() for value in values]
     text = server.send(http_request(asked.method.upper(), asked.path, asked.body, lines))
     if not text:
@@ -70,41 +65,25 @@ def new_order(name: str, recipe: str = "R", batches: int = 1) -> str:
     return json.dumps({"order": name, "recipe": recipe, "batches": batches})
 
 
-# What is asked for each status that belongs to one route alone: the paths, or the bodies of an order. All other
-# statuses are asked for on each route in the same way.
+# What is asked for each status that belongs to one route alone: the bodies of an order, or what fills the parameters of
+# the path, or follows one without. All other statuses are asked for on each route in the same way.
 ASKED = {
-    "get /orders": {200: ["/orders"]},
+    "get /orders": {200: [""]},
     "post /orders": {
         200: [new_order("O-3"), new_order("O-3")],
         400: ['{"order":"O-4"}', new_order("o"), new_order("O-4", "R", 100)],
         409: [new_order("O", batches=3), new_order("O-4", "NONE")],
     },
-    "get /orders/{order}": {200: ["/orders/O"], 404: ["/orders/O-9", "/orders/o"]},
-    "post /orders/{order}/cancel": {
-        200: ["/orders/O-2/cancel"],
-        404: ["/orders/O-9/cancel", "/orders/-/cancel"],
-        409: ["/orders/O-2/cancel", "/orders/O/cancel"],
-    },
-    "get /batches/{order}/{n}": {
-        200: ["/batches/O/1"],
-        404: [f"/batches/{batch}" for batch in ("O-9/1", "O/2", "O/0", "O/100", "O/01")],
-    },
-    "get /stock": {200: ["/stock", "/stock?all"]},
-    "get /lots/{lot}": {200: ["/lots/A", "/lots/P1"], 404: ["/lots/A-9", "/lots/H-1", "/lots/a"]},
-    "post /lots/{lot}/release": {
-        200: ["/lots/C/release"],
-        404: ["/lots/H-1/release", "/lots/a/release"],
-        409: ["/lots/C/release", "/lots/P1/release"],
-    },
-    "post /lots/{lot}/reject": {
-        200: ["/lots/A/reject", "/lots/D/reject"],
-        404: ["/lots/H-1/reject", "/lots/a/reject"],
-        409: ["/lots/D/reject"],
-    },
-    **{
-        f"get /trace/{way}/{{lot}}": {200: [f"/trace/{way}/{lot}"], 404: [f"/trace/{way}/{other}", f"/trace/{way}/a"]}
-        for way, lot, other in (("back", "P1", "H-1"), ("forward", "A", "H-1"), ("house", "H-1", "P1"))
-    },
+    "get /orders/{order}": {200: ["O"], 404: ["O-9", "o"]},
+    "post /orders/{order}/cancel": {200: ["O-2"], 404: ["O-9", "-"], 409: ["O-2", "O"]},
+    "get /batches/{order}/{n}": {200: ["O/1"], 404: ["O-9/1", "O/2", "O/0", "O/100", "O/01"]},
+    "get /stock": {200: ["", "?all"]},
+    "get /lots/{lot}": {200: ["A", "P1"], 404: ["A-9", "H-1", "a"]},
+    "post /lots/{lot}/release": {200: ["C"], 404: ["H-1", "a"], 409: ["C", "P1"]},
+    "post /lots/{lot}/reject": {200: ["A", "D"], 404: ["H-1", "a"], 409: ["D"]},
+    "get /trace/back/{lot}": {200: ["P1"], 404: ["H-1", "a"]},
+    "get /trace/forward/{lot}": {200: ["A"], 404: ["H-1", "a"]},
+    "get /trace/house/{lot}": {200: ["H-1"], 404: ["P1", "a"]},
 }
 
 
@@ -119,31 +98,13 @@ def asks_of(method: str, path: str, status: int) -> list[Ask]:
         501: [Ask("put", sample), Ask(method, sample, fields={"transfer-encoding": ["chunked"], "content-length": []})],
         503: [Ask(method, sample)],
     }
-    own = ASKED[f"{method} {path}"].get(status, [])
     return anywhere.get(status, []) + [
-        Ask(method, path, body_or_target) if body_or_target.startswith("{") else Ask(method, body_or_target)
-        for body_or_target in own
+        Ask(method, path, own) if own.startswith("{") else Ask(method, re.sub(r"\{.*\}|$", own, path, count=1))
+        for own in ASKED[f"{method} {path}"].get(status, [])
     ]
 
 
 # What the page says
-
-
-def resolved(node: dict[str, Any]) -> Any:
-    """A node of the page, or what its reference leads to."""
-    place: Any = node
-    if "$ref" in node:
-        place = PAGE
-        for part in node["$ref"][2:].split("/"):
-            place = place[part]
-    return place
-
-
-def examples_of(response: dict[str, Any]) -> list[Any]:
-    content = response["content"]["application/json"]
-    return (
-        [content["example"]] if "example" in content else [example["value"] for example in content["examples"].values()]
-    )
 
 
 def check(reply: Reply | None, asked: Ask, status: int, response: dict[str, Any]) -> Any:
@@ -155,23 +116,15 @@ def check(reply: Reply | None, asked: Ask, status: int, response: dict[str, Any]
     if "content" not in response:
         assert reply.body == "", asked
         return None
-    value = json.loads(reply.body)
-    # schemas of OpenAPI 3.0 stand on the fourth draft of JSON Schema
-    resolver = jsonschema.RefResolver.from_schema(PAGE)
-    jsonschema.Draft4Validator(response["content"]["application/json"]["schema"], resolver=resolver).validate(value)
+    value, body = json.loads(reply.body), response["content"]["application/json"]
+    assert faults_of(body["schema"], value) == [], (asked, reply)
     assert reply.body == json.dumps(value, separators=(",", ":"), sort_keys=True), asked
-    assert status < 400 or value in examples_of(response), (asked, reply)
+    assert status < 400 or value in examples_of(body), (asked, reply)
     return value
 
 
-METHODS = ("get", "post")
 # The office's own, without those that the site answers by itself.
-OPERATIONS = [
-    f"{method} {path}"
-    for path, ways in PAGE["paths"].items()
-    for method in METHODS
-    if method in ways and ways[method].get("x-told-by") != "site"
-]
+OPERATIONS = [f"{method} {path}" for path, method, way in operations() if way.get("x-told-by") != "site"]
 
 
 @pytest.fixture(scope="module")
@@ -199,9 +152,8 @@ def test_a_route_answers_each_status_and_each_refusal_of_the_page(office: Office
                     fcntl.flock(lock, fcntl.LOCK_EX)
                 values = [check(ask(server, ask_of_status), ask_of_status, status, response) for ask_of_status in asks]
             if status in (404, 409):
-                assert [
-                    example for example in examples_of(response) if example not in values and example != LIMIT_REACHED
-                ] == []
+                examples = examples_of(response["content"]["application/json"])
+                assert [example for example in examples if example not in [*values, LIMIT_REACHED]] == []
 
 
 def test_a_full_office_refuses_an_order(office: Office) -> None:
@@ -241,11 +193,10 @@ class Day:
             time.sleep(0.02)
 
     def work_until_killed(self, turn: int, seconds: float) -> None:
-        with self.office.serve() as server, meanwhile(
-            lambda over: self.order(server, turn, over), lambda over: self.receive(turn, over)
-        ):
-            time.sleep(seconds)
-            server.kill()
+        with self.office.serve() as server:
+            with meanwhile(functools.partial(self.order, server, turn), functools.partial(self.receive, turn)):
+                time.sleep(seconds)
+                server.kill()
 
     def check_rows(self) -> None:
         """What was answered is in the file, as sqlite3 reads it, and then as the office does."""
@@ -278,9 +229,8 @@ def lines_of_day(end: str) -> list[str]:
 
 def test_the_day_of_the_docs_is_printed(new: Callable[[], Office]) -> None:
     office = new()
-    assert office.run(["script"], stdin=(ROOT / "docs" / "day.toll").read_bytes()).out.splitlines() == lines_of_day(
-        "out"
-    )
+    script = (ROOT / "docs" / "day.toll").read_bytes()
+    assert office.run(["script"], stdin=script).out.splitlines() == lines_of_day("out")
     with office.serve() as server:
         printed = [
             server.ask(line).rstrip() if line.startswith("> ") else office.plant(*line.split()).out.removesuffix("\n")

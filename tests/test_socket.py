@@ -13,6 +13,7 @@ import re
 import shutil
 import signal
 import socket
+import socketserver
 import stat
 import subprocess
 import threading
@@ -25,13 +26,15 @@ import pytest
 from tests import socket_client as client
 from tests.attempts import Import, New
 from tests.harness import ACCEPTED, FAIL, KILLED_AFTER, KILLED_BEFORE, NO_NETWORK, PATIENCE, REPEATED, STOPPED_AT_MODE
-from tests.harness import UNAVAILABLE, Disk, Office, Result, Server, content, fault, meanwhile, put, wrong_outcomes
+from tests.harness import UNAVAILABLE, Disk, Office, Result, Server
+from tests.harness import content, fault, meanwhile, put, serving, wrong_outcomes
 from tests.lines import ACTUALS, many_actuals
 
 LOCKED, LOST, NOT_OURS, DAMAGED = (fault(name) for name in ("Locked", "Lost", "NotOurs", "Damaged"))
 DOOR_BEGAN, DOOR_ENDED = "fault Door began", "fault Door ended"
 Change = Callable[[str], Any]
 ORDER = '> ACME ACMEKEY1 POST /orders {"order":"%s","recipe":"R","batches":1}'
+NOTHING = subprocess.DEVNULL
 ORDERS, NOBODY = "> ACME ACMEKEY1 GET /orders", 65534
 
 # Each of the plant's commands and questions, also refused, repeated and unread.
@@ -128,12 +131,8 @@ def test_each_command_and_import_answers_and_leaves_the_same_with_a_server_and_w
 
 def test_an_answer_that_cannot_be_written_ends_with_3_and_what_was_done_stands(at_work: Office) -> None:
     with at_work.serve():
-        for closed, words in (
-            (">/dev/full", "stock ACME"),
-            (">&-", "unit-add U5"),
-            ("2>&-", "stock"),
-            (">&- 2>&-", "unit-add U6"),
-        ):
+        closing = {"stock ACME": ">/dev/full", "unit-add U5": ">&-", "stock": "2>&-", "unit-add U6": ">&- 2>&-"}
+        for words, closed in closing.items():
             assert at_work.plant(*words.split(), closed=closed) == Result(3, ""), words
         assert [at_work.plant("unit-add", unit).status for unit in ("U5", "U6")] == [1, 1]
 
@@ -427,28 +426,9 @@ def test_a_server_whose_lines_nobody_reads_goes_on_and_tells_later_how_many_it_d
         os.close(out)
 
 
-def sqlite(db: str, *statements: str) -> None:
-    subprocess.run(["sqlite3", db, *statements], check=True, stdout=subprocess.DEVNULL)
-
-
-def remove_with_log(db: str) -> None:
-    os.unlink(db)
-    os.unlink(f"{db}-wal")
-
-
-def move_over(source: str, target: str) -> None:
-    shutil.copyfile(source, source + ".new")
-    os.replace(source + ".new", target)
-
-
-def move_away_and_back(db: str) -> None:
-    os.rename(db, db + ".away")
-    os.rename(db + ".away", db)
-
-
-def restore(db: str) -> None:
-    os.unlink(f"{db}-wal")
-    shutil.copyfile(db + ".old", db)
+def shell(line: str) -> Change:
+    """What a line of a shell does to $FILE; the file from before is $FILE.old."""
+    return lambda db: subprocess.run(["sh", "-ec", line], check=True, env={**os.environ, "FILE": db}, stdout=NOTHING)
 
 
 def frames_of(log: bytes) -> list[int]:
@@ -469,24 +449,22 @@ def flip(log: bytearray, at: int) -> None:
     log[at] ^= 1
 
 
-def flip_in_frame(at: int, log: bytearray, frames: list[int]) -> None:
-    flip(log, frames[1] + at)
-
-
-def flip_in_head(at: int, log: bytearray, _: list[int]) -> None:
-    flip(log, at)
+def flip_in(frame: int | None, at: int, log: bytearray, frames: list[int]) -> None:
+    """Flips a bit of this byte of a frame, or of the log."""
+    flip(log, at if frame is None else frames[frame] + at)
 
 
 def zero(log: bytearray, begun: int, done: int) -> None:
     log[begun:done] = bytes(done - begun)
 
 
-KEEP_LOG = ".dbconfig no_ckpt_on_close on"
+KEEPING_LOG = "sqlite3 $FILE '.dbconfig no_ckpt_on_close on'"
+CHECKPOINT = shell("sqlite3 $FILE 'PRAGMA wal_checkpoint(TRUNCATE)'")
 
 
 def begin_anew(db: str) -> None:
     """Takes the log into FILE, and leaves it as a program that is killed while it begins the log anew."""
-    sqlite(db, KEEP_LOG, "PRAGMA wal_checkpoint(PASSIVE)")
+    shell(f"{KEEPING_LOG} 'PRAGMA wal_checkpoint(PASSIVE)'")(db)
     change_log(db, lambda log, _: zero(log, 0, 1))
 
 
@@ -506,25 +484,18 @@ def answers_around(office: Office, change: Change) -> tuple[list[str], Result, l
         return owner_statuses(server), office.plant("stock", "ACME"), server.lines(), files() == before
 
 
-LOST_ROWS: dict[str, Change] = {
-    "a log that was emptied": lambda db: os.truncate(f"{db}-wal", 0),
-    "a log that was removed": lambda db: os.unlink(f"{db}-wal"),
-    "a log that was cut": lambda db: os.truncate(f"{db}-wal", 100),
-    "an empty FILE": lambda db: os.truncate(db, 0),
-    "a FILE that was removed": os.unlink,
-    "a FILE that was removed with its log": remove_with_log,
-    "a copy that was moved over FILE": lambda db: move_over(db + ".old", db),
-    "a copy that was written over FILE": lambda db: shutil.copyfile(db + ".old", db),
+LOST_ROWS = {
+    "a log that was emptied": "truncate -s 0 $FILE-wal",
+    "a log that was removed": "rm $FILE-wal",
+    "a log that was cut": "truncate -s 100 $FILE-wal",
+    "an empty FILE": "truncate -s 0 $FILE",
+    "a FILE that was removed": "rm $FILE",
+    "a FILE that was removed with its log": "rm $FILE $FILE-wal",
+    "a copy that was moved over FILE": "cp $FILE.old $FILE.new; mv $FILE.new $FILE",
+    "a copy that was written over FILE": "cp $FILE.old $FILE",
 }
-
-
-@pytest.mark.parametrize("change", LOST_ROWS.values(), ids=LOST_ROWS)
-def test_a_server_refuses_files_that_lost_rows_and_writes_nothing(at_work: Office, change: Change) -> None:
-    assert answers_around(at_work, change) == (["503", "503"], NOT_OURS, ["fault NotOurs began"], True)
-
-
-ChangeLog = Callable[[bytearray, list[int]], Any]
-EARLIER_ENDS: dict[str, ChangeLog] = {
+# By these SQLite would read the log to an earlier end.
+EARLIER_ENDS: dict[str, Callable[[bytearray, list[int]], Any]] = {
     "a byte of the first page": lambda log, frames: flip(log, frames[0] + 24 + 100),
     "a byte of the last page": lambda log, frames: flip(log, frames[-1] + 24 + 4095),
     "zeros for the last frame's header": lambda log, frames: zero(log, frames[-1], frames[-1] + 24),
@@ -533,20 +504,21 @@ EARLIER_ENDS: dict[str, ChangeLog] = {
     "a log cut by its last frame": lambda log, frames: log.__delitem__(slice(frames[-1], None)),
 }
 for byte in (3, 7, 8, 15, 16, 23):
-    EARLIER_ENDS[f"byte {byte} of a frame's header"] = functools.partial(flip_in_frame, byte)
+    EARLIER_ENDS[f"byte {byte} of a frame's header"] = functools.partial(flip_in, 1, byte)
 for byte in (0, 3, 7, 10, 15, 16, 23, 24, 31):
-    EARLIER_ENDS[f"byte {byte} of the log's header"] = functools.partial(flip_in_head, byte)
+    EARLIER_ENDS[f"byte {byte} of the log's header"] = functools.partial(flip_in, None, byte)
+LOSSES: dict[str, Change] = {name: shell(line) for name, line in LOST_ROWS.items()}
+LOSSES |= {name: functools.partial(change_log, change=change) for name, change in EARLIER_ENDS.items()}
 
 
-@pytest.mark.parametrize("change", EARLIER_ENDS.values(), ids=EARLIER_ENDS)
-def test_a_server_refuses_a_log_that_sqlite_would_read_to_an_earlier_end(at_work: Office, change: ChangeLog) -> None:
-    answers = answers_around(at_work, functools.partial(change_log, change=change))
-    assert answers == (["503", "503"], NOT_OURS, ["fault NotOurs began"], True)
+@pytest.mark.parametrize("change", LOSSES.values(), ids=LOSSES)
+def test_a_server_refuses_files_that_lost_rows_and_writes_nothing(at_work: Office, change: Change) -> None:
+    assert answers_around(at_work, change) == (["503", "503"], NOT_OURS, ["fault NotOurs began"], True)
 
 
 def test_bytes_that_others_wrote_in_place_are_read_if_the_time_of_writing_is_put_back(at_work: Office) -> None:
     file = pathlib.Path(at_work.db)
-    sqlite(at_work.db, "PRAGMA wal_checkpoint(TRUNCATE)")
+    CHECKPOINT(at_work.db)
     with at_work.serve() as server:
         assert is_answered(server)
         before, rows = file.stat(), file.read_bytes()
@@ -569,15 +541,15 @@ def test_a_log_is_served_again_once_its_byte_is_put_back(at_work: Office) -> Non
         assert faults == ["fault NotOurs began", "fault NotOurs ended"]
 
 
-IN_ORDER: dict[str, Change] = {
-    "a checkpoint": lambda db: sqlite(db, "PRAGMA wal_checkpoint(TRUNCATE)"),
-    "a commit behind the others in the log": lambda db: sqlite(db, KEEP_LOG, "INSERT INTO units VALUES ('U-8')"),
-    "a new time of the log": lambda db: os.utime(f"{db}-wal"),
+IN_ORDER = {
+    "a checkpoint": CHECKPOINT,
+    "a commit behind the others in the log": shell(f"{KEEPING_LOG} \"INSERT INTO units VALUES ('U-8')\""),
+    "a new time of the log": shell("touch $FILE-wal"),
     "a checkpoint that was stopped behind the copying": begin_anew,
-    "a copy by sqlite3": lambda db: sqlite(db, f".backup {db}.saved"),
-    "a new mode": lambda db: os.chmod(db, 0o640),
-    "a FILE that was moved away and back": move_away_and_back,
-    "a copy in the place of both": restore,
+    "a copy by sqlite3": shell('sqlite3 $FILE ".backup $FILE.saved"'),
+    "a new mode": shell("chmod 640 $FILE"),
+    "a FILE that was moved away and back": shell("mv $FILE $FILE.away; mv $FILE.away $FILE"),
+    "a copy in the place of both": shell("rm $FILE-wal; cp $FILE.old $FILE"),
 }
 
 
@@ -650,27 +622,16 @@ def false_server(
     path, received = client.path_of(office), list[bytes]()
     pathlib.Path(path).unlink(missing_ok=True)
 
-    def play(listener: socket.socket) -> None:
-        with contextlib.suppress(OSError):
-            while True:
-                peer, _ = listener.accept()
-                with peer, contextlib.suppress(OSError):
-                    peer.sendall(greeting)
-                    if ends:
-                        continue
-                    received.append(peer.recv(1) if reply is None else client.take_parcel(peer))
-                    peer.sendall(reply or b"")
+    class Playing(socketserver.BaseRequestHandler):
+        def handle(self) -> None:
+            with contextlib.suppress(OSError):
+                self.request.sendall(greeting)
+                if not ends:
+                    received.append(self.request.recv(1) if reply is None else client.take_parcel(self.request))
+                    self.request.sendall(reply or b"")
 
-    with socket.socket(socket.AF_UNIX) as listener:
-        listener.bind(path)
-        listener.listen()
-        worker = threading.Thread(target=play, args=[listener], daemon=True)
-        worker.start()
-        try:
-            yield received
-        finally:
-            listener.shutdown(socket.SHUT_RDWR)
-            worker.join()
+    with serving(socketserver.UnixStreamServer(path, Playing)):
+        yield received
     os.unlink(path)
 
 
@@ -760,8 +721,8 @@ def test_a_command_that_is_killed_is_done_whole_or_not_at_all_and_the_server_goe
     with at_work.serve() as server:
         for turn in range(40):
             words = ["import", actuals] if turn % 4 == 0 else f"receive ACME X{turn} M L{turn} S 1 10".split()
-            command, nothing = [at_work.program, "--db", at_work.db, *words], subprocess.DEVNULL
-            process = subprocess.Popen(command, stdout=nothing, stderr=nothing, cwd=at_work.folder)
+            command = [at_work.program, "--db", at_work.db, *words]
+            process = subprocess.Popen(command, stdout=NOTHING, stderr=NOTHING, cwd=at_work.folder)
             time.sleep(chance.uniform(0, 0.03))
             process.kill()
             process.wait()

@@ -3,14 +3,14 @@ import concurrent.futures
 import contextlib
 import functools
 import http.client
-import http.server
 import json
 import socket
 import ssl
-import threading
 import time
-from collections.abc import Callable, Iterator, Mapping
+from collections.abc import Callable, Mapping
 from typing import Any, Protocol, TypeVar
+
+from tests.harness import read_all
 
 Value = TypeVar("Value")
 FORBIDDEN, UNAVAILABLE, NOWHERE = {"error": "Forbidden"}, {"error": "Unavailable"}, {"error": "NoRoute"}
@@ -79,11 +79,9 @@ def sent(site: HasPort, *lines: str | bytes, patience: int = 20) -> tuple[bytes,
 
 def sent_bytes(site: HasPort, data: bytes, patience: int = 20) -> tuple[bytes, float]:
     with connect(site, patience=patience) as line:
-        begun, got = time.monotonic(), b""
+        begun = time.monotonic()
         line.sendall(data)
-        while chunk := line.recv(65536):
-            got += chunk
-        return got, time.monotonic() - begun
+        return read_all(line), time.monotonic() - begun
 
 
 def at_once(doing: Callable[[int], Value], count: int, results: list[Value] | None = None) -> list[Value]:
@@ -93,18 +91,6 @@ def at_once(doing: Callable[[int], Value], count: int, results: list[Value] | No
         for call in concurrent.futures.as_completed([pool.submit(doing, number) for number in range(count)]):
             results.append(call.result())
     return results
-
-
-@contextlib.contextmanager
-def serving(server: http.server.HTTPServer) -> Iterator[None]:
-    thread = threading.Thread(target=server.serve_forever)
-    thread.start()
-    try:
-        yield
-    finally:
-        server.shutdown()
-        thread.join()
-        server.server_close()
 
 
 def seconds_of(doing: Callable[[], object]) -> float:

@@ -15,7 +15,7 @@ from typing import Any
 import pytest
 from conftest import ROOT, eventually, quick_guesses
 from site_client import NOWHERE, UNAVAILABLE, Reply, ask, at_once, seconds_of, sent
-from test_openapi import SCHEMAS, faults_of, resolved
+from tests.contract import SCHEMAS, faults_of, resolved
 from try_page.site import Office, Proxy, free_port
 from try_page.troubles import another, answer
 
@@ -105,22 +105,14 @@ def test_a_hostile_name_gets_what_toll_says_and_never_a_byte(site: Site, name: s
     assert (reply.status, reply.body) == (stock.status, stock.body)
 
 
-@pytest.mark.parametrize(
-    "owner, key",
-    [
-        ("ACME", "BOLTKEY1"),
-        ("BOLT", "ACMEKEY1"),
-        ("ACME", "acmekey1"),
-        ("ACME", ""),
-        ("ACME", "ACMEKEY12"),
-        ("ACME", "ACMEKEY1 ACMEKEY1"),
-    ],
-)
+KEYS = ["BOLTKEY1", "acmekey1", "", "ACMEKEY12", "ACMEKEY1 ACMEKEY1"]
+
+
+@pytest.mark.parametrize("owner, key", [*(("ACME", key) for key in KEYS), ("BOLT", "ACMEKEY1")])
 def test_another_key_gets_nothing(site: Site, owner: str, key: str) -> None:
     reply = site.get(owner, key, x_address="198.51.100.100")
-    assert (
-        reply.is_error(403, "Forbidden") and reply.fields["cache-control"] == "no-store" and "etag" not in reply.fields
-    )
+    assert reply.is_error(403, "Forbidden") and reply.fields["cache-control"] == "no-store"
+    assert "etag" not in reply.fields
 
 
 TWO = """toll-owner: ACME|toll-owner: BOLT
@@ -287,18 +279,10 @@ def test_an_office_that_is_away_or_locked_is_called_so(tmp_path: Path) -> None:
             assert (reply.status, reply.value(), reply.fields["retry-after"]) == (status, UNAVAILABLE, "1")
 
 
-@pytest.mark.parametrize(
-    "status, kind",
-    [
-        (200, "text/html"),
-        (204, "text/html"),
-        (301, "text/html"),
-        (401, "application/json"),
-        (403, "text/html"),
-        (404, "application/json"),
-        (500, "text/html"),
-    ],
-)
+ANSWERS = dict.fromkeys((200, 204, 301, 403, 500), "text/html") | dict.fromkeys((401, 404), "application/json")
+
+
+@pytest.mark.parametrize("status, kind", ANSWERS.items())
 def test_what_isnt_the_office_opens_no_companion(tmp_path: Path, status: int, kind: str) -> None:
     (tmp_path / "companion").mkdir()
     (tmp_path / "companion" / "ACME.json").write_text("SECRET")

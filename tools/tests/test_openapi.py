@@ -7,38 +7,18 @@ import subprocess
 from collections.abc import Iterator
 from typing import Any
 
-import jsonschema
 import pytest
-import yaml
+from conftest import ROOT
+from tests.contract import FILE, METHODS, PAGE, SCHEMAS, examples_of, faults_of, operations, resolved
 
-ROOT = pathlib.Path(__file__).resolve().parent.parent.parent
-FILE = ROOT / "docs" / "openapi.yaml"
-PAGE = yaml.safe_load(FILE.read_text())
-SCHEMAS = PAGE["components"]["schemas"]
-METHODS = ("get", "post")
 # Debian's libjson-validator-perl has the schema of OpenAPI 3.0 with it.
 LOOK = 'print "$_\\n" for @{JSON::Validator->new->schema(shift)->schema->errors}'
 VALIDATOR = ["perl", "-MJSON::Validator", "-e", LOOK]
 
 
-def resolved(node: Any) -> Any:
-    """A node of the page, or what its reference leads to."""
-    while "$ref" in node:
-        place = PAGE
-        for part in node["$ref"][2:].split("/"):
-            place = place[part]
-        node = place
-    return node
-
-
-def operations() -> list[tuple[str, str, Any]]:
-    """Each operation: its path, its method, and what is said of it."""
-    return [
-        (path, method, operation)
-        for path, ways in PAGE["paths"].items()
-        for method, operation in ways.items()
-        if method in METHODS
-    ]
+def route(path: str) -> str:
+    """A path whatever its parameters are called."""
+    return re.sub(r"{\w+}|\b(ORDER|LOT|N)\b", "{}", path)
 
 
 def bodies() -> Iterator[tuple[str, Any]]:
@@ -47,12 +27,6 @@ def bodies() -> Iterator[tuple[str, Any]]:
         for name, body in {"the request": operation.get("requestBody", {}), **operation["responses"]}.items():
             for content in resolved(body).get("content", {}).values():
                 yield f"{method} {path}, {name}", content
-
-
-def faults_of(schema: Any, value: Any) -> list[str]:
-    """Why the value isn't one of the schema's. Schemas of OpenAPI 3.0 stand on the fourth draft of JSON Schema."""
-    resolver = jsonschema.RefResolver.from_schema(PAGE)
-    return [fault.message for fault in jsonschema.Draft4Validator(schema, resolver=resolver).iter_errors(value)]
 
 
 def sources() -> list[str]:
@@ -94,13 +68,8 @@ def test_the_routes_are_those_of_the_code() -> None:
     assert others == [("/companion", "get")]
     row = r'pattern: "(.*?)",\s+endpoint: Endpoint {\s+parts: Parts::\w+,\s+get: (\w+).*?,\s+post: (\w+)'
     routes = [route for text in sources() for route in re.findall(row, text)]
-    code = {
-        (method, re.sub(r"{\w+}", "{}", pattern))
-        for pattern, *asks in routes
-        for method, ask in zip(METHODS, asks)
-        if ask == "Some"
-    }
-    assert code and code == {(method, re.sub(r"{\w+}", "{}", path)) for path, method in office}
+    code = {(method, route(path)) for path, *asks in routes for method, ask in zip(METHODS, asks) if ask == "Some"}
+    assert code and code == {(method, route(path)) for path, method in office}
 
 
 def test_what_the_site_sends_alone_is_in_its_settings() -> None:
@@ -117,13 +86,8 @@ def test_an_operation_is_named_by_what_it_does() -> None:
 
 def test_the_routes_are_those_of_the_page_beside_it() -> None:
     rows = re.findall(r"^\| `(/[\w/]+)` \|(.*?)\|(.*?)\|$", (ROOT / "docs" / "http.md").read_text(), re.M)
-    page = {
-        (method, re.sub(r"\b(ORDER|LOT|N)\b", "{}", path))
-        for path, *marks in rows
-        for method, mark in zip(METHODS, marks)
-        if mark.strip()
-    }
-    assert page == {(method, re.sub(r"{\w+}", "{}", path)) for path, method, _ in operations()}
+    page = {(method, route(path)) for path, *marks in rows for method, mark in zip(METHODS, marks) if mark.strip()}
+    assert page == {(method, route(path)) for path, method, _ in operations()}
 
 
 def test_the_refusals_are_those_of_the_code() -> None:
@@ -131,24 +95,14 @@ def test_the_refusals_are_those_of_the_code() -> None:
     words = SCHEMAS["Refusal"]["properties"]["error"]["enum"]
     assert code == {word: number for number, word in enumerate(words, 1)}
     for word in set(code) & set(SCHEMAS):
-        fits = [
-            (other, number)
-            for other, number in code.items()
-            if not faults_of(SCHEMAS[word], {"code": number, "error": other})
-        ]
-        assert fits == [(word, code[word])]
+        fits = [other for other in code if not faults_of(SCHEMAS[word], {"code": code[other], "error": other})]
+        assert fits == [word]
 
 
 @pytest.mark.parametrize("where, content", bodies())
 def test_each_body_has_examples_that_fit(where: str, content: Any) -> None:
-    examples = (
-        [content["example"]]
-        if "example" in content
-        else [example["value"] for example in content.get("examples", {}).values()]
-    )
-    assert examples
-    for example in examples:
-        assert faults_of(content["schema"], example) == []
+    examples = examples_of(content)
+    assert examples and [fault for example in examples for fault in faults_of(content["schema"], example)] == []
 
 
 def test_each_schema_and_each_field_is_described() -> None:
@@ -170,7 +124,6 @@ def test_a_new_word_of_an_error_is_one() -> None:
 
 @pytest.mark.parametrize("path, method, operation", operations())
 def test_each_request_may_be_told_what_the_site_tells_by_itself(path: str, method: str, operation: Any) -> None:
-    site = {
-        status for status, response in operation["responses"].items() if resolved(response).get("x-told-by") == "site"
-    }
+    responses = operation["responses"].items()
+    site = {status for status, response in responses if resolved(response).get("x-told-by") == "site"}
     assert site == {"429", "502", "504", "default"}

@@ -20,12 +20,12 @@ from pathlib import Path
 from typing import Any
 
 import pytest
-import yaml
 from conftest import PATIENCE, ROOT, eventually, quick_guesses
-from site_client import FORBIDDEN, Reply, ask, at_once, connect, seconds_of, sent, sent_bytes, serving
+from site_client import FORBIDDEN, Reply, ask, at_once, connect, seconds_of, sent, sent_bytes
+from tests.contract import operations, resolved
+from tests.harness import serving
 from try_page.site import Proxy, free_port, has_ipv6
 
-CONTRACT = yaml.safe_load((ROOT / "docs" / "openapi.yaml").read_text())
 CACHE_PORT = free_port()
 # What an administrator may have beside the site: a cache for all, one in front of the site, compression of JSON,
 # a log of everything, and addresses of clients that a proxy in front gives.
@@ -164,6 +164,10 @@ ANSWERED: list[tuple[int, str, str, dict[str, Any]]] = [
 ]
 
 
+CAREFUL = dict.fromkeys(["cross-origin-opener-policy", "cross-origin-resource-policy"], "same-origin")
+CAREFUL |= {"x-content-type-options": "nosniff", "referrer-policy": "no-referrer"}
+
+
 @pytest.mark.parametrize("status, method, path, fields", ANSWERED)
 def test_every_reply_is_kept_by_nobody_and_has_the_fields_for_browsers(
     site: Proxy, status: int, method: str, path: str, fields: dict[str, Any]
@@ -172,12 +176,10 @@ def test_every_reply_is_kept_by_nobody_and_has_the_fields_for_browsers(
     assert reply.status == status
     assert reply.fields["cache-control"] == ("no-cache" if path == "/owner/" else "no-store")
     if status in (200, 403, 404, 504):
+        assert {name: reply.fields[name] for name in CAREFUL} == CAREFUL
         assert re.fullmatch(r"max-age=\d{8,}", reply.fields["strict-transport-security"])
-        policies = ("cross-origin-opener-policy", "cross-origin-resource-policy")
-        assert [reply.fields[name] for name in policies] == ["same-origin"] * 2
-        assert reply.fields["x-content-type-options"] == "nosniff" and reply.fields["referrer-policy"] == "no-referrer"
-        assert "default-src 'none'" in reply.fields["content-security-policy"]
-        assert "unsafe" not in reply.fields["content-security-policy"]
+        policy = reply.fields["content-security-policy"]
+        assert "default-src 'none'" in policy and "unsafe" not in policy
 
 
 def test_a_cache_in_front_gives_no_owner_anothers_stock(site: Proxy) -> None:
@@ -447,21 +449,21 @@ def test_the_log_names_the_order_that_is_placed(site: Proxy, body: str, order: s
     assert line.split()[-1] == order and len(line) < 500
 
 
-@pytest.mark.parametrize(
-    "mark, asked",
-    [
-        ("a-key", {"path": "/stock?a-key", "toll_key": WRONG_KEY}),
-        ("malformed", {"path": "/orders/malformed"}),
-        ("locked", {"path": "/orders/locked"}),
-        ("a-body", {"path": "/orders?a-body", "method": "POST", "body": b"x" * 5000}),
-        ("a-trace", {"path": "/a-trace", "method": "TRACE"}),
-        ("a-page", {"path": "/?a-page"}),
-    ],
-)
-def test_requests_without_a_key_are_in_a_log_of_their_own(site: Proxy, mark: str, asked: dict[str, Any]) -> None:
+UNKNOWN: dict[str, dict[str, Any]] = {
+    "/stock?a-key": {"toll_key": WRONG_KEY},
+    "/orders/malformed": {},
+    "/orders/locked": {},
+    "/orders?a-body": {"method": "POST", "body": b"x" * 5000},
+    "/a-trace": {"method": "TRACE"},
+    "/?a-page": {},
+}
+
+
+@pytest.mark.parametrize("path, asked", UNKNOWN.items())
+def test_requests_without_a_key_are_in_a_log_of_their_own(site: Proxy, path: str, asked: dict[str, Any]) -> None:
     """Also those that the site answers by itself, whatever their status."""
-    assert ask(site, **asked).status in (302, 400, 403, 405, 413, 503)
-    assert [*map(len, logged(site, mark))] == [0, 1]
+    assert ask(site, path, **asked).status in (302, 400, 403, 405, 413, 503)
+    assert [*map(len, logged(site, path))] == [0, 1]
 
 
 def test_what_nobody_need_know_is_in_no_log(site: Proxy) -> None:
@@ -514,15 +516,11 @@ def test_a_client_that_goes_away_is_logged_with_what_was_done(site: Proxy, stub:
 LONGEST = {"toll_owner": "A" * 16, "toll_key": "k" * 32}
 
 
-@pytest.mark.parametrize(
-    "method, path",
-    [
-        ("GET", f"/trace/forward/{'L' * 16}"),
-        ("POST", f"/lots/{'L' * 16}/release"),
-        ("POST", f"/orders/{'O' * 16}/cancel"),
-        ("GET", f"/batches/{'O' * 16}/99"),
-    ],
-)
+LONG_PATHS = {f"/trace/forward/{'L' * 16}": "GET", f"/lots/{'L' * 16}/release": "POST"}
+LONG_PATHS |= {f"/orders/{'O' * 16}/cancel": "POST", f"/batches/{'O' * 16}/99": "GET"}
+
+
+@pytest.mark.parametrize("path, method", LONG_PATHS.items())
 def test_the_longest_requests_come_to_the_office_unchanged(site: Proxy, stub: Stub, method: str, path: str) -> None:
     """With all that a browser may add."""
     browser = {f"sec_ch_ua_{number}": "v" * 200 for number in range(26)}
@@ -647,15 +645,11 @@ def test_what_the_site_answers_by_itself(site: Proxy) -> None:
     assert answers | {(int(head.split()[1]), json.loads(body)["error"], None)} == BY_ITSELF
 
 
-@pytest.mark.parametrize(
-    "path, way", [(path, way) for path, ways in CONTRACT["paths"].items() for way in ways if way in ("get", "post")]
-)
-def test_the_contract_has_what_the_site_answers_by_itself(path: str, way: str) -> None:
-    shared, responses = CONTRACT["components"]["responses"], CONTRACT["paths"][path][way]["responses"]
+@pytest.mark.parametrize("path, way, operation", operations())
+def test_the_contract_has_what_the_site_answers_by_itself(path: str, way: str, operation: Any) -> None:
+    responses = operation["responses"]
     for number, _, retry_after in [*BY_ITSELF, (429, "TooManyRequests", "1"), (502, "Unavailable", "1")]:
-        response = responses.get(str(number), responses["default"])
-        if "$ref" in response:
-            response = shared[response["$ref"].rpartition("/")[2]]
+        response = resolved(responses.get(str(number), responses["default"]))
         if str(number) in responses and number in (429, 502, 504):
             assert "retry-after" in response["headers"]
         assert "application/json" in response.get("content", {}) or number == 501, f"{way} {path} {number}"

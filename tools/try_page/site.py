@@ -13,9 +13,9 @@ from typing import Self
 from trial import ROOT  # which leads to tests/
 
 from tests import harness
-from tests.harness import Result, Server, eventually, free_port
+from tests.harness import Result, Server, eventually, free_port, serving
 
-__all__ = ["Office", "Proxy", "ROOT", "eventually", "free_port", "has_ipv6"]
+__all__ = ["Office", "Proxy", "ROOT", "eventually", "free_port", "has_ipv6", "serving"]
 
 PATIENCE = 90  # seconds
 WRAPPER = """
@@ -150,21 +150,14 @@ class Proxy:
     ) -> None:
         self.folder, self.port = folder, port or free_port()
         self.address = f"https://localhost:{self.port}/owner/"
-        certify = (
-            "openssl req -x509 -newkey rsa:2048 -nodes -days 2 -subj /CN=localhost -keyout key.pem -out certificate.pem"
-        )
-        subprocess.run(certify.split(), check=True, capture_output=True, cwd=folder)
+        certify = "openssl req -x509 -newkey rsa:2048 -nodes -days 2 -subj /CN=localhost"
+        words = [*certify.split(), "-keyout", "key.pem", "-out", "certificate.pem"]
+        subprocess.run(words, check=True, capture_output=True, cwd=folder)
         # the page's files and the contract, as packages have them
         subprocess.run([ROOT / "packaging" / "documents.py", folder], check=True)
-        settings = WRAPPER.format(
-            folder=folder,
-            user="" if os.geteuid() else f"user {user};",
-            workers=workers,
-            connections=connections,
-            around=around,
-            site=self._site(office_port, changes),
-        )
-        (folder / "nginx.conf").write_text(settings)
+        own = {"user": "" if os.geteuid() else f"user {user};", "site": self._site(office_port, changes)}
+        counts = {"workers": workers, "connections": connections}
+        (folder / "nginx.conf").write_text(WRAPPER.format(folder=folder, around=around, **counts, **own))
 
     def _site(self, office_port: int, changes: Iterable[tuple[str, str]]) -> str:
         """The site as packages have it; host, ports, certificate, page and logs are those of the trial."""
@@ -186,15 +179,7 @@ class Proxy:
         return site
 
     def start(self) -> None:
-        words: list[str | pathlib.Path] = [
-            "nginx",
-            "-e",
-            self.folder / "error.log",
-            "-p",
-            self.folder,
-            "-c",
-            self.folder / "nginx.conf",
-        ]
+        words = f"nginx -e {self.folder}/error.log -p {self.folder} -c {self.folder}/nginx.conf".split()
         nothing = subprocess.DEVNULL
         self.nginx = nginx = subprocess.Popen(words, start_new_session=True, stdout=nothing, stderr=nothing, text=True)
         eventually(lambda: nginx.poll() is not None or listens(self.port), PATIENCE)

@@ -1,13 +1,12 @@
 """What goes wrong between a person and the office, and what the page makes of it."""
 import contextlib
 import os
-import socket
+import socketserver
 import subprocess
-import threading
 from collections.abc import Iterator
 
 from .browser import PATIENCE
-from .site import has_ipv6
+from .site import has_ipv6, serving
 from .trial import Trial
 
 AT_ONCE = 4  # requests of an address that the site takes at once: limit_conn of packaging/nginx.conf
@@ -138,26 +137,22 @@ STRANGE = {
 }
 
 
+class Another(socketserver.TCPServer):
+    allow_reuse_address = True
+
+
 @contextlib.contextmanager
 def another(port: int, reply: bytes, to_get: bytes | None = None) -> Iterator[int]:
     """Something else than the office on its port answers all by these bytes; a GET by others, if they are given."""
 
-    def answer_all() -> None:
-        with contextlib.suppress(OSError):
-            while True:
-                peer, _ = listener.accept()
-                with peer, contextlib.suppress(OSError):
-                    asked = peer.recv(65536)
-                    peer.sendall(to_get if to_get and asked.startswith(b"GET ") else reply)
+    class Answering(socketserver.BaseRequestHandler):
+        def handle(self) -> None:
+            with contextlib.suppress(OSError):
+                asked = self.request.recv(65536)
+                self.request.sendall(to_get if to_get and asked.startswith(b"GET ") else reply)
 
-    with socket.create_server(("127.0.0.1", port)) as listener:
-        answering = threading.Thread(target=answer_all)
-        answering.start()
-        try:
-            yield listener.getsockname()[1]
-        finally:
-            listener.shutdown(socket.SHUT_RDWR)
-            answering.join()
+    with serving(Another(("127.0.0.1", port), Answering)) as server:
+        yield int(server.server_address[1])
 
 
 def garbled(t: Trial) -> None:
@@ -166,14 +161,12 @@ def garbled(t: Trial) -> None:
     t.office.end()
     for case, reply in STRANGE.items():
         with another(t.office_port, reply):
-            b.click("#nav a", "Stock")
-            b.wait(NOT_THE_OFFICES)
+            b.click("#nav a", "Stock", says=NOT_THE_OFFICES)
             look_sane(t, case)
         b.js("location.hash = '#/nowhere'")
         b.heading("There is no such page")
     with another(t.office_port, A_PAGE):
-        b.click("#nav a", "Stock")
-        b.wait(NOT_THE_OFFICES)
+        b.click("#nav a", "Stock", says=NOT_THE_OFFICES)
         t.shot("39-not-the-office")
     t.office.start()
     t.follow("button", "Ask again", "Stock")
@@ -225,8 +218,7 @@ def garbled_entering(t: Trial) -> None:
             b.wait(NOT_THE_OFFICES, "#wrong")
             t.now("[text('h1'), keys()]", ["Log in", 0])
     t.office.start()
-    t.fill_in("ACME")
-    b.heading("Home")
+    t.log_in("ACME")
 
 
 def strange(t: Trial) -> None:
@@ -255,8 +247,7 @@ def strange(t: Trial) -> None:
     )
     t.same(effects, [0, "rgb(23, 33, 43)"], "a script and a style within the page")
     moving(t)
-    b.refresh()
-    b.heading("Orders")
+    t.reload("Orders")
     headers = dict(b.later("fetch('/owner/').then(reply => arguments[0]([...reply.headers]))"))
     policy = headers.get("content-security-policy", "")
     t.expect("default-src 'none'" in policy and "unsafe" not in policy, f"the policy is {policy}")
