@@ -10,12 +10,8 @@ from .owners import nothing_of_acme
 from .trial import Trial
 from .troubles import AWAY
 
-REWORK = {
-    "from": {"owner": "ACME", "lot": "S-5"},
-    "to": {"owner": "ACME", "lot": "BL-1"},
-    "why": "rework",
-    "text": "too thin",
-}
+REWORK: dict[str, Any] = {"from": {"owner": "ACME", "lot": "S-5"}, "to": {"owner": "ACME", "lot": "BL-1"}}
+REWORK |= {"why": "rework", "text": "too thin"}
 # Runs in each document before the page's own scripts: what the page does each minute, it does twice a second.
 SOON = """{
     const set = window.setInterval;
@@ -109,8 +105,7 @@ def limits(t: Trial) -> None:
         t.shot("51-held")
         again(t)
         b.find("[data-key=release]:enabled")
-        b.click("button", "Release")
-        b.wait("Lot B-90 is released.")
+        b.click("button", "Release", says="Lot B-90 is released.")
         t.pictured()
         # who has what was shipped
         t.to_lot("DR-1", is_pictured=False)
@@ -126,11 +121,9 @@ def tracing(t: Trial) -> None:
         b.type("input[name=trace]", "w-101")
         b.press("enter")
         b.heading("Lot W-101 of the plant")
-        b.back()
-        b.heading("Home")
+        t.back_to("Home")
         b.type("input[name=trace]", "NOPE")
-        b.click("button", "Trace")
-        b.wait("You have no lot NOPE, and none of your batches consumed a lot NOPE")
+        b.click("button", "Trace", says="You have no lot NOPE, and none of your batches consumed a lot NOPE")
         b.type("input[name=trace]", "W-1 1")
         b.click("button", "Trace")
         t.now("wrongField()", "trace")
@@ -141,8 +134,7 @@ def tracing(t: Trial) -> None:
         b.wait("is a lot of the plant. It went into")
         t.shot("53-plants-lot-searched")
         t.follow(".beyond-list a", "W-101", "Lot W-101 of the plant")
-        b.back()
-        b.heading("Stock")
+        t.back_to("Stock")
         b.wait("is a lot of the plant. It went into")
 
 
@@ -281,8 +273,7 @@ def newer(t: Trial) -> None:
         b.becomes("text('main').includes('The plant has recorded more')", False)
         t.log_off()
         with t.slow("/companion", 5000):
-            t.fill_in("ACME")
-            b.heading("Home")
+            t.log_in("ACME")
             b.wait("Failed tests")
 
 
@@ -295,8 +286,7 @@ def departed(t: Trial) -> None:
         t.pictured()
         t.log_off()
         nothing_of_acme(t, "after logging off with a companion")
-        t.fill_in("BOLT")
-        b.heading("Home")
+        t.log_in("BOLT")
         b.wait("Lots in quarantine")
         nothing_of_acme(t, "when another has logged in, who has no companion")
         t.lacks("Northern", css="body")
@@ -336,8 +326,7 @@ def drafts(t: Trial) -> None:
     b.click("button", "Place the order")
     b.becomes("text('#wrong')", "")
     t.log_off()
-    t.fill_in("ACME")
-    b.heading("Home")
+    t.log_in("ACME")
     t.to("Orders")
     t.now("fields('order', 'recipe')", ["", ""])
 

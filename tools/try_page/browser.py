@@ -125,8 +125,11 @@ class Browser(webdriver.Chrome):  # type: ignore[misc]
 
     # What is done
 
-    def click(self, css: str, text: str | None = None) -> None:
+    def click(self, css: str, text: str | None = None, says: str = "") -> None:
+        """Clicks an element, and waits for what the view says then."""
         self.until(lambda: self._click(self.find(css, text)), f"a click on {css} {text or ''}")
+        if says:
+            self.wait(says)
 
     def _click(self, element: Any) -> bool:
         """Whether a click came to the element."""

@@ -71,21 +71,16 @@ def companion(office: Office, owner: str) -> Row:
     for test_owner, material, test, low, high in of("test-add"):
         if test_owner == owner:
             tests[material].append({"test": test, "low": int(low), "high": int(high)})
+    materials: list[Row] = [dict(zip(("owner", "material", "measure"), values)) for values in of("material-add")]
+    materials = [row for row in materials if row["owner"] in (owner, "HOUSE")]
+    for row in materials:
+        row |= {"tests": tests[row["material"]]} if row["owner"] == owner else {}
     return {
         "version": 1,
         "owner": owner,
         "made": datetime.datetime.now(datetime.timezone.utc).strftime("%Y-%m-%dT%H:%M:%SZ"),
         "plant": {"name": "Hilltop Blending", "address": "4 Mill Lane, Anytown", "contact": "+00 555 0100"},
-        "materials": [
-            {
-                "owner": of_owner,
-                "material": name,
-                "measure": measure,
-                **({"tests": tests[name]} if of_owner == owner else {}),
-            }
-            for of_owner, name, measure in of("material-add")
-            if of_owner in (owner, "HOUSE")
-        ],
+        "materials": materials,
         "batches": batches_of(office, owner, of("open"), makers),
         "lots": lots_of(office, owner, of("result"), tests, makers),
         "movements": movements,
@@ -125,9 +120,8 @@ def lots_of(
     office: Office, owner: str, results: list[list[str]], tests: dict[str, list[Row]], makers: dict[str, Row]
 ) -> list[Row]:
     """The lots in stock, with why each can't be released."""
-    latest = {
-        (lot, test): int(value.replace("M", "-")) for of_owner, lot, test, value, _ in results if of_owner == owner
-    }
+    own = [values for of_owner, *values in results if of_owner == owner]
+    latest = {(lot, test): int(value.replace("M", "-")) for lot, test, value, _ in own}
     rows = []
     for row in asked(office, owner, "/stock")["lots"]:
         reasons = (reason_of(test, latest.get((row["lot"], test["test"]))) for test in tests[row["material"]])

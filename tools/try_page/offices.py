@@ -53,9 +53,8 @@ def release(*lots: str) -> str:
 
 def fill_large(office: Office) -> None:
     """2,000 orders; a lot of salt that went into 2,189 lots of drums; a chain of 32 casks, each made of four lots."""
-    office.do(
-        LARGE + each(CHAIN, "receive ACME Y{0} YEAST Y-{0} BAY1 10 101") + each(BATCHES + CHAIN, "unit-add U-{0}")
-    )
+    yeasts = each(CHAIN, "receive ACME Y{0} YEAST Y-{0} BAY1 10 101")
+    office.do(LARGE + yeasts + each(BATCHES + CHAIN, "unit-add U-{0}"))
     office.start()
     others = (place(f"ORDER-{at:04}", "FILL" if at % 3 else "AGE", 1 + at % 20) for at in range(1, ORDERS - 1))
     released = release("S-1", "C-0", "SU-1", *(f"Y-{number}" for number in range(1, CHAIN + 1)))

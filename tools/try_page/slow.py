@@ -64,16 +64,10 @@ class Slowness:
         """Slows down a window, and all documents that are loaded in it from now on."""
         window.devtools("Emulation.setCPUThrottlingRate", rate=self.times)
         window.devtools("Network.enable")
-        window.devtools(
-            "Network.emulateNetworkConditions",
-            offline=False,
-            latency=self.latency,
-            downloadThroughput=-1,
-            uploadThroughput=-1,
-        )
-        window.devtools(
-            "Page.addScriptToEvaluateOnNewDocument", source=RESTS % json.dumps([self.seed, self.longest_rest])
-        )
+        rates = {"downloadThroughput": -1, "uploadThroughput": -1}
+        window.devtools("Network.emulateNetworkConditions", offline=False, latency=self.latency, **rates)
+        rests = RESTS % json.dumps([self.seed, self.longest_rest])
+        window.devtools("Page.addScriptToEvaluateOnNewDocument", source=rests)
 
     def pause(self, nth: int) -> None:
         """The trial's pause before its nth command."""

@@ -123,9 +123,11 @@ class Trial:
         folder.mkdir()
         self.browser.devtools("Browser.setDownloadBehavior", behavior="allow", downloadPath=str(folder))
         self.browser.click(f"button[data-key='{key}']")
-        whole = lambda: [
-            file for file in folder.glob("*.csv") if len(list(folder.iterdir())) == 1 and file.stat().st_size
-        ]
+
+        def whole() -> list[pathlib.Path]:
+            files = list(folder.iterdir())
+            return files if len(files) == 1 and files[0].suffix == ".csv" and files[0].stat().st_size else []
+
         (file,) = self.browser.until(whole, f"{key} gives a file")
         text = file.read_bytes().decode()
         self.same(text.count("\r\n"), text.count("\n"), f"the lines of {key} that end as RFC 4180 has it")
@@ -133,11 +135,12 @@ class Trial:
 
     def check_file(self, key: str, rows: list[str], *columns: str, first: int | None = None) -> None:
         """Looks whether a file has these rows, or begins with them; a text stands there as ="TEXT"."""
-        records = self.downloaded(key)[0][:first]
-        quoted = [
-            [value if value.isdecimal() or not value else f'="{value}"' for value in row.split("|")] for row in rows
-        ]
-        self.same([[record[name] for name in columns or record] for record in records], quoted, f"the file {key}")
+
+        def quoted(value: str) -> str:
+            return value if value.isdecimal() or not value else f'="{value}"'
+
+        records = [[record[name] for name in columns or record] for record in self.downloaded(key)[0][:first]]
+        self.same(records, [[*map(quoted, row.split("|"))] for row in rows], f"the file {key}")
 
     # Ways through the page
 
@@ -154,14 +157,25 @@ class Trial:
         self.browser.type("input[name=key]", key or f"{owner}KEY1")
         self.browser.click("button", "Log in")
 
+    def log_in(self, owner: str, key: str | None = None) -> None:
+        self.fill_in(owner, key)
+        self.browser.heading("Home")
+
+    def back_to(self, heading: str) -> None:
+        self.browser.back()
+        self.browser.heading(heading)
+
+    def reload(self, heading: str) -> None:
+        self.browser.refresh()
+        self.browser.heading(heading)
+
     def to_home_of(self, owner: str) -> None:
         """Logs in anew."""
         self.browser.get("about:blank")
         self.browser.get(self.proxy.address)
         if self.browser.value("keys()"):
             self.log_off()
-        self.fill_in(owner)
-        self.browser.heading("Home")
+        self.log_in(owner)
 
     def entered(self, owner: str = "ACME") -> Browser:
         """Logs in, if the window isn't this owner's already, and goes to the orders."""

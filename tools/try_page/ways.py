@@ -17,8 +17,7 @@ def history(t: Trial) -> None:
     b.click("button.sort", "On hand")
     b.becomes("cells(0).length > 0 && cells(0).every(name => name.startsWith('S-'))")
     listed = b.value("cells(0)")
-    b.refresh()
-    b.heading("Stock")
+    t.reload("Stock")
     t.now("cells(0)", listed)
     t.now("one('input[type=search]').value", "S-")
     t.follow("tbody a", "S-1", "Lot S-1")
@@ -26,11 +25,9 @@ def history(t: Trial) -> None:
     t.pictured()
     t.follow(".genealogy a[data-id='ACME/B-1']", None, "Lot B-1")
     for heading in ("Lot S-1", "Stock"):
-        b.back()
-        b.heading(heading)
+        t.back_to(heading)
     t.now("one('input[type=search]').value", "S-")
-    b.refresh()
-    b.heading("Stock")
+    t.reload("Stock")
 
 
 def keyboard(t: Trial) -> None:
@@ -104,8 +101,7 @@ def phone(t: Trial) -> None:
     try:
         for width, name in ((390, "phone"), (660, "small-window")):
             b.phone(width)
-            b.refresh()
-            b.heading("Orders")
+            t.reload("Orders")
             if width <= FOLDED:
                 folded(t, name)
             else:
