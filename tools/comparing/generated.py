@@ -62,30 +62,11 @@ def known(plant: Plant, seed: int) -> None:
 
 def closed(plant: Plant, _: int) -> None:
     """Two months that are closed, with batches and a correction behind them."""
-    plant.lay(
-        MADE
-        + "".join(
-            BATCH.format(n=n, salt=1000 + n, brine=950, sludge=40, day=250100 + 100 * (n // 3) + n)
-            + f"close ACME O-{n} 1\n"
-            for n in range(1, 9)
-        )
-    )
-    run(
-        plant,
-        "receive",
-        "ACME",
-        "C90",
-        "SALT",
-        "S-9",
-        "BAY9",
-        20,
-        250220,
-        "--of",
-        "S-1",
-        "--why",
-        "correction",
-        "--yes",
-    )
+    batch = BATCH + "close ACME O-{n} 1\n"
+    amounts = {"brine": 950, "sludge": 40}
+    days = {n: 250100 + 100 * (n // 3) + n for n in range(1, 9)}
+    plant.lay(MADE + "".join(batch.format(n=n, salt=1000 + n, day=day, **amounts) for n, day in days.items()))
+    run(plant, *"receive ACME C90 SALT S-9 BAY9 20 250220 --of S-1 --why correction --yes".split())
     run(plant, "note", "corrects", "ACME", "C90", "C1")
     for month in ("2501", "2502"):
         run(plant, "settle", "ACME", month, "--no-pdf", plant.folder / f"settled-{month}")
@@ -99,9 +80,8 @@ def carried(plant: Plant, seed: int) -> None:
     with private_server.opened(plant.program, str(one)) as server:
         growing = Growing(server, random.Random(seed), one)
         growing.grow(140, 1 + seed % 2)
-    parts = [
-        list(part) for is_cut, part in itertools.groupby(growing.steps, lambda step: bool(step == CUT)) if not is_cut
-    ]
+    groups = itertools.groupby(growing.steps, lambda step: bool(step == CUT))
+    parts = [list(part) for is_cut, part in groups if not is_cut]
     for number, part in enumerate(parts):
         if number:
             run(plant, "carry-over", plant.folder / "next.db", "--day", 260101)
@@ -118,29 +98,17 @@ def note(plant: Plant, number: int) -> None:
         for at, (lot, other) in enumerate(zip(lots, lots[1:])):
             plant.run("describe", "lot", owner, lot, "--expires", 261201 + at, "--made", 260101)
             plant.run("hold" if at % 4 == 1 else "sign", owner, lot, "--reason", f"seen {at}")
-            plant.run(
-                "link", owner, lot, other, "--why", ("rework", "return", "use")[at % 3], *["--amount", 7][: at % 2 * 2]
-            )
+            why, amount = ("rework", "return", "use")[at % 3], ["--amount", 7] if at % 2 else []
+            plant.run("link", owner, lot, other, "--why", why, *amount)
         for (house,) in plant.rows("SELECT lot FROM lots WHERE owner = 'HOUSE' ORDER BY rowid DESC LIMIT 1"):
             plant.run("link", owner, lots[0], house, "--of-owner", "HOUSE", "--why", "use")
-        for (key,) in plant.rows(
-            f"SELECT mkey FROM moves WHERE owner = '{owner}' AND kind = 2 ORDER BY rowid DESC LIMIT 4"
-        ):
+        shipped = f"SELECT mkey FROM moves WHERE owner = '{owner}' AND kind = 2 ORDER BY rowid DESC LIMIT 4"
+        for (key,) in plant.rows(shipped):
             plant.run("note", "movement", owner, key, "--to", f"C{number}", "--document", f"DN {key}")
 
 
-MAKERS = {
-    "at-work": at_work,
-    "week": week,
-    "sample": sample,
-    "linked": linked,
-    "closed": closed,
-    "carried-1": carried,
-    "known-1": known,
-    "carried-2": carried,
-    "known-2": known,
-    "known-3": known,
-}
+MAKERS = {"at-work": at_work, "week": week, "sample": sample, "linked": linked, "closed": closed, "carried-1": carried}
+MAKERS |= {"known-1": known, "carried-2": carried, "known-2": known, "known-3": known}
 
 
 def main() -> None:

@@ -45,11 +45,8 @@ def texts_of(name: str, content: bytes) -> dict[str, str]:
 def child(words: list[str], output: str) -> None:
     """The command itself, of which standard output goes to a file."""
     os.dup2(os.open(output, os.O_WRONLY | os.O_CREAT | os.O_TRUNC), 1)
-    sys.stdin, sys.stdout, sys.stderr = (
-        open(0, closefd=False),
-        open(1, "w", closefd=False),
-        open(2, "w", 1, closefd=False),
-    )
+    sys.stdin, sys.stdout = open(0, closefd=False), open(1, "w", closefd=False)
+    sys.stderr = open(2, "w", 1, closefd=False)
     sys.argv = ["hilpoven", *words]
     signal.alarm(PATIENCE)
     status: object = 1

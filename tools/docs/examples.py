@@ -9,6 +9,7 @@ import time
 from collections.abc import Iterator
 from dataclasses import dataclass
 from pathlib import Path
+from typing import Any
 
 from tests.harness import free_port
 
@@ -48,16 +49,9 @@ class Shell:
     """A shell in the folder of a page. It ends with all that the page left running."""
 
     def __init__(self, folder: Path, environment: dict[str, str]) -> None:
-        self.process = subprocess.Popen(
-            ["bash", "--norc"],
-            stdin=subprocess.PIPE,
-            stdout=subprocess.PIPE,
-            bufsize=0,
-            stderr=subprocess.STDOUT,
-            cwd=folder,
-            env=environment,
-            start_new_session=True,
-        )
+        how: dict[str, Any] = {"cwd": folder, "env": environment, "bufsize": 0, "start_new_session": True}
+        how |= {"stdin": subprocess.PIPE, "stdout": subprocess.PIPE, "stderr": subprocess.STDOUT}
+        self.process: subprocess.Popen[bytes] = subprocess.Popen(["bash", "--norc"], **how)
         assert self.process.stdin and self.process.stdout
         self.stdin, self.stdout = self.process.stdin, self.process.stdout
 
@@ -90,15 +84,11 @@ def shell_of_page(root: Path, toll: Path, hilpoven: Path) -> Iterator[Shell]:
         (folder / "plant" / "bin").mkdir(parents=True)
         (folder / "toll").write_text(f'#!/bin/sh\nexec "{toll}" "$@"\n')
         (folder / "toll").chmod(0o755)
-        for link, target in {
-            programs / "toll": folder / "toll",
-            programs / "hilpoven": hilpoven,
-            folder / "plant" / "bin" / "hilpoven": hilpoven,
-            folder / "docs": root / "docs",
-            folder / "demo": root / "demo",
-            folder / "tools": root / "tools",
-        }.items():
-            link.symlink_to(target)
+        (programs / "toll").symlink_to(folder / "toll")
+        for link in (programs / "hilpoven", folder / "plant" / "bin" / "hilpoven"):
+            link.symlink_to(hilpoven)
+        for name in ("docs", "demo", "tools"):
+            (folder / name).symlink_to(root / name)
         environment = {**os.environ, "LC_ALL": "C.UTF-8", "TOLL": str(toll), "PATH": f"{programs}:{os.environ['PATH']}"}
         shell = Shell(folder, environment)
         try:
@@ -118,14 +108,9 @@ def check(page: Path, examples: list[Example], shell: Shell) -> int:
             printed, is_over = str(why).split("\n"), True
         passed += printed == expected
         if printed != expected:
-            print(
-                f"{page}:{example.line}: {example.command}",
-                "  the page says:",
-                *(f"    {line}" for line in expected),
-                "  it prints:",
-                *(f"    {line}" for line in printed),
-                sep="\n",
-            )
+            wanted, seen = ([f"    {line}" for line in lines] for lines in (expected, printed))
+            place = f"{page}:{example.line}: {example.command}"
+            print(place, "  the page says:", *wanted, "  it prints:", *seen, sep="\n")
         if is_over:
             break
     return passed

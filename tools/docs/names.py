@@ -6,26 +6,19 @@ from pathlib import Path
 from .sources import DEFINED, Sources
 
 # The pages that describe the code: each of their names is one of the repository's.
-PAGES = (
-    "README.md",
-    "CONTRIBUTING.md",
-    "CHANGELOG.md",
-    "docs/GLOSSARY.md",
-    *(f"docs/engineering/{name}.md" for name in "PROVED PROMISES DEFINITIONS ARCHITECTURE DECISIONS".split()),
-)
+OF_CODE = "PROVED PROMISES DEFINITIONS ARCHITECTURE DECISIONS".split()
+PAGES = ["README.md", "CONTRIBUTING.md", "CHANGELOG.md", "docs/GLOSSARY.md"]
+PAGES += [f"docs/engineering/{name}.md" for name in OF_CODE]
 OTHERS = set("hilpoven bash curl sh flock python3 sqlite3 rt help import use stdout server Clone Display Net".split())
 QUOTED = re.compile(r"`([^`]+)`")
 LINKED = re.compile(r"\]\(([^):#]*)(?:#([^)]+))?\)")
 HEADING = re.compile(r"^#+ (.+)$", re.M)
 CODE = re.compile(r"^```.*?^```$", re.M | re.S)
 DECLARED = [
-    re.compile(form, re.M)
-    for form in (
-        r"\bfn (\w+)",
-        r"\b(?:struct|enum|trait|type|const|static|mod|macro_rules!) (\w+)",
-        r"^\s+(?:pub )?(\w+)\s*[:,({=]",
-        r"\b(?:ensures|ghost) (\w+) ",
-    )
+    re.compile(r"\bfn (\w+)"),
+    re.compile(r"\b(?:struct|enum|trait|type|const|static|mod|macro_rules!) (\w+)"),
+    re.compile(r"^\s+(?:pub )?(\w+)\s*[:,({=]", re.M),
+    re.compile(r"\b(?:ensures|ghost) (\w+) "),
 ]
 FOLDERS = "tools|demo|desk|docs|page|packaging|crates|plant|bench|tests"
 FILE = re.compile(rf"[\w./-]+\.(?:rt|antt|py|md|txt|toll|out|yaml|csv|sql|png|svg|1)|(?:{FOLDERS})/[\w./-]*")
@@ -43,9 +36,8 @@ def declared(texts: dict[Path, str], *forms: re.Pattern[str]) -> set[str]:
 
 def places(text: str) -> set[str]:
     """The places in a page to which links lead: its headings, as forges name them."""
-    return {
-        re.sub(r"[^\w -]", "", heading.lower()).replace(" ", "-") for heading in HEADING.findall(CODE.sub("", text))
-    }
+    headings = HEADING.findall(CODE.sub("", text).lower())
+    return {re.sub(r"[^\w -]", "", heading).replace(" ", "-") for heading in headings}
 
 
 def links_to_nothing(page: Path, text: str) -> list[str]:
@@ -75,12 +67,8 @@ class Pages:
         )
         self.code_files = {name for path in sources.code for name in (path.name, f"{path.parent.name}/{path.name}")}
         plant = root / "plant" / "src" / "hilpoven"
-        self.folders = [
-            root,
-            root / "docs",
-            root / "docs" / "engineering",
-            plant,
-            *plant.glob("**/"),
+        self.folders = [root, root / "docs", root / "docs" / "engineering", plant, *plant.glob("**/")]
+        self.folders += [
             root / "desk" / "src" / "hilpoven_desk",
             sources.crates,
             *crates,
@@ -133,13 +121,9 @@ class Pages:
             if len(cells) != 3 or not re.fullmatch(r"[\d,]+", cells[2]):
                 continue
             wanted = {crate: names for crate, names in re.findall(r"`(\w+)/specs`(?:: ([\w, ]+))?", cells[1])}
-            lines = sum(
-                text.count("\n")
-                for path, text in self.sources.specs.items()
-                if path.stem != "Lib"
-                and (names := wanted.get(path.parent.parent.name)) is not None
-                and (not names or path.stem in names.split(", "))
-            )
+            specs = ((path.parent.parent.name, path.stem, text) for path, text in self.sources.specs.items())
+            files = [(wanted[crate], file, text) for crate, file, text in specs if crate in wanted and file != "Lib"]
+            lines = sum(text.count("\n") for names, file, text in files if not names or file in names.split(", "))
             if lines != int(cells[2].replace(",", "")):
                 yield f"{page.relative_to(self.root)}:{number}: {lines} lines, not {cells[2]}"
 

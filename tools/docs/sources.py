@@ -1,6 +1,7 @@
 """What the sources of the crates declare, in the layout that `rt fmt` gives them."""
 import collections
 import functools
+import itertools
 import re
 from collections.abc import Iterator
 from dataclasses import dataclass
@@ -98,11 +99,8 @@ class Sources:
     def cited(self, item: Item, clause: str) -> list[str]:
         """The definitions that a clause cites as statements: no types of what it speaks of, actions or examples."""
         names = re.findall(r"[A-Za-z_]\w*", re.sub(r"\(([^()]*) : [^()]*(?:\([^()]*\))*[^()]*\)", "", clause))
-        return [
-            name
-            for name in names
-            if name in self.imports(item.crate, item.file) and (self.file_of(item, name) or UNSTATED)[1] not in UNSTATED
-        ]
+        imported = [name for name in names if name in self.imports(item.crate, item.file)]
+        return [name for name in imported if (self.file_of(item, name) or UNSTATED)[1] not in UNSTATED]
 
     @functools.cache
     def imports(self, crate: str, file: str) -> dict[str, Place]:
@@ -118,18 +116,10 @@ class Sources:
         """The file of the definition that a clause of this item cites by this name."""
         places = self.definitions.get(name, [])
         place = self.imports(item.crate, item.file).get(name, (item.crate, ""))
-        exact = (
-            [candidate for candidate in places if candidate == place]
-            or [candidate for candidate in places if candidate[0] == place[0]]
-            or places
-        )
-        return exact[0] if exact else None
+        return min(places, key=lambda other: (other != place, other[0] != place[0])) if places else None
 
     @functools.cached_property
     def citations(self) -> collections.Counter[str]:
         """How many functions cite each definition."""
-        return collections.Counter(
-            name
-            for item in self.items
-            for name in {name for _, text in item.clauses() for name in self.cited(item, text)}
-        )
+        cited = ({name for _, text in item.clauses() for name in self.cited(item, text)} for item in self.items)
+        return collections.Counter(itertools.chain.from_iterable(cited))
