@@ -44,11 +44,7 @@ def many_actuals(count: int) -> str:
 
 # Scripts, each with the lines of the office that they stand behind. What stands behind "= " is the answer of the line
 # above it, or a further line of that answer; each other answer is `accepted`.
-SCRIPTS = {
-    name: ("" if base == "nothing" else office(base), text)
-    for name, base, text in re.findall(
-        r"^# (.*), over (.*)\n((?:[^#].*\n)*)", (HERE / "scripts.toll").read_text(), re.M
-    )
-}
+SECTIONS = re.findall(r"^# (.*), over (.*)\n((?:[^#].*\n)*)", (HERE / "scripts.toll").read_text(), re.M)
+SCRIPTS = {name: ("" if base == "nothing" else office(base), text) for name, base, text in SECTIONS}
 # What is asked of a server of SERVED, and the body of its reply.
 REQUESTS = dict(re.findall(r"^> ACME ACMEKEY1 (.*)\n= 200 (.*)\n", (HERE / "requests.toll").read_text(), re.M))

@@ -184,10 +184,7 @@ def test_a_client_that_never_ends_its_request_does_not_keep_a_server_from_its_en
     server = serve(count=3)
     with connect(server, b"G"):
         assert is_answered(server) and is_answered(server)
-        assert eventually(
-            lambda: refuses(server), DROPPED_AFTER - 2
-        )  # the port closes as soon as the last has connected
-        assert eventually(
-            lambda: not os.path.exists(f"{office.db}.sock"), DROPPED_AFTER - 2
-        )  # which closes with the port
+        # the port closes as soon as the last has connected, and FILE.sock with it
+        assert eventually(lambda: refuses(server), DROPPED_AFTER - 2)
+        assert eventually(lambda: not os.path.exists(f"{office.db}.sock"), DROPPED_AFTER - 2)
         assert server.process.wait(DROPPED_AFTER + SOON) == 0

@@ -47,19 +47,11 @@ PASSED = f"test stories::{TEST} ... ok\ntest result: ok. 1 passed; 0 failed; 0 i
 KILLED = FAILED.replace("    error: {}", "    src/stories.rt:28:5: the test was killed by signal 6 (SIGABRT)")
 
 
-@pytest.mark.parametrize(
-    "text, is_want",
-    [
-        (FAILED.format(r'"109: fault Memory, 200 {\"lots\":[]}"'), True),
-        (FAILED.format(r'"89: accepted, 503 {\"error\":\"Unavailable\"}"'), True),
-        (FAILED.format("Memory"), True),
-        (FAILED.format('"7: accepted, fault Memory"'), True),
-        (FAILED.format('"7: accepted, refused 33 NotEnough"'), False),
-        (FAILED.format("Disk"), False),
-        (KILLED, False),
-        (PASSED, False),
-        ("", False),
-    ],
-)
-def test_what_the_trial_says_is_read_right(text: str, is_want: bool) -> None:
-    assert is_want_of_memory(text) == is_want
+WANTS = [r'"109: fault Memory, 200 {\"lots\":[]}"', r'"89: accepted, 503 {\"error\":\"Unavailable\"}"', "Memory"]
+WANTS.append('"7: accepted, fault Memory"')
+OTHERS = [FAILED.format('"7: accepted, refused 33 NotEnough"'), FAILED.format("Disk"), KILLED, PASSED, ""]
+
+
+def test_what_the_trial_says_is_read_right() -> None:
+    assert [result for result in WANTS if not is_want_of_memory(FAILED.format(result))] == []
+    assert [text for text in OTHERS if is_want_of_memory(text)] == []

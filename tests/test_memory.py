@@ -117,7 +117,7 @@ def over_file(command: Command, *befores: Any) -> Run:
 
 # What is tried
 
-LOTS, ONES = range(1000), (1, 1, 1)
+LOTS = range(1000)
 
 
 def make_ring(new: New) -> str:
@@ -126,6 +126,7 @@ def make_ring(new: New) -> str:
         "owner-add ACME ACMEKEY1\nunit-add U1\nmaterial-add ACME M kg\nrecipe-add ACME R 1\n"
         "require ACME R 1 consumed ACME M 1\nrequire ACME R 1 produced ACME M 1"
     )
+    ones = [1] * 3
     batch = [(f"O-{at // 99 + 1}", at % 99 + 1) for at in LOTS]
     rows: dict[str, list[tuple[Any, ...]]] = {
         "orders": [("ACME", order, "R", 99, 0) for order in {order for order, _ in batch}],
@@ -134,16 +135,7 @@ def make_ring(new: New) -> str:
         "sublots": [("ACME", f"L-{at + 1}", "S", 0) for at in LOTS],
         # the batch of a lot consumes the lot before it
         "moves": [
-            (
-                "ACME",
-                f"{word}-{at + 1}",
-                kind,
-                "ACME",
-                f"L-{(at + shift) % 1000 + 1}",
-                *"S||M".split("|"),
-                *batch[at],
-                *ONES,
-            )
+            ("ACME", f"{word}-{at + 1}", kind, "ACME", f"L-{(at + shift) % 1000 + 1}", "S", "", "M", *batch[at], *ones)
             for at in LOTS
             for word, kind, shift in (("C", 4, -1), ("P", 5, 0))
         ],

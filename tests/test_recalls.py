@@ -51,12 +51,8 @@ def check_arrows(plant: Any, page: str, lots: Lots) -> None:
     """The arrows of a picture in which each lot is a box; one that would be too large isn't drawn."""
     arrows = {tuple(html.unescape(title).split("->")) for title in ARROW.findall(page)}
     if "<svg" in page and not any(end.startswith("batch ") for ends in arrows for end in ends):
-        assert arrows == {
-            (" ".join(lot), " ".join(next_lot))
-            for lot in lots
-            for next_lot, steps in lots_of_recall(plant, *lot).items()
-            if steps == 1
-        }
+        recalled = ((lot, *step) for lot in lots for step in lots_of_recall(plant, *lot).items())
+        assert arrows == {(" ".join(lot), " ".join(next_lot)) for lot, next_lot, steps in recalled if steps == 1}
 
 
 def check_lies(plant: Any, asked: tuple[str, str], last: str) -> None:

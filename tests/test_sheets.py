@@ -93,13 +93,8 @@ def with_gaps(rows: Rows) -> Rows:
 
 def to_csv(*words: object, **options: Any) -> Result:
     """What to-csv answers to these words."""
-    done = subprocess.run(
-        ["/usr/bin/python3", "-B", ROOT / "plant" / "bin" / "hilpoven", "to-csv", *map(str, words)],
-        capture_output=True,
-        text=True,
-        timeout=PATIENCE,
-        **options,
-    )
+    command = ["/usr/bin/python3", "-B", str(ROOT / "plant" / "bin" / "hilpoven"), "to-csv", *map(str, words)]
+    done = subprocess.run(command, capture_output=True, text=True, timeout=PATIENCE, **options)
     return Result(done.returncode, done.stdout, done.stderr)
 
 
@@ -119,6 +114,11 @@ class Dialect(NamedTuple):
         return Source(flat_sheet(self.before(WELL_TYPED)), self.words)
 
 
+def encoded(encoding: str, mark: bytes = b"") -> Callable[[bytes], bytes]:
+    """Encodes a text of UTF-16 otherwise, behind a mark."""
+    return lambda raw: mark + raw.decode("utf-16").encode(encoding)
+
+
 DIALECTS = [
     Dialect("commas", as_text(COMMAS)),
     Dialect("semicolons", SHOWN),
@@ -126,14 +126,8 @@ DIALECTS = [
     Dialect("a line sep=;", SHOWN, after=b"sep=;\r\n".__add__),
     Dialect("a cell sep=;", SHOWN, lambda rows: [["sep=;"], *rows]),
     Dialect("UTF-16, little end first", as_text(TABS, UTF_16)),
-    Dialect(
-        "UTF-16, big end first",
-        as_text(TABS, UTF_16),
-        after=lambda raw: b"\xfe\xff" + raw.decode("utf-16").encode("utf-16-be"),
-    ),
-    Dialect(
-        "UTF-16 without a mark", as_text(SEMICOLONS, UTF_16), after=lambda raw: raw.decode("utf-16").encode("utf-16-le")
-    ),
+    Dialect("UTF-16, big end first", as_text(TABS, UTF_16), after=encoded("utf-16-be", b"\xfe\xff")),
+    Dialect("UTF-16 without a mark", as_text(SEMICOLONS, UTF_16), after=encoded("utf-16-le")),
     Dialect("a byte order mark", SHOWN, after=b"\xef\xbb\xbf".__add__),
     Dialect("Windows-1252", as_text(SEMICOLONS, WINDOWS)),
     Dialect("capitals and blanks in the header", SHOWN, with_capitals),
@@ -228,21 +222,9 @@ def save(folder: str, room: pathlib.Path, saved: dict[Source, pathlib.Path]) -> 
         for sheet, source in zip(sheets, sources):
             sheet.write_bytes(source.content)
         reading = [] if is_flat else [f"--infilter=CSV:44,34,76,1,{columns},1033,false,true"]
-        done = subprocess.run(
-            [
-                "soffice",
-                f"-env:UserInstallation=file://{folder}/profile",
-                "--headless",
-                *reading,
-                "--convert-to",
-                words,
-                "--outdir",
-                files / "saved",
-                *sheets,
-            ],
-            capture_output=True,
-            timeout=5 * PATIENCE,
-        )
+        office = f"soffice -env:UserInstallation=file://{folder}/profile --headless".split()
+        command = [*office, *reading, "--convert-to", words, "--outdir", f"{files}/saved", *map(str, sheets)]
+        done = subprocess.run(command, capture_output=True, timeout=5 * PATIENCE)
         saved.update(zip(sources, [path for sheet in sheets for path in files.glob(f"saved/{sheet.stem}.*")]))
         assert set(sources) <= set(saved), done.stderr
 
@@ -332,19 +314,9 @@ def test_a_wrong_use_or_a_file_that_cannot_be_read_or_made_is_explained_and_leav
     sheet.write_text(ACTUALS)
     broken.write_bytes(b"PK\x03\x04 and no more")
     before = sorted(room.iterdir())
-    uses: list[list[object]] = [
-        [],
-        ["--all", sheet],
-        ["--digits", "amount", sheet],
-        ["--sheet", "A", sheet],
-        [sheet, room / "a", "b"],
-        [room / "absent"],
-        [room],
-        [sheet, sheet],
-        [sheet, room],
-        [sheet, room / "absent" / "a"],
-        [sheet, "/dev/null"],
-    ]
+    uses: list[list[object]] = [[], [room], [sheet, sheet], [sheet, room], [sheet, "/dev/null"], [room / "absent"]]
+    uses += [["--all", sheet], ["--digits", "amount", sheet], ["--sheet", "A", sheet], [sheet, room / "a", "b"]]
+    uses.append([sheet, room / "absent" / "a"])
     assert [answer for use in uses if not is_explained(answer := to_csv(*use), 2)] == []
     assert is_explained(to_csv(broken, room / "a"), 3)
     full = to_csv(sheet, room / "a", preexec_fn=lambda: resource.setrlimit(resource.RLIMIT_FSIZE, (0, 0)))

@@ -14,7 +14,7 @@ from collections.abc import Iterator
 from pathlib import Path
 
 import pytest
-from conftest import ROOT, script
+from conftest import ROOT, script, tool
 
 sys.path.append(str(ROOT))
 from bench import beside, counting, offices  # noqa: E402
@@ -126,30 +126,18 @@ def test_an_import_beside_writes_by_an_index_what_recalls_and_stock_print(
     base.trace("ACME", "S-1", "forward")
     base.recall("ACME", "S-1")
     base.stock("ACME")
-    assert [" ".join(line.split()) for line in capsys.readouterr().out.splitlines()] == [
-        "0 ACME S-1",
-        "1 ACME P-1",
-        "steps owner lot disposition on-hand shipped",
-        "0 ACME S-1 released 980 0",
-        "1 ACME P-1 quarantined 7 0",
-        "P-1 BAY1 SALT quarantined 7 kg",
-        "S-1 BAY1 SALT released 980 kg",
-    ]
+    trace = ["0 ACME S-1", "1 ACME P-1"]
+    recall = ["steps owner lot disposition on-hand shipped", "0 ACME S-1 released 980 0", "1 ACME P-1 quarantined 7 0"]
+    stock = ["P-1 BAY1 SALT quarantined 7 kg", "S-1 BAY1 SALT released 980 kg"]
+    printed = [" ".join(line.split()) for line in capsys.readouterr().out.splitlines()]
+    assert printed == trace + recall + stock
 
 
-@pytest.mark.parametrize(
-    "old, new",
-    [
-        ("C1", "K1"),
-        ("O-1,1", "O-1,2"),
-        ("consumed", "produced"),
-        ("S-1", "S-2"),
-        ("BAY1", "BAY2"),
-        (",10,", ",1001,"),
-        ("SALT", "SUGAR"),
-        ("1,1,consumed", "1,2,consumed"),
-    ],
-)
+WRONG = {"C1": "K1", "O-1,1": "O-1,2", "consumed": "produced", "S-1": "S-2", "BAY1": "BAY2", ",10,": ",1001,"}
+WRONG |= {"SALT": "SUGAR", "1,1,consumed": "1,2,consumed"}
+
+
+@pytest.mark.parametrize("old, new", WRONG.items())
 def test_an_import_beside_looks_before_it_writes(base: beside.Base, tmp_path: Path, old: str, new: str) -> None:
     (tmp_path / "lines").write_text(HEAD + USED.replace(old, new))
     with pytest.raises(beside.Refused):
@@ -280,7 +268,7 @@ def test_programs_take_turns_and_what_they_print_is_compared(tmp_path: Path) -> 
     "words", [["--no-such"], ["nothing"], ["--runs", "x"], ["--program", "/etc/passwd"], ["--instructions", "attacks"]]
 )
 def test_a_wrong_use_has_status_2(words: list[str]) -> None:
-    done = subprocess.run(["/usr/bin/python3", ROOT / "bench" / "run", *words], capture_output=True, text=True)
+    done = tool(ROOT / "bench" / "run", *words)
     assert done.returncode == 2 and done.stdout == ""
 
 
@@ -288,7 +276,5 @@ def test_a_wrong_use_has_status_2(words: list[str]) -> None:
 def test_a_package_that_is_missing_is_named(tmp_path: Path, word: str, package: str) -> None:
     for name in {"hyperfine", "wrk", "curl", "valgrind", "strace"} - {package}:
         script(tmp_path / name, "")
-    done = subprocess.run(
-        ["/usr/bin/python3", ROOT / "bench" / "run", word], capture_output=True, text=True, env={"PATH": str(tmp_path)}
-    )
+    done = tool(ROOT / "bench" / "run", word, env={"PATH": str(tmp_path)})
     assert done.returncode == 2 and done.stderr.splitlines()[-1].endswith(f"error: Debian's {package} is missing")

@@ -1,7 +1,6 @@
 """tools/check-docs: PROMISES.md, the names on the pages, and their examples."""
 import os
 import shutil
-import subprocess
 from collections.abc import Iterator
 from pathlib import Path
 
@@ -110,15 +109,11 @@ def rows(root: Path) -> dict[str, list[str]]:
 
 def test_a_promise_leads_to_all_that_belongs_to_it(repository: Path) -> None:
     by_number = rows(repository)
-    enough = "`toll_stock/specs/Enough.antt`: `IsEnough`"
-    assert by_number["1.1"] == [
-        enough,
-        "`toll_stock/src/shipping.rt`",
-        "`more_shipped_than_there_is`",
-        "`what_is_there_is_shipped`",
-    ]
+    enough, code = "`toll_stock/specs/Enough.antt`: `IsEnough`", "`toll_stock/src/shipping.rt`"
+    body, test = "`more_shipped_than_there_is`", "`what_is_there_is_shipped`"
+    assert by_number["1.1"] == [enough, code, body, test]
     assert by_number["1.2"][0] == f"`toll_history/specs/Verdict.antt`: `ship_checks`, `Decides`; {enough}"
-    assert by_number["1.3"] == ["-", "`toll_stock/src/shipping.rt`", "-", "-"]
+    assert by_number["1.3"] == ["-", code, "-", "-"]
 
 
 def add_wrong_body(root: Path, name: str, *, promise: str, old: str = "    { 0 }") -> None:
@@ -168,9 +163,8 @@ def test_a_crate_has_six_wrong_bodies_at_most(repository: Path) -> None:
 def test_an_old_page_is_a_mistake(repository: Path) -> None:
     assert list(Promises(repository, Sources(repository)).mistakes()) == []
     change(repository, PROMISES, "1.3", "1.4")
-    assert list(Promises(repository, Sources(repository)).mistakes()) == [
-        f"{PROMISES}: it is not what `tools/check-docs promises` makes"
-    ]
+    mistake = f"{PROMISES}: it is not what `tools/check-docs promises` makes"
+    assert list(Promises(repository, Sources(repository)).mistakes()) == [mistake]
 
 
 def test_the_page_of_the_repository_has_each_wrong_body_once() -> None:
@@ -182,70 +176,36 @@ def test_the_page_of_the_repository_has_each_wrong_body_once() -> None:
 # Each fault on the pages
 
 
-@pytest.mark.parametrize(
-    "name, old, new, mistake",
-    [
-        (
-            "docs/engineering/PROVED.md",
-            "`ship` (`enough`)",
-            "`check_amount`",
-            "docs/engineering/PROVED.md: 1.1: check_amount is not public",
-        ),
-        (
-            "docs/engineering/PROVED.md",
-            "(`enough`)",
-            "(`decides`, `total`)",
-            "docs/engineering/PROVED.md: 1.1: ship has no clause total",
-        ),
-        (
-            "docs/engineering/PROVED.md",
-            " (`Lots::total`)",
-            "",
-            "docs/engineering/PROVED.md: 1.3: it names nothing that carries it",
-        ),
-        ("docs/engineering/PROVED.md", "**1.3**", "**1.4**", "docs/engineering/PROVED.md: 1.4 doesn't follow 1.2"),
-        ("tools/docs/tests.txt", "1.1", "2.1", "tools/docs/tests.txt: 2.1 is no promise"),
-        (
-            "tools/docs/tests.txt",
-            "is_there",
-            "is_gone",
-            "tools/docs/tests.txt: there is no test what_is_gone_is_shipped",
-        ),
-        ("README.md", "`ship`", "`sink`", "README.md:1: there is no sink"),
-        (
-            "README.md",
-            "docs/engineering/PROVED.md",
-            "docs/LOST.md",
-            "README.md:1: the link docs/LOST.md leads to nothing",
-        ),
-        ("README.md", "2 crates", "3 crates", "README.md: the program has 2 crates"),
-        ("README.md", "Of ", "Of " * 700, "README.md: 707 words, not at most 700"),
-        ("CONTRIBUTING.md", "Lots::total", "Lots::sum", "CONTRIBUTING.md:1: there is no sum"),
-        ("CONTRIBUTING.md", "`shipping.rt`", "`sinking.rt`", "CONTRIBUTING.md:1: there is no sinking.rt"),
-        ("CONTRIBUTING.md", "`ship_checks`", "`sink_checks`", "CONTRIBUTING.md:1: there is no sink_checks"),
-        ("docs/engineering/DEFINITIONS.md", "|4|", "|5|", "docs/engineering/DEFINITIONS.md:3: 4 lines, not 5"),
-        ("docs/operations.md", "80", "81", "docs/operations.md:1: the block is no lines of a file of packaging/"),
-        ("docs/operations.md", "site.conf", "sites.conf", "docs/operations.md:4: there is no packaging/sites.conf"),
-        (
-            "docs/engineering/testing.md",
-            "k-docs",
-            "k-all",
-            "docs/engineering/testing.md:1: there is no tools/check-all",
-        ),
-        ("docs/operations.md", "See ", "See [more](more.md) in ", "docs/operations.md:4: there is no more.md"),
-        ("docs/operations.md", "See ", "See [more](#a-site) in ", "docs/operations.md:4: there is no #a-site"),
-        (
-            "README.md",
-            "PROVED.md",
-            "PROVED.md#stocks",
-            "README.md:1: the link docs/engineering/PROVED.md#stocks leads to nothing",
-        ),
-    ],
-)
+PROVED_PAGE, README = "docs/engineering/PROVED.md", "README.md"
+FAULTS = [
+    (PROVED_PAGE, "`ship` (`enough`)", "`check_amount`", ": 1.1: check_amount is not public"),
+    (PROVED_PAGE, "(`enough`)", "(`decides`, `total`)", ": 1.1: ship has no clause total"),
+    (PROVED_PAGE, " (`Lots::total`)", "", ": 1.3: it names nothing that carries it"),
+    (PROVED_PAGE, "**1.3**", "**1.4**", ": 1.4 doesn't follow 1.2"),
+    ("tools/docs/tests.txt", "1.1", "2.1", ": 2.1 is no promise"),
+    ("tools/docs/tests.txt", "is_there", "is_gone", ": there is no test what_is_gone_is_shipped"),
+    (README, "`ship`", "`sink`", ":1: there is no sink"),
+    (README, "docs/engineering/PROVED.md", "docs/LOST.md", ":1: the link docs/LOST.md leads to nothing"),
+    (README, "PROVED.md", "PROVED.md#x", ":1: the link docs/engineering/PROVED.md#x leads to nothing"),
+    (README, "2 crates", "3 crates", ": the program has 2 crates"),
+    (README, "Of ", "Of " * 700, ": 707 words, not at most 700"),
+    ("CONTRIBUTING.md", "Lots::total", "Lots::sum", ":1: there is no sum"),
+    ("CONTRIBUTING.md", "`shipping.rt`", "`sinking.rt`", ":1: there is no sinking.rt"),
+    ("CONTRIBUTING.md", "`ship_checks`", "`sink_checks`", ":1: there is no sink_checks"),
+    ("docs/engineering/DEFINITIONS.md", "|4|", "|5|", ":3: 4 lines, not 5"),
+    ("docs/engineering/testing.md", "k-docs", "k-all", ":1: there is no tools/check-all"),
+    ("docs/operations.md", "80", "81", ":1: the block is no lines of a file of packaging/"),
+    ("docs/operations.md", "site.conf", "sites.conf", ":4: there is no packaging/sites.conf"),
+    ("docs/operations.md", "See ", "See [more](more.md) in ", ":4: there is no more.md"),
+    ("docs/operations.md", "See ", "See [more](#a-site) in ", ":4: there is no #a-site"),
+]
+
+
+@pytest.mark.parametrize("name, old, new, mistake", FAULTS)
 def test_a_fault_on_a_page_is_a_mistake(repository: Path, name: str, old: str, new: str, mistake: str) -> None:
     assert mistakes(repository) == []
     change(repository, name, old, new)
-    assert mistakes(repository) == [mistake]
+    assert mistakes(repository) == [name + mistake]
 
 
 def test_a_page_that_is_gone_is_a_mistake(repository: Path) -> None:
@@ -343,13 +303,7 @@ def test_a_line_of_commands_that_the_code_has_not_is_a_mistake(tmp_path: Path) -
         shutil.copytree(ROOT / name, tmp_path / name, ignore=shutil.ignore_patterns("__pycache__", "papers", "tests"))
     (tmp_path / "page.md").write_text("")
     change(tmp_path, "docs/commands.md", "    scrap OWNER", "    scrub OWNER")
-    done = subprocess.run(
-        [tmp_path / "tools" / "check-docs", "page.md"],
-        capture_output=True,
-        text=True,
-        cwd=tmp_path,
-        env={**os.environ, "TOLL": "/bin/true"},
-    )
+    done = tool(tmp_path / "tools" / "check-docs", "page.md", cwd=tmp_path, env={**os.environ, "TOLL": "/bin/true"})
     assert done.returncode == 1 and "docs/commands.md and the code don't both have: scrub OWNER" in done.stdout
 
 

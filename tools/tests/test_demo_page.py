@@ -154,22 +154,20 @@ def test_a_compiling_that_fails_is_told_and_nothing_is_served(clone: Clone, stat
     assert done[:2] == (status, "") and done[2].endswith("toll: step 1 of 2\ndemo/page: nothing is served\n")
 
 
-@pytest.mark.parametrize(
-    "send",
-    [
-        lambda process: os.killpg(process.pid, signal.SIGINT),
-        lambda process: process.terminate(),
-        lambda process: process.send_signal(signal.SIGHUP),
-    ],
-    ids=["ctrl-c", "TERM", "HUP"],
-)
+SENDS: dict[str, Callable[["subprocess.Popen[str]"], None]] = {
+    "ctrl-c": lambda process: os.killpg(process.pid, signal.SIGINT),
+    "TERM": lambda process: process.terminate(),
+    "HUP": lambda process: process.send_signal(signal.SIGHUP),
+}
+
+
+@pytest.mark.parametrize("send", SENDS.values(), ids=SENDS)
 def test_a_signal_ends_the_compiling_and_the_end_is_told(
     clone: Clone, send: Callable[["subprocess.Popen[str]"], None]
 ) -> None:
     ending = 'trap "echo toll: nothing of it is left >&2; kill \\$! 2> /dev/null; exit 143" TERM INT'
-    clone.builds(
-        f"sleep 300 > /dev/null 2>&1 & {ending}; echo $$ > {clone.folder}/pid; touch {clone.folder}/waits; wait"
-    )
+    noting = f"echo $$ > {clone.folder}/pid; touch {clone.folder}/waits"
+    clone.builds(f"sleep 300 > /dev/null 2>&1 & {ending}; {noting}; wait")
     process = clone.start(start_new_session=True)
     assert eventually(lambda: (clone.folder / "waits").exists())
     send(process)

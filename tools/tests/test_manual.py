@@ -9,14 +9,15 @@ MANUAL = ROOT / "docs" / "toll.1"
 TEXT = MANUAL.read_text()
 
 
+def spelled(value: str) -> str:
+    return value.upper().replace("-", "_")
+
+
 def test_it_has_each_command_with_its_values() -> None:
-    values_of = {
-        name: values.upper().replace("-", "_").split()
-        for name, values in re.findall(r"^\.It Cm ([a-z-]+) Ar (.*)$", TEXT, re.M)
-    }
-    assert values_of == {
-        name: [word.upper().replace("-", "_") for word in values]
-        for name, values in plant_words.lines_of_code().items()
+    values_of = {name: values.split() for name, values in re.findall(r"^\.It Cm ([a-z-]+) Ar (.*)$", TEXT, re.M)}
+    code = plant_words.lines_of_code().items()
+    assert {name: [spelled(value) for value in values] for name, values in values_of.items()} == {
+        name: [spelled(value) for value in values] for name, values in code
     }
 
 
@@ -27,11 +28,8 @@ def test_it_has_the_words_of_each_value() -> None:
 
 
 def test_it_has_the_faults_that_a_command_may_be_told() -> None:
-    rows = re.findall(
-        r"^\| `(\w+)` \| (.*?) \|",
-        (ROOT / "docs" / "operations.md").read_text().split("## Faults, and what to do")[1],
-        re.M,
-    )
+    page = (ROOT / "docs" / "operations.md").read_text().split("## Faults, and what to do")[1]
+    rows = re.findall(r"^\| `(\w+)` \| (.*?) \|", page, re.M)
     faults = {name for name, meaning in rows if not meaning.startswith(("server only", "an earlier fault"))}
     assert len(rows) == 13 and set(re.findall(r"^\.It fault (\w+)$", TEXT, re.M)) == faults
 

@@ -39,36 +39,15 @@ def test_each_plant_has_its_own_name_and_port_and_the_rest_stands_once(sites: pa
         assert re.findall(r"server_name (.*);", text) == [host]
         assert set(re.findall(r"proxy_pass http://127\.0\.0\.1:(\d+)", text)) == {str(port)}
         assert "toll.example.com" not in text and "limit_req_zone" not in text
-        assert {re.sub(r".*/", "", log) for log in re.findall(r"access_log (\S+) toll", text)} == {
-            LOGS[name],
-            f"unauthenticated-{LOGS[name]}",
-        }
+        logs = {re.sub(r".*/", "", log) for log in re.findall(r"access_log (\S+) toll", text)}
+        assert logs == {LOGS[name], f"unauthenticated-{LOGS[name]}"}
 
 
 def test_nginx_takes_the_sites_of_two_plants(sites: pathlib.Path) -> None:
     key, certificate = sites / "ssl" / "key.pem", sites / "ssl" / "certificate.pem"
-    subprocess.run(
-        [
-            "openssl",
-            "req",
-            "-x509",
-            "-newkey",
-            "ec",
-            "-pkeyopt",
-            "ec_paramgen_curve:prime256v1",
-            "-nodes",
-            "-days",
-            "2",
-            "-subj",
-            "/CN=x",
-            "-keyout",
-            key,
-            "-out",
-            certificate,
-        ],
-        check=True,
-        capture_output=True,
-    )
+    certify = "openssl req -x509 -newkey ec -pkeyopt ec_paramgen_curve:prime256v1 -nodes -days 2 -subj /CN=x"
+    words: list[str | pathlib.Path] = [*certify.split(), "-keyout", key, "-out", certificate]
+    subprocess.run(words, check=True, capture_output=True)
     for file in [*sites.glob("conf.d/*.conf"), *sites.glob("sites-enabled/*.conf")]:
         text = re.sub(r"(ssl_certificate_key) .*?;", rf"\1 {key};", file.read_text())
         text = re.sub(r"(ssl_certificate) .*?;", rf"\1 {certificate};", text)
@@ -77,7 +56,6 @@ def test_nginx_takes_the_sites_of_two_plants(sites: pathlib.Path) -> None:
         f"error_log {sites}/logs/errors; pid {sites}/pid; events {{}} http {{ client_body_temp_path {sites}/temporary; "
         f"include {sites}/conf.d/*.conf; include {sites}/sites-enabled/*.conf; }}\n"
     )
-    done = subprocess.run(
-        ["nginx", "-t", "-c", sites / "nginx.conf", "-e", sites / "logs" / "errors"], capture_output=True, text=True
-    )
+    words = ["nginx", "-t", "-c", sites / "nginx.conf", "-e", sites / "logs" / "errors"]
+    done = subprocess.run(words, capture_output=True, text=True)
     assert done.returncode == 0 and "successful" in done.stderr and "warn" not in done.stderr, done.stderr

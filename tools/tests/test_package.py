@@ -46,16 +46,18 @@ def unpacked(packages: pathlib.Path) -> pathlib.Path:
     return root
 
 
+def printed(*words: object) -> str:
+    return subprocess.run([*map(str, words)], capture_output=True, text=True, check=True).stdout
+
+
 def fields(package: pathlib.Path) -> dict[str, str]:
     """The fields of a package by their names."""
-    printed = subprocess.run(["dpkg-deb", "-f", package], capture_output=True, text=True, check=True).stdout
-    return dict(re.findall(r"(?m)^([\w-]+): (.*)$", printed))
+    return dict(re.findall(r"(?m)^([\w-]+): (.*)$", printed("dpkg-deb", "-f", package)))
 
 
 def test_the_folder_gets_the_packages_and_nothing_else(packages: pathlib.Path) -> None:
-    files = {
-        re.sub(r"[\d.]+(-\d+)?(?=[._-])", "V", file.name, count=1) for file in packages.iterdir() if file.is_file()
-    }
+    names = (file.name for file in packages.iterdir() if file.is_file())
+    files = {re.sub(r"[\d.]+(-\d+)?(?=[._-])", "V", name, count=1) for name in names}
     made_of_source = {f"hilpoven_V.{end}" for end in ("dsc", "orig.tar.gz", "debian.tar.xz")}
     binary = {"toll_V_amd64.deb", "hilpoven_V_all.deb", "hilpoven-papers_V_all.deb", "toll-V-x86_64.tar.gz"}
     binary |= {"hilpoven-desk_V_all.deb"}
@@ -65,14 +67,10 @@ def test_the_folder_gets_the_packages_and_nothing_else(packages: pathlib.Path) -
 
 def test_the_source_package_has_the_tracked_files(packages: pathlib.Path) -> None:
     source = packages / "source"
-    words = ["dpkg-source", "--no-check", "--skip-patches", "-x", *map(str, packages.glob("*.dsc")), str(source)]
-    subprocess.run(words, check=True, capture_output=True)
-    git = ["git", "-c", f"safe.directory={ROOT}", "-C", str(ROOT), "ls-files"]
-    listed = subprocess.run(git, capture_output=True, text=True, check=True).stdout.splitlines()
+    printed("dpkg-source", "--no-check", "--skip-patches", "-x", *packages.glob("*.dsc"), source)
+    listed = printed("git", "-c", f"safe.directory={ROOT}", "-C", ROOT, "ls-files").splitlines()
     tracked = {path for path in listed if (ROOT / path).exists()}
-    packed = {
-        str(path.relative_to(packages / "source")) for path in (packages / "source").rglob("*") if not path.is_dir()
-    }
+    packed = {str(path.relative_to(source)) for path in source.rglob("*") if not path.is_dir()}
     assert packed == tracked and "debian/README.source" in tracked
 
 
@@ -101,11 +99,8 @@ def test_what_a_page_links_to_is_packaged(unpacked: pathlib.Path) -> None:
     form = r"\]\(([^)#\s]+)|(?:href|src)=\"([^\"#]+)\""
     pages = [file for file in share.rglob("*") if file.suffix in (".md", ".html")]
     links = [(page, "".join(target)) for page in pages for target in re.findall(form, page.read_text())]
-    inner = [(page, target) for page, target in links if "://" not in target]
-    assert len(inner) > 30
-    assert [
-        (page, target) for page, target in inner if not os.path.exists(os.path.normpath(page.parent / target))
-    ] == []
+    inner = [(page, os.path.normpath(page.parent / target)) for page, target in links if "://" not in target]
+    assert len(inner) > 30 and [(page, target) for page, target in inner if not os.path.exists(target)] == []
     cited = set(re.findall(r"\]\(([\w-]+\.(?:md|yaml))", (share / "toll/page/http.md").read_text()))
     assert {"commands.md", "openapi.yaml"} <= cited <= set(os.listdir(share / "toll/page"))
 
@@ -116,20 +111,20 @@ def test_a_link_to_what_is_not_installed_is_its_words() -> None:
     assert documents.linked("[a](docs/b.md#c), [d](e.md)", ".", {"docs/b.md"}) == "[a](docs/b.md#c), d"
 
 
-@pytest.mark.parametrize(
-    "source, installed",
-    [
-        ("`plant/bin/hilpoven status`", "`hilpoven status`"),
-        ("`plant/tests`", "`SOURCES/plant/tests`"),
-        ("$ ./toll --db", "$ toll --db"),
-        ("toll() { ./toll --db", "toll() { command toll --db"),
-        ("apt-get install ./toll_*.deb", "apt-get install ./toll_*.deb"),
-        ("`demo/run day`", "`/usr/share/doc/toll/examples/demo day`"),
-        ("`tools/check-docs`", "`SOURCES/tools/check-docs`"),
-        ("`packaging/toll@.service`", "`/usr/lib/systemd/system/toll@.service`"),
-        ("`docs/engineering/PROVED.md`", "`SOURCES/docs/engineering/PROVED.md`"),
-    ],
-)
+INSTALLED = {
+    "`plant/bin/hilpoven status`": "`hilpoven status`",
+    "`plant/tests`": "`SOURCES/plant/tests`",
+    "$ ./toll --db": "$ toll --db",
+    "toll() { ./toll --db": "toll() { command toll --db",
+    "apt-get install ./toll_*.deb": "apt-get install ./toll_*.deb",
+    "`demo/run day`": "`/usr/share/doc/toll/examples/demo day`",
+    "`tools/check-docs`": "`SOURCES/tools/check-docs`",
+    "`packaging/toll@.service`": "`/usr/lib/systemd/system/toll@.service`",
+    "`docs/engineering/PROVED.md`": "`SOURCES/docs/engineering/PROVED.md`",
+}
+
+
+@pytest.mark.parametrize("source, installed", INSTALLED.items())
 def test_a_name_becomes_that_which_is_installed(source: str, installed: pathlib.Path) -> None:
     assert documents.installed(source) == installed
 
@@ -187,11 +182,8 @@ def test_a_program_of_another_version_is_not_packaged(tmp_path: pathlib.Path) ->
 
 
 def test_the_gate_installs_what_a_build_needs() -> None:
-    provided = {
-        "debhelper-compat": "debhelper",
-        "dh-sequence-installsysusers": "debhelper",
-        "dh-sequence-python3": "dh-python",
-    }
+    provided = dict.fromkeys(["debhelper-compat", "dh-sequence-installsysusers"], "debhelper")
+    provided["dh-sequence-python3"] = "dh-python"
     control = (ROOT / "debian/control").read_text()
     (listed,) = re.findall(r"(?m)^Build-Depends: ((?:.*,\n)*.*)$", control)
     names = [package.split()[0] for package in listed.split(",")]
@@ -201,12 +193,12 @@ def test_the_gate_installs_what_a_build_needs() -> None:
 def test_a_server_and_its_command_need_no_compiler(packages: pathlib.Path) -> None:
     """WeasyPrint brings one. If it is there, apt keeps it, because an installed package suggests it."""
     command, papers = (fields(*packages.glob(f"{name}_*.deb")) for name in ("hilpoven", "hilpoven-papers"))
+    needed, suggested, of_papers = (
+        {package.split()[0] for package in packages_named.split(", ")}
+        for packages_named in (f"{command['Depends']}, {command['Recommends']}", command["Suggests"], papers["Depends"])
+    )
     heavy = {"weasyprint", "graphviz"}
-    assert not heavy & {
-        package.split()[0] for package in (command["Depends"] + ", " + command["Recommends"]).split(", ")
-    }
-    assert heavy | {"hilpoven-papers"} <= set(command["Suggests"].split(", "))
-    assert heavy | {"hilpoven"} <= {package.split()[0] for package in papers["Depends"].split(", ")}
+    assert not heavy & needed and heavy | {"hilpoven-papers"} <= suggested and heavy | {"hilpoven"} <= of_papers
 
 
 def test_debians_command_is_isolated(unpacked: pathlib.Path) -> None:
@@ -217,14 +209,12 @@ def test_debians_command_is_isolated(unpacked: pathlib.Path) -> None:
 
 @pytest.mark.parametrize("folder", ["usr/lib/python3/dist-packages", "usr/local/share/hilpoven/src"])
 def test_each_file_of_the_command_is_packaged(unpacked: pathlib.Path, folder: str) -> None:
-    source, installed = ROOT / "plant/src", unpacked / folder
-    files = {
-        file.relative_to(source)
-        for file in (source / "hilpoven").rglob("*")
-        if file.is_file() and file.suffix != ".pyc"
-    }
-    packaged = {file.relative_to(installed) for file in (installed / "hilpoven").rglob("*") if file.is_file()}
-    assert packaged == files and len(files) > 50
+    def modules(top: pathlib.Path) -> set[pathlib.Path]:
+        files = (file for file in (top / "hilpoven").rglob("*") if file.is_file())
+        return {file.relative_to(top) for file in files if "__pycache__" not in file.parts}
+
+    files, packaged = modules(ROOT / "plant/src"), modules(unpacked / folder)
+    assert packaged == files and len(files) > 50 and not list(unpacked.rglob("__pycache__"))
 
 
 def test_the_command_runs_from_the_tarball(unpacked: pathlib.Path) -> None:
@@ -267,10 +257,9 @@ def linked_libraries() -> Any:
     linked: set[str] = set()
     while reached := {name for name in names - linked if (LIBRARIES / name / "src").is_dir()}:
         linked |= reached
-        sources = [source for library in reached for source in (LIBRARIES / library / "src").rglob("*.rt")]
-        names = {
-            name for source in sources for name in re.findall(r"\b([a-z_]\w*)::", source.read_text(errors="replace"))
-        }
+        sources = (source for library in reached for source in (LIBRARIES / library / "src").rglob("*.rt"))
+        texts = (source.read_text(errors="replace") for source in sources)
+        names = {name for text in texts for name in re.findall(r"\b([a-z_]\w*)::", text)}
     return linked
 
 

@@ -8,7 +8,7 @@ import sys
 import tomllib
 
 import pytest
-from conftest import ROOT
+from conftest import ROOT, script
 
 sys.path.insert(0, str(ROOT / "plant" / "src"))
 from hilpoven.core import settings  # noqa: E402
@@ -34,12 +34,9 @@ def installed(tmp_path_factory: pytest.TempPathFactory) -> pathlib.Path:
 
 
 def analyzed(installed: pathlib.Path, *words: str) -> tuple[int, str]:
-    done = subprocess.run(
-        ["systemd-analyze", "--man=no", *words],
-        capture_output=True,
-        text=True,
-        env={"PATH": "/usr/bin:/bin", "SYSTEMD_UNIT_PATH": f"{installed}:/lib/systemd/system"},
-    )
+    environment = {"PATH": "/usr/bin:/bin", "SYSTEMD_UNIT_PATH": f"{installed}:/lib/systemd/system"}
+    command = ["systemd-analyze", "--man=no", *words]
+    done = subprocess.run(command, capture_output=True, text=True, env=environment)
     return done.returncode, done.stdout + done.stderr
 
 
@@ -85,51 +82,35 @@ def test_the_server_has_the_one_capability_that_a_low_port_needs() -> None:
 
 def test_the_c_library_has_what_the_server_sets_of_it() -> None:
     """It passes over a name that it doesn't know."""
-    (words,) = [
-        line.partition("=")[2]
-        for line in setting(text_of("toll@.service"), "Environment")
-        if line.startswith("GLIBC_TUNABLES=")
-    ]
-    listed = subprocess.run(
-        ["/lib64/ld-linux-x86-64.so.2", "--list-tunables"],
-        capture_output=True,
-        text=True,
-        env={"GLIBC_TUNABLES": words},
-    ).stdout
+    (words,) = setting(text_of("toll@.service"), "Environment=GLIBC_TUNABLES")
+    listing, environment = ["/lib64/ld-linux-x86-64.so.2", "--list-tunables"], {"GLIBC_TUNABLES": words}
+    listed = subprocess.run(listing, capture_output=True, text=True, env=environment).stdout
     tunables = {name: int(value, 16) for name, value in re.findall(r"(?m)^(\S+): (0x[0-9a-f]+) ", listed)}
     for name, _, value in (word.partition("=") for word in words.split(":")):
         assert tunables[name] == int(value)
 
 
 def test_the_site_looks_for_companions_where_the_unit_puts_them_for_its_group() -> None:
-    unit, (folder,) = text_of("toll-companion@.service"), re.findall(
-        r"alias (/var/cache/\S+)/\$toll_companion\.json;", text_of("nginx.conf")
-    )
+    unit = text_of("toll-companion@.service")
+    (folder,) = re.findall(r"alias (/var/cache/\S+)/\$toll_companion\.json;", text_of("nginx.conf"))
     assert folder == f"{settings.COMPANIONS}/NAME" == settings.companions_of(settings.Settings(office="NAME"))
     assert [f"/var/cache/{name}" for name in setting(unit, "CacheDirectory")] == [folder.replace("NAME", "%i")]
     assert setting(unit, "ExecStart")[0].endswith(f" companion --out {folder.replace('NAME', '%i')}")
     # the group's alone, whose new files are the group's too
-    assert (setting(unit, "Group"), setting(unit, "CacheDirectoryMode"), setting(unit, "UMask")) == (
-        ["www-data"],
-        ["2710"],
-        ["0077"],
-    )
+    rights = [setting(unit, name) for name in ("Group", "CacheDirectoryMode", "UMask")]
+    assert rights == [["www-data"], ["2710"], ["0077"]]
     # a state folder would be given to that group
     assert not setting(unit, "StateDirectory") and setting(text_of("office.conf"), "BindPaths") == ["/var/lib/toll/%i"]
-    assert setting(unit, "EnvironmentFile") == ["/etc/toll/%i.env"] and setting(unit, "Environment") == [
-        "FILE=/var/lib/toll/%i/office.db"
-    ]
+    assert setting(unit, "EnvironmentFile") == ["/etc/toll/%i.env"]
+    assert setting(unit, "Environment") == ["FILE=/var/lib/toll/%i/office.db"]
 
 
 def test_server_and_backup_have_one_file_of_settings() -> None:
     units = [text_of(name) for name in ("toll@.service", "toll-backup@.service", "toll-follow@.service")]
     for unit in units:
         assert setting(unit, "EnvironmentFile") == ["/etc/toll/%i.env"]
-        assert (
-            "${FILE}" in unit
-            and setting(unit, "UMask") == ["0077"]
-            and setting(unit, "OnFailure") == ["toll-failed@%n.service"]
-        )
+        assert setting(unit, "UMask") == ["0077"] and setting(unit, "OnFailure") == ["toll-failed@%n.service"]
+        assert "${FILE}" in unit
         assert setting(unit, "Environment")[0].split()[0] == "FILE=/var/lib/toll/%i/office.db"
     used = set(re.findall(r"\$\{(\w+)\}", "".join(units)))
     assert used == set(re.findall(r"(?m)^#?([A-Z]+)=", text_of("office.env")))
@@ -137,12 +118,9 @@ def test_server_and_backup_have_one_file_of_settings() -> None:
 
 def test_a_server_waits_for_its_follower_s_look_and_ends_when_another_has_the_office() -> None:
     follower, server = text_of("toll-follow@.service"), text_of("toll@.service")
-    assert setting(follower, "Before") == ["toll@%i.service"] and setting(follower, "ExecStartPre")[0].endswith(
-        "--check"
-    )
-    assert setting(follower, "ExecStopPost") == [
-        "+sh -c 'test ! -e ${FILE}.superseded || systemctl --no-block stop toll@%i.service'"
-    ]
+    stop = "+sh -c 'test ! -e ${FILE}.superseded || systemctl --no-block stop toll@%i.service'"
+    assert setting(follower, "Before") == ["toll@%i.service"] and setting(follower, "ExecStopPost") == [stop]
+    assert setting(follower, "ExecStartPre")[0].endswith("--check")
     assert "test ! -e ${FILE}.superseded" in setting(server, "ExecStartPre")
 
 
@@ -164,9 +142,8 @@ def test_what_owners_did_is_kept_for_ten_years_and_by_its_age_alone() -> None:
         for path, lines in re.findall(r"(?m)^(\S+) \{\n(.*?)^\}", text_of("etc/logrotate.d/hilpoven"), re.S)
     }
     owners, anybody = rules["/var/log/nginx/toll*.log"], rules["/var/log/nginx/unauthenticated-toll*.log"]
-    assert (
-        int(owners["maxage"][0]) >= 3653 and owners["rotate"] == ["-1"] and "monthly" in owners
-    )  # ten years have up to three leap days
+    # ten years have up to three leap days
+    assert int(owners["maxage"][0]) >= 3653 and owners["rotate"] == ["-1"] and "monthly" in owners
     assert (anybody["maxage"], anybody["rotate"]) == (["14"], ["14"])
     (log,) = re.findall(r"access_log (\S+) toll if=\$toll_authenticated;", text_of("nginx.conf"))
     assert fnmatch.fnmatch(log, "/var/log/nginx/toll*.log")
@@ -175,9 +152,8 @@ def test_what_owners_did_is_kept_for_ten_years_and_by_its_age_alone() -> None:
 def test_page_example_unit_and_command_have_the_same_defaults(
     tmp_path: pathlib.Path, monkeypatch: pytest.MonkeyPatch
 ) -> None:
-    backup = dict(
-        setting_line.split("=") for setting_line in setting(text_of("toll-backup@.service"), "Environment")[0].split()
-    )
+    (line,) = setting(text_of("toll-backup@.service"), "Environment")
+    backup = dict(word.split("=") for word in line.split())
     defaults = {name: value.replace("%i", "NAME") for name, value in backup.items()}
     rows = re.findall(r"(?m)^\| `([A-Z]+)` \| .* \| `?(\S+?)`? \|$", (ROOT / "docs" / "operations.md").read_text())
     lines = dict(re.findall(r"(?m)^#([A-Z]+)=(.*)$", text_of("office.env")))
@@ -217,11 +193,10 @@ def test_a_package_that_is_removed_stops_and_disables_what_its_operator_enabled(
     package: str, tmp_path: pathlib.Path
 ) -> None:
     """The script that dpkg runs before, with programs that note their words in place of systemd's."""
-    units, script = operators_units(package), ROOT / "debian" / f"{package}.prerm"
+    units = operators_units(package)
     for name in ("systemctl", "deb-systemd-invoke"):
-        (tmp_path / name).write_text(f'#!/bin/sh\nfor word; do echo "{name} $1 $word" >> {tmp_path}/log; done\n')
-        (tmp_path / name).chmod(0o755)
-    text = script.read_text().replace("/run/systemd/system", str(tmp_path))
+        script(tmp_path / name, f'for word; do echo "{name} $1 $word" >> {tmp_path}/log; done')
+    text = (ROOT / "debian" / f"{package}.prerm").read_text().replace("/run/systemd/system", str(tmp_path))
     stopped = [f"deb-systemd-invoke stop {pattern}" for pattern in units.values()]
     for words, log in (
         (["upgrade", "99"], set[str]()),
