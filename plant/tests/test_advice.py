@@ -9,7 +9,7 @@ import time
 
 import pytest
 from conftest import HILPOVEN, Plant, called, command, copied, environment, is_told
-from hilpoven.core import files, office, rights, scratch
+from hilpoven.core import files, rights, scratch
 from hilpoven.core.failure import is_visible, printable
 from hilpoven.core.forms import TEXT
 from hilpoven.core.table import as_cell
@@ -64,7 +64,7 @@ def test_with_two_offices_a_clerk_is_told_how_one_is_named(plant, monkeypatch, t
 
 @pytest.mark.parametrize("error", [OSError(30, "Read-only file system"), OSError(28, "No space left on device"), OSError(5, "Input/output error")])
 def test_a_disk_that_fails_is_no_matter_of_rights(at_work, error):
-    assert rights.advice(str(at_work.db), error) == "" and "sudo" not in office.no_rights(str(at_work.db), error).advice
+    assert rights.unusable("no", str(at_work.db), error).needs == ""
 
 
 @as_root

@@ -59,4 +59,7 @@ def test_below_the_command_line_nothing_prints_or_asks():
     done = {(module, name) for module, path in MODULES.items() if not module.startswith("cli.") for node in ast.walk(ast.parse(path.read_text()))
             if isinstance(node, ast.Call) and (name := getattr(node.func, "id", getattr(node.func, "attr", ""))) in DONE_ABOVE}
     assert not done
+    words = [module for module, path in MODULES.items() if not module.startswith("cli.") for node in ast.walk(ast.parse(path.read_text()))
+             if isinstance(node, ast.Attribute) and node.attr == "argv"]
+    assert not words
     assert {module.split(".")[0] for module, path in MODULES.items() if "import click" in path.read_text()} == {"cli"}

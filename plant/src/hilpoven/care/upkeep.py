@@ -32,6 +32,15 @@ from .standby import kept, promoting, state as standby
 WHOLE = "sound; sublots hold what movements come to; toll opens it"
 
 
+class Promoted(NamedTuple):
+    """What is told of an office that pieces gave: which of them couldn't be used, what was made, and what is to be
+    known and done next."""
+
+    unused: tuple[str, ...]
+    lines: list[str]
+    next: list[str]
+
+
 class Verified(NamedTuple):
     """What a look at all of an office says, and the exit status."""
 
@@ -124,6 +133,33 @@ def restore(context: Context, backup: str | None, is_foreign: bool, moment: floa
     context.tell("\n".join(notes))
     yield printable(f"{subject} is in place" + (f"; what was there is in {aside}" if aside else ""))
     yield from lost.lines_of(lost.note_lost(context))
+
+
+def promote(context: Context, folder: str | None, until: int | None, is_check: bool) -> Promoted:
+    """Makes the office of the pieces in a folder, that of the settings where none is given, or only tries it."""
+    rights.become_owner(context.file)
+    folder, office = folder or standby.folder_of(context.file, context.settings.follow.to), context.unseen_office()
+    if is_check:
+        last, choice = promoting.tried(office, folder, until)
+        line = f"the office of piece {choice.end} is sound; it was made at {last.at}, {age_of(last.at)} ago"
+        return Promoted(choice.notes, [line], [])
+    place = server.place_of(context)
+    promoted, choice = promoting.promote(office, folder, place, context.journal(), until)
+    last, lost_rows = promoted.last, lost.lines_of(lost.note_lost(context))
+    made = f"{context.file} is the office of piece {choice.end}, made at {last.at}, {age_of(last.at)} ago"
+    aside = f"; what was there is in {promoted.aside}" if promoted.aside else ""
+    serve = f"Serve it: systemctl enable --now {place.unit}"
+    return Promoted(
+        choice.notes,
+        [made, f"timeline {promoted.timeline} begins{aside}", *lost_rows],
+        [*promoted.notes, serve, "Then lead owners and the plant here."],
+    )
+
+
+def age_of(at: str) -> str:
+    """How long ago a time was."""
+    seconds = (datetime.now(timezone.utc) - datetime.fromisoformat(at)).total_seconds()
+    return f"{seconds:,.0f} seconds"
 
 
 def verify(context: Context) -> Verified:

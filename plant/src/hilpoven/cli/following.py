@@ -2,18 +2,13 @@
 import os
 import sys
 from dataclasses import replace
-from datetime import datetime
-from typing import TYPE_CHECKING
 
 import click
 
-from ..core import rights, server, settings as site
+from ..core import settings as site
 from ..core.context import Context
 from ..core.failure import REFUSED, WRONG_USE, Failure, printable
 from .output import tell, tell_line
-
-if TYPE_CHECKING:
-    from ..care.standby.promoting import Choice
 
 
 def folder_of(context: Context) -> str:
@@ -81,32 +76,10 @@ def follow_verify(context: Context, folder: str | None) -> None:
 
 def promote(context: Context, folder: str | None, until: int | None, is_check: bool) -> None:
     """`hilpoven promote`."""
-    from ..care import lost
-    from ..care.standby import promoting
+    from ..care import upkeep
 
-    rights.become_owner(context.file)
-    folder, office = folder or folder_of(context), context.unseen_office()
-    if is_check:
-        last, choice = promoting.tried(office, folder, until)
-        tell_of(choice, f"the office of piece {choice.end} is sound; it was made at {last.at}, {age_of(last.at)} ago")
-        return
-    promoted, choice = promoting.promote(office, folder, server.place_of(context), context.journal(), until)
-    last, lines = promoted.last, lost.lines_of(lost.note_lost(context))
-    tell_of(choice, f"{context.file} is the office of piece {choice.end}, made at {last.at}, {age_of(last.at)} ago")
-    aside = f"; what was there is in {promoted.aside}" if promoted.aside else ""
-    click.echo("\n".join([printable(f"timeline {promoted.timeline} begins{aside}"), *lines]))
-    tell("\n".join(promoted.notes))
-    tell(f"Serve it: systemctl enable --now {server.place_of(context).unit}\nThen lead owners and the plant here.")
-
-
-def tell_of(choice: "Choice", line: str) -> None:
-    """Prints what pieces gave, and which couldn't be used."""
-    for note in choice.notes:
+    done = upkeep.promote(context, folder, until, is_check)
+    for note in done.unused:
         say(f"not used: {note}")
-    click.echo(printable(line))
-
-
-def age_of(at: str) -> str:
-    """How long ago a time was."""
-    seconds = (datetime.now().astimezone() - datetime.fromisoformat(at)).total_seconds()
-    return f"{seconds:,.0f} seconds"
+    click.echo("\n".join(map(printable, done.lines)))
+    tell("\n".join(done.next))

@@ -2,45 +2,16 @@
 import re
 import sys
 from dataclasses import astuple
-from operator import attrgetter
 
 import click
 
-from ..core import settings as site
 from ..core.context import Context
 from ..core.failure import REFUSED, WRONG_USE, Failure, printable
-from .output import give_table, tell
+from .output import give_table
 from ..report import history
 from ..core.journal import query
-from ..report.history import COLUMNS, JournalEntry
-from ..core.days import format_moment, moment_in
-
-
-def of_settings(context: Context, with_questions: bool) -> list[JournalEntry]:
-    """What owners asked, as the office's logs of the settings have it; that there are none, or that one can't be read,
-    is told."""
-    logs, name = site.site_logs_of(context.settings, context.file), context.settings.office or "NAME"
-    if not logs and site.offices():
-        path = f"{site.OFFICES}/{name}.env"
-        log = f"SITE_LOGS=/var/log/nginx/toll.log, or toll-{name}.log, in {path}"
-        tell(f"What owners did is left out: {log} names its log.")
-    try:
-        return history.of_owners(logs, with_questions)
-    except Failure as failure:
-        tell(f"What owners did is left out: {failure.message}.")
-        return []
-
-
-def moment(text: str | None, zone: str) -> str | None:
-    """A time as the journal writes it, to be compared: of the plant's time zone where it names none."""
-    if text is None:
-        return None
-    try:
-        time = moment_in(text, zone)
-    except (ValueError, OverflowError):
-        advice = f"such as 2026-11-27, or 2026-11-27T14:30; times are those of {zone or 'this machine'}"
-        raise Failure(f"{text!r} is no time", WRONG_USE, advice) from None
-    return time.isoformat(timespec="milliseconds").replace("+00:00", "Z")
+from ..report.history import COLUMNS
+from ..core.days import format_moment
 
 
 def journal_group(
@@ -55,19 +26,9 @@ def journal_group(
     form: str | None,
 ) -> None:
     """`hilpoven journal`."""
-    entries = history.of_plant(context.journal().path, context.file) + history.of_owners(list(site_logs), questions)
-    if not site_logs and not no_site:
-        entries += of_settings(context, questions)
+    entries = history.of_all(context, list(site_logs), not no_site, questions)
     zone = context.settings.time_zone
-    since, until = moment(since, zone), moment(until, zone)
-    rows = [
-        astuple(entry)[: len(COLUMNS)]
-        for entry in sorted(entries, key=attrgetter("time"))
-        if (since is None or entry.time >= since)
-        and (until is None or entry.time < until)
-        and (whom is None or whom in entry.names)
-        and (word is None or word in entry.words)
-    ]
+    rows = [astuple(entry)[: len(COLUMNS)] for entry in history.Asked(since, until, whom, word).of(entries, zone)]
     shown = [(format_moment(time, zone), *others) for time, *others in rows]
     give_table(COLUMNS, rows, form, "nothing", shown)
 

@@ -10,6 +10,7 @@ from types import FrameType
 from ..core.failure import Failure, printable
 from ..core.office import Answer
 from ..core.table import Row, filled, table_lines
+from . import caller
 
 Rows = Sequence[Row]
 WIDEST = 40  # letters of a bar
@@ -37,6 +38,8 @@ def show(failure: Failure) -> None:
     """Writes the reason of a failure, and the advice under it, on standard error."""
     tell_line(f"hilpoven: {printable(failure.message)}")
     tell(failure.advice)
+    if failure.needs:
+        tell(caller.with_rights_of(failure.needs))
 
 
 def pass_on(answer: Answer) -> None:

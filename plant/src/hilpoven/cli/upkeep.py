@@ -1,6 +1,5 @@
 """`hilpoven new`, `backup`, `restore`, `verify`, `status` and `carry-over`: the office's files as a whole. What does
 each is imported where it is needed."""
-import os
 import sys
 from collections import Counter
 from collections.abc import Iterable
@@ -8,11 +7,9 @@ from typing import TYPE_CHECKING
 
 import click
 
-from .. import HOUSE
 from ..core import rights, server
 from ..core.context import Context
-from ..core.failure import REFUSED, WRONG_USE, Failure, printable
-from ..core.office import number_of
+from ..core.failure import REFUSED, Failure, printable
 from ..core.table import Row, counted
 from .output import bar, print_table, tell
 
@@ -20,7 +17,6 @@ if TYPE_CHECKING:
     from ..care.health import Fullness
     from ..care.years.carrying import Work
 
-NEW = "next.db"
 MOST_ORDERS, MOST_GAUGES = 40, 12  # that are shown
 GAUGES = ["owner", "of", "there are", "it begins with", "most", "full"]
 MOST = 12  # gauges that are shown of an office, where none is above FULL
@@ -173,60 +169,16 @@ def note(text: str) -> None:
         click.echo(text, err=True)
 
 
-def require_owners(work: "Work") -> None:
-    """Fails unless those that leave are owners; one that left with the last carry-over has left already."""
-    from ..care.years.carrying import has_owner
-
-    for owner in work.without:
-        if owner == HOUSE:
-            raise Failure(f"{HOUSE} is the plant itself, and stays", WRONG_USE)
-        last = work.earlier[-1:] if work.earlier else []
-        paths = [work.copy, *(part.path for part in last)]
-        if not any(has_owner(path, owner) for path in paths):
-            raise Failure(f"there is no owner {owner}", REFUSED)
-
-
-def do(work: "Work") -> None:
-    """Carries the office over, and prints what was done."""
-    from ..care.years.carrying import Telling, carry_over as carry
-
-    done = carry(work, Telling(note, tell, bar))
-    if done:
-        click.echo(
-            f"{work.office.file} is the new file; {done.earlier} is the earlier one, read-only, sha256 {done.hash}"
-        )
-        print_staying(work)
-    else:
-        last = work.earlier[-1]
-        since = f"{work.office.file} came from {last.name} at {last.at}, and nothing was recorded since"
-        click.echo(f"{since}: nothing is left to do")
-
-
-def target_of(file: str, new: str | None) -> str:
-    """The path of the new file, until it is put in place."""
-    folder = os.path.dirname(file)
-    target = os.path.abspath(new) if new else os.path.join(folder, NEW)
-    target = os.path.join(os.path.realpath(os.path.dirname(target)), os.path.basename(target))
-    if os.path.dirname(target) != folder or target == file or number_of(file, os.path.basename(target)):
-        raise Failure(
-            f"NEW is to be a name in the folder of {file}, and none that an earlier file has",
-            WRONG_USE,
-            f"such as {os.path.join(folder, NEW)}",
-        )
-    return target
-
-
 def carry_over(context: Context, new: str | None, day: int | None, is_plan: bool, without: tuple[str, ...]) -> None:
     """`hilpoven carry-over`."""
-    from ..care.years.carrying import hindrances, prepared
+    from ..care.years import carrying
 
-    target = target_of(context.file, new)
+    target = carrying.target_of(context.file, new)
     office = context.office_to_read() if is_plan else context.office()
     place, leaving = server.place_of(context), tuple(dict.fromkeys(without))
-    with prepared(office, place, context.journal(), target, str(context.day(day)), is_plan, leaving) as work:
+    with carrying.prepared(office, place, context.journal(), target, str(context.day(day)), is_plan, leaving) as work:
         note("the file is looked at")
-        require_owners(work)
-        reasons = hindrances(work)
+        reasons = carrying.hindrances(work)
         for reason in reasons:
             click.echo(reason, err=True)
         if is_plan:
@@ -234,4 +186,7 @@ def carry_over(context: Context, new: str | None, day: int | None, is_plan: bool
             sys.exit(REFUSED if reasons else 0)
         if reasons:
             raise Failure("the office isn't carried over; nothing was changed", REFUSED)
-        do(work)
+        done = carrying.carry_over(work, carrying.Telling(note, tell, bar))
+        click.echo(carrying.outcome(work, done))
+        if done:
+            print_staying(work)

@@ -11,10 +11,11 @@ from typing import TYPE_CHECKING, Any
 
 import click
 
-from ..core import rights, scanned
+from ..core import scanned
 from ..core.context import Context
 from ..core.failure import printable
 from ..core.forms import DAY as DAY_FORM, MOST_TOLD, TEXT as TEXT_FORM, name_fault
+from . import caller
 from .caller import person
 from .table import RAW
 
@@ -54,13 +55,13 @@ class Operators(click.ParamType):
             word = param.opts[0] if isinstance(param, click.Option) else param.make_metavar().strip("[]")
             person().require_operator(word, self.instead(param.name or "", str(value)))
         if self.is_sheet and value != "-":
-            rights.note_sheet(str(value))
+            caller.note_sheet(str(value))
         return self.of.convert(value, param, ctx)
 
     def instead(self, name: str, value: str) -> str:
         """What a member gives in place of the value of a parameter."""
         if self.is_sheet:
-            return f"a sheet comes through standard input: {rights.command_as(rights.user(), value)}"
+            return f"a sheet comes through standard input: {caller.command_as(caller.user(), value)}"
         return INSTEAD.get(name, "")
 
     def get_metavar(self, param: click.Parameter) -> str | None:

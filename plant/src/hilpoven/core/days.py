@@ -47,6 +47,11 @@ def moment_in(text: str, zone: str = "") -> datetime:
     return (time if time.tzinfo or not zone else time.replace(tzinfo=zone_of(zone))).astimezone(timezone.utc)
 
 
+def written(moment: datetime) -> str:
+    """A moment in UTC, as the journal has it."""
+    return moment.isoformat(timespec="milliseconds").replace("+00:00", "Z")
+
+
 def format_moment(text: str, zone: str = "") -> str:
     """A moment of the journal as people read it, in a time zone; the text itself if it is none."""
     try:

@@ -27,8 +27,9 @@ def escaped(character: str) -> str:
 
 
 class Failure(Exception):
-    """Why a command can't be done, what to do about it, and the exit status."""
+    """Why a command can't be done, what to do about it, the exit status, and the user whose rights it needs, if rights
+    are what it lacks."""
 
-    def __init__(self, why: str, status: int = FAULT, advice: str = "") -> None:
+    def __init__(self, why: str, status: int = FAULT, advice: str = "", needs: str = "") -> None:
         super().__init__(why)
-        self.message, self.exit_code, self.advice = why, status, advice
+        self.message, self.exit_code, self.advice, self.needs = why, status, advice, needs

@@ -7,7 +7,7 @@ import time
 from collections.abc import Iterator
 
 from .failure import Failure
-from .rights import advice
+from .rights import unusable
 
 PAUSE = 0.05  # seconds between two tries
 BLINK = 0.005  # the same of what is held for milliseconds
@@ -42,7 +42,7 @@ def opened(file: str) -> int:
             return create(file)
         return os.open(name_of(file), os.O_RDWR | os.O_CLOEXEC)
     except OSError as error:
-        raise Failure(f"{name_of(file)} can't be opened: {error.strerror}", advice=advice(file, error)) from error
+        raise unusable(f"{name_of(file)} can't be opened", file, error) from error
 
 
 def create(file: str) -> int:
@@ -110,7 +110,7 @@ def hold(stack: contextlib.ExitStack, path: str, kind: int) -> bool:
     try:
         descriptor = os.open(path, os.O_RDONLY | os.O_CLOEXEC)
     except OSError as error:
-        raise Failure(f"{path} can't be opened: {error.strerror}", advice=advice(path, error)) from error
+        raise unusable(f"{path} can't be opened", path, error) from error
     with contextlib.ExitStack() as tried, contextlib.suppress(FileNotFoundError):
         tried.callback(os.close, descriptor)
         if take(descriptor, kind=kind) and os.path.samestat(os.stat(path), os.fstat(descriptor)):

@@ -7,7 +7,7 @@ from typing import NamedTuple
 
 from . import lock
 from .failure import FAULT, WRONG_USE, Failure
-from .rights import advice
+from .rights import unusable
 
 LOCKED = "fault Locked\n"
 SUPERSEDED = ".superseded"  # the end of the name of what says that a standby has the office now
@@ -62,9 +62,9 @@ def require_file(file: str) -> None:
     try:
         state = os.stat(file)
     except FileNotFoundError:
-        raise Failure(f"there is no file {file}", WRONG_USE, advice_of_absent(file)) from None
+        raise absent(file) from None
     except OSError as error:
-        raise no_rights(file, error) from error
+        raise unusable(f"{file} can't be opened", file, error) from error
     if not stat.S_ISREG(state.st_mode):
         raise Failure(f"{file} is no file", WRONG_USE)
     if not state.st_size and not has_bytes(f"{file}-wal"):
@@ -72,7 +72,7 @@ def require_file(file: str) -> None:
     try:
         os.close(os.open(file, os.O_RDWR | os.O_CLOEXEC))
     except OSError as error:
-        raise no_rights(file, error) from error
+        raise unusable(f"{file} can't be opened", file, error) from error
 
 
 def has_bytes(file: str) -> bool:
@@ -83,25 +83,22 @@ def has_bytes(file: str) -> bool:
         return False
 
 
-def advice_of_absent(file: str) -> str:
-    """What may have been meant by a file that isn't there."""
-    folder = os.path.dirname(file) or "."
+def absent(file: str) -> Failure:
+    """That a file isn't there, and what may have been meant by it."""
+    why, folder = f"there is no file {file}", os.path.dirname(file) or "."
     if has_bytes(f"{file}-wal"):
-        return f"but its log {file}-wal is there, so it was moved away: put it back, or `hilpoven restore` a backup"
+        advice = f"but its log {file}-wal is there, so it was moved away: put it back, or `hilpoven restore` a backup"
+        return Failure(why, WRONG_USE, advice)
     try:
         names = [name for name in os.listdir(folder) if name.endswith(".db")]
     except OSError as error:
-        return "; ".join(filter(None, [f"{folder} can't be looked at: {error.strerror}", advice(file, error)]))
+        unseen = unusable(f"{folder} can't be looked at", file, error)
+        return Failure(why, WRONG_USE, unseen.message, unseen.needs)
     import difflib
 
     near = difflib.get_close_matches(os.path.basename(file), names, 1) or (names if len(names) == 1 else [])
     meant = [f"did you mean {os.path.join(os.path.dirname(file), near[0])}?"] if near else []
-    return "\n".join([*meant, f"`hilpoven new {file}` makes a new office"])
-
-
-def no_rights(file: str, error: OSError) -> Failure:
-    """What is told where a file can't be read and written."""
-    return Failure(f"{file} can't be opened: {error.strerror}", FAULT, advice(file, error))
+    return Failure(why, WRONG_USE, "\n".join([*meant, f"`hilpoven new {file}` makes a new office"]))
 
 
 MOST_DIGITS = 6

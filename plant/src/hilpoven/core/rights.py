@@ -2,14 +2,12 @@
 import grp
 import os
 import pwd
-import sys
 from dataclasses import dataclass
 
-from .failure import WRONG_USE, Failure, printable
+from .failure import WRONG_USE, Failure
 from .forms import listed
 
 NOBODY = 4_294_967_295  # the login of a process that no login began
-_sheet = ""  # the path of the sheet that this command names, for its advice
 
 
 @dataclass(frozen=True)
@@ -75,11 +73,6 @@ def name_of(user: int) -> str:
         return str(user)
 
 
-def user() -> str:
-    """The name of the user whose rights this process has."""
-    return name_of(os.geteuid())
-
-
 def owner_number(file: str) -> int:
     """The number of the user whose a file is; this one where it isn't there."""
     try:
@@ -120,25 +113,7 @@ def owner_of(file: str) -> str:
             file = above
 
 
-def advice(file: str, error: OSError) -> str:
-    """How the same command is given with the rights that it needs; empty where rights aren't what it lacks."""
-    if not isinstance(error, PermissionError):
-        return ""
-    line = command_as(owner_of(file), _sheet)
-    return f"this is tried as {user()}, and needs another user's rights: {line}"
-
-
-def note_sheet(path: str) -> None:
-    """Notes the path by which this command names a sheet."""
-    global _sheet
-    _sheet = path
-
-
-def command_as(user: str, sheet: str = "") -> str:
-    """This command as a member of the group gives it with a user's rights. It reads a sheet from standard input, since
-    a member names no path."""
-    import shlex
-
-    words = ["-" if sheet and word == sheet else word for word in sys.argv[1:]]
-    command = shlex.join(["sudo", "-u", user, "hilpoven", *words])
-    return printable(f"{command} < {shlex.quote(sheet)}" if sheet else command)
+def unusable(why: str, file: str, error: OSError) -> Failure:
+    """What fails because of a file, and whose rights it needs, where rights are what it lacks."""
+    needs = owner_of(file) if isinstance(error, PermissionError) else ""
+    return Failure(f"{why}: {error.strerror}", needs=needs)

@@ -9,7 +9,7 @@ from typing import Any, TypeVar
 from .days import zone_of
 from .failure import WRONG_USE, Failure
 from .forms import TEXT, name_fault
-from .rights import advice
+from .rights import unusable
 
 PATH = "/etc/hilpoven.toml"
 OFFICES = "/etc/toll"
@@ -191,7 +191,7 @@ def lines_of(path: str) -> dict[str, Any]:
     except FileNotFoundError:
         return {}
     except OSError as error:
-        raise unread(path, error) from error
+        raise unusable(f"{path} can't be read", path, error) from error
     except ValueError as error:
         raise Failure(f"{path}: {error}", WRONG_USE) from error
 
@@ -225,11 +225,6 @@ def value_of(path: str, declared: "Field[Any]", value: Any, called: str = "") ->
     if rules["fault"] and (value or declared.default) and (fault := rules["fault"](value)):
         raise Failure(f"{path}: {name} {fault}", WRONG_USE)
     return value
-
-
-def unread(path: str, error: OSError) -> Failure:
-    """What is told of settings that can't be read."""
-    return Failure(f"{path} can't be read: {error.strerror}", advice=advice(path, error))
 
 
 def offices() -> list[str]:
@@ -272,7 +267,7 @@ def of_office(settings: Settings, name: str) -> Settings:
         advice = f"there are: {', '.join(offices())}" if offices() else ""
         raise Failure(f"there is no office {name}: {path} isn't there", WRONG_USE, advice) from None
     except OSError as error:
-        raise unread(path, error) from error
+        raise unusable(f"{path} can't be read", path, error) from error
     units = {unit_name: value.strip().strip("\"'") for unit_name, value in rows}
     numbers = {"keep": 48, "days": 30}
     for each in fields(Settings):

@@ -1,8 +1,13 @@
 """Who did what when, of the plant and of the owners, as `hilpoven journal` shows it."""
+from collections.abc import Iterator
 from dataclasses import dataclass
-from typing import Any
+from operator import attrgetter
+from typing import Any, NamedTuple
 
-from ..core.failure import Failure
+from ..core import settings as site
+from ..core.context import Context
+from ..core.days import moment_in, written
+from ..core.failure import WRONG_USE, Failure
 from ..core.journal import query, sitelog
 from ..core.journal.query import listed, sheet_keys, who
 from ..model.register.noted import from_json
@@ -23,6 +28,54 @@ class JournalEntry:
     answer: str
     names: tuple[str, ...] = ()  # by which `--who` finds it
     words: frozenset[str] = frozenset()  # by which `--word` finds it
+
+
+class Asked(NamedTuple):
+    """Which entries are asked for: from a time on until before another one, of whom, and with which word."""
+
+    since: str | None = None
+    until: str | None = None
+    whom: str | None = None
+    word: str | None = None
+
+    def of(self, entries: Iterator[JournalEntry], zone: str) -> list[JournalEntry]:
+        """Those of some entries, by their times. A time that names no time zone is of this one."""
+        since, until = (None if text is None else moment(text, zone) for text in (self.since, self.until))
+        return [
+            entry
+            for entry in sorted(entries, key=attrgetter("time"))
+            if (since is None or entry.time >= since)
+            and (until is None or entry.time < until)
+            and (self.whom is None or self.whom in entry.names)
+            and (self.word is None or self.word in entry.words)
+        ]
+
+
+def moment(text: str, zone: str) -> str:
+    """A time as the journal writes it, to be compared."""
+    try:
+        return written(moment_in(text, zone))
+    except (ValueError, OverflowError):
+        advice = f"such as 2026-11-27, or 2026-11-27T14:30; times are those of {zone or 'this machine'}"
+        raise Failure(f"{text!r} is no time", WRONG_USE, advice) from None
+
+
+def of_all(context: Context, site_logs: list[str], with_site: bool, with_questions: bool) -> Iterator[JournalEntry]:
+    """What was done over the office's file, and what owners asked by these logs of the site, or by those of the
+    settings; that there are none, or that one can't be read, is told."""
+    yield from of_plant(context.journal().path, context.file)
+    yield from of_owners(site_logs, with_questions)
+    if site_logs or not with_site:
+        return
+    logs, name = site.site_logs_of(context.settings, context.file), context.settings.office or "NAME"
+    if not logs and site.offices():
+        path = f"{site.OFFICES}/{name}.env"
+        log = f"SITE_LOGS=/var/log/nginx/toll.log, or toll-{name}.log, in {path}"
+        context.tell(f"What owners did is left out: {log} names its log.")
+    try:
+        yield from of_owners(logs, with_questions)
+    except Failure as failure:
+        context.tell(f"What owners did is left out: {failure.message}.")
 
 
 def of_plant(path: str, file: str) -> list[JournalEntry]:
@@ -101,7 +154,7 @@ def of_owners(paths: list[str], with_questions: bool) -> list[JournalEntry]:
     """What owners asked over HTTP, as the site's log has it."""
     return [
         JournalEntry(
-            request.time.isoformat(timespec="milliseconds").replace("+00:00", "Z"),
+            written(request.time),
             request.who,
             request.address,
             request.action,

@@ -5,11 +5,11 @@ import shutil
 from collections.abc import Callable
 from contextlib import AbstractContextManager
 from dataclasses import dataclass, field
-from datetime import datetime, timezone
 
 from ...core import files
 from ...core.failure import Failure
 from ...core.files import PART
+from ...core.journal.log import now
 from ...core.office import earlier_files
 from . import chain, piece
 from .capture import Digests, Place, opened
@@ -19,11 +19,6 @@ from .piece import NOTHING, SNAPSHOT, Header, Writer
 DAY = len("2026-11-29")
 KNOWN_BY = 4_096  # bytes, by whose SHA-256 a journal is known again
 EMPTY = hashlib.sha256().hexdigest()
-
-
-def now() -> str:
-    """The time in UTC."""
-    return datetime.now(timezone.utc).isoformat(timespec="milliseconds").replace("+00:00", "Z")
 
 
 # The journal's lines that a piece takes along

@@ -12,9 +12,9 @@ from typing import NamedTuple
 
 from ... import HOUSE
 from ...core import files, lock, private_server, scratch, snapshot
-from ...core.failure import Failure
+from ...core.failure import REFUSED, WRONG_USE, Failure
 from ...core.journal import log, query
-from ...core.office import Answer, Office, front_of, next_number
+from ...core.office import Answer, Office, front_of, next_number, number_of
 from ...core.private_server import PrivateServer
 from ...core.server import Place
 from ...model import accepted
@@ -29,6 +29,7 @@ from .steps import UNBEGUN, Step
 MEMORY = "/dev/shm"
 TIMES = 4  # the file's size that must be free where the new file is filled
 COMMAND = "carry-over"
+NEW = "next.db"
 MOST_HELD = 10  # sublots of an owner that are named
 
 
@@ -67,6 +68,20 @@ class Telling(NamedTuple):
     bar: Callable[[str, int], AbstractContextManager[Callable[[int], None]]]
 
 
+def target_of(file: str, new: str | None) -> str:
+    """The path of the new file, until it is put in place."""
+    folder = os.path.dirname(file)
+    target = os.path.abspath(new) if new else os.path.join(folder, NEW)
+    target = os.path.join(os.path.realpath(os.path.dirname(target)), os.path.basename(target))
+    if os.path.dirname(target) != folder or target == file or number_of(file, os.path.basename(target)):
+        raise Failure(
+            f"NEW is to be a name in the folder of {file}, and none that an earlier file has",
+            WRONG_USE,
+            f"such as {os.path.join(folder, NEW)}",
+        )
+    return target
+
+
 def workroom(file: str) -> str:
     """The folder in which the new file is filled: in memory if there is room, since `toll` waits for the disk behind
     each word; otherwise the file's own."""
@@ -99,7 +114,8 @@ def prepared(
 
 
 def hindrances(work: Work) -> list[str]:
-    """Why the office can't be carried over now."""
+    """Why the office can't be carried over now; fails unless those that leave are owners."""
+    require_owners(work)
     path = work.journal.path
     unwhole = query.check(path, file=work.office.file).wrong
     with chain.reading(work.copy) as base:
@@ -120,6 +136,16 @@ def hindrances(work: Work) -> list[str]:
     return reasons + [
         f"verify: journal: {fault}: move {path} elsewhere and keep it, and a new one begins{noted}" for fault in unwhole
     ]
+
+
+def require_owners(work: Work) -> None:
+    """Fails unless those that leave are owners; one that left with the last carry-over has left already."""
+    paths = [work.copy, *(part.path for part in work.earlier[-1:])]
+    for owner in work.without:
+        if owner == HOUSE:
+            raise Failure(f"{HOUSE} is the plant itself, and stays", WRONG_USE)
+        if not any(has_owner(path, owner) for path in paths):
+            raise Failure(f"there is no owner {owner}", REFUSED)
 
 
 def has_owner(path: str, owner: str) -> bool:
@@ -160,6 +186,15 @@ def carry_over(work: Work, tell: Telling) -> exchanging.Exchange | None:
         name = os.path.basename(done.earlier)
         entry.answer = Answer(0, f"carried over; {name} is the earlier file, sha256 {done.hash}\n", "")
     return done
+
+
+def outcome(work: Work, done: exchanging.Exchange | None) -> str:
+    """What is told of a carry-over, in a line."""
+    file = work.office.file
+    if done:
+        return f"{file} is the new file; {done.earlier} is the earlier one, read-only, sha256 {done.hash}"
+    last = work.earlier[-1]
+    return f"{file} came from {last.name} at {last.at}, and nothing was recorded since: nothing is left to do"
 
 
 def settle_journal(journal: log.Journal, is_done: bool) -> None:

@@ -10,6 +10,7 @@ from datetime import datetime, timezone
 from typing import Any
 
 from .. import files, lock, rights
+from ..days import written
 from ..failure import FAULT, Failure
 from ..office import Answer
 from ..rights import name_of
@@ -25,7 +26,7 @@ IN_PLACE = "in_place"  # a member of an answer: another file has the office's pl
 
 def now() -> str:
     """The time of Greenwich."""
-    return datetime.now(timezone.utc).isoformat(timespec="milliseconds").replace("+00:00", "Z")
+    return written(datetime.now(timezone.utc))
 
 
 def hash_of(line: bytes) -> str:

@@ -7,9 +7,9 @@ from dataclasses import dataclass, field
 from itertools import chain, pairwise
 from typing import Any
 
-from ..failure import Failure, printable
+from ..failure import printable
 from ..files import READ
-from ..rights import advice
+from ..rights import unusable
 from .log import BEGINNING, KNOWN_KEYS, entry_of, hash_of
 
 
@@ -33,7 +33,7 @@ def lines_of(path: str) -> Iterator[bytes]:
     except FileNotFoundError:
         return
     except OSError as error:
-        raise Failure(f"the journal {path} can't be read: {error.strerror}", advice=advice(path, error)) from error
+        raise unusable(f"the journal {path} can't be read", path, error) from error
 
 
 def common(path: str, other: str) -> int:

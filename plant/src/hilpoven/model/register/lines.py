@@ -6,7 +6,7 @@ from collections.abc import Iterator
 from ...core.failure import Failure
 from ...core.files import READ
 from ...core.journal.log import Journal, hash_of
-from ...core.rights import advice
+from ...core.rights import unusable
 
 MARK = b'"notes": [{"'  # what each line with a note has, and a text never has: there a quote stands behind a backslash
 AT_ONCE = 1 << 18  # bytes
@@ -30,7 +30,7 @@ def opened(path: str) -> Iterator[int | None]:
         yield None
         return
     except OSError as error:
-        raise Failure(f"the journal {path} can't be read: {error.strerror}", advice=advice(path, error)) from error
+        raise unusable(f"the journal {path} can't be read", path, error) from error
     try:
         yield descriptor
     except OSError as error:
