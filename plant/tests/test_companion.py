@@ -240,6 +240,22 @@ def test_a_file_in_place_of_the_offices_makes_all_anew(at_work, folder, monkeypa
     assert refresh(at_work, folder) == "0 written, 2 as before, 0 removed" and owners == ["ACME", "BOLT"]
 
 
+def test_an_older_office_in_the_same_file_makes_all_anew(at_work, folder, tmp_path):
+    """Each owner's new rows are read behind those that were read before, as long as the file has these."""
+    paths = [pathlib.Path(f"{at_work.db}{end}") for end in ("", "-wal")]
+    older = [path.read_bytes() for path in paths]
+    at_work.toll("receive", "ACME", "K9", "SALT", "S-9", "BAY1", 5, 104)
+    refresh(at_work, folder)
+    for path, content in zip(paths, older):
+        path.write_bytes(content)
+    at_work.toll("receive", "BOLT", "K9", "PIGMENT", "P-1", "BAY2", 5, 104)
+    time.sleep(0.03)
+    assert refresh(at_work, folder) == "2 written, 0 as before, 0 removed"
+    (anew := tmp_path / "anew").mkdir(mode=0o700)
+    refresh(at_work, anew)
+    assert {name: companion_of(folder, name) | {"made": ""} for name in ("ACME", "BOLT")} == {name: companion_of(anew, name) | {"made": ""} for name in ("ACME", "BOLT")}
+
+
 def test_one_of_an_owner_that_is_gone_goes_and_nothing_else(at_work, folder):
     refresh(at_work, folder)
     for name in ("NOBODY.json", "lower.json", "README"):

@@ -14,6 +14,7 @@ from ...care.health import Age
 from ...core import snapshot
 from ...core.context import Context
 from ...core.office import Office
+from ...model.register.keeping import has_rows, last_rows
 from ...model.register.standing import Register, register_of
 from ...model.register.tables import TABLES
 from ...model.rows import Base, owners_of
@@ -21,24 +22,17 @@ from ..papers import copies
 from .contents import contents_of, subjects
 from .folder import MARK, READABLE, Folder, name_of, opened
 
-# Of each owner. No row goes, and what may change in one is told of each; a sublot holds what movements come to.
-ROWS = tuple(
-    f"SELECT owner, count(*), max(rowid), {changed} FROM {table} GROUP BY owner"
+# Tables in which no row changes and none goes, so that an owner's last row tells whether it has others since.
+APPENDED = ("materials", "tests", "recipes", "requirements", "moves", "results", "voids")
+# Of each owner what changes in the rows of others, none of which goes. A sublot holds what movements come to.
+CHANGING = tuple(
+    f"SELECT owner, group_concat({changed}) FROM {table} GROUP BY owner"
     for table, changed in {
-        "materials": "0",
-        "tests": "0",
-        "recipes": "0",
-        "requirements": "0",
-        "orders": "group_concat(cancelled, '')",
-        "batches": "group_concat(state * 2 + closed)",
-        "lots": "group_concat(disposition, '')",
-        "moves": "0",
-        "results": "0",
-        "voids": "0",
+        "orders": "cancelled, ''",
+        "batches": "state * 2 + closed",
+        "lots": "disposition, ''",
     }.items()
 )
-
-
 # Which notes of each owner stand. What one says never changes.
 NOTES = tuple(
     f"SELECT owner, group_concat(note) FROM (SELECT owner, note FROM {table} ORDER BY note) GROUP BY owner"
@@ -46,16 +40,39 @@ NOTES = tuple(
 )
 
 
-def stamps_of(base: Base, register: Register, made_of: Any) -> dict[str, str]:
+@dataclass(frozen=True)
+class Rows:
+    """How far an office's tables were read: their last rows by their values, and each owner's last row in each table of
+    `APPENDED` by its number."""
+
+    last: list[str]
+    of_owners: dict[str, dict[str, int]]
+
+
+def read_on(base: Base, before: Rows) -> Rows:
+    """The same of a copy of the file, of which only the rows are read that are behind those of before, if it still has
+    these: behind a restore all are."""
+    known = before.of_owners if has_rows(base, before.last) else {}
+    return Rows(last_rows(base), {table: last_of_owners(base, table, known.get(table, {})) for table in APPENDED})
+
+
+def last_of_owners(base: Base, table: str, known: dict[str, int]) -> dict[str, int]:
+    """Each owner's last row in a table, of which some are known."""
+    sql = f"SELECT owner, max(rowid) FROM {table} NOT INDEXED WHERE rowid > ? GROUP BY owner"
+    return known | dict(base.execute(sql, (max(known.values(), default=0),)).fetchall())
+
+
+def stamps_of(base: Base, register: Register, rows: Rows, made_of: Any) -> dict[str, str]:
     """The stamp of each owner: of its rows and its notes, and of what all companions are made of. A file that replaces
     the office's has another number, which is to be in that."""
     begun = repr((made_of, register.plants_test)).encode()
     digests = {owner: hashlib.sha256(begun) for owner in owners_of(base)}
     notes = register.opened.rows if register.opened else None
-    for sql, rows in (*((sql, base.execute(sql)) for sql in ROWS), *((sql, notes(sql)) for sql in NOTES if notes)):
-        for owner, *values in rows:
+    changing = *((sql, base.execute(sql)) for sql in CHANGING), *((sql, notes(sql)) for sql in NOTES if notes)
+    for subject, values in (*changing, *((table, last.items()) for table, last in rows.of_owners.items())):
+        for owner, value in values:
             if owner in digests:
-                digests[owner].update(repr((sql, values)).encode())
+                digests[owner].update(repr((subject, value)).encode())
     return {owner: digest.hexdigest() for owner, digest in digests.items()}
 
 
@@ -113,8 +130,8 @@ def refresh(context: Context, folder: Folder, office: Callable[[], Office]) -> C
     of = office()
     made_of = settled_sources(context)  # before the copy, so that a later change shows
     with uncollected():
-        counts, own = write(context, folder, of, made_of)
-    folder.put_mark({**made_of, "owners": sorted(folder.owners()), "own": own})
+        counts, read = write(context, folder, of, made_of)
+    folder.put_mark({**made_of, "owners": sorted(folder.owners()), **read})
     return counts
 
 
@@ -130,18 +147,17 @@ def uncollected() -> Iterator[None]:
             gc.enable()
 
 
-Own = dict[str, list[Any]]  # of each owner: of what its companion is made, and which file it is
-
-
-def write(context: Context, folder: Folder, office: Office, made_of: dict[str, Any]) -> tuple[Counts, Own]:
+def write(context: Context, folder: Folder, office: Office, made_of: dict[str, Any]) -> tuple[Counts, dict[str, Any]]:
     """Writes the companions of the owners of whom something changed, and removes those of owners that aren't there. One
-    that says the same is left as it is: otherwise its owner would see when others work."""
-    written, known = 0, folder.mark().get("own")
-    before: Own = known if isinstance(known, dict) else {}
+    that says the same is left as it is: otherwise its owner would see when others work. Gives how far tables were read
+    too, and of each owner of what its companion is made, and which file it is."""
+    written, mark = 0, folder.mark()
+    before = mark.get("own", {})
     made_at = time.strftime("%Y-%m-%dT%H:%M:%SZ", time.gmtime())
     with copies.tables(office) as base:
         register = register_of(context, base)
-        stamps = stamps_of(base, register, [made_of["by"], os.stat(office.file).st_ino])
+        rows = read_on(base, Rows(mark.get("last", []), mark.get("rows", {})))
+        stamps = stamps_of(base, register, rows, [made_of["by"], os.stat(office.file).st_ino])
         changed = {owner for owner, stamp in stamps.items() if before.get(owner) != [stamp, *folder.state_of(owner)]}
         for subject in subjects(base, register, changed):
             content = encoded(contents_of(subject, context.settings.plant), made_at)
@@ -151,8 +167,8 @@ def write(context: Context, folder: Folder, office: Office, made_of: dict[str, A
     gone = folder.owners() - stamps.keys()
     for owner in gone:
         folder.remove(owner)
-    own: Own = {owner: [stamp, *folder.state_of(owner)] for owner, stamp in stamps.items()}
-    return Counts(written, len(stamps) - written, len(gone)), own
+    own = {owner: [stamp, *folder.state_of(owner)] for owner, stamp in stamps.items()}
+    return Counts(written, len(stamps) - written, len(gone)), {"last": rows.last, "rows": rows.of_owners, "own": own}
 
 
 def encoded(contents: dict[str, Any], made_at: str) -> bytes:

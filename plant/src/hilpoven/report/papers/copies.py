@@ -25,6 +25,7 @@ from ...model.years.history import merged, parts_of
 from . import guard
 
 BLOCK = 1 << 20
+CACHE = 65_536  # kilobytes of a copy that aren't read anew
 OWNER = "SELECT 1 FROM owners WHERE owner = ?"
 
 
@@ -138,6 +139,7 @@ def without_keys(path: str, file: str) -> Iterator[sqlite3.Connection]:
         snapshot.require_office(base, file)
         replace_keys(base)
         base.execute("PRAGMA temp_store = MEMORY")
+        base.execute(f"PRAGMA cache_size = -{CACHE}")
         yield base
 
 
