@@ -13,7 +13,8 @@ from hilpoven.model.quality import describe_lot
 from hilpoven.model.rows import LotId, require_lot
 from hilpoven.model import notes as facts
 from hilpoven.model.kinds import Bound
-from hilpoven.model.register.noted import KINDS, from_json, to_json
+from hilpoven.model.notes import KINDS
+from hilpoven.model.register.noted import from_json, to_json
 from hilpoven.model.register import standing
 from hilpoven.model.register.standing import standing_over_all
 from hilpoven.model.years import history

@@ -11,8 +11,8 @@ from hilpoven.core.journal.query import check
 from hilpoven.model import notes as facts
 from hilpoven.model.register import file, folding
 from hilpoven.model.kinds import Bound
-from hilpoven.model.register.noted import KINDS, from_json, to_json
-from hilpoven.model.notes import Link, MovementFacts, NotLinked, Party, Role, Why, Withdrawal
+from hilpoven.model.register.noted import from_json, to_json
+from hilpoven.model.notes import KINDS, Link, MovementFacts, NotLinked, Party, Role, Why, Withdrawal
 from hypothesis import example, given, settings
 from hypothesis import strategies as any_of
 

@@ -17,7 +17,8 @@ from ..model.notes import Note, RowsLost
 from ..model.register.noted import Noted, to_json
 from ..model.register.keeping import OfficeFile, files_of, keep
 from ..model.register.standing import Status, belonging, kept, statuses
-from ..model.register.tables import Base, subject_of
+from ..model.rows import Base
+from ..model.register.tables import subject_of
 
 FIRST = 10  # notes that are told where many lost their rows
 LIST = "`hilpoven note list` has all"

@@ -18,13 +18,13 @@ from ..core.journal.log import Journal
 from ..core.office import has_bytes
 from ..core.table import counted
 from ..model import accepted
-from ..model.register.noted import KINDS
+from ..model.notes import KINDS
 from ..model.register import file as register, lines
 from ..model.register.file import Opened
 from ..model.register.folding import fold_on
 from ..model.register.keeping import keep
 from ..model.register.standing import belonging
-from ..model.register.tables import Base
+from ..model.rows import Base
 from ..model.years import chain
 from . import backups, lost, owners
 from .standby import kept, promoting, state as standby

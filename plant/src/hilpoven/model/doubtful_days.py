@@ -1,15 +1,13 @@
 """Days that can't be meant: no date where the others are, in the future, or before the first day of their lot."""
-import sqlite3
 from collections.abc import Iterable, Sequence
 from dataclasses import dataclass, field
 from functools import cached_property
 
 from .years import chain
 from ..core.days import date_of, day_of, format_day, today
-from .rows import LotId
+from .rows import Base, LotId
 from .schema import STANDING
 
-Base = sqlite3.Connection
 RECENT = 20  # movements, of which the days tell whether days are dates
 DAYS = "SELECT m.day FROM moves AS m WHERE {} ORDER BY m.rowid DESC LIMIT ?"
 # The first day of one lot of an owner, or of each, by the owner's own movements: nobody else brings it anything.

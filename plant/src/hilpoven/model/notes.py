@@ -21,14 +21,23 @@ PERCENT = re.compile(r"([0-9]{1,3})(?:\.([0-9]))?")
 MOST_ALLOWANCE = 1_000  # tenths of a percent
 
 
+KINDS: dict[str, type["Note"]] = {}  # all kinds of notes, by the words that a journal has for them
+
+
 @dataclass(frozen=True)
 class Note:
     """What the plant notes for one owner."""
 
     KIND: ClassVar[str]
+    # The table of a register that has those that stand; empty of a kind that is read as the journal has it.
+    TABLE: ClassVar[str] = ""
     # What names the thing that a note is about, of a kind of which the last note counts.
     SUBJECT: ClassVar[tuple[str, ...]] = ()
     owner: str
+
+    def __init_subclass__(cls) -> None:
+        if "KIND" in vars(cls):
+            KINDS[cls.KIND] = cls
 
     @property
     def subject(self) -> tuple[object, ...]:
@@ -55,6 +64,7 @@ class MovementFacts(Note):
     document that came or went with it."""
 
     KIND = "movement"
+    TABLE = "movement_note"
     SUBJECT = ("owner", "key")
     key: str
     party: str = ""
@@ -73,6 +83,7 @@ class OwnerFacts(Note):
     """The full name of an owner, and its address."""
 
     KIND = "owner"
+    TABLE = "owner_note"
     SUBJECT = ("owner",)
     name: str = ""
     address: str = ""
@@ -88,6 +99,7 @@ class MaterialFacts(Note):
     """The full name of a material."""
 
     KIND = "material"
+    TABLE = "material_note"
     SUBJECT = ("owner", "material")
     material: str
     name: str = ""
@@ -104,6 +116,7 @@ class RecipeFacts(Note):
     is the main one."""
 
     KIND = "recipe"
+    TABLE = "recipe_note"
     SUBJECT = ("owner", "recipe")
     recipe: str
     allowance: int = 0
@@ -135,6 +148,7 @@ class TestFacts(Note):
     """The full name of a test of a material, the unit of its values, how many decimals they have, and the method."""
 
     KIND = "test"
+    TABLE = "test_note"
     SUBJECT = ("owner", "material", "test")
     material: str
     test: str
@@ -155,6 +169,7 @@ class LotFacts(Note):
     """The days on which a lot was made, expires, and is to be tested again, as YYMMDD."""
 
     KIND = "lot"
+    TABLE = "lot_note"
     SUBJECT = ("owner", "lot")
     lot: str
     made: int | None = None
@@ -179,6 +194,7 @@ class ResultFacts(Note):
     value and day aren't told apart."""
 
     KIND = "result"
+    TABLE = "result_note"
     SUBJECT = ("owner", "lot", "test", "value", "day")
     lot: str
     test: str
@@ -215,6 +231,7 @@ class Link(Note):
     the plant's."""
 
     KIND = "link"
+    TABLE = "link_note"
     lot: str  # empty where a batch stands for its lots
     order: str
     batch: int
@@ -249,6 +266,7 @@ class Party(Note):
     some."""
 
     KIND = "party"
+    TABLE = "party_note"
     SUBJECT = ("owner", "party")
     party: str
     name: str = ""
@@ -275,6 +293,7 @@ class NotLinked(Note):
     """A receipt looks as if a trace ended there, and doesn't."""
 
     KIND = "not-linked"
+    TABLE = "unlinked_note"
     key: str
 
     @property
@@ -288,6 +307,7 @@ class Corrects(Note):
     """What a receipt or a scrap recorded corrects what another movement did."""
 
     KIND = "corrects"
+    TABLE = "corrects_note"
     SUBJECT = ("owner", "key")
     key: str
     of_owner: str
@@ -304,6 +324,7 @@ class Withdrawal(Note):
     """A note doesn't hold, for a reason."""
 
     KIND = "withdrawal"
+    TABLE = "withdrawal_note"
     of: str  # the name of the note
     reason: str
 
@@ -359,6 +380,7 @@ class Judgement(Note):
     """What the plant's quality says of a lot, on a day. The last one counts, and none is withdrawn: another one
     follows. One that belongs to no command of `toll` is of a lot whose material has no test of the plant's own."""
 
+    TABLE = "judgement_note"
     lot: str
     day: int
     reason: str = ""
@@ -398,6 +420,7 @@ class Reason(Note):
     """Why a command was given that changed a lot, an order, a batch, or what a key recorded."""
 
     KIND = "reason"
+    TABLE = "reason_note"
     command: str
     reason: str
     lot: str = ""

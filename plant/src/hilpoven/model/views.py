@@ -6,13 +6,12 @@ register. Numbers stay numbers: how a day or 7.02 of 702 is written is the affai
 
 Of several notes of a thing the last one that says something counts, member by member.
 """
-import sqlite3
 
 from .register.file import Opened, memory
 from .register.standing import Register
 from .schema import LATEST, ON_HAND, STANDING, Kind
+from .rows import Base
 
-Base = sqlite3.Connection
 LIMIT = 1  # the lower and the upper one of the plant's own test: its result 1 is a signature, and 0 a hold
 
 

@@ -1,5 +1,4 @@
 """Which names a value of a line may have in an office, by the values that stand before it."""
-import sqlite3
 from collections import defaultdict
 from dataclasses import dataclass, field
 
@@ -8,8 +7,8 @@ from ..model import nearest
 from ..core.failure import printable
 from ..core.grammar import MOVEMENTS, Line
 from ..model.schema import ON_HAND, STANDING, Disposition, Role, State
+from ..model.rows import Base
 
-Base = sqlite3.Connection
 
 NEW = {  # names that a line gives to what isn't there yet
     ("owner-add", "OWNER"),

@@ -1,5 +1,4 @@
 """What is looked at before the plant describes something, or reads a value of a test as it was measured."""
-import sqlite3
 from collections.abc import Mapping
 
 from ..core.failure import REFUSED, Failure
@@ -9,7 +8,7 @@ from ..core.journal.log import Journal
 from ..model.quality import facts_of_test
 from ..core.table import counted
 from ..model.measures import GROUP, as_measured, decimals_in, limits_text, value_word, whole_of
-from ..model.rows import HAS_RESULT, LotId, require_lot, require_owner, row_of
+from ..model.rows import HAS_RESULT, Base, LotId, require_lot, require_owner, row_of
 from ..model.schema import Role
 from ..model.register import lines
 from ..model.register.file import Notes
@@ -17,7 +16,6 @@ from ..model.notes import LotFacts, Note, ResultFacts, ResultId, TestFacts, join
 from ..model.kinds import Bound, split_sign
 from ..model.register.standing import Register
 
-Base = sqlite3.Connection
 MATERIAL = "SELECT measure FROM materials WHERE owner = ? AND material = ?"
 MATERIALS = "SELECT material FROM materials WHERE owner = ?"
 RECIPE = "SELECT segments FROM recipes WHERE owner = ? AND recipe = ?"

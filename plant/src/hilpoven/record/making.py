@@ -2,7 +2,6 @@
 import contextlib
 import functools
 import json
-import sqlite3
 from collections.abc import Iterator, Sequence
 from dataclasses import dataclass
 from typing import Any
@@ -15,7 +14,7 @@ from ..core.forms import MOST_TOLD, TEXT
 from ..model.nearest import nearest
 from ..core.office import Office
 from ..core.journal.log import Journal
-from ..model.rows import BatchId, LotId, read_moves, require_owner
+from ..model.rows import Base, BatchId, LotId, read_moves, require_owner
 from ..model.schema import STANDING, Kind
 from ..model.years import chain, earlier
 from ..model.register.file import Notes
@@ -26,7 +25,6 @@ from ..model.kinds import Why
 from ..model.register.standing import Register, kept, statuses
 from ..model.register.tables import storable, subject_of
 
-Base = sqlite3.Connection
 HAS_RECEIPT = f"SELECT 1 FROM moves WHERE owner = ? AND mkey = ? AND kind = {Kind.RECEIVE:d}"
 OWNERS = "SELECT owner FROM lots WHERE lot = ?"
 LOTS = "SELECT lot FROM lots WHERE owner = ?"

@@ -1,5 +1,4 @@
 """What goes from one file of an office to the next: the words of the plant and the requests of owners that make it."""
-import sqlite3
 from collections import Counter
 from collections.abc import Iterator
 from dataclasses import dataclass
@@ -11,8 +10,8 @@ from ...core.journal.log import BLOTTED
 from ...model.gauge import OF_OWNER
 from ...model.measures import value_word
 from ...model.schema import LATEST, Disposition, Role
+from ...model.rows import Base
 
-Base = sqlite3.Connection
 CARRIED_LOTS = "(SELECT DISTINCT owner, lot FROM sublots WHERE amount > 0)"
 UNBEGUN = "NOT EXISTS (SELECT 1 FROM batches AS b WHERE b.owner = o.owner AND b.ord = o.ord)"
 JUDGED = {Disposition.RELEASED: "release", Disposition.REJECTED: "reject"}

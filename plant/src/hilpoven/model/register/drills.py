@@ -6,10 +6,9 @@ from datetime import datetime, timedelta, timezone
 from ...core.failure import printable
 from ...core.journal.log import Journal
 from ..notes import DrillEnd, DrillStart
-from ..rows import LotId
+from ..rows import Base, LotId
 from .noted import Noted
 from .standing import Status, kept, reader_of, statuses
-from .tables import Base
 
 
 @dataclass(frozen=True)

@@ -19,7 +19,8 @@ from ...core.journal.log import Journal
 from . import lines, tables
 from .folding import fold_on, has_a_note
 from .lines import path_of
-from .tables import MARK, SCHEMA, Base
+from ..rows import Base
+from .tables import MARK, SCHEMA
 
 # What the register of an earlier version has, which is made anew.
 EARLIER = (

@@ -8,7 +8,7 @@ from ...core.journal.log import IN_PLACE, entry_of, hash_of
 from . import tables
 from .lines import MARK, has_notes, opened, pieces
 from .noted import notes_in
-from .tables import Base
+from ..rows import Base
 
 MOVED, TOLD, FILE, REPLACED = b'"moved"', b'"event": "told"', b'"file": ', f'"{IN_PLACE}"'.encode()
 OF = re.compile(rb'"of": "([0-9a-f]{16})"')  # of which line an answer is

@@ -38,7 +38,7 @@ from ..notes import (
     TestFacts,
     Withdrawal,
 )
-from ..rows import HAS_RESULT
+from ..rows import HAS_RESULT, Base
 from ..schema import Disposition
 from ..years import chain
 from ..years.earlier import CAME_OVER, MOVE, VOIDED, move_of
@@ -46,7 +46,7 @@ from . import tables
 from .file import transaction
 from .meant import EXACT, NAMED, is_in, row_of
 from .noted import Noted
-from .tables import Base, noted_of
+from .tables import noted_of
 
 HAS_TEST = "SELECT 1 FROM tests WHERE owner = ? AND material = ? AND test = ? AND low = ? AND high = ?"
 IS_REJECTED = f"SELECT 1 FROM lots WHERE owner = '{HOUSE}' AND lot = ? AND disposition = {Disposition.REJECTED:d}"

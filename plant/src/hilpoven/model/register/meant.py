@@ -4,7 +4,6 @@ A name comes again: behind a restore `--key next` gives the key of a shipment th
 is free. So the line of a note has the rows that were meant, and the note is about no others. What the words of its
 command record isn't said again. Owners, parties, materials and recipes are known by their names alone.
 """
-import sqlite3
 from collections.abc import Iterator, Sequence
 from dataclasses import dataclass, field
 from typing import Any, NamedTuple
@@ -23,8 +22,8 @@ from ..notes import (
     TestFacts,
 )
 from ..schema import MOVE_COLUMNS
+from ..rows import Base
 
-Base = sqlite3.Connection
 Names = tuple[str | int, ...]
 Row = tuple[str | int, ...]  # its table, its names, and its other values
 MEANT = "meant"  # the member of a line: of each of its notes, the rows that it means

@@ -11,30 +11,7 @@ from ...core.forms import AMOUNT, BATCH, COMMAND, DAY, MOST_VALUE, NAME, TEXT
 from ...core.grammar import LINES
 from ...core.journal.query import who
 from ..measures import MOST_DECIMALS
-from ..notes import (
-    MOST_ALLOWANCE,
-    Corrects,
-    DrillEnd,
-    DrillStart,
-    Held,
-    Link,
-    LotFacts,
-    MaterialFacts,
-    MovementFacts,
-    NotLinked,
-    Note,
-    OwnerFacts,
-    Party,
-    Reason,
-    RecipeFacts,
-    ResultFacts,
-    RowsLost,
-    Settled,
-    Signed,
-    Table,
-    TestFacts,
-    Withdrawal,
-)
+from ..notes import KINDS, MOST_ALLOWANCE, Link, Note, Reason, Table
 from ..kinds import Bound, Emptied, Role, Why
 from .meant import MEANT, Row, rows_in
 
@@ -90,26 +67,8 @@ def notes_in(entry: dict[str, Any]) -> Iterator[Noted]:
         )
 
 
-ALL: tuple[type[Note], ...] = (
-    *(
-        Link,
-        Party,
-        MovementFacts,
-        NotLinked,
-        Corrects,
-        Withdrawal,
-        RowsLost,
-        DrillStart,
-        DrillEnd,
-        Signed,
-        Held,
-        Reason,
-    ),
-    *(Settled, OwnerFacts, MaterialFacts, RecipeFacts, TestFacts, LotFacts, ResultFacts),
-)
-KINDS = {kind.KIND: kind for kind in ALL}
 # The members that a note of each kind may have, and whether it has to have them.
-KNOWN = {kind: {member.name: member.default is MISSING for member in fields(kind)} for kind in ALL}
+KNOWN = {kind: {member.name: member.default is MISSING for member in fields(kind)} for kind in KINDS.values()}
 NAME_OF_NOTE = re.compile(r"[0-9a-f]{16}(\.([2-9]|[1-9][0-9]{1,3}))?")
 MAY_BE_ZERO = {"value", "day"}  # members of which 0 says something
 

@@ -26,7 +26,7 @@ from ..notes import (
     TestFacts,
     joined,
 )
-from ..rows import LotId
+from ..rows import Base, LotId
 from ..years import chain
 from ..years.history import History
 from . import tables
@@ -34,7 +34,7 @@ from .file import Notes, Opened, memory
 from .keeping import Reader, called, files_of, keep, names_of, went_on
 from .lines import may_have_notes
 from .noted import Noted
-from .tables import Base, noted_of
+from .tables import noted_of
 
 FEW = 20  # things of which the notes are read one by one; of more they are read all at once
 HELD_ALONE = """

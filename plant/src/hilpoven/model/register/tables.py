@@ -6,34 +6,15 @@ quality says has `is_alone` where `toll` has nothing of it.
 """
 import hashlib
 import json
-import sqlite3
 from collections.abc import Iterable, Iterator
 from dataclasses import fields
 from typing import Any
 
-from ..notes import (
-    Corrects,
-    Held,
-    Judgement,
-    Link,
-    LotFacts,
-    MaterialFacts,
-    MovementFacts,
-    NotLinked,
-    Note,
-    OwnerFacts,
-    Party,
-    Reason,
-    RecipeFacts,
-    ResultFacts,
-    Signed,
-    TestFacts,
-    Withdrawal,
-)
+from ..notes import KINDS, Held, Judgement, Note
 from .meant import rows_in
 from .noted import LISTS, WORDS, Noted, to_json
+from ..rows import Base
 
-Base = sqlite3.Connection
 MARK = 0x48504C4E  # the number by which SQLite knows whose file it is
 OF_JOURNAL = (
     # How far the journal was read: where its last line begins and ends, that line's hash, and the file it is about.
@@ -70,23 +51,7 @@ OF_JOURNAL = (
     "CREATE INDEX note_open ON note (id) WHERE is_open = 1",
 )
 # The table of each kind whose standing notes are rows; drills and settlements are read from `note`.
-TABLES: dict[type[Note], str] = {
-    Party: "party_note",
-    OwnerFacts: "owner_note",
-    MaterialFacts: "material_note",
-    RecipeFacts: "recipe_note",
-    TestFacts: "test_note",
-    LotFacts: "lot_note",
-    ResultFacts: "result_note",
-    MovementFacts: "movement_note",
-    NotLinked: "unlinked_note",
-    Corrects: "corrects_note",
-    Link: "link_note",
-    Signed: "judgement_note",
-    Held: "judgement_note",
-    Withdrawal: "withdrawal_note",
-    Reason: "reason_note",
-}
+TABLES = {kind: kind.TABLE for kind in KINDS.values() if kind.TABLE}
 INDEXES = (
     "CREATE INDEX party_by_name ON party_note (owner, party)",
     "CREATE INDEX owner_by_name ON owner_note (owner)",

@@ -14,11 +14,10 @@ from ...core import files, snapshot
 from ...core.failure import REFUSED, Failure
 from ...core.office import Office
 from ..notes import Place
-from ..rows import BatchId, LotId
+from ..rows import Base, BatchId, LotId
 from . import chain
 from .chain import NOT_CARRIED, Part, address_of
 
-Base = sqlite3.Connection
 
 FILES = """
 CREATE TABLE files (number INTEGER PRIMARY KEY, name TEXT, hash TEXT, at TEXT);

@@ -5,6 +5,7 @@ import os
 import re
 import stat
 import sys
+from collections.abc import Callable
 from functools import partial
 from typing import Any, NamedTuple
 
@@ -93,15 +94,20 @@ def split(words: tuple[str, ...]) -> list[str]:
     return [column_of(column) for word in words for column in word.split(",")]
 
 
-def asked_for(kind: Kind, given: dict[str, Any]) -> Asked:
-    """What the options ask for."""
+def traps_of(given: dict[str, Any], trapped: Callable[[str], list[str]]) -> dict[str, list[str]]:
+    """The columns in which the options take a trap, by the traps; fails where one isn't laid there."""
     traps = {trap: split(given[trap]) for trap in TRAPS}
     for trap, columns in traps.items():
         for column in columns:
-            if column not in kind.trapped(trap):
-                raise Failure(f"--{trap}: {column!r} is none of {', '.join(kind.trapped(trap))}", WRONG_USE)
+            if column not in trapped(trap):
+                raise Failure(f"--{trap}: {column!r} is none of {', '.join(trapped(trap))}", WRONG_USE)
+    return traps
+
+
+def asked_for(kind: Kind, given: dict[str, Any]) -> Asked:
+    """What the options ask for."""
     return Asked(
-        traps,
+        traps_of(given, kind.trapped),
         given["hidden"],
         given["capitals"],
         split(given["ignored"]),

@@ -49,7 +49,7 @@ class Refused(Exception):
     """Why a value can't be taken, whatever is asked for."""
 
 
-def can_be_read(reading: "Callable[[Cell], Taken]", cell: Cell) -> bool:
+def can_be_read(reading: "Reading", cell: Cell) -> bool:
     """Whether a reading takes a cell, perhaps if that is asked for."""
     try:
         reading(cell)
@@ -231,15 +231,15 @@ class Kind:
     those that it may have besides, whose values are noted with the movement."""
 
     name: str
-    columns: dict[str, Callable[[Cell], Taken]]
-    noted: dict[str, Callable[[Cell], Taken]] = field(default_factory=dict)
+    columns: dict[str, Reading]
+    noted: dict[str, Reading] = field(default_factory=dict)
 
     @cached_property
-    def readings(self) -> dict[str, Callable[[Cell], Taken]]:
+    def readings(self) -> dict[str, Reading]:
         """How the values of each column are read."""
         return {**self.columns, **self.noted}
 
-    def of(self, *reads: Callable[[Cell], Taken]) -> list[str]:
+    def of(self, *reads: Reading) -> list[str]:
         """The columns whose values are read so."""
         return [column for column, reading in self.readings.items() if reading in reads]
 
@@ -253,7 +253,7 @@ class Kind:
 
 
 # The traps that are asked for by column, each with how the values are read among which it is laid.
-TRAPS: dict[str, tuple[Callable[[Cell], Taken], ...]] = {
+TRAPS: dict[str, tuple[Reading, ...]] = {
     "digits": (of_names, of_quoted_names, of_texts),
     "dates": (of_names, of_quoted_names, of_texts, of_days),
     "decimals": (of_numbers, of_values, of_days),

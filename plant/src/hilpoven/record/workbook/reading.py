@@ -10,9 +10,9 @@ from ...core.forms import listed
 from ...model.measures import as_number
 from ..sheets import bounded
 from ..sheets.cells import Cell, shortened
-from ..sheets.reading import content_of, is_workbook, split
+from ..sheets.reading import content_of, is_workbook, split, traps_of
 from ..sheets.sheet import NOTHING, Asked, Finding, Record, Rows, Sheet, column_of
-from ..sheets.values import TRAPS, letters, of_days, of_names, of_numbers
+from ..sheets.values import letters, of_days, of_names, of_numbers
 from ..sheets.workbooks import tables_of
 from .tables import TABLES, WORKBOOK, Table, is_remark
 
@@ -94,14 +94,13 @@ def asked_for(given: dict[str, Any]) -> Asked:
     for name, option in OF_ONE_SHEET.items():
         if given[name]:
             raise Failure(f"--{option} is for one sheet, and not for --what {WORKBOOK}", WRONG_USE)
-    traps = {trap: split(given[trap]) for trap in TRAPS}
-    for trap, columns in traps.items():
-        trapped = sorted({column for table in TABLES.values() for column in table.kind.trapped(trap)})
-        for column in columns:
-            if column not in trapped:
-                raise Failure(f"--{trap}: {column!r} is none of {', '.join(trapped)}", WRONG_USE)
     options = given["hidden"], given["capitals"], split(given["ignored"])
-    return Asked(traps, *options, trim=given["trim"], is_of_workbook=True)
+    return Asked(traps_of(given, trapped), *options, trim=given["trim"], is_of_workbook=True)
+
+
+def trapped(trap: str) -> list[str]:
+    """The columns of all sheets in which a trap is laid."""
+    return sorted({column for table in TABLES.values() for column in table.kind.trapped(trap)})
 
 
 def read(content: bytes, asked: Asked) -> Workbook:
