@@ -1,4 +1,5 @@
-"""Columns of tables: what each is called, what is in it, its SQL over the views, and how its value is made of that."""
+"""Columns of tables: what each is called, what is in it, of which SQL over the views or which attributes of a thing its
+value is made, and how."""
 import re
 from collections.abc import Callable
 from typing import Any, NamedTuple
@@ -18,7 +19,8 @@ def as_given(value: Value) -> Value:
 class Column(NamedTuple):
     """A column: its name for programs, its head on paper, and what is in it: a `name`, a `number`, a `day`, a `word` of
     a disposition, or `text`. On paper it may be `beside` the column before it, or `beneath` it. Its SQL has an
-    expression for each value that it is made of. Of a group all columns stand in a table if one of them says something.
+    expression for each value that it is made of; in a table of things, these are their attributes, `item.source`. Of a
+    group all columns stand in a table if one of them says something.
     """
 
     name: str

@@ -1,7 +1,8 @@
 """Tables: how they are read of the views, and how they are written on paper and as CSV."""
 import functools
-from collections.abc import Sequence
+from collections.abc import Iterable, Sequence
 from dataclasses import dataclass, replace
+from operator import attrgetter
 from typing import TYPE_CHECKING, Any, NamedTuple
 
 from ..core import table
@@ -176,6 +177,13 @@ def select(
     expressions = ", ".join(sql for column in columns for sql in column.sql)
     rows = [row_of(columns, row) for row in base.execute(f"SELECT {expressions} {behind}", words)]
     return Sheet(name, columns, rows, sums).without_empty()
+
+
+def table_of(name: str, columns: list[Column], things: Iterable[object]) -> Sheet:
+    """A table of things, whose attributes its columns are made of."""
+    attributes = [attrgetter(path) for column in columns for path in column.sql]
+    rows = [row_of(columns, [attribute(thing) for attribute in attributes]) for thing in things]
+    return Sheet(name, columns, rows).without_empty()
 
 
 def row_of(columns: Sequence[Column], values: Sequence[Value]) -> Row:

@@ -3,6 +3,7 @@ month, which is closed once and has a number then."""
 from collections.abc import Mapping, Sequence
 from dataclasses import replace
 from fractions import Fraction
+from operator import neg
 
 from ... import HOUSE
 from ...core import lock
@@ -12,32 +13,49 @@ from ...core.forms import listed
 from ...core.journal.log import Journal
 from ...core.office import Office
 from ...core.table import Row
-from ...model.notes import Settled
+from ...model.notes import Cell, Settled
 from ...model.register.drills import as_moment
 from ...model.register.noted import to_json
 from ...model.register.standing import Closing, Status, closings_in, kept, next_number, statuses
-from ...model.register.tables import Base
-from ...model.rows import require_owner
+from ...model.rows import Base, require_owner
 from ...model.years.history import places_of
-from ...record.settling.closing import BY_PRODUCT, MAIN, Change, Month, Months
+from ...record.settling.closing import AMOUNT, BY_PRODUCT, LINE, MAIN, Change, Month, Months
 from ...record.settling.corrections import Correction, Means
-from ...record.settling.settlement import WHYS, Line, Made, Product, Reader, Receipts, Settlement, Sums, rounded
-from ..columns import Column, columns
+from ...record.settling.settlement import WHYS, Made, Product, Reader, Receipts, Settlement, Sums, rounded
+from ..columns import Column, Sql, columns
 from ..noted import LINKS, links_among
-from ..sheets import Sheet
+from ..sheets import Sheet, table_of
 from .agreement import check_owner
 from .copies import Source
 from .printing import Document
 from .recall import check_batches
 
+
+def share(part: int | None, whole: int | None) -> str | None:
+    """An amount in percent of another one, rounded to a tenth; nothing if there is none."""
+    if part is None or not whole:
+        return None
+    tenths = rounded(Fraction(1000 * part, whole))
+    return f"{'-' if tenths < 0 else ''}{abs(tenths) // 10:,}.{abs(tenths) % 10}"
+
+
+OF_LINE: dict[str, Sql] = {
+    "use": "item.use.word",
+    "source": "item.source",
+    "material": "item.material",
+    "reworked": ("reworked", neg),
+    "share": ("actual", "standard", share),
+    "loss_share": ("loss", "expected", share),
+}
 SOURCES = "recorded:number used=used_besides:number corrected:number reworked:number actual:number"  # of an amount
 RECIPES = columns(
     f"recipe batches:number use:text source=of material standard:number {SOURCES} measure=unit:text@beside "
     "share=%:number expected=for_what_was_made:number loss:number loss_share=loss_%:number allowed:number "
-    "above=above_it:number"
+    "above=above_it:number",
+    **OF_LINE,
 )
 BY_PRODUCTS = columns(
-    f"recipe batches:number material standard:number {SOURCES} measure=unit:text@beside share=%:number"
+    f"recipe batches:number material standard:number {SOURCES} measure=unit:text@beside share=%:number", **OF_LINE
 )
 PRODUCTS = columns("material product=is:text produced:number reworked:number made:number measure=unit:text@beside")
 RECEIVED = columns(
@@ -85,13 +103,13 @@ def document(owner: str, title: str, sheets: list[Sheet], doubtful: int = 0, sta
 
 def tables_of(read: Settlement, last: int) -> list[Sheet]:
     """The tables of what was consumed, made, and goes on."""
-    mains = [line_row(line) for line in read.lines if not line.is_product or line.is_main]
-    others = [by_product_row(line) for line in read.lines if line.is_product and not line.is_main]
-    recipes = with_sources(Sheet("recipes", RECIPES, mains))
+    mains = [line for line in read.lines if not line.is_product or line.is_main]
+    others = [line for line in read.lines if line.is_product and not line.is_main]
+    recipes = with_sources(table_of("recipes", RECIPES, mains))
     is_allowed = any(line.allowance for line in read.lines)
     sheets = [recipes if is_allowed else recipes.without(*ALLOWED)]
     if others:
-        sheets.append(with_sources(Sheet("by_products", BY_PRODUCTS, others)))
+        sheets.append(with_sources(table_of("by_products", BY_PRODUCTS, others)))
     going = Sheet("going_on", GOING_ON, going_on_rows(read, last))
     return [*sheets, Sheet("products", PRODUCTS, product_rows(read.products)), going]
 
@@ -107,32 +125,6 @@ def with_sources(sheet: Sheet) -> Sheet:
     """A table with what its amounts are made of, as far as that is another thing than actuals."""
     empty = [name for name in NOTED if not sheet.has(name)]
     return sheet.without(*(["recorded", *empty] if len(empty) == len(NOTED) else empty))
-
-
-def amounts(line: Line) -> tuple[int, ...]:
-    """The standard of a line, and its amount with what that is made of."""
-    return line.standard, line.recorded, line.used, line.corrected, -line.reworked, line.actual
-
-
-def line_row(line: Line) -> Row:
-    """The row of a material of a recipe."""
-    names = line.recipe, line.batches, line.item.use.word, line.item.source, line.item.material
-    loss = line.expected, line.loss, share(line.loss, line.expected), line.allowed, line.above
-    return *names, *amounts(line), line.measure, share(line.actual, line.standard), *loss
-
-
-def by_product_row(line: Line) -> Row:
-    """The row of a by-product of a recipe."""
-    names = line.recipe, line.batches, line.item.material
-    return *names, *amounts(line), line.measure, share(line.actual, line.standard)
-
-
-def share(part: int | None, whole: int | None) -> str | None:
-    """An amount in percent of another one, rounded to a tenth; nothing if there is none."""
-    if part is None or not whole:
-        return None
-    tenths = rounded(Fraction(1000 * part, whole))
-    return f"{'-' if tenths < 0 else ''}{abs(tenths) // 10:,}.{abs(tenths) % 10}"
 
 
 def product_rows(products: dict[Product, Made]) -> list[Row]:
@@ -199,12 +191,12 @@ def batch_rows(read: Settlement) -> list[Row]:
 
 
 LATE = "late"
-PRODUCTS_OF_MONTH = [*PRODUCTS, *columns("changes=of_it_changes:number")]
-RECEIVED_OF_MONTH = [*RECEIVED, *columns("late=of_it_late:number")]
-BATCHES_OF_MONTH = [*BATCHES, *columns("late:text")]
+PRODUCTS_OF_MONTH = [*PRODUCTS, *columns("changes=of_it_changes:number?")]
+RECEIVED_OF_MONTH = [*RECEIVED, *columns("late=of_it_late:number?")]
+BATCHES_OF_MONTH = [*BATCHES, *columns("late:text?")]
 CHANGED = columns(
     "settlement recipe use:text source=of material actual:number measure=unit:text@beside "
-    "expected=for_what_was_made:number loss:number allowed:number above=above_it:number"
+    "expected=for_what_was_made:number loss:number allowed:number? above=above_it:number?"
 )
 CHANGED_BATCHES = columns(
     "settlement batch recipe use:text source=of material amount=change:number measure=unit:text@beside"
@@ -313,9 +305,14 @@ def sheets_of(source: Source, owner: str, read: Month, last: int) -> list[Sheet]
     """The tables of a month."""
     new = read.settlement
     late = [LATE if run.batch.id in read.late else None for run in new.settled for _ in run.sums]
-    batches = Sheet("batches", BATCHES_OF_MONTH, [(*row, is_late) for row, is_late in zip(batch_rows(new), late)])
+    rows: list[Row] = [(*row, is_late) for row, is_late in zip(batch_rows(new), late)]
+    batches = Sheet("batches", BATCHES_OF_MONTH, rows, SUMS["batches"]).without_empty()
+    changed = (
+        changed_sheet("changed", CHANGED, LINE, read.changed),
+        changed_sheet("changed_batches", CHANGED_BATCHES, AMOUNT, read.changed_batches),
+    )
     sheets = [sheet for sheet in tables_of(new, last) if sheet.name != "products"]
-    sheets += [products_sheet(read), received_sheet(read), *changed_sheets(read), with_late(batches)]
+    sheets += [products_sheet(read), received_sheet(read), *(sheet for sheet in changed if sheet.rows), batches]
     noted = [unreported(sheet, read) for sheet in noted_sheets(source, owner, new)]
     return [*sheets, *(sheet for sheet in noted if sheet.rows)]
 
@@ -326,20 +323,13 @@ def unreported(sheet: Sheet, read: Month) -> Sheet:
     return replace(sheet, rows=[row for row in sheet.rows if tuple(row) not in reported])
 
 
-def with_late(sheet: Sheet) -> Sheet:
-    """A table without its column of what is late, if nothing is."""
-    sheet.sums = SUMS.get(sheet.name, ())
-    return sheet if sheet.has(LATE) else sheet.without(LATE)
-
-
 def products_sheet(read: Month) -> Sheet:
     """What was made, and what of it was made by batches of closed settlements."""
     rows: list[Row] = []
     for row, (product, output) in zip(product_rows(read.products), read.products.items()):
         new = read.settlement.products.get(product)
         rows.append((*row, output.produced - output.reworked - (new.produced - new.reworked if new else 0)))
-    sheet = Sheet("products", PRODUCTS_OF_MONTH, rows)
-    return sheet if sheet.has("changes") else sheet.without("changes")
+    return Sheet("products", PRODUCTS_OF_MONTH, rows).without_empty()
 
 
 def received_sheet(read: Month) -> Sheet:
@@ -348,30 +338,15 @@ def received_sheet(read: Month) -> Sheet:
         (*row, sum(read.late_receipts.get(material, {}).values()))
         for row, material in zip(received_of(read.receipts).rows, read.receipts)
     ]
-    return with_late(Sheet("received", RECEIVED_OF_MONTH, rows))
+    return Sheet("received", RECEIVED_OF_MONTH, rows).without_empty()
 
 
-def changed_sheets(read: Month) -> list[Sheet]:
-    """What became otherwise of closed settlements; no table if nothing did."""
-    lines = [
-        (change.number, *change.names[:4], change.figures["actual"], change.names[4], *rest_of(change))
-        for change in read.changed
+def changed_sheet(name: str, heads: list[Column], names: Sequence[str], changes: Sequence[Change]) -> Sheet:
+    """A table of what became otherwise of closed settlements, whose rows these names tell apart."""
+    cells: list[dict[str, Cell]] = [
+        {"settlement": each.number, **dict(zip(names, each.names)), **each.figures} for each in changes
     ]
-    amounts = [
-        (change.number, *change.names[:5], change.figures["amount"], change.names[5]) for change in read.changed_batches
-    ]
-    sheets = []
-    if lines:
-        sheet = Sheet("changed", CHANGED, lines)
-        sheets.append(sheet.without(*(name for name in ALLOWED if not sheet.has(name))))
-    if amounts:
-        sheets.append(Sheet("changed_batches", CHANGED_BATCHES, amounts))
-    return sheets
-
-
-def rest_of(change: Change) -> list[int | None]:
-    """The figures of a line's change behind that of its amount."""
-    return [change.figures[name] for name in ("expected", "loss", "allowed", "above")]
+    return Sheet(name, heads, [tuple(row[head.name] for head in heads) for row in cells]).without_empty()
 
 
 def closed_document(closing: Closing) -> Document:
