@@ -185,9 +185,15 @@ def traced(base: sqlite3.Connection, owner: str, lot: str, way: str) -> list[tup
 def stated_by_command(base: sqlite3.Connection, owner: str, first: int, last: int) -> tuple[list[tuple], list[tuple]]:
     """The lots of a statement and what is of HOUSE, where nothing is unexplained."""
     read = statement.read_statement(base, owner, first, last)
-    assert not any(account.amounts[-1] for account in read.accounts)
-    return ([(account.lot.material, account.lot.id.name, account.lot.measure, *account.amounts[:-1]) for account in read.moved],
-            [(lot.material, lot.id.name, *batch, amount) for lot, batch, amount in read.of_house])
+    assert not base.execute("SELECT 1 FROM temp.account WHERE unexplained").fetchone()
+    return ([(material, lot, measure, *amounts[:-1]) for material, measure, lot, _, *amounts in read.lots.rows],
+            [(material, lot, owner, *batch_of(batch), amount) for material, lot, batch, amount, _ in read.of_house.rows])
+
+
+def batch_of(name: str) -> tuple[str, int]:
+    """The order and the number of a batch by its name."""
+    order, _, number = name.rpartition("/")
+    return order, int(number)
 
 
 def compare_alone(plant: Plant, cut: history.History) -> None:

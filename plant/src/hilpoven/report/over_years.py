@@ -8,13 +8,13 @@ from ..core.context import Context
 from ..core.days import format_day
 from ..core.failure import Failure, printable
 from ..core.office import Office
-from ..core.table import Row
+from ..core.table import Row, Value
 from ..model.answers import RecallLine, recall_lines, recall_of
 from ..model.below import MARK
 from ..model.genealogy import FORWARD, Genealogy, Trace
 from ..model import views
 from ..model.register.standing import Register, standing_over_all
-from ..model.rows import Lot, LotId, require_owner
+from ..model.rows import LotId, require_owner
 from ..model.years import history
 from ..model.years.history import History
 from . import noted, overviews
@@ -144,29 +144,24 @@ def statement(context: Context, owner: str, first: int, last: int) -> StatementS
         account = read_statement(whole.base, owner, first, last)
         links = links_in(views.over(whole.base, register_of(context, whole)), owner, account, noted.SHOWN)
         lots: list[Row] = [
-            (moved.lot.material, moved.lot.id.name, moved.lot.measure, *moved.amounts[:-1]) for moved in account.moved
+            (material, lot, measure, *amounts[:-1]) for material, measure, lot, _, *amounts in account.lots.rows
         ]
-        used: Counter[Lot] = Counter()
-        for lot, _, amount in account.of_house:
-            used[lot] += amount
+        used: Counter[tuple[Value, ...]] = Counter()
+        for material, lot, _, amount, measure in account.of_house.rows:
+            used[material, lot, measure] += int(amount or 0)
         return StatementShown(
             Shown(["material", "lot", "measure", *AMOUNTS[:-1]], lots, sources=sources_of(whole)),
-            [(material, "(all)", measure, *amounts[:-1]) for (material, measure), amounts in account.sums().items()],
-            Shown(
-                ["material", "lot", "measure", "used"],
-                [(lot.material, lot.id.name, lot.measure, amount) for lot, amount in used.items()],
-                OF_HOUSE,
-            ),
+            [(material, "(all)", measure, *amounts[:-1]) for material, measure, *amounts in account.sums.rows],
+            Shown(["material", "lot", "measure", "used"], [(*lot, amount) for lot, amount in used.items()], OF_HOUSE),
             Shown([name.replace("_", " ") for name in links.names], [*links.rows], overviews.NOTED),
-            list(overdrafts_of(account)),
-            -sum(each.amounts[-1] for each in account.accounts),
+            list(overdrafts_of(account, owner)),
+            account.unexplained,
         )
 
 
-def overdrafts_of(account: Statement) -> Iterator[str]:
+def overdrafts_of(account: Statement, owner: str) -> Iterator[str]:
     """The movements by whose days lots are below zero, in words."""
-    for draft in account.overdrafts():
-        move, later = draft.move, draft.next
-        effect = f"{move.kind.word} {move.key} of {format_day(move.day)} leaves {draft.left:,} {draft.lot.measure}"
-        comes = f"; {later.key} of {format_day(later.day)} brings something next" if later else ""
-        yield printable(f"By the days, {effect} of {move.lot}{comes}.")
+    for lot, day, key, kind, _, left, measure, next_day, next_key in account.overdrafts.rows:
+        effect = f"{kind} {key} of {format_day(int(day or 0))} leaves {left:,} {measure}"
+        comes = "" if next_day is None else f"; {next_key} of {format_day(int(next_day))} brings something next"
+        yield printable(f"By the days, {effect} of {LotId(owner, str(lot))}{comes}.")

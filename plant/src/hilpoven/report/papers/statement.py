@@ -1,12 +1,10 @@
 """The statement of an owner: what came, what went and what is left of each lot, between two days."""
-from collections import Counter
-from dataclasses import dataclass, field
+from dataclasses import dataclass
 
 from ... import HOUSE
 from ...core.days import format_day
-from ...core.table import Row
-from ...model.rows import Base, BatchId, Lot, LotId, Move, lots_of, moves_of, read_lots, read_moves, require_owner, want
-from ...model.schema import STANDING, Kind
+from ...model.rows import Base, LotId, require_owner, want
+from ...model.schema import CHANGE, ON_HAND, STANDING, Disposition, Kind
 from ..columns import Column, columns
 from ..noted import LINKS, MADE, links
 from ..sheets import Sheet, select
@@ -16,100 +14,94 @@ from .printing import Document
 
 COUNTED = (Kind.RECEIVE, Kind.PRODUCED, Kind.CONSUMED, Kind.SCRAP, Kind.SHIP)  # in the order of a statement's columns
 AMOUNTS = ("opening", *(kind.total for kind in COUNTED), "closing", "unexplained")
-CONSUMED_OF_HOUSE = f"m.owner = ? AND m.lot_owner <> m.owner AND m.day BETWEEN ? AND ? AND {STANDING}"
-
-
-@dataclass
-class Account:
-    """What there was of a lot before the first day, the sums of its movements until the last, and what they changed."""
-
-    lot: Lot
-    opening: int = 0
-    sums: Counter[Kind] = field(default_factory=Counter)
-    change: int = 0
-    change_after: int = 0
-
-    @property
-    def amounts(self) -> tuple[int, ...]:
-        """Its amounts, in the order of `AMOUNTS`; the last is what all movements leave, less what is on hand."""
-        closing = self.opening + self.change
-        unexplained = closing + self.change_after - self.lot.on_hand
-        return self.opening, *(self.sums[kind] for kind in COUNTED), closing, unexplained
-
-    def add(self, move: Move, first: int, last: int) -> None:
-        """Adds a movement, unless it is voided."""
-        if move.day < first:
-            self.opening += move.change
-        elif move.day > last:
-            self.change_after += move.change
-        elif not move.is_void:
-            self.sums[move.kind] += move.amount
-            self.change += move.change
-
-
-@dataclass(frozen=True)
-class Overdraft:
-    """A movement by whose day more left a lot than had come: the amount that it leaves, which is below zero, and the
-    movement that brings something next, by the days; `None` if none does."""
-
-    lot: Lot
-    move: Move
-    left: int
-    next: Move | None
+BETWEEN = "m.day BETWEEN :first AND :last"
+# The movements of the owner's lots that stand.
+FLOWS = f"SELECT m.*, m.rowid AS place, {CHANGE} AS change FROM moves AS m WHERE m.lot_owner = :owner AND {STANDING}"
+SUMS = ", ".join(f"sum(iif(m.kind = {kind:d} AND {BETWEEN}, m.amount, 0)) AS {kind.total}" for kind in COUNTED)
+# The amounts of each lot; unexplained is what all movements leave, less what is on hand.
+ACCOUNTS = f"""
+CREATE TEMP TABLE account AS
+SELECT l.owner, l.lot, l.material, k.measure, {Disposition.sql('l.disposition')} AS disposition,
+  {', '.join(f'coalesce(f.{name}, 0) AS {name}' for name in AMOUNTS[:-1])},
+  coalesce(f.rest, 0) - {ON_HAND} AS unexplained
+FROM lots AS l JOIN materials AS k USING (owner, material) LEFT JOIN (
+  SELECT m.lot, sum(iif(m.day < :first, m.change, 0)) AS opening, {SUMS},
+    sum(iif(m.day <= :last, m.change, 0)) AS closing, sum(m.change) AS rest FROM ({FLOWS}) AS m GROUP BY m.lot
+) AS f ON f.lot = l.lot
+WHERE l.owner = :owner
+"""
+# The lots that had something, or of which something came or went.
+MOVED = f"FROM temp.account WHERE {' OR '.join(AMOUNTS[:-1])}"
+# The first movement by whose day more left a lot than had come, of each lot whose opening or closing amount is below
+# zero, with the next one that brings something; of one day what comes is before what leaves.
+DRAFTS = f"""
+FROM (WITH step AS (
+    SELECT m.*, sum(m.change) OVER by_day AS rest, row_number() OVER by_day AS at FROM ({FLOWS}) AS m
+    WHERE m.lot IN (SELECT lot FROM temp.account WHERE opening < 0 OR closing < 0)
+    WINDOW by_day AS (PARTITION BY m.lot ORDER BY m.day, -m.change, m.place ROWS UNBOUNDED PRECEDING)),
+  draft AS (SELECT lot, min(at) AS at FROM step WHERE rest < 0 GROUP BY lot),
+  next AS (SELECT s.lot, min(s.at) AS at FROM step AS s JOIN draft AS d ON d.lot = s.lot AND d.at < s.at
+    WHERE s.change > 0 GROUP BY s.lot)
+  SELECT s.*, n.day AS next_day, n.mkey AS next_key FROM draft JOIN step AS s USING (lot, at)
+  LEFT JOIN next ON next.lot = s.lot LEFT JOIN step AS n ON n.lot = next.lot AND n.at = next.at) AS d
+JOIN temp.account AS a USING (lot) ORDER BY a.material, a.lot
+"""
+CONSUMED_OF_HOUSE = f"""
+FROM moves AS m JOIN lots AS l ON l.owner = m.lot_owner AND l.lot = m.lot
+JOIN materials AS k ON k.owner = l.owner AND k.material = l.material
+WHERE m.owner = :owner AND m.lot_owner <> m.owner AND m.ord <> '' AND {BETWEEN} AND {STANDING}
+GROUP BY m.lot_owner, m.lot, m.ord, m.number ORDER BY l.material, k.measure, m.lot_owner, m.lot, m.ord, m.number
+"""
+MATERIAL = columns("material measure=unit:text@beneath")
+LOTS = [*MATERIAL, *columns(f"lot disposition=is_now:word {' '.join(f'{name}:number' for name in AMOUNTS)}")]
+BY_MATERIAL = columns(" ".join(f"{name}:number" for name in AMOUNTS), **{name: f"sum({name})" for name in AMOUNTS})
+MOVEMENTS = columns(
+    "day:day key kind:text lot sublot target=to batch amount:number measure=unit:text@beside void:text",
+    key="mkey",
+    kind=Kind.sql("kind"),
+    # the batch of a lot of the plant is named with its owner
+    batch="iif(ord = '', '', iif(owner = lot_owner, '', owner || ' ') || ord || '/' || number)",
+    void="iif(is_void, 'void', '')",
+)
+OVERDRAFTS = columns(
+    "d.lot d.day:day key kind:text d.amount:number left=leaves:number a.measure=unit:text@beside "
+    "d.next_day=comes_next:day d.next_key=by_key",
+    key="d.mkey",
+    kind=Kind.sql("d.kind"),
+    left="d.rest",
+)
+OF_HOUSE = columns(
+    "l.material m.lot=lot_of_the_plant batch amount=consumed:number k.measure=unit:text@beside",
+    batch="m.ord || '/' || m.number",
+    amount="sum(m.amount)",
+)
 
 
 @dataclass(frozen=True)
 class Statement:
-    """The lots of an owner, their movements, the account of each, and what its batches consumed of lots of HOUSE."""
+    """The lots of an owner with their amounts, and these by material; what its batches consumed of lots of HOUSE; the
+    movements by whose days lots are below zero; and how much more is on hand than movements explain."""
 
-    lots: dict[LotId, Lot]
-    moves: list[Move]
-    accounts: list[Account]
-    of_house: list[tuple[Lot, BatchId, int]]
-
-    @property
-    def moved(self) -> list[Account]:
-        """The accounts of lots that had something, or of which something came or went."""
-        return [account for account in self.accounts if any(account.amounts[:-1])]
-
-    def overdrafts(self) -> list[Overdraft]:
-        """The first movement that takes it below zero, of each lot whose opening or closing amount is."""
-        negative = {
-            account.lot.id: account.lot for account in self.accounts if min(account.amounts[0], account.amounts[-2]) < 0
-        }
-        by_lot: dict[LotId, list[Move]] = {lot: [] for lot in negative}
-        for move in self.moves:
-            if move.lot in by_lot:
-                by_lot[move.lot].append(move)
-        drafts = (overdraft_of(negative[lot], moves) for lot, moves in by_lot.items())
-        return [draft for draft in drafts if draft]
-
-    def sums(self) -> dict[tuple[str, str], list[int]]:
-        """The sums of these accounts' amounts, by material and measure."""
-        sums: dict[tuple[str, str], list[int]] = {}
-        for account in self.moved:
-            so_far = sums.setdefault((account.lot.material, account.lot.measure), [0] * len(AMOUNTS))
-            so_far[:] = map(int.__add__, so_far, account.amounts)
-        return sums
-
-
-def overdraft_of(lot: Lot, moves: list[Move]) -> Overdraft | None:
-    """The first movement of a lot by whose day it is below zero; of one day what comes is before what leaves."""
-    left, by_day = 0, sorted(moves, key=lambda move: (move.day, -move.change))
-    for at, move in enumerate(by_day):
-        left += move.change
-        if left < 0:
-            return Overdraft(lot, move, left, next((later for later in by_day[at:] if later.change > 0), None))
-    return None
+    lots: Sheet
+    sums: Sheet
+    of_house: Sheet
+    overdrafts: Sheet
+    unexplained: int
 
 
 def read_statement(base: Base, owner: str, first: int, last: int) -> Statement:
-    """The statement of an owner from a day to a day; accounts are by material and name."""
-    lots = {lot.id: lot for lot in read_lots(base, "l.owner = ? ORDER BY l.material, l.lot", (owner,))}
-    moves, accounts = moves_of(base, lots), {name: Account(lot) for name, lot in lots.items()}
-    for move in moves:
-        accounts[move.lot].add(move, first, last)
-    return Statement(lots, moves, list(accounts.values()), consumed_of_house(base, owner, first, last))
+    """The statement of an owner from a day to a day."""
+    words = {"owner": owner, "first": first, "last": last}
+    base.execute("DROP TABLE IF EXISTS temp.account")
+    base.execute(ACCOUNTS, words)
+    ((unexplained,),) = base.execute("SELECT coalesce(-sum(unexplained), 0) FROM temp.account").fetchall()
+    return Statement(
+        select(base, "lots", LOTS, f"{MOVED} ORDER BY material, lot", (), AMOUNTS),
+        select(base, "sums", [*MATERIAL, *BY_MATERIAL], f"{MOVED} GROUP BY material, measure ORDER BY material"),
+        select(base, "plants_material", OF_HOUSE, CONSUMED_OF_HOUSE, words),
+        select(base, "overdrafts", OVERDRAFTS, DRAFTS, words),
+        unexplained,
+    )
 
 
 IN_LOTS = f"""
@@ -120,37 +112,8 @@ k.owner = :owner AND ((k.owner, k.lot) IN temp.wanted OR k.lot = '' AND (k.ord, 
 
 def links_in(base: Base, owner: str, read: Statement, shown: list[Column] = LINKS) -> Sheet:
     """The links that say what the lots of a statement contain that had something, or of which something moved."""
-    want(base, (account.lot.id for account in read.moved))
+    want(base, [LotId(owner, str(lot)) for _, _, lot, *_ in read.lots.rows])
     return links(base, IN_LOTS, {"owner": owner}, shown=shown)
-
-
-def consumed_of_house(base: Base, owner: str, first: int, last: int) -> list[tuple[Lot, BatchId, int]]:
-    """What an owner's batches consumed of each lot of HOUSE: by material, measure, lot and batch."""
-    sums: Counter[tuple[LotId, BatchId]] = Counter()
-    for move in read_moves(base, CONSUMED_OF_HOUSE, (owner, first, last)):
-        if move.batch:
-            sums[move.lot, move.batch] += move.amount
-    lots = lots_of(base, {lot for lot, _ in sums})
-    consumed = [(lots[lot], batch, amount) for (lot, batch), amount in sums.items()]
-    return sorted(consumed, key=lambda row: (row[0].material, row[0].measure, row[0].id, row[1]))
-
-
-COLUMNS = columns(" ".join(f"{name}:number" for name in AMOUNTS))
-MATERIAL = columns("material measure=unit:text@beneath")
-LOT = columns("lot disposition=is_now:word")
-MOVED = columns(
-    "day:day key kind:text lot sublot target=to batch amount:number measure=unit:text@beside void:text",
-    key="mkey",
-    kind=Kind.sql("kind"),
-    # the batch of a lot of the plant is named with its owner
-    batch="iif(ord = '', '', iif(owner = lot_owner, '', owner || ' ') || ord || '/' || number)",
-    void="iif(is_void, 'void', '')",
-)
-OVERDRAFTS = columns(
-    "lot day:day key kind:text amount:number left=leaves:number measure=unit:text@beside next_day=comes_next:day "
-    "next_key=by_key"
-)
-OF_HOUSE = columns("material lot=lot_of_the_plant batch amount=consumed:number measure=unit:text@beside")
 
 
 def documents(source: Source, owner: str, first: int, last: int) -> list[Document]:
@@ -159,27 +122,9 @@ def documents(source: Source, owner: str, first: int, last: int) -> list[Documen
     require_owner(base, owner)
     check_owner(source, owner)
     read = read_statement(base, owner, first, last)
-    sums: list[Row] = [(*key, *amounts) for key, amounts in read.sums().items()]
-    accounts = [(account.lot, account.amounts) for account in read.moved]
-    lots: list[Row] = [
-        (lot.material, lot.measure, lot.id.name, lot.disposition.word, *amounts) for lot, amounts in accounts
-    ]
-    house = [(lot.material, lot.id.name, batch.name, amount, lot.measure) for lot, batch, amount in read.of_house]
     between = "FROM movement AS m WHERE lot_owner = ? AND day BETWEEN ? AND ? ORDER BY day, m.rowid"
-    sheets = [
-        Sheet("sums", [*MATERIAL, *COLUMNS], sums),
-        Sheet("lots", [*MATERIAL, *LOT, *COLUMNS], lots, AMOUNTS),
-        Sheet("plants_material", OF_HOUSE, house),
-        select(base, "movements", MOVED, between, (owner, first, last), ["amount"]),
-    ]
-    others = Sheet("overdrafts", OVERDRAFTS, list(map(overdraft_row, read.overdrafts()))), links_in(base, owner, read)
-    sheets += [sheet for sheet in others if sheet.rows]
+    movements = select(base, "movements", MOVEMENTS, between, (owner, first, last), ["amount"])
+    others = read.overdrafts, links_in(base, owner, read)
+    sheets = [read.sums, read.lots, read.of_house, movements, *(sheet for sheet in others if sheet.rows)]
     title = f"Statement of {owner}, {format_day(first)} to {format_day(last)}"
     return [Document("statement", owner == HOUSE, title, sheets, {"owner": owner})]
-
-
-def overdraft_row(draft: Overdraft) -> Row:
-    """The row of a movement by whose day a lot is below zero."""
-    move, later = draft.move, draft.next
-    front = draft.lot.id.name, move.day, move.key, move.kind.word, move.amount, draft.left, draft.lot.measure
-    return *front, later.day if later else None, later.key if later else None
