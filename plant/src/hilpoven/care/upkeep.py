@@ -146,12 +146,12 @@ def promote(context: Context, folder: str | None, until: int | None, is_check: b
     place = server.place_of(context)
     promoted, choice = promoting.promote(office, folder, place, context.journal(), until)
     last, lost_rows = promoted.last, lost.lines_of(lost.note_lost(context))
-    made = f"{context.file} is the office of piece {choice.end}, made at {last.at}, {age_of(last.at)} ago"
+    outcome = f"{context.file} is the office of piece {choice.end}, made at {last.at}, {age_of(last.at)} ago"
     aside = f"; what was there is in {promoted.aside}" if promoted.aside else ""
     serve = f"Serve it: systemctl enable --now {place.unit}"
     return Promoted(
         choice.notes,
-        [made, f"timeline {promoted.timeline} begins{aside}", *lost_rows],
+        [outcome, f"timeline {promoted.timeline} begins{aside}", *lost_rows],
         [*promoted.notes, serve, "Then lead owners and the plant here."],
     )
 

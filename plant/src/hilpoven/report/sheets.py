@@ -182,7 +182,7 @@ def select(
 def table_of(name: str, columns: list[Column], things: Iterable[object]) -> Sheet:
     """A table of things, whose attributes its columns are made of."""
     attributes = [attrgetter(path) for column in columns for path in column.sql]
-    rows = [row_of(columns, [attribute(thing) for attribute in attributes]) for thing in things]
+    rows = [row_of(columns, [attribute(each) for attribute in attributes]) for each in things]
     return Sheet(name, columns, rows).without_empty()
 
 
