@@ -1,7 +1,9 @@
 """What the companion of one owner says: all of it is the owner's own, and of HOUSE what papers tell."""
+import sqlite3
 from collections import defaultdict
 from collections.abc import Collection, Iterator
 from dataclasses import dataclass
+from operator import itemgetter
 from typing import Any
 
 from ... import HOUSE
@@ -10,7 +12,7 @@ from ...model import views
 from ...model.gauge import OF_OWNER
 from ...model.register.standing import Register
 from ...model.rows import Base, owners_of
-from ...model.schema import ACTUAL_OF, IS_ACTUAL, STANDING, Disposition, Kind, Role, State
+from ...model.schema import IS_ACTUAL, STANDING, Disposition, Kind, Role, State
 
 Value = dict[str, Any]
 
@@ -23,9 +25,15 @@ class Subject:
     base: Base
     register: Register
 
-    def rows(self, sql: str) -> Iterator[Any]:
+    def rows(self, sql: str) -> sqlite3.Cursor:
         """The rows of a query whose only value is the owner."""
         return self.base.execute(sql, {"owner": self.owner})
+
+    def members(self, sql: str) -> Iterator[Value]:
+        """The same with their values by the names of the columns, as far as they say something."""
+        rows = self.rows(sql)
+        names = [name for name, *_ in rows.description]
+        return (filled(**dict(zip(names, row))) for row in rows)
 
 
 def filled(**members: Any) -> Value:
@@ -42,18 +50,21 @@ def subjects(base: Base, register: Register, owners: Collection[str]) -> Iterato
 
 
 OWN = "SELECT material, measure, name FROM material WHERE owner = :owner ORDER BY material"
-PARTIES = "SELECT party, name, address, contact, phone, roles FROM party WHERE owner = :owner ORDER BY party"
+PARTIES = """
+SELECT party, name AS description, address, contact, phone, roles FROM party WHERE owner = :owner ORDER BY party
+"""
 TESTS = """
-SELECT material, test, low, high, name, unit, method, nullif(decimals, 0) FROM test
+SELECT material, test, low, high, name AS description, unit, method, nullif(decimals, 0) AS decimals FROM test
 WHERE owner = :owner AND NOT is_plants ORDER BY material, test
 """
 LINES = """
-SELECT recipe, segment, role, source, material, amount FROM requirements WHERE owner = :owner
+SELECT recipe, segment, role AS use, source AS owner, material, amount AS {} FROM requirements WHERE owner = :owner
 ORDER BY recipe, segment, role, source, material
 """
+PLACE = itemgetter("segment", "use", "owner", "material")  # of a line in its recipe
 # The materials of HOUSE that the owner's recipes or movements name.
 OF_HOUSE = f"""
-SELECT material, measure FROM materials WHERE owner = '{HOUSE}' AND material IN (
+SELECT owner, material, measure FROM materials WHERE owner = '{HOUSE}' AND material IN (
   SELECT material FROM requirements WHERE owner = :owner AND source = '{HOUSE}'
   UNION SELECT material FROM moves WHERE owner = :owner AND lot_owner = '{HOUSE}')
 ORDER BY material
@@ -73,43 +84,50 @@ def gauges(subject: Subject) -> list[Value]:
 def parties(subject: Subject) -> list[Value]:
     """Its customers, suppliers and carriers, as the plant noted them."""
     return [
-        filled(party=party, description=name, address=address, contact=contact, phone=phone, roles=roles.split())
-        for party, name, address, contact, phone, roles in subject.rows(PARTIES)
+        {name: value.split() if name == "roles" else value for name, value in party.items()}
+        for party in subject.members(PARTIES)
     ]
 
 
 def materials(subject: Subject) -> list[Value]:
     """Its own materials with their tests, and of HOUSE's those that it has to do with, by name alone."""
     tests: defaultdict[str, list[Value]] = defaultdict(list)
-    for material, test, low, high, name, unit, method, decimals in subject.rows(TESTS):
-        noted = filled(description=name, unit=unit, method=method, decimals=decimals)
-        tests[material].append({"test": test, "low": low, "high": high, **noted})
+    for test in subject.members(TESTS):
+        tests[test.pop("material")].append(test)
     own = [
         filled(owner=subject.owner, material=material, measure=measure, description=name, tests=tests.get(material))
         for material, measure, name in subject.rows(OWN)
     ]
-    return own + [{"owner": HOUSE, "material": name, "measure": measure} for name, measure in subject.rows(OF_HOUSE)]
+    return [*own, *subject.members(OF_HOUSE)]
+
+
+def lines_of(subject: Subject, called: str) -> dict[str, list[Value]]:
+    """What one batch of each recipe consumes and produces, with what the amount is called."""
+    lines: defaultdict[str, list[Value]] = defaultdict(list)
+    for line in subject.members(LINES.format(called)):
+        lines[line.pop("recipe")].append(line | {"use": Role(line["use"]).word})
+    return lines
 
 
 def recipes(subject: Subject) -> list[Value]:
     """Its recipes, with what one batch consumes and produces."""
-    lines: defaultdict[str, list[Value]] = defaultdict(list)
-    for recipe, segment, role, source, material, amount in subject.rows(LINES):
-        place = {"segment": segment, "use": Role(role).word, "owner": source, "material": material}
-        lines[recipe].append({**place, "amount": amount})
+    lines = lines_of(subject, "amount")
     return [
         {"recipe": recipe, "segments": segments, "lines": lines[recipe]} for recipe, segments in subject.rows(RECIPES)
     ]
 
 
-ORDERS = "SELECT ord, recipe, batches, cancelled FROM orders WHERE owner = :owner ORDER BY ord"
+ORDERS = """
+SELECT ord AS [order], recipe, batches, iif(cancelled, 'cancelled', 'open') AS status FROM orders
+WHERE owner = :owner ORDER BY ord
+"""
 BATCHES = """
 SELECT b.ord, b.number, o.recipe, b.unit, b.state, b.closed
 FROM batches AS b JOIN orders AS o USING (owner, ord) WHERE b.owner = :owner ORDER BY b.ord, b.number
 """
 # The sums of standing actuals, and the lots that batches made.
 ACTUALS = f"""
-SELECT m.ord, m.number, m.segment, m.kind, m.lot_owner, m.material, sum(m.amount) FROM moves AS m
+SELECT m.ord, m.number, m.segment, {Kind.sql('m.kind')}, m.lot_owner, m.material, sum(m.amount) FROM moves AS m
 WHERE m.owner = :owner AND {IS_ACTUAL} AND {STANDING}
 GROUP BY m.ord, m.number, m.segment, m.kind, m.lot_owner, m.material
 """
@@ -121,10 +139,7 @@ WHERE m.owner = :owner AND m.kind = {Kind.PRODUCED:d} AND {STANDING} ORDER BY m.
 
 def orders(subject: Subject) -> list[Value]:
     """Its orders, as `toll` replies them."""
-    return [
-        {"order": order, "recipe": recipe, "batches": count, "status": "cancelled" if is_cancelled else "open"}
-        for order, recipe, count, is_cancelled in subject.rows(ORDERS)
-    ]
+    return [*subject.members(ORDERS)]
 
 
 def batches(subject: Subject) -> list[Value]:
@@ -133,24 +148,13 @@ def batches(subject: Subject) -> list[Value]:
     produced: defaultdict[tuple[str, int], list[str]] = defaultdict(list)
     for order, number, lot in subject.rows(MADE):
         produced[order, number].append(lot)
-    required: defaultdict[str, list[tuple[int, Role, str, str, int]]] = defaultdict(list)
-    for recipe, segment, role, owner, material, amount in subject.rows(LINES):
-        required[recipe].append((segment, Role(role), owner, material, amount))
-    values = []
+    required, values = lines_of(subject, "required"), []
     for order, number, recipe, unit, state, is_closed in subject.rows(BATCHES):
         batch = {"order": order, "batch": number, "unit": unit, "state": State(state).word}
         if is_closed:
             batch["closed"] = True
         batch["lines"] = [
-            {
-                "segment": segment,
-                "use": role.word,
-                "owner": owner,
-                "material": material,
-                "required": amount,
-                "actual": recorded.get((order, number, segment, int(ACTUAL_OF[role]), owner, material), 0),
-            }
-            for segment, role, owner, material, amount in required[recipe]
+            {**line, "actual": recorded.get((order, number, *PLACE(line)), 0)} for line in required[recipe]
         ]
         batch["lots"] = produced[order, number]
         values.append(batch)
@@ -213,17 +217,15 @@ def fault_of(test: str, low: int, high: int, value: int | None, is_plants: int, 
 
 
 NAMES = {Kind.RECEIVE: "receipt", Kind.SPLIT: "split", Kind.SHIP: "shipment", Kind.SCRAP: "scrap"}
-# The members of a movement in the order of the query's columns; its kind and its use are written as words.
-MEMBERS = (
-    "key kind day lot lotOwner sublot amount material order batch segment use toSublot to from supplierLot document"
-)
 # In the order in which they were recorded, which is that of the table: what is sorted are its numbers alone. Only
-# receipts and actuals name their material.
+# receipts and actuals name their material. A kind and a use are written as words.
 MOVES = f"""
-SELECT m.mkey, m.kind, m.day, m.lot, m.lot_owner, m.sublot, m.amount, coalesce(nullif(m.material, ''), m.of_material),
-  m.ord, iif(m.ord = '', NULL, m.number), iif(m.ord = '', NULL, m.segment), iif(m.ord = '', NULL, m.kind), m.target,
-  iif(m.kind = {Kind.SHIP:d}, m.party, ''), iif(m.kind = {Kind.SHIP:d}, '', m.party), m.supplier_lot, m.document,
-  m.is_void
+SELECT m.mkey AS key, m.kind, m.day, m.lot, m.lot_owner AS lotOwner, m.sublot, m.amount,
+  coalesce(nullif(m.material, ''), m.of_material) AS material, m.ord AS [order],
+  iif(m.ord = '', NULL, m.number) AS batch, iif(m.ord = '', NULL, m.segment) AS segment,
+  iif(m.ord = '', NULL, m.kind) AS use, m.target AS toSublot, iif(m.kind = {Kind.SHIP:d}, m.party, '') AS [to],
+  iif(m.kind = {Kind.SHIP:d}, '', m.party) AS [from], m.supplier_lot AS supplierLot, m.document,
+  iif(m.is_void, 'yes', '') AS voided
 FROM movement AS m WHERE m.rowid IN (SELECT rowid FROM moves WHERE owner = :owner) ORDER BY m.rowid
 """
 
@@ -231,14 +233,15 @@ FROM movement AS m WHERE m.rowid IN (SELECT rowid FROM moves WHERE owner = :owne
 def movements(subject: Subject) -> list[Value]:
     """Its movements, in the order in which they were recorded, with the parties and documents that were noted. Members
     that a kind doesn't have are left out."""
-    values, names, kinds = [], MEMBERS.split(), {int(kind): kind for kind in Kind}
-    for *members, is_void in subject.rows(MOVES):
-        move = filled(**dict(zip(names, members)))
+    values, kinds = [], {int(kind): kind for kind in Kind}
+    for move in subject.members(MOVES):
         kind = kinds.get(move["kind"]) or Kind(move["kind"])
         move["kind"] = NAMES.get(kind, "actual")
         if "use" in move:
             move["use"] = kind.word
-        values.append(move | {"voided": True} if is_void else move)
+        if "voided" in move:
+            move["voided"] = True
+        values.append(move)
     return values
 
 
@@ -246,7 +249,10 @@ LINKS = """
 SELECT owner, lot, ord, number, of_owner, of_lot, why, amount, reason, measure FROM link WHERE owner = :owner
 ORDER BY note, place
 """
-REASONS = "SELECT command, lot, mkey, ord, number, reason FROM reason WHERE owner = :owner ORDER BY note"
+REASONS = """
+SELECT command, lot, mkey AS key, ord AS [order], nullif(number, 0) AS batch, reason AS text FROM reason
+WHERE owner = :owner ORDER BY note
+"""
 
 
 def links(subject: Subject) -> list[Value]:
@@ -266,10 +272,7 @@ def links(subject: Subject) -> list[Value]:
 
 def reasons(subject: Subject) -> list[Value]:
     """Why the plant gave commands about its lots, orders, batches and movements, each once, as they were noted."""
-    return [
-        filled(command=command, lot=lot, key=key, order=order, batch=batch or None, text=reason)
-        for command, lot, key, order, batch, reason in subject.rows(REASONS)
-    ]
+    return [*subject.members(REASONS)]
 
 
 VERSION = 1  # of the form: members may be added to it; what gets another meaning gets another number
