@@ -18,8 +18,8 @@ MOST_DEFINITIONS, MOST_WRONG_BODIES = 3, 6  # of a promise; of a crate
 INTRODUCTION = """# Promises
 
 `tools/check-docs promises` makes this page. A line leads from a promise, by its number in [PROVED](PROVED.md), which \
-has its laws and clauses, to definitions in those clauses, the code, wrong bodies (files of a crate's `must-fail/`), and \
-tests. Files are below `crates/`. `-`: the clauses carry the promise alone.
+has its laws and clauses, to definitions in those clauses, the code, wrong bodies (files of a crate's `must-fail/`), \
+and tests. Files are below `crates/`. `-`: the clauses carry the promise alone.
 
 |promise|definition|code|wrong body|test|
 |---|---|---|---|---|
