@@ -36,8 +36,8 @@ def choices_of_code() -> Lines:
 
 
 def choices_of_page() -> Lines:
-    """The same, as the table of docs/commands.md has them."""
-    rows = re.findall(r"^\| ([A-Z]+) \| ((?:`[a-z]+`(?:, | or )?)+) \|$", COMMANDS.read_text(), re.M)
+    """The same, as docs/commands.md has them."""
+    rows = re.findall(r"^- ([A-Z]+): ((?:`[a-z]+`(?:, | or )?)+)$", COMMANDS.read_text(), re.M)
     return {name: re.findall(r"`(\w+)`", words) for name, words in rows}
 
 

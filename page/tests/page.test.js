@@ -187,8 +187,8 @@ test("a session ends when its owner logs off, and when another logs in", () => {
 // Refusals
 
 test("each refusal of an owner's request has its meaning, by the number and the word of docs/commands.md", () => {
-  const rows = readFileSync(new URL("../docs/commands.md", PAGE), "utf8").matchAll(/^\| (\d+) \| (\w+) \| [^|]* \| ([^|]*)\|$/gm);
-  const asked = [...rows].filter(([, , , status]) => status.trim() !== "").map(([, code, word]) => [Number(code), word]);
+  const rows = readFileSync(new URL("../docs/commands.md", PAGE), "utf8").matchAll(/^- (\d+) (\w+)(?: \((\d+)\))?: /gm);
+  const asked = [...rows].filter(([, , , status]) => status).map(([, code, word]) => [Number(code), word]);
   assert.ok(asked.length > 0);
   assert.deepEqual([...known()], asked);
   assert.match(meaning(99, "NewWord"), /NewWord/);

@@ -19,18 +19,18 @@ def test_the_lines_are_those_of_the_page():
 
 def test_the_words_of_values_are_those_of_the_page():
     for name, form in (("USE", forms.USE), ("WAY", forms.WAY), ("COMMAND", forms.COMMAND)):
-        row = re.search(rf"^\| {name} \| (.*) \|$", COMMANDS, re.M)[1]
+        row = re.search(rf"^- {name}: (.*)$", COMMANDS, re.M)[1]
         assert tuple(re.findall(r"`(\w+)`", row)) == form.choices
 
 
 def test_each_refusal_means_what_the_page_says():
-    rows = re.findall(r"^\| (\d+) \| (\w+) \| (.*?) \|", COMMANDS, re.M)
+    rows = re.findall(r"^- (\d+) (\w+)(?: \(\d+\))?: (.*)$", COMMANDS, re.M)
     assert len(rows) == 42
     assert [(int(number), word, means) for number, word, means in rows] == [(refusal["number"], word, refusal["means"]) for word, refusal in meanings.table("refusals").items()]
 
 
 def test_each_limit_is_that_of_the_page():
-    rows = dict(re.findall(r"^\| (.+?) \| ([\d,]+) \|$", COMMANDS.split("## Limits")[1], re.M))
+    rows = dict(re.findall(r"^- (.+?): ([\d,]+)$", COMMANDS.split("## Limits")[1], re.M))
     limits = {kind.split()[0]: int(most.replace(",", "")) for kind, most in rows.items() if not kind.startswith(("owners", "units", "actuals"))}
     assert limits == {kind: most for kind, (most, _) in gauge.OF_OWNER.items()}
     assert [int(rows[head]) for head in ("owners besides HOUSE", "units", "actuals of a batch")] == [gauge.OWNERS, gauge.UNITS, gauge.ACTUALS]
@@ -38,7 +38,7 @@ def test_each_limit_is_that_of_the_page():
 
 @pytest.mark.parametrize("column, listing, shown", [("disposition", "lots", "disposition"), ("state", "batches", "state"), ("kind", "moves", "kind"), ("role", "requirements", "use")])
 def test_numbers_stand_for_the_words_of_the_page(column, listing, shown):
-    row = re.search(rf"^\| {column} \| (.*) \|$", TABLES, re.M)[1]
+    row = re.search(rf"^- {column}: (.*)$", TABLES, re.M)[1]
     words = re.findall(r"WHEN (\d+) THEN '(\w+)'", LISTINGS[listing].columns[shown])
     assert re.findall(r"(\d+) (\w+)", row) == words and words
 

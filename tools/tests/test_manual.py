@@ -29,7 +29,7 @@ def test_it_has_the_words_of_each_value() -> None:
 
 def test_it_has_the_faults_that_a_command_may_be_told() -> None:
     page = (ROOT / "docs" / "operations.md").read_text().split("## Faults, and what to do")[1]
-    rows = re.findall(r"^\| `(\w+)` \| (.*?) \|", page, re.M)
+    rows = re.findall(r"^- `(\w+)`: (.*)$", page, re.M)
     faults = {name for name, meaning in rows if not meaning.startswith(("server only", "an earlier fault"))}
     assert len(rows) == 13 and set(re.findall(r"^\.It fault (\w+)$", TEXT, re.M)) == faults
 
