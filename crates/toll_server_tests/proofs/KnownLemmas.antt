@@ -103,8 +103,10 @@ module _ (owner : Option ℕ) (bytes : List ℕ) where
       all_joined (Ends ∷ before) p = all_joined before p
       all_joined (Waits wake ∷ before) p = all_joined before p
       all_joined (Advances whose None ∷ before) p = all_joined before p
-      all_joined (Advances whose (Some j) ∷ before) p = (joins unread stream its j (All-head (IsSentBySome unread (arrivals_of stream owner)) j (filter_map joined_in before) p),
-        all_joined before (All-tail (IsSentBySome unread (arrivals_of stream owner)) j (filter_map joined_in before) p))
+      all_joined (Advances whose (Some j) ∷ before) p = (
+        joins unread stream its j (All-head (IsSentBySome unread (arrivals_of stream owner)) j (filter_map joined_in before) p),
+        all_joined before (All-tail (IsSentBySome unread (arrivals_of stream owner)) j (filter_map joined_in before) p),
+      )
       all_joined (Expires at ∷ before) p = all_joined before p
       all_joined (TakesTurn None ∷ before) p = all_joined before p
       all_joined (TakesTurn (Some turn) ∷ before) p = all_joined before p
