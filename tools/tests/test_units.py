@@ -155,7 +155,7 @@ def test_page_example_unit_and_command_have_the_same_defaults(
     (line,) = setting(text_of("toll-backup@.service"), "Environment")
     backup = dict(word.split("=") for word in line.split())
     defaults = {name: value.replace("%i", "NAME") for name, value in backup.items()}
-    rows = re.findall(r"(?m)^\| `([A-Z]+)` \| .* \| `?(\S+?)`? \|$", (ROOT / "docs" / "operations.md").read_text())
+    rows = re.findall(r"(?m)^- `([A-Z]+)`, by default `?(\S+?)`?: ", (ROOT / "docs" / "operations.md").read_text())
     lines = dict(re.findall(r"(?m)^#([A-Z]+)=(.*)$", text_of("office.env")))
     assert lines.pop("FOLLOW").startswith("HOST:")  # an example: without it nobody follows
     assert dict(rows) == defaults == lines

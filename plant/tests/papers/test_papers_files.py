@@ -5,8 +5,8 @@ import re
 from conftest import ROOT, Plant
 
 PAGE = (ROOT / "docs" / "papers.md").read_text()
-(TABLE,) = re.findall(r"\| document \| page \| tables \|.*\n\|[-|]+\n((?:\|.*\n)+)", PAGE)
-FILES = {name: (page, set(tables.split()), set(optional.split())) for name, page, tables, optional in (map(str.strip, row.split("|")[1:-1]) for row in TABLE.splitlines())}
+ROWS = re.findall(r"^- ([a-z ]+) \((\w+)\): ([\w ]+)(?:; ([\w ]+))?$", PAGE, re.M)
+FILES = {name: (page, set(tables.split()), set(optional.split())) for name, page, tables, optional in ROWS}
 WORDS = {
     "recall": "recall HOUSE W-101", "batch record": "batch ACME O-1 1", "certificate": "certificate ACME B-1", "delivery note": "delivery-note ACME K9", "lot card": "lot ACME S-1",
     "statement": "statement ACME --from 100 --to 9999999", "settlement": "settlement ACME --from 0 --to 9999999", "takeout": "takeout ACME"}
