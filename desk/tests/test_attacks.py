@@ -67,6 +67,16 @@ def test_pages_need_a_session(browse):
     assert stranger.get("/static/desk.css").startswith("/*")
 
 
+def test_no_page_shows_a_form_of_another_role(browse):
+    for login in ("nora", "quinn"):
+        browser = browse(login)
+        for path in ("/receive?owner=ACME", "/ship?scan=ACME/S-1/BAY1", "/count?owner=ACME", "/order/ACME/O-1", "/batch/ACME/O-1/1?scan=ACME/S-1/BAY1", "/lot/ACME/S-1"):
+            browser.get(path)
+            assert browser.status == 200 and "Record" not in browser.text.replace("Recorded", ""), path
+            assert "data-draft" not in browser.page.replace('data-draft="hold', ""), path
+            assert ("Put on hold" in browser.text) == (login == "quinn" and "/lot/" in path), path
+
+
 def test_another_host_gets_nothing(browse):
     anna = browse("anna")
     for host in ("evil.example", "desk.example.com.evil.example", "desk.example.com:8443", "localhost"):

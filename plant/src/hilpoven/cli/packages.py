@@ -32,7 +32,7 @@ def absent(word: str, package: str) -> click.Command:
         raise Failure(f"{word} is a command of the package {package}, which isn't installed", WRONG_USE)
 
     words = click.Argument(["words"], nargs=-1, type=click.UNPROCESSED)
-    about = f"The package {package} has this command. It isn't installed.\n\nExample: hilpoven {word} --help"
+    about = f"The package {package} has this command.\n\nExample: hilpoven {word} --help"
     return click.Command(word, context_settings=UNREAD, params=[words], help=about, callback=fail)
 
 
