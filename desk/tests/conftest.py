@@ -59,19 +59,19 @@ class Browser:
         self.status, self.page = reply.status_code, reply.text
         return self.page
 
-    def form(self, what: str = "", at: int = 0) -> dict[str, str]:
-        """The hidden fields of a form of the page: the first behind the log-out, or that of a `what`."""
+    def form(self, kind: str = "", at: int = 0) -> dict[str, str]:
+        """The hidden fields of a form of the page: the first behind the log-out, or that of a kind."""
         forms = re.findall(r'<form([^>]*method="post"[^>]*)>(.*?)</form>', self.page, re.S)
         shown = [form for head, form in forms if 'name="token"' in form and 'class="who"' not in head]
         for form in shown[at:]:
             hidden = {name: html.unescape(value) for name, value in re.findall(HIDDEN, form)}
-            if hidden.get("what", "") == what:
+            if hidden.get("what", "") == kind:
                 return hidden
-        raise AssertionError(f"the page has no form {what!r}: {text_of(self.page)}")
+        raise AssertionError(f"the page has no form {kind!r}: {text_of(self.page)}")
 
-    def fill(self, path: str, what: str = "", **fields: object) -> str:
+    def fill(self, path: str, kind: str = "", **fields: object) -> str:
         """Sends the form of the page that is shown, with what is typed."""
-        return self.send(path, **{**self.form(what), **fields})
+        return self.send(path, **{**self.form(kind), **fields})
 
     def log_in(self, login: str, password: str = "") -> str:
         """Logs somebody in."""
@@ -120,8 +120,8 @@ def office(at_work):
     tables = ["[roles]", *(f"{name} = {groups!r}".replace("'", '"') for name, groups in ROLES.items())]
     settings.write_text("\n".join([*plain, *tables]) + "\n")
     for words in NOTED:
-        told = at_work.run(*words)
-        assert told.status == 0, told
+        result = at_work.run(*words)
+        assert result.status == 0, result
     return at_work
 
 

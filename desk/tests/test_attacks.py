@@ -22,11 +22,11 @@ FORMS = [
 ]
 
 
-def seen_of(browser, path: str, what: str) -> dict[str, str]:
+def seen_of(browser, path: str, kind: str) -> dict[str, str]:
     """The digest that a page of somebody with all roles has in a form of a kind."""
     browser.get(path)
     try:
-        return {"seen": browser.form(what).get("seen", "")}
+        return {"seen": browser.form(kind).get("seen", "")}
     except AssertionError:
         return {}
 

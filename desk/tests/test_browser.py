@@ -12,6 +12,7 @@ from hilpoven_desk import serving
 
 selenium = pytest.importorskip("selenium")
 from selenium import webdriver  # noqa: E402
+from selenium.common.exceptions import StaleElementReferenceException  # noqa: E402
 from selenium.webdriver.chrome.service import Service  # noqa: E402
 from selenium.webdriver.common.by import By  # noqa: E402
 from selenium.webdriver.common.keys import Keys  # noqa: E402
@@ -109,6 +110,7 @@ class Screen:
 
     def scan(self, label: str) -> None:
         """A scanner types a label's text and Enter, where the focus is."""
+        self.waits().until(lambda driver: driver.execute_script("return document.readyState === 'complete' && document.activeElement.matches('[data-scan]')"))
         self.driver.switch_to.active_element.send_keys(label, Keys.ENTER)
 
     def touch(self, css: str) -> None:
@@ -118,7 +120,11 @@ class Screen:
 
     def shows(self, text: str) -> None:
         """Waits until the page shows a text."""
-        WebDriverWait(self.driver, PATIENCE).until(lambda driver: text in driver.find_element(By.TAG_NAME, "main").text, text)
+        self.waits().until(lambda driver: text in driver.find_element(By.TAG_NAME, "main").text, text)
+
+    def waits(self) -> WebDriverWait:
+        """Waits for what comes to hold, also while one page takes the place of another."""
+        return WebDriverWait(self.driver, PATIENCE, ignored_exceptions=[StaleElementReferenceException])
 
     def log_in(self, login: str) -> None:
         """Logs somebody in."""

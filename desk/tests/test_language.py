@@ -17,8 +17,8 @@ PLACES = re.compile(r"%\((\w+)\)s|\{(\w+)\}")
 
 def texts() -> set[str]:
     """The texts of pages, as they stand in the sources."""
-    found = extract_from_dir(str(SOURCES), METHODS, OPTIONS, KEYWORDS)
-    return {message if isinstance(message, str) else message[0] for _, _, message, *_ in found}
+    extracted = extract_from_dir(str(SOURCES), METHODS, OPTIONS, KEYWORDS)
+    return {message if isinstance(message, str) else message[0] for _, _, message, *_ in extracted}
 
 
 def german() -> dict:
@@ -40,10 +40,10 @@ def test_each_german_text_has_the_places_of_the_english_one():
 
 def test_what_hilpoven_says_is_said_in_german_where_a_phrase_is_known():
     reader = language.Reader("de")
-    assert reader.said("there is no lot ACME X-1") == ("Es gibt keine Charge ACME X-1", "de")
-    assert reader.said("`5000` is more than BAY1 holds: 4,700") == ("`5000` ist mehr, als auf BAY1 liegt: 4,700", "de")
-    assert reader.said("something that nobody foresaw") == ("something that nobody foresaw", "en")
-    assert language.Reader("en").said("there is no lot ACME X-1") == ("there is no lot ACME X-1", "en")
+    assert reader.translated("there is no lot ACME X-1") == ("Es gibt keine Charge ACME X-1", "de")
+    assert reader.translated("`5000` is more than BAY1 holds: 4,700") == ("`5000` ist mehr, als auf BAY1 liegt: 4,700", "de")
+    assert reader.translated("something that nobody foresaw") == ("something that nobody foresaw", "en")
+    assert language.Reader("en").translated("there is no lot ACME X-1") == ("there is no lot ACME X-1", "en")
 
 
 @pytest.mark.parametrize("name, typed, word", [

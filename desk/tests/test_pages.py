@@ -41,7 +41,7 @@ def test_a_form_that_is_sent_again_records_nothing_twice(browse, office):
     assert anna.status == 409 and "Not recorded." in anna.text
 
 
-@pytest.mark.parametrize("fields, said", [
+@pytest.mark.parametrize("fields, fault", [
     ({"lot": "", "amount": ""}, "Lot: is missing Amount: is missing"),
     ({"material": "SUGAR"}, "Material: `SUGAR` isn't there. The materials of ACME: BRINE, SALT."),
     ({"amount": "12.5"}, "Amount: `12.5` has decimals"),
@@ -51,11 +51,11 @@ def test_a_form_that_is_sent_again_records_nothing_twice(browse, office):
     ({"document": "x" * 300}, "has 300 letters; a text has at most 200"),
     ({"party": "NORD"}, "NORD"),
 ])
-def test_what_is_missing_or_wrong_is_said_at_its_field(browse, office, fields, said):
+def test_what_is_missing_or_wrong_is_said_at_its_field(browse, office, fields, fault):
     anna, before = browse("anna"), office.content()
     anna.get("/receive?owner=ACME")
     anna.fill("/receive", **{"material": "SALT", "lot": "S-9", "sublot": "BAY1", "amount": "5", "day": "101", **fields})
-    assert anna.status in (409, 422) and said in anna.text, anna.text
+    assert anna.status in (409, 422) and fault in anna.text, anna.text
     assert 'value="5"' in anna.page or "amount" in fields  # what was typed stands there still
     assert office.content() == before
 

@@ -67,7 +67,7 @@ def test_the_same_words_typed_leave_the_same(browse, office, tmp_path):
     with office.serve() as server:
         entries(browse("anna"), browse("quinn"), server)
     lines = office.lines()[first:]
-    given = [line for line in lines if line.get("words") and line.get("event") != "told"]
+    given = [line for line in lines if line.get("words") and line.get("event") != "result"]
     assert len(given) == 15, [line["words"][0] for line in given]
     with typed.serve() as server:
         for line in given:
@@ -75,8 +75,8 @@ def test_the_same_words_typed_leave_the_same(browse, office, tmp_path):
             if name == "ship":
                 assert server.ask("ACME", "POST", "/lots/B-2/release")[0] == 200
             beside = [] if name in ("sign", "hold") else options(name, line.get("notes"))
-            told = typed.run(name, *words, *beside)
-            assert told.status == 0, (line["words"], told)
+            result = typed.run(name, *words, *beside)
+            assert result.status == 0, (line["words"], result)
     assert typed.content() == office.content()
     assert lines_of(typed, first) == lines_of(office, first)
     assert {line["login"] for line in given} == {"anna", "quinn"}

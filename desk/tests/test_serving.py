@@ -16,8 +16,8 @@ from plants import command
 
 def test_the_subcommand_is_for_the_offices_user_alone(office):
     assert "Serves the plant's screens" in command("desk", "--help").stdout
-    told = office.as_member("desk", "--host", "desk.example.com", "--socket", "x")
-    assert told.status == 2
+    result = office.as_member("desk", "--host", "desk.example.com", "--socket", "x")
+    assert result.status == 2
     assert "desk" in hilpoven.makers
 
 
@@ -152,7 +152,7 @@ def test_the_words_that_make_papers_are_no_words_of_forms(browse, office):
     for fields in ({"what": "delivery-note", "key": "../x"}, {"what": "shipment", "key": "a b"}, {"what": "x"}, {}):
         anna.send("/papers/lot/ACME/S-1", token=token, **fields)
         assert anna.status == 400, fields
-    anna.send("/papers/lot/ACME/S-1", token="", what="lot")
+    anna.send("/papers/lot/ACME/S-1", **{"token": "", "what": "lot"})
     assert anna.status == 403
 
 

@@ -1,4 +1,4 @@
-"""Subcommands of packages of their own: they are there where their package is, and otherwise its name is told."""
+"""Subcommands of packages of their own: they are there where their package is, and otherwise its name is result."""
 import sys
 
 import pytest
@@ -55,8 +55,8 @@ def test_a_package_has_subcommands_of_its_own(with_package, at_work):
 
 def test_the_package_of_an_absent_subcommand_is_told_in_a_line(with_package):
     for words in (["sing"], ["sing", "a", "--loudly"], ["sing", "../x"]):
-        told = called(*words)
-        assert (told.status, told.out, told.err) == (2, "", "hilpoven: sing is a command of the package absent-package, which isn't installed\n")
+        result = called(*words)
+        assert (result.status, result.out, result.err) == (2, "", "hilpoven: sing is a command of the package absent-package, which isn't installed\n")
 
 
 def test_lists_have_it_whether_its_package_is_there_or_not():

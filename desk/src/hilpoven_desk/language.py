@@ -68,14 +68,14 @@ class Reader:
 
     def text(self, name: str, /, **words: Any) -> str:
         """A text of a page."""
-        found = self.catalog.gettext(name)
-        return found % words if words else found
+        translation = self.catalog.gettext(name)
+        return translation % words if words else translation
 
     def plural(self, one: str, many: str, count: int, /, **words: Any) -> str:
         """A text of a page about so many."""
         return self.catalog.ngettext(one, many, count) % {"count": self.number(count), **words}
 
-    def said(self, line: str) -> tuple[str, str]:
+    def translated(self, line: str) -> tuple[str, str]:
         """What `hilpoven` says, with the language in which it is."""
         if self.language == DEFAULT:
             return line, DEFAULT

@@ -58,10 +58,10 @@ class Contexts:
         settings = site.load(self.settings, **where) if self.settings else site.load(**where)
         return Context(settings, self.db, person=person).waiting(OFFICE_PATIENCE)
 
-    def make(self, person: DeskPerson, what: str, names: Names) -> Made:
+    def make(self, person: DeskPerson, kind: str, names: Names) -> Made:
         """Makes a paper in a process of its own."""
         folders = [str(pathlib.Path(module).parent.parent) for module in (__file__, hilpoven.__file__)]
-        asked = {"contexts": asdict(self), "person": of_person(person), "what": what, "names": dict(names)}
+        asked = {"contexts": asdict(self), "person": of_person(person), "kind": kind, "names": dict(names)}
         try:
             done = subprocess.run(
                 [sys.executable, "-IBc", BEGIN.format(folders)],
@@ -73,8 +73,8 @@ class Contexts:
             raise Failure("the paper takes too long") from None
         if done.returncode:
             raise failure_in(done.stderr)
-        name, kind, content = done.stdout.split(b"\n", 2)
-        return Made(name.decode(), kind.decode(), content)
+        name, media_type, content = done.stdout.split(b"\n", 2)
+        return Made(name.decode(), media_type.decode(), content)
 
 
 def of_person(person: DeskPerson) -> dict[str, Any]:
@@ -85,8 +85,8 @@ def of_person(person: DeskPerson) -> dict[str, Any]:
 def failure_in(error: bytes) -> Failure:
     """Why a process made no paper."""
     try:
-        told = json.loads(error.splitlines()[-1])
-        return Failure(str(told["message"]), int(told["status"]), str(told["advice"]))
+        fault = json.loads(error.splitlines()[-1])
+        return Failure(str(fault["message"]), int(fault["status"]), str(fault["advice"]))
     except (ValueError, LookupError, TypeError):
         return Failure("the paper can't be made")
 
@@ -101,18 +101,18 @@ def main() -> None:
     account, full_name, groups = (asked["person"][name] for name in ("account", "full_name", "groups"))
     person = DeskPerson(os.getuid(), account=account, full_name=full_name, groups=frozenset(groups))
     try:
-        made = made_of(Contexts(**asked["contexts"])(person), asked["what"], asked["names"])
+        file = file_of(Contexts(**asked["contexts"])(person), asked["kind"], asked["names"])
     except (Failure, OSError) as error:
         failure = error if isinstance(error, Failure) else Failure(str(error.strerror), FAULT)
-        told = {"message": failure.message, "status": failure.exit_code, "advice": failure.advice}
-        print(json.dumps(told), file=sys.stderr)
+        fault = {"message": failure.message, "status": failure.exit_code, "advice": failure.advice}
+        print(json.dumps(fault), file=sys.stderr)
         sys.exit(1)
-    sys.stdout.buffer.write(b"\n".join([made.name.encode(), made.kind.encode(), made.content]))
+    sys.stdout.buffer.write(b"\n".join([file.name.encode(), file.kind.encode(), file.content]))
 
 
-def made_of(context: Context, what: str, names: Names) -> Made:
+def file_of(context: Context, kind: str, names: Names) -> Made:
     """What is asked for: labels, or a paper."""
-    return labels(context, **names) if what == "labels" else paper(context, *PAPERS[what](context, **names))
+    return labels(context, **names) if kind == "labels" else paper(context, *PAPERS[kind](context, **names))
 
 
 def lot_card(_: Context, owner: str, lot: str) -> tuple[str, Make]:

@@ -165,10 +165,13 @@ def judge(context: Context, judged: Callable[[], judging.Judged]) -> Outcome:
 def outcome_of(context: Context, line: Line, given: asking.Given, lines: list[str]) -> Outcome:
     """What came of a line that was given."""
     answer, refusal = given.answer, meanings.refusal_in(given.answer.output)
-    said = [*lines, *(text for remark in asking.remarks(context, line, given) for text in (remark or "").split("\n"))]
+    remarks = [
+        *lines,
+        *(text for remark in asking.remarks(context, line, given) for text in (remark or "").split("\n")),
+    ]
     if answer.status == REFUSED and not refusal:
-        said.insert(0, answer.error.strip())
-    shown = tuple(text for text in said if text and OF_COMMANDS not in text and not is_about_key(text))
+        remarks.insert(0, answer.error.strip())
+    shown = tuple(text for text in remarks if text and OF_COMMANDS not in text and not is_about_key(text))
     return Outcome(state_of(answer), shown, refusal, (line.name, *given.words))
 
 

@@ -48,9 +48,9 @@ class Desk:
     tables: KeptTables = field(default_factory=KeptTables)
     checks: threading.Semaphore = field(default_factory=lambda: threading.BoundedSemaphore(MOST_CHECKS))
 
-    def making(self, person: DeskPerson, what: str, names: Mapping[str, Any]) -> Made:
+    def making(self, person: DeskPerson, kind: str, names: Mapping[str, Any]) -> Made:
         """A paper, or labels."""
-        return self.working.make(person, what, names)
+        return self.working.make(person, kind, names)
 
     @property
     def is_secure(self) -> bool:
@@ -70,14 +70,14 @@ class Desk:
 
 def desk() -> Desk:
     """The desk that this request is for."""
-    found: Desk = flask.current_app.extensions["desk"]
-    return found
+    served: Desk = flask.current_app.extensions["desk"]
+    return served
 
 
 def reader() -> Reader:
     """Who reads the answer."""
-    found: Reader = g.reader
-    return found
+    current: Reader = g.reader
+    return current
 
 
 def text(name: str, /, **words: Any) -> str:
@@ -87,14 +87,14 @@ def text(name: str, /, **words: Any) -> str:
 
 def person() -> DeskPerson:
     """Who asks."""
-    found: DeskPerson = g.person
-    return found
+    current: DeskPerson = g.person
+    return current
 
 
 def session() -> Session:
     """The session of this request."""
-    found: Session = g.session
-    return found
+    current: Session = g.session
+    return current
 
 
 @contextlib.contextmanager
@@ -221,9 +221,9 @@ def changed() -> Outcome:
     return Outcome(State.CHANGED)
 
 
-def done(outcome: Outcome, said: str, to: str, correction: str = "", undo: Undo | None = None) -> BaseResponse:
+def done(outcome: Outcome, summary: str, to: str, correction: str = "", undo: Undo | None = None) -> BaseResponse:
     """Goes on to a page, which says what was recorded."""
-    session().tell(Notice(outcome.state, said, outcome.lines, correction, undo))
+    session().tell(Notice(outcome.state, summary, outcome.lines, correction, undo))
     return flask.redirect(to, 303)
 
 

@@ -23,10 +23,10 @@ def batch(owner: str, order: str, number: int) -> Answer | Response:
     if request.method == "POST":
         with reading(context) as office:
             seen = office.batch(name).seen
-        outcome, said, undo = FORMS.get(typed("what"), no_form)(name, seen)
+        outcome, summary, undo = FORMS.get(typed("what"), no_form)(name, seen)
         if outcome.is_done:
             correction = text("Wrong? Take it back, and record it again.") if undo else ""
-            return done(outcome, said, batch_page(name), correction, undo)
+            return done(outcome, summary, batch_page(name), correction, undo)
     with reading(context) as office:
         card = office.batch(name)
         scan = values.get("scan", "").upper()
@@ -107,13 +107,13 @@ def actual(name: BatchId, use: str, of_lot: Mapping[str, str]) -> Done:
         "DAY": day_typed(desk().working(person())),
     }
     outcome = record("actual", line)
-    what = (
+    template = (
         "%(amount)s from %(lot)s, %(place)s, went in"
         if use == "consumed"
         else "%(amount)s came out into %(lot)s, %(place)s"
     )
     undo = Undo(batch_page(name), {"what": "void", "key": line["KEY"]}) if outcome.state == State.ACCEPTED else None
-    return outcome, text(what, **shown_of(line)), undo
+    return outcome, text(template, **shown_of(line)), undo
 
 
 def command_text(command: str) -> str:

@@ -20,7 +20,7 @@ from .receipts import shown_of
 from .today import lot_page
 
 PAGE = flask.Blueprint("lots", __name__)
-Done = tuple[Outcome, str, str]  # what came of a form, what is said of it, and how it is corrected
+Done = tuple[Outcome, str, str]  # what came of a form, what is summary of it, and how it is corrected
 
 
 @PAGE.route("/lot/<owner>/<name>", methods=["GET", "POST"])
@@ -31,16 +31,16 @@ def lot(owner: str, name: str) -> Answer | Response:
     if request.method == "POST":
         with reading(context) as office:
             seen = office.card(asked).seen
-        outcome, said, correction = FORMS.get(typed("what"), no_form)(context, asked, seen)
+        outcome, summary, correction = FORMS.get(typed("what"), no_form)(context, asked, seen)
         if outcome.is_done:
-            return done(outcome, said, lot_page(asked), correction)
+            return done(outcome, summary, lot_page(asked), correction)
     with reading(context) as office:
         card = office.card(asked)
         return page(
             "lot.html",
             outcome,
             values=values,
-            what=typed("what"),
+            sent_form=typed("what"),
             card=card,
             moves=office.moves_of(asked),
             places=office.places,
@@ -64,20 +64,20 @@ def result(context: Context, asked: LotId, seen: str) -> Done:
         "VALUE": value,
         "DAY": day_typed(context),
     }
-    said = text("%(test)s of lot %(lot)s: %(value)s", test=line["TEST"], lot=asked.name, value=typed("value"))
-    return record("result", line, seen=seen), said, text("Wrong? Record the right result: the latest one counts.")
+    summary = text("%(test)s of lot %(lot)s: %(value)s", test=line["TEST"], lot=asked.name, value=typed("value"))
+    return record("result", line, seen=seen), summary, text("Wrong? Record the right result: the latest one counts.")
 
 
 def sign(context: Context, asked: LotId, seen: str) -> Done:
     """Signs a lot, which lifts a hold. The password is asked for again, and what the signer saw has to be so still,
     while nobody else records."""
-    said, correction = text("Lot %(lot)s signed", lot=asked.name), text("Wrong? Hold the lot.")
+    summary, correction = text("Lot %(lot)s signed", lot=asked.name), text("Wrong? Hold the lot.")
     if why := password_fault(person().login, request.form.get("password", "")):
-        return Outcome(State.REFUSED, (why,)), said, correction
+        return Outcome(State.REFUSED, (why,)), summary, correction
     shown, reason = request.form.get("seen", ""), typed("reason")
 
-    def require_seen(made: NoteDesk) -> None:
-        card = Reading(context, made.base, register_of(context, made.base)).card(asked)
+    def require_seen(note_desk: NoteDesk) -> None:
+        card = Reading(context, note_desk.base, register_of(context, note_desk.base)).card(asked)
         if card.seen != shown:
             raise SeenOtherwise
 
@@ -87,7 +87,7 @@ def sign(context: Context, asked: LotId, seen: str) -> Done:
         except SeenOtherwise:
             return changed()
 
-    return once(do), said, correction
+    return once(do), summary, correction
 
 
 class SeenOtherwise(Exception):
@@ -96,30 +96,30 @@ class SeenOtherwise(Exception):
 
 def hold(context: Context, asked: LotId, seen: str) -> Done:
     """Holds a lot, with a reason."""
-    said, correction = text("Lot %(lot)s held", lot=asked.name), text(
+    summary, correction = text("Lot %(lot)s held", lot=asked.name), text(
         "Wrong? Whoever may sign lifts it by a signature."
     )
     reason = typed("reason")
     if not reason:
-        return Outcome(State.FAULTY, faults={"REASON": ""}), said, correction
-    return once(lambda: recording.hold(context, asked, reason)), said, correction
+        return Outcome(State.FAULTY, faults={"REASON": ""}), summary, correction
+    return once(lambda: recording.hold(context, asked, reason)), summary, correction
 
 
 def split(context: Context, asked: LotId, seen: str) -> Done:
     """Moves some of a lot to another place."""
     line = {**taken(context, asked), "TARGET": name_typed("target")}
-    said = text("%(amount)s of lot %(lot)s moved from %(place)s to %(target)s", **shown_of(line))
-    return record("split", line), said, text("Wrong? Move it back.")
+    summary = text("%(amount)s of lot %(lot)s moved from %(place)s to %(target)s", **shown_of(line))
+    return record("split", line), summary, text("Wrong? Move it back.")
 
 
 def scrap(context: Context, asked: LotId, seen: str) -> Done:
     """Scraps some of a lot, with a reason."""
     line = taken(context, asked)
-    said = text("%(amount)s of lot %(lot)s scrapped from %(place)s", **shown_of(line))
+    summary = text("%(amount)s of lot %(lot)s scrapped from %(place)s", **shown_of(line))
     if not typed("reason"):
-        return Outcome(State.FAULTY, faults={"REASON": ""}), said, ""
+        return Outcome(State.FAULTY, faults={"REASON": ""}), summary, ""
     correction = text("Wrong? Receive it again, as a correction of this lot.")
-    return record("scrap", line, {"reason": typed("reason")}), said, correction
+    return record("scrap", line, {"reason": typed("reason")}), summary, correction
 
 
 def taken(context: Context, asked: LotId) -> dict[str, str]:
@@ -141,8 +141,8 @@ def release(context: Context, asked: LotId, seen: str) -> Done:
 
 def reject(context: Context, asked: LotId, seen: str) -> Done:
     """Rejects a lot of the plant's own, for good."""
-    said = text("Lot %(lot)s rejected", lot=asked.name)
-    return record("reject", {"LOT": asked.name}, {"reason": typed("reason")}, seen=seen), said, ""
+    summary = text("Lot %(lot)s rejected", lot=asked.name)
+    return record("reject", {"LOT": asked.name}, {"reason": typed("reason")}, seen=seen), summary, ""
 
 
 FORMS: dict[str, Callable[[Context, LotId, str], Done]] = {

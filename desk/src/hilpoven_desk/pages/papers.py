@@ -25,17 +25,17 @@ def lot(owner: str, name: str) -> Answer | Response:
         if request.method == "GET":
             return page("papers.html", card=card, sizes=list(SIZES), shipments=office.shipments_of(card.lot.id))
         sublots = list(card.sublots)
-    what = typed("what")
-    if what == "labels":
+    kind = typed("what")
+    if kind == "labels":
         chosen = [sublot for sublot in request.form.getlist("sublot") if sublot in sublots]
         size = typed("size") if typed("size") in SIZES else next(iter(SIZES))
-        return sent({"owner": owner, "lot": name, "sublots": chosen, "size": size}, what)
-    if what in OF_LOT:
-        return sent({"owner": owner, "lot": name}, what)
-    if what in ("delivery-note", "shipment") and not name_fault(typed("key")):
-        if what == "shipment":
+        return sent({"owner": owner, "lot": name, "sublots": chosen, "size": size}, kind)
+    if kind in OF_LOT:
+        return sent({"owner": owner, "lot": name}, kind)
+    if kind in ("delivery-note", "shipment") and not name_fault(typed("key")):
+        if kind == "shipment":
             return sent({"owner": owner, "lot": name, "key": typed("key")}, "certificate")
-        return sent({"owner": owner, "key": typed("key")}, what)
+        return sent({"owner": owner, "key": typed("key")}, kind)
     flask.abort(400)
 
 
@@ -45,19 +45,19 @@ def batch(owner: str, order: str, number: int) -> Response:
     return sent({"owner": owner, "order": order, "number": number}, "batch")
 
 
-def sent(names: dict[str, object], what: str) -> Response:
+def sent(names: dict[str, object], kind: str) -> Response:
     """The file that is made. Few are made at once, because each takes a processor for seconds."""
     if faults := [
-        fault for word in names.values() if isinstance(word, str) and what != "labels" and (fault := name_fault(word))
+        fault for word in names.values() if isinstance(word, str) and kind != "labels" and (fault := name_fault(word))
     ]:
         raise Failure(faults[0], WRONG_USE)
     if not AT_ONCE.acquire(timeout=60):
         raise Failure(text("Other papers are being made. Try again in a minute."))
     try:
-        made: Made = desk().making(person(), what, names)
+        file: Made = desk().making(person(), kind, names)
     finally:
         AT_ONCE.release()
-    response = flask.make_response(made.content)
-    response.headers["Content-Type"] = made.kind
-    response.headers["Content-Disposition"] = f'attachment; filename="{made.name}"'
+    response = flask.make_response(file.content)
+    response.headers["Content-Type"] = file.kind
+    response.headers["Content-Disposition"] = f'attachment; filename="{file.name}"'
     return response

@@ -29,9 +29,9 @@ def receive() -> Answer | Response:
         noted = {name: typed(name) for name in ("party", "supplier_lot", "document")}
         outcome = record("receive", line, noted)
         if outcome.is_done:
-            said = text("%(amount)s of %(material)s received into lot %(lot)s at %(place)s", **shown_of(line))
+            summary = text("%(amount)s of %(material)s received into lot %(lot)s at %(place)s", **shown_of(line))
             to = url_for("lots.lot", owner=line["OWNER"], name=line["LOT"])
-            return done(outcome, said, to, text("Wrong? Scrap what is too much, or receive what is missing."))
+            return done(outcome, summary, to, text("Wrong? Scrap what is too much, or receive what is missing."))
     with reading(context) as office:
         owner, material = values.get("owner", "").upper(), values.get("material", "").upper()
         is_owner = owner in office.owners

@@ -29,11 +29,11 @@ def ship() -> Answer | Response:
         }
         outcome = record("ship", line, {"party": name_typed("party"), "document": typed("document")})
         if outcome.is_done:
-            said = text(
+            summary = text(
                 "%(amount)s of lot %(lot)s shipped to %(party)s", party=name_typed("party") or "?", **shown_of(line)
             )
             correction = text("Wrong? What comes back is received into a new lot, as a return.")
-            return done(outcome, said, url_for("shipments.ship"), correction)
+            return done(outcome, summary, url_for("shipments.ship"), correction)
     with reading(context) as office:
         card = office.card(label[0]) if label else None
         return page(

@@ -70,7 +70,7 @@ def order(owner: str, order: str) -> Answer | Response:
         unit = name_typed("unit")
         outcome = record("open", {"OWNER": owner, "ORDER": order, "UNIT": unit}, seen=seen)
         if outcome.is_done:
-            said = text("Batch of %(owner)s %(order)s opened on %(unit)s", owner=owner, order=order, unit=unit)
+            summary = text("Batch of %(owner)s %(order)s opened on %(unit)s", owner=owner, order=order, unit=unit)
             to = batch_page(BatchId(owner, order, row.opened + 1))
-            return done(outcome, said, to, text("Wrong? Close it before anything is recorded."))
+            return done(outcome, summary, to, text("Wrong? Close it before anything is recorded."))
     return page("order.html", outcome, row=row, units=units, seen=seen, values=values)
