@@ -234,8 +234,8 @@ def test_the_tarball_has_what_the_packages_have(unpacked: pathlib.Path) -> Any:
         paths = {str(file.relative_to(top)) for file in top.rglob("*") if not file.is_dir()}
         return {path for path in paths if not path.startswith(left_out)}
 
-    debians = ("local/", "lib/python3/", "share/lintian/", "share/doc/hilpoven-papers/")
-    debians += ("share/doc/hilpoven-desk/", "share/hilpoven-desk/", *(f"lib/systemd/system/{unit}" for unit in OF_DESK))
+    debians = ["local/", "lib/python3/", "share/lintian/", "share/doc/hilpoven-papers/"]
+    debians += ["share/doc/hilpoven-desk/", "share/hilpoven-desk/", *(f"lib/systemd/system/{unit}" for unit in OF_DESK)]
     packaged = {path for path in files(unpacked / "usr", *debians) if not path.endswith("changelog.Debian.gz")}
     examples = {f"share/doc/hilpoven/examples/{path}" for path in files(unpacked / "etc", "pam.d/")}
     assert len(examples) == 3 and files(unpacked / "usr/local", "share/hilpoven/") == packaged | examples
