@@ -70,6 +70,7 @@ class Pages:
         self.folders = [root, root / "docs", root / "docs" / "engineering", plant, *plant.glob("**/")]
         self.folders += [
             root / "desk" / "src" / "hilpoven_desk",
+            root / "group" / "src" / "hilpoven_group",
             sources.crates,
             *crates,
             *(crate / "specs" for crate in crates),

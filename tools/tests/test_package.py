@@ -36,9 +36,9 @@ def packages(tmp_path_factory: pytest.TempPathFactory) -> pathlib.Path:
 
 @pytest.fixture(scope="module")
 def unpacked(packages: pathlib.Path) -> pathlib.Path:
-    """What the packages install, and the tarball beside it in /usr/local."""
+    """What the packages of a single plant install, and the tarball beside it in /usr/local."""
     root = packages / "root"
-    for package in packages.glob("*.deb"):
+    for package in set(packages.glob("*.deb")) - set(packages.glob("hilpoven-group_*.deb")):
         subprocess.run(["dpkg-deb", "-x", package, root], check=True)
     local = root / "usr/local"
     local.mkdir()
@@ -60,7 +60,7 @@ def test_the_folder_gets_the_packages_and_nothing_else(packages: pathlib.Path) -
     files = {re.sub(r"[\d.]+(-\d+)?(?=[._-])", "V", name, count=1) for name in names}
     made_of_source = {f"hilpoven_V.{end}" for end in ("dsc", "orig.tar.gz", "debian.tar.xz")}
     binary = {"toll_V_amd64.deb", "hilpoven_V_all.deb", "hilpoven-papers_V_all.deb", "toll-V-x86_64.tar.gz"}
-    binary |= {"hilpoven-desk_V_all.deb"}
+    binary |= {"hilpoven-desk_V_all.deb", "hilpoven-group_V_all.deb"}
     assert files == {"program"} | binary | made_of_source
     assert not [file for file in packages.iterdir() if file.name.startswith((".", "package"))]
 
@@ -199,6 +199,23 @@ def test_a_server_and_its_command_need_no_compiler(packages: pathlib.Path) -> No
     )
     heavy = {"weasyprint", "graphviz"}
     assert not heavy & needed and heavy | {"hilpoven-papers"} <= suggested and heavy | {"hilpoven"} <= of_papers
+
+
+def test_a_single_plant_installs_nothing_of_a_group(packages: pathlib.Path, unpacked: pathlib.Path) -> None:
+    (package,) = packages.glob("hilpoven-group_*.deb")
+    listed = subprocess.run(["dpkg-deb", "-c", package], capture_output=True, text=True, check=True).stdout.split("\n")
+    named = {
+        line.split()[-1].removeprefix("./usr/lib/python3/dist-packages/") for line in listed if line.startswith("-")
+    }
+    source = ROOT / "group/src"
+    files = {str(file.relative_to(source)) for file in (source / "hilpoven_group").glob("*.*") if file.suffix != ".pyc"}
+    assert files == {name for name in named if name.startswith("hilpoven_group/")} and len(files) > 10
+    assert {"hilpoven", "python3-psycopg2"} <= {name.split()[0] for name in fields(package)["Depends"].split(", ")}
+    assert not list(unpacked.rglob("hilpoven_group")) and not list(unpacked.rglob("toll-publish*"))
+    others = [
+        fields(*packages.glob(f"{name}_*.deb")).get("Depends", "") for name in ("toll", "hilpoven", "hilpoven-papers")
+    ]
+    assert not any("psycopg2" in depends or "postgresql" in depends for depends in others)
 
 
 def test_debians_command_is_isolated(unpacked: pathlib.Path) -> None:

@@ -14,6 +14,7 @@ sys.path.insert(0, str(ROOT / "plant" / "src"))
 from hilpoven.core import settings  # noqa: E402
 
 OFFICE = """toll@acme.service toll-backup@acme.service toll-companion@acme.service toll-follow@acme.service
+    toll-publish@acme.service
     toll-backup@acme.timer toll-companion@acme.timer toll-failed@toll@acme.service.service""".split()
 SINGLE = ["toll.service", "toll-backup.service", "toll-backup.timer"]
 PROGRAMS = r"(?m)^(Exec\w+=)(toll|hilpoven)\b"
@@ -188,7 +189,7 @@ def operators_units(package: str) -> dict[str, str]:
     return {name: name.replace("@.", "@*.") for name in enabled}
 
 
-@pytest.mark.parametrize("package", ("toll", "hilpoven"))
+@pytest.mark.parametrize("package", ("toll", "hilpoven", "hilpoven-group"))
 def test_a_package_that_is_removed_stops_and_disables_what_its_operator_enabled(
     package: str, tmp_path: pathlib.Path
 ) -> None:

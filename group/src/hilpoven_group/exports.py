@@ -1,0 +1,224 @@
+"""What happened to the lots of a recall, in the forms of others: EPCIS 2.0 (JSON-LD) and the sortable spreadsheet of
+FSMA 204.
+
+A row of an office has a day and no time: `eventTime` is the beginning of that day in UTC, and `eventID`, a hash of the
+rows, tells events apart. A voided actual is in no event.
+"""
+import hashlib
+import json
+from collections import defaultdict
+from collections.abc import Sequence
+from dataclasses import dataclass
+from datetime import datetime, timezone
+from typing import Any, NamedTuple
+from urllib.parse import quote
+
+from hilpoven.core.days import date_of
+from hilpoven.core.failure import WRONG_USE, Failure
+from hilpoven.core.table import csv_of, as_cell
+from hilpoven.model.genealogy import BACK
+from hilpoven.model.schema import Kind
+
+from . import database, recalls, settings
+from .database import Connection
+
+# Unit codes of UN/ECE Recommendation 20, by measures of materials in small letters.
+UNITS = {"kg": "KGM", "g": "GRM", "mg": "MGM", "t": "TNE", "l": "LTR", "liter": "LTR", "litre": "LTR", "ml": "MLT"}
+UNITS |= {"pcs": "H87", "piece": "H87", "pieces": "H87"}
+CONTEXT = "https://ref.gs1.org/standards/epcis/2.0.0/epcis-context.jsonld"
+STEPS = {
+    Kind.RECEIVE: ("receiving", "OBSERVE", "in_progress"),
+    Kind.SHIP: ("shipping", "OBSERVE", "in_transit"),
+    Kind.SCRAP: ("destroying", "DELETE", "destroyed"),
+}
+TRACKED = {
+    Kind.RECEIVE: "receiving",
+    Kind.SHIP: "shipping",
+    Kind.CONSUMED: "transformation: food used",
+    Kind.PRODUCED: "transformation: food produced",
+}
+FSMA_COLUMNS = (
+    *("event", "traceability lot code", "source of the code", "product", "quantity", "unit", "location", "GLN"),
+    *("other party", "other GLN", "date", "reference document", "lot here"),
+)
+EVENTS = """
+SELECT office, gln, gid, mkey, kind, lot_id, amount, day, batch_id, segment, ord, number, party, supplier_lot, document,
+  other_gln FROM hg.events_of(%s::bigint[], %s)
+"""
+Json = dict[str, Any]
+
+
+class Happened(NamedTuple):
+    """A movement of a lot that stands."""
+
+    office: str
+    gln: str
+    gid: int
+    key: str
+    kind: int
+    lot: int
+    amount: int
+    day: int
+    batch: int
+    segment: int
+    order: str
+    number: int
+    party: str
+    supplier_lot: str
+    document: str
+    other_gln: str
+
+
+class Lot(NamedTuple):
+    """What a lot is called."""
+
+    office: str
+    owner: str
+    name: str
+    material: str
+    measure: str
+
+
+def read(base: Connection, starts: list[int], way: str, uri: str) -> "Export":
+    """What happened to the lots of a recall."""
+    if not uri:
+        raise Failure(
+            "nothing says how the names of lots begin", WRONG_USE, f'uri = "https://.." in {settings.PATH} says it'
+        )
+    ids = sorted({lot for start in starts for lot in recalls.trace(base, start, way).steps})
+    rows = [Happened(*row) for row in database.rows(base, EVENTS, (ids, way == BACK))]
+    sql = "SELECT lot_id, office, owner, lot, material, measure FROM hg.lots_of(%s::bigint[])"
+    lots = {row[0]: Lot(*row[1:]) for row in database.rows(base, sql, (sorted({*ids, *(row.lot for row in rows)}),))}
+    return Export(rows, lots, uri.rstrip("/"))
+
+
+@dataclass(frozen=True)
+class Export:
+    """Movements of the lots of a recall, and what these lots are called."""
+
+    rows: Sequence[Happened]
+    lots: dict[int, Lot]
+    uri: str
+
+    def name(self, *parts: object) -> str:
+        """The URI of a thing."""
+        return "/".join([self.uri, *(quote(str(part), safe="") for part in parts)])
+
+    def quantity(self, lot: int, amount: int) -> Json:
+        """How much of a lot, with the unit code of its measure if that has one."""
+        of = self.lots[lot]
+        unit = {"uom": UNITS[of.measure.lower()]} if of.measure.lower() in UNITS else {}
+        return {"epcClass": self.name(of.office, "lot", of.owner, of.name), "quantity": amount, **unit}
+
+    def event(self, kind: str, rows: Sequence[Happened], **members: Any) -> Json:
+        """An event of rows of one office."""
+        identity = hashlib.sha256(json.dumps(sorted(rows)).encode()).hexdigest()
+        day = date_of(max(row.day for row in rows))
+        place = {"id": self.place(rows[0])}
+        return {
+            "type": kind,
+            "eventID": f"ni:///sha-256;{identity}?ver=CBV2.0",
+            "eventTime": f"{day or '1970-01-01'}T00:00:00.000+00:00",
+            "eventTimeZoneOffset": "+00:00",
+            "readPoint": place,
+            "bizLocation": place,
+            **members,
+        }
+
+    def place(self, row: Happened) -> str:
+        """The URI of an office: by its GLN, if it has one."""
+        return f"https://id.gs1.org/414/{row.gln}" if row.gln else self.name(row.office)
+
+    def other(self, row: Happened) -> str:
+        """The URI of a party: by the GLN of its office, if it has one."""
+        return f"https://id.gs1.org/417/{row.other_gln}" if row.other_gln else self.name(row.office, "party", row.party)
+
+    def observed(self, row: Happened) -> Json:
+        """The event of a receipt, a shipment or a scrap."""
+        step, action, disposition = STEPS[Kind(row.kind)]
+        more: Json = {}
+        if row.document:
+            document = self.name(row.office, "document", row.document)
+            more["bizTransactionList"] = [{"type": "desadv", "bizTransaction": document}]
+        if row.party:
+            end = "source" if row.kind == Kind.RECEIVE else "destination"
+            more[f"{end}List"] = [{"type": "possessing_party", end: self.other(row)}]
+        if row.supplier_lot:
+            more["hilpoven:supplierLot"] = row.supplier_lot
+        quantities = [self.quantity(row.lot, row.amount)]
+        named = {"action": action, "bizStep": step, "disposition": disposition, "quantityList": quantities}
+        return self.event("ObjectEvent", [row], **named, **more)
+
+    def transformations(self, rows: Sequence[Happened]) -> list[Json]:
+        """The events of a batch: one for each last segment of products, with what was consumed up to it, so that none
+        says more than the office. What an earlier one has consumed is named without its amount."""
+        last: dict[int, int] = defaultdict(int)
+        for row in rows:
+            if row.kind == Kind.PRODUCED:
+                last[row.lot] = max(last[row.lot], row.segment)
+        events, done = [], set[str]()
+        for end in sorted(set(last.values())):
+            inputs = [row for row in rows if row.kind == Kind.CONSUMED and row.segment <= end]
+            outputs = [row for row in rows if row.kind == Kind.PRODUCED and last[row.lot] == end]
+            new = [row for row in inputs if row.key not in done]
+            used = [self.quantity(*pair) for pair in totals(new).items()]
+            again = {row.lot for row in inputs} - {row.lot for row in new}
+            used += [{"epcClass": self.quantity(lot, 0)["epcClass"]} for lot in sorted(again)]
+            done |= {row.key for row in inputs}
+            named = {
+                "bizStep": "commissioning",
+                "transformationID": self.name(rows[0].office, "batch", rows[0].gid, rows[0].order, rows[0].number),
+            }
+            lists = {"inputQuantityList": used} if used else {}
+            made = [self.quantity(*pair) for pair in totals(outputs).items()]
+            events.append(
+                self.event("TransformationEvent", [*inputs, *outputs], **named, **lists, outputQuantityList=made)
+            )
+        return events
+
+    def epcis(self) -> str:
+        """A document of EPCIS 2.0."""
+        batches: dict[int, list[Happened]] = defaultdict(list)
+        for row in self.rows:
+            if row.kind in (Kind.CONSUMED, Kind.PRODUCED):
+                batches[row.batch].append(row)
+        events = [self.observed(row) for row in self.rows if row.kind in STEPS]
+        events += [event for rows in batches.values() for event in self.transformations(rows)]
+        document = {
+            "@context": [CONTEXT, {"hilpoven": f"{self.uri}/terms/"}],
+            "type": "EPCISDocument",
+            "schemaVersion": "2.0",
+            "creationDate": datetime.now(timezone.utc).strftime("%Y-%m-%dT%H:%M:%SZ"),
+            "epcisBody": {"eventList": events},
+        }
+        return json.dumps(document, indent=1) + "\n"
+
+    def fsma(self) -> str:
+        """The critical tracking events with their key data. A received lot keeps the lot code of its supplier."""
+        codes = {row.lot: row for row in self.rows if row.kind == Kind.RECEIVE and row.supplier_lot}
+        lines: list[Sequence[str | int | None]] = [FSMA_COLUMNS]
+        for row in self.rows:
+            if row.kind in TRACKED:
+                lot, given = self.lots[row.lot], codes.get(row.lot)
+                code, source = (given.supplier_lot, given.party) if given else (lot.name, lot.office)
+                document = row.document or (f"batch {row.order}/{row.number}" if row.batch else row.key)
+                day = date_of(row.day)
+                cells: list[str | int] = [
+                    TRACKED[Kind(row.kind)],
+                    code,
+                    source,
+                    f"{lot.owner} {lot.material}",
+                    row.amount,
+                    lot.measure,
+                ]
+                cells += [row.office, row.gln, row.party, row.other_gln, str(day or row.day), document, lot.name]
+                lines.append(list(map(as_cell, cells)))
+        return csv_of(lines)
+
+
+def totals(rows: Sequence[Happened]) -> dict[int, int]:
+    """How much of each lot."""
+    amounts: dict[int, int] = defaultdict(int)
+    for row in rows:
+        amounts[row.lot] += row.amount
+    return amounts

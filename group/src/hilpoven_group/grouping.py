@@ -1,0 +1,121 @@
+"""`hilpoven group` and its subcommands."""
+import contextlib
+import sys
+from collections.abc import Iterator
+
+import click
+
+from hilpoven.cli.output import give_table, tell
+from hilpoven.core.context import Context
+from hilpoven.core.failure import REFUSED, printable
+from hilpoven.model.genealogy import BACK, FORWARD
+
+from . import database, exports, members, recalls, settings
+from .database import Connection
+from .tables import TABLES
+
+COMPUTED = "SELECT office, file, tbl, owner, n, head, told, told_head FROM hg.computed_heads(%s)"
+
+
+@contextlib.contextmanager
+def asked(context: Context, is_read_only: bool = True) -> Iterator[Connection]:
+    """The group's database, as the role of whoever gives the command; a member of the group hilpoven has none."""
+    context.person.require_operator("group")
+    with database.opened(settings.load().database, is_read_only=is_read_only) as base:
+        yield base
+
+
+def init(context: Context) -> None:
+    """`hilpoven group init`."""
+    with asked(context, is_read_only=False) as base:
+        members.init(base)
+    click.echo("the group's tables are made")
+
+
+def office_add(context: Context, plant: str, gln: str) -> None:
+    """`hilpoven group office add`."""
+    with asked(context, is_read_only=False) as base:
+        role = members.add_office(base, plant, gln)
+    click.echo(printable(f"{plant} publishes as {role}"))
+
+
+def company_add(context: Context, company: str) -> None:
+    """`hilpoven group company add`."""
+    with asked(context, is_read_only=False) as base:
+        role = members.add_company(base, company)
+    click.echo(printable(f"the question service asks for {company} as {role}"))
+
+
+def member_add(context: Context, plant: str, owner: str, company: str, since: str | int) -> None:
+    """`hilpoven group member add`."""
+    with asked(context, is_read_only=False) as base:
+        members.add_member(base, plant, owner, company, int(since))
+
+
+def party(context: Context, plant: str, owner: str, party: str, office: str) -> None:
+    """`hilpoven group party`."""
+    with asked(context, is_read_only=False) as base:
+        members.add_party(base, plant, owner, party, office)
+
+
+def recall(context: Context, office: str, owner: str, lot: str, way: str | None, file: str, form: str | None) -> None:
+    """`hilpoven group recall`."""
+    with asked(context) as base:
+        for start in recalls.lots_named(base, office, owner, lot, file):
+            found = recalls.trace(base, start, way or FORWARD)
+            rows = recalls.lines(base, found)
+            give_table(recalls.COLUMNS, rows, form, "no lots")
+            if shipments := [] if way == BACK else recalls.shipments(base, found):
+                if not form:
+                    click.echo()
+                give_table(recalls.SHIPMENT_COLUMNS, shipments, form, "no shipments")
+            tell(recalls.summary(found, rows))
+        tell(recalls.age_line(base))
+
+
+def export(context: Context, form: str, office: str, owner: str, lot: str, way: str | None) -> None:
+    """`hilpoven group export`."""
+    uri = settings.load().uri
+    with asked(context) as base:
+        exported = exports.read(base, recalls.lots_named(base, office, owner, lot), way or FORWARD, uri)
+        tell(recalls.age_line(base))
+    click.echo(exported.epcis() if form == "epcis" else exported.fsma(), nl=False)
+
+
+def ends(context: Context, form: str | None) -> None:
+    """`hilpoven group ends`."""
+    with asked(context) as base:
+        give_table(recalls.END_COLUMNS, recalls.ends(base), form, "no ends")
+        tell(recalls.age_line(base))
+
+
+def join(
+    context: Context, office: str, owner: str, lot: str, other: str, other_owner: str, other_lot: str, reason: str
+) -> None:
+    """`hilpoven group join`."""
+    with asked(context, is_read_only=False) as base:
+        src = recalls.lot_named(base, office, owner, lot)
+        recalls.join(base, src, recalls.lot_named(base, other, other_owner, other_lot), reason)
+
+
+def status(context: Context, form: str | None) -> None:
+    """`hilpoven group status`."""
+    with asked(context) as base:
+        give_table(["office", "as_of", "seconds"], recalls.ages(base), form, "no offices")
+
+
+def verify(context: Context, office: str | None) -> None:
+    """`hilpoven group verify`."""
+    with asked(context) as base:
+        if office:
+            members.office_number(base, office)
+        rows = database.rows(base, COMPUTED, (office,))
+    faults = 0
+    for number, file, mark, owner, n, head, told, told_head in rows:
+        if (n, n and bytes(head)) != (told, told and bytes(told_head)):
+            faults += 1
+            what = f"{TABLES[mark].name} of {owner or 'nobody'} in file {file} of office {number}"
+            click.echo(printable(f"{what}: {n:,} rows don't give the head of {told:,}"))
+    state = "the same" if not faults else f"{faults:,} differ"
+    click.echo(f"{len(rows):,} heads of {sum(row[4] for row in rows):,} rows: {state}")
+    sys.exit(REFUSED if faults else 0)

@@ -1,0 +1,153 @@
+"""Who belongs to a group: offices, companies, which owner of an office is which company, and which party of a company
+is another office. The group's administrator says so."""
+import re
+from importlib.resources import files
+
+from hilpoven import HOUSE
+from hilpoven.core.failure import REFUSED, WRONG_USE, Failure
+from hilpoven.core.forms import name_fault
+
+from . import database, questions
+from .database import Connection
+from .numbers import FIRST_HOUSE, MOST_FILES, MOST_OFFICES
+
+PLANT = re.compile("[A-Za-z0-9][A-Za-z0-9_.-]{0,31}")
+MOST_LETTERS = 60  # of a company's name
+GLN = re.compile("[0-9]{13}")
+PARTY = """
+INSERT INTO hg.parties (gid, office, party, other) VALUES (%s, %s, %s, %s)
+ON CONFLICT (gid, office, party) DO UPDATE SET other = excluded.other
+"""
+
+
+def init(base: Connection) -> None:
+    """Makes the group's tables in a database that has none. It takes PostgreSQL's superuser, since it makes roles."""
+    if database.value(base, "SELECT 1 FROM pg_namespace WHERE nspname = 'hg'"):
+        raise Failure("the database has a group already", REFUSED)
+    if not database.value(base, "SELECT rolsuper FROM pg_roles WHERE rolname = current_user"):
+        raise Failure(
+            "the group's tables are made by PostgreSQL's superuser", REFUSED, "sudo -u postgres hilpoven group init"
+        )
+    with base.cursor() as cursor:
+        cursor.execute((files(__package__) / "schema.sql").read_text())
+        cursor.execute(questions.definitions())
+    grant_database(base)
+
+
+def grant_database(base: Connection) -> None:
+    """Lets in the roles of a group alone."""
+    name = quoted(base, str(database.value(base, "SELECT current_database()")))
+    with base.cursor() as cursor:
+        cursor.execute(f"REVOKE ALL ON DATABASE {name} FROM PUBLIC")
+        cursor.execute(f"GRANT CONNECT ON DATABASE {name} TO hg_publisher, hg_company, hg_reader")
+        cursor.execute(f"GRANT TEMPORARY ON DATABASE {name} TO hg_publisher")
+
+
+def quoted(base: Connection, name: str) -> str:
+    """A name as SQL has it."""
+    return str(database.value(base, "SELECT quote_ident(%s)", (name,)))
+
+
+def require_plant(name: str) -> None:
+    """Fails unless this can be the name of an office in a group."""
+    if not PLANT.fullmatch(name):
+        raise Failure(
+            f"{name!r} can't be the name of an office in a group", WRONG_USE, "up to 32 letters, digits, _ . -"
+        )
+
+
+def add_office(base: Connection, name: str, gln: str) -> str:
+    """Adds an office, whose own stock is a company of its own; the role as which it publishes."""
+    require_plant(name)
+    if gln and not is_gln(gln):
+        raise Failure(f"{gln} is no GLN: 13 digits, of which the last is a check", WRONG_USE)
+    number = database.value(base, "SELECT coalesce(max(office), 0) + 1 FROM hg.offices")
+    if number > MOST_OFFICES:
+        raise Failure(f"a group has at most {MOST_OFFICES:,} offices", REFUSED)
+    role = f"hg_publisher_{name}"
+    sql = "INSERT INTO hg.offices (office, name, publisher, gln) VALUES (%s, %s, %s, %s)"
+    database.run(base, sql, (number, name, role, gln))
+    sql = "INSERT INTO hg.companies (gid, name, house) VALUES (%s, %s, %s)"
+    database.run(base, sql, (FIRST_HOUSE + number, f"{HOUSE} of {name}", number))
+    sql = "INSERT INTO hg.members (office, owner, since, gid) VALUES (%s, %s, 1, %s)"
+    database.run(base, sql, (number, HOUSE, FIRST_HOUSE + number))
+    make_role(base, role, "hg_publisher")
+    return role
+
+
+def make_role(base: Connection, role: str, of: str) -> None:
+    """Makes a role that may log in, of a role."""
+    if not database.value(base, "SELECT 1 FROM pg_roles WHERE rolname = %s", (role,)):
+        database.run(base, f"CREATE ROLE {quoted(base, role)} LOGIN")
+    database.run(base, f"GRANT {of} TO {quoted(base, role)}")
+
+
+def add_company(base: Connection, name: str) -> str:
+    """Adds a company; the role as which the question service asks for it."""
+    if not name.isprintable() or not 0 < len(name) <= MOST_LETTERS:
+        raise Failure(f"{name!r} can't be the name of a company", WRONG_USE, f"up to {MOST_LETTERS} letters")
+    gid = database.value(base, "SELECT coalesce(max(gid), 0) + 1 FROM hg.companies WHERE gid < %s", (FIRST_HOUSE,))
+    if gid >= FIRST_HOUSE:
+        raise Failure("the group has no number for another company", REFUSED)
+    role = f"hg_company_{gid}"
+    database.run(base, "INSERT INTO hg.companies (gid, name, role) VALUES (%s, %s, %s)", (gid, name, role))
+    make_role(base, role, "hg_company")
+    return role
+
+
+def office_number(base: Connection, name: str) -> int:
+    """The number of an office; fails if there is none."""
+    number = database.value(base, "SELECT office FROM hg.offices WHERE name = %s", (name,))
+    if number is None:
+        known = [row[0] for row in database.rows(base, "SELECT name FROM hg.offices ORDER BY 1")]
+        raise Failure(f"the group has no office {name}", REFUSED, f"there are: {', '.join(known)}" if known else "")
+    return int(number)
+
+
+def company_of(base: Connection, office: int, owner: str) -> int:
+    """Which company an owner of an office is now."""
+    sql = "SELECT gid FROM hg.members WHERE office = %s AND owner = %s ORDER BY since DESC LIMIT 1"
+    if (gid := database.value(base, sql, (office, owner))) is None:
+        raise Failure(f"{owner} is no company of the group in that office", REFUSED, "`group member add` says which")
+    return int(gid)
+
+
+def add_member(base: Connection, plant: str, owner: str, company: str, since: int) -> None:
+    """Notes which company an owner of an office is, from one of its files on. What is published isn't another's
+    afterwards."""
+    if fault := name_fault(owner):
+        raise Failure(f"OWNER {fault}", WRONG_USE)
+    if not 0 < since <= MOST_FILES or owner == HOUSE:
+        raise Failure(f"{owner} of file {since} can't be a company", WRONG_USE)
+    office, gid = office_number(base, plant), database.value(
+        base, "SELECT gid FROM hg.companies WHERE name = %s", (company,)
+    )
+    if gid is None:
+        raise Failure(f"the group has no company {company}", REFUSED, "`group company add` adds one")
+    sql = "SELECT 1 FROM hg.heads WHERE office = %s AND owner = %s AND file >= %s AND n > 0 LIMIT 1"
+    if database.value(base, sql, (office, owner, since)):
+        raise Failure(f"rows of {owner} in file {since} of {plant} are published already", REFUSED)
+    words = (office, owner, since, gid)
+    database.run(base, "INSERT INTO hg.members (office, owner, since, gid) VALUES (%s, %s, %s, %s)", words)
+
+
+def add_party(base: Connection, plant: str, owner: str, party: str, other: str) -> None:
+    """Notes that a party of an owner is another office of the group."""
+    if fault := name_fault(party):
+        raise Failure(f"PARTY {fault}", WRONG_USE)
+    office, at = office_number(base, plant), office_number(base, other)
+    if office == at:
+        raise Failure(f"{plant} is no party of itself", WRONG_USE)
+    words = (company_of(base, office, owner), office, party, at)
+    database.run(base, PARTY, words)
+
+
+def is_gln(text: str) -> bool:
+    """Whether a text is a GLN of GS1: 13 digits, of which the last is a check of the others."""
+    return bool(GLN.fullmatch(text)) and check_digit(text[:-1]) == text[-1]
+
+
+def check_digit(digits: str) -> str:
+    """GS1's check digit: weights 3 and 1 in turn, from the last digit on."""
+    total = sum(int(digit) * (3, 1)[at % 2] for at, digit in enumerate(reversed(digits)))
+    return str(-total % 10)

@@ -1,0 +1,36 @@
+"""Where the group's database is, and what this machine's office is called in it: /etc/hilpoven-group.toml."""
+from dataclasses import dataclass, replace
+
+from hilpoven.core import settings as site
+from hilpoven.core.context import Context
+from hilpoven.core.failure import WRONG_USE, Failure
+
+PATH = "/etc/hilpoven-group.toml"
+
+
+@dataclass(frozen=True)
+class Group:
+    """What a machine says of its group: each field is a line of /etc/hilpoven-group.toml."""
+
+    database: str = site.setting("", "how libpq reaches the group's database, such as host=.. dbname=..")
+    plant: str = site.setting("", "what the office is called in the group; its NAME where it isn't said")
+    behind: int = site.setting(60, "seconds; an office that is behind by more is told by `publish status`", least=1)
+    every: float = site.setting(1.0, "seconds between two looks at the office", least=0)
+    chunk: int = site.setting(20_000, "rows that are sent at a time", least=1)
+    listen: str = site.setting("127.0.0.1:8090", "where `group serve` answers")
+    uri: str = site.setting("", "with which the names of exported lots begin, such as https://group.example")
+
+
+def load(path: str = PATH) -> Group:
+    """The settings of a file, or of that which HILPOVEN_GROUP_SETTINGS names; behind sudo that counts for nothing."""
+    path = site.of_environment("HILPOVEN_GROUP_SETTINGS") or path
+    return site.table_of(path, Group, site.lines_of(path))
+
+
+def of_office(context: Context) -> Group:
+    """The same, with the name of the office of a command."""
+    group = load()
+    group = group if group.plant else replace(group, plant=context.settings.office)
+    if not group.plant:
+        raise Failure("the office has no name in the group", WRONG_USE, f'plant = ".." in {PATH} says it')
+    return group

@@ -1,0 +1,270 @@
+"""What a company's role learns of others: nothing by any question, and nothing by SQL that an injection would bring."""
+import contextlib
+import re
+
+import psycopg2
+import pytest
+from group_of_plants import SHIP
+from hilpoven_group import database
+
+TABLES = """companies members offices parties joins files heads looked retracted materials lots moves voids results notes states facts links
+    standing""".split()
+VIEWS = "standing_moves current_states current_facts current_links current_standing matched".split()
+SECRET = "B-SECRET"
+
+
+@pytest.fixture
+def two(group):
+    """An office of two companies, of which the second has a secret lot."""
+    plant = group.plant("NORTH")
+    with plant.writing() as base:
+        plant.receive(base, "HOUSE", "W-1", 100)
+        plant.receive(base, "ACME", "S-1")
+        plant.receive(base, "BOLT", "S-1")
+        plant.batch(base, "ACME", "O-1", 1, {"S-1": 1, ("HOUSE", "W-1"): 1}, {"B-1": 1})
+        plant.batch(base, "BOLT", "O-1", 1, {"S-1": 1, ("HOUSE", "W-1"): 1}, {SECRET: 1})
+        key = plant.move(base, "BOLT", SHIP, SECRET, 10)
+    plant.note_movement("BOLT", key, party="SECRETSHOP")
+    plant.publish()
+    return group
+
+
+def role_of(group, name: str) -> str:
+    """The role of a company."""
+    return group.rows(f"SELECT role FROM hg.companies WHERE name = '{name}'")[0][0]
+
+
+def test_each_table_has_row_security_and_a_policy(two):
+    """A new table without a policy fails here."""
+    sql = """SELECT c.relname, c.relrowsecurity, (SELECT count(*) FROM pg_policy AS p WHERE p.polrelid = c.oid) FROM pg_class AS c
+        WHERE c.relnamespace = 'hg'::regnamespace AND c.relkind IN ('r', 'p') ORDER BY 1"""
+    rows = two.rows(sql)
+    assert sorted(row[0] for row in rows) == sorted(TABLES) and all(row[1] and row[2] for row in rows)
+    owners = two.rows("SELECT c.relname FROM pg_class AS c WHERE c.relnamespace = 'hg'::regnamespace AND c.relkind = 'v' AND c.relowner = 'hg_questions'::regrole")
+    assert sorted(row[0] for row in owners) == sorted(VIEWS)
+
+
+def test_functions_are_for_roles_alone_and_have_a_path(two):
+    functions = two.rows("SELECT p.proname, p.prosecdef, coalesce(p.proconfig::text, ''), coalesce(p.proacl::text, '') FROM pg_proc AS p WHERE p.pronamespace = 'hg'::regnamespace")
+    for name, is_definer, config, rights in functions:
+        assert re.search(r"[{,]=X", rights) is None and rights, name  # `=X` would be everybody's
+        assert not is_definer or "search_path=hg, pg_catalog, pg_temp" in config, name
+    for role in ("hg_company", "hg_reader", "hg_questions", "hg_publisher"):
+        assert two.rows(f"SELECT rolsuper OR rolbypassrls OR rolcanlogin OR rolcreaterole FROM pg_roles WHERE rolname = '{role}'") == [(False,)]
+    assert two.rows("SELECT count(*) FROM pg_auth_members WHERE roleid = 'hg_questions'::regrole") == [(0,)]
+
+
+def attempts(other_lot: int, other_gid: int, house_lot: int) -> list[str]:
+    """SQL that an injection could bring into a company's session."""
+    tables = [f"SELECT count(*) FROM hg.{name}" for name in (*TABLES, *VIEWS)]
+    return [
+        *tables,
+        *(f"EXPLAIN SELECT 1 FROM hg.{name}" for name in ("moves", "lots", "facts", "companies")),
+        *(f"EXPLAIN ANALYZE SELECT 1 FROM hg.{name}" for name in ("moves", "matched")),
+        *(f"COPY hg.{name} TO STDOUT" for name in ("moves", "lots", "companies")),
+        *(f"COPY (SELECT 1 FROM hg.{name}) TO STDOUT" for name in ("moves", "lots")),
+        "COPY (SELECT 1) TO PROGRAM 'id'",
+        "COPY hg.lots FROM '/etc/passwd'",
+        *(f"SELECT 1 / (CASE WHEN lot = '{SECRET}' THEN 0 ELSE 1 END) FROM hg.{name}" for name in ("lots", "moves")),
+        "SELECT (CASE WHEN gid <> 1 THEN mkey ELSE '1' END)::int FROM hg.moves",
+        f"SELECT lot_id FROM hg.lots_of(ARRAY[{other_lot}]::bigint[])",
+        f"SELECT dst FROM hg.onward(ARRAY[{other_lot}]::bigint[])",
+        f"SELECT dst FROM hg.back(ARRAY[{other_lot}]::bigint[])",
+        f"SELECT lot FROM hg.shipments_of(ARRAY[{other_lot}]::bigint[])",
+        f"SELECT dst FROM hg.onward(ARRAY[{house_lot}]::bigint[]) WHERE dst >> 41 = {other_gid}",
+        f"SELECT lot_id FROM hg.find_lot('NORTH', 'BOLT', '{SECRET}')",
+        f"SELECT lot_id FROM hg.find_lot('NORTH', 'BOLT', '{SECRET}') WHERE 1 / (lot_id - lot_id) = 1",
+        "SELECT lot_id FROM hg.find_lot('NORTH', 'HOUSE', 'W-1')",
+        "SELECT owner FROM hg.computed_heads(NULL) WHERE owner <> 'ACME'",
+        "SELECT lot FROM hg.ends() WHERE owner <> 'ACME'",
+        f"SELECT lot_id FROM hg.ambiguous(ARRAY[{other_lot}]::bigint[])",
+        "SELECT hg.own_office(), hg.own_gid()",
+        "SELECT hg.sees_all()",
+        "SELECT hg.own_members()",
+        "SELECT hg.chain('x', 'x')",
+        "SELECT hg.new_epoch(1::smallint)",
+        "SELECT hg.retract(1::smallint, 1, 'm', 0, '', '')",
+        *(f"SET ROLE {role}" for role in ("admin", "hg_reader", "hg_questions", "hg_publisher", '"hg_publisher_NORTH"', f"hg_company_{other_gid}")),
+        *(f"SET SESSION AUTHORIZATION {role}" for role in ("admin", "hg_questions", f"hg_company_{other_gid}")),
+        "RESET ROLE; SELECT count(*) FROM hg.lots",
+        "SET LOCAL session_authorization = 'admin'; SELECT count(*) FROM hg.lots",
+        "SET search_path = pg_temp; SELECT count(*) FROM hg.lots",
+        "SET row_security = off; SELECT count(*) FROM hg.lots",
+        f"SET row_security = off; SELECT lot_id FROM hg.lots_of(ARRAY[{other_lot}]::bigint[])",
+        "CREATE FUNCTION pg_temp.tell(text) RETURNS bool LANGUAGE plpgsql COST 0.0000001 AS $$ BEGIN RAISE NOTICE '%', $1; RETURN true; END $$",
+        "CREATE FUNCTION public.tell(text) RETURNS bool LANGUAGE sql AS 'SELECT true'",
+        "CREATE FUNCTION hg.tell() RETURNS bool LANGUAGE sql AS 'SELECT true'",
+        "CREATE OPERATOR public.= (FUNCTION = int4eq, LEFTARG = int4, RIGHTARG = int4)",
+        "DO $$ BEGIN PERFORM 1 FROM hg.moves; END $$",
+        "CREATE TABLE t (x int)",
+        "CREATE TEMP TABLE t (x int)",
+        "CREATE VIEW v AS SELECT 1",
+        "CREATE SCHEMA s",
+        "CREATE ROLE r",
+        "CREATE DATABASE d",
+        "CREATE EXTENSION dblink",
+        "ALTER TABLE hg.moves DISABLE ROW LEVEL SECURITY",
+        "ALTER FUNCTION hg.onward OWNER TO CURRENT_USER",
+        "DROP POLICY seen ON hg.lots",
+        "GRANT SELECT ON hg.lots TO PUBLIC",
+        "INSERT INTO hg.lots DEFAULT VALUES",
+        "UPDATE hg.moves SET amount = 0",
+        "DELETE FROM hg.moves",
+        "TRUNCATE hg.moves",
+        "LOCK TABLE hg.moves IN EXCLUSIVE MODE",
+        "SELECT reltuples, relpages FROM pg_class WHERE relname = 'moves'",
+        "SELECT n_tup_ins FROM pg_stat_user_tables",
+        "SELECT n_tup_ins FROM pg_stat_all_tables",
+        "SELECT seq_scan FROM pg_stat_xact_all_tables",
+        "SELECT pg_stat_get_tuples_inserted('hg.moves'::regclass)",
+        "SELECT pg_stat_get_live_tuples(1)",
+        "SELECT pg_relation_size('hg.moves')",
+        "SELECT pg_total_relation_size('hg.moves')",
+        "SELECT pg_table_size('hg.moves')",
+        "SELECT pg_database_size(current_database())",
+        "SELECT most_common_vals FROM pg_stats WHERE schemaname = 'hg'",
+        "SELECT stavalues1 FROM pg_statistic",
+        "SELECT rolname FROM pg_roles WHERE rolname LIKE 'hg%'",
+        "SELECT rolname FROM pg_authid",
+        "SELECT member FROM pg_auth_members",
+        "SELECT usename FROM pg_user",
+        "SELECT usename FROM pg_stat_activity WHERE usename <> current_user",
+        "SELECT pid FROM pg_locks",
+        "SELECT datname FROM pg_database",
+        "SELECT xact_commit FROM pg_stat_database",
+        "SELECT pg_current_wal_lsn()",
+        "SELECT txid_current()",
+        "SELECT pg_current_xact_id()",
+        "SELECT pg_current_snapshot()",
+        "SELECT pg_export_snapshot()",
+        "SELECT pg_advisory_lock(1)",
+        "SELECT pg_try_advisory_lock(1)",
+        "SELECT pg_advisory_xact_lock(1)",
+        "SELECT pg_notify('x', 'y')",
+        "SELECT lo_import('/etc/passwd')",
+        "SELECT lo_create(0)",
+        "SELECT pg_read_file('postgresql.conf')",
+        "SELECT pg_ls_dir('.')",
+        "SELECT pg_terminate_backend(1)",
+        "SELECT pg_reload_conf()",
+        "SELECT query_to_xml('SELECT 1 FROM hg.moves', true, true, '')",
+        "SELECT table_to_xml('hg.moves', true, true, '')",
+        "SELECT dblink('', '')",
+        "ALTER SYSTEM SET jit = on",
+        "LOAD 'auto_explain'",
+        "SET session_preload_libraries = 'auto_explain'",
+        "PREPARE TRANSACTION 'x'",
+        "VACUUM hg.moves",
+        "ANALYZE hg.moves",
+        "REINDEX TABLE hg.moves",
+        "CLUSTER hg.moves USING moves_pkey",
+        "REFRESH MATERIALIZED VIEW hg.matched",
+        "COMMENT ON TABLE hg.moves IS 'x'",
+        "SECURITY LABEL ON TABLE hg.moves IS 'x'",
+    ]
+
+
+def told(base, sql: str) -> object:
+    """What SQL gives: its rows, or the kind of its error, whose text has nothing of others."""
+    with base.cursor() as cursor:
+        try:
+            cursor.execute(sql)
+            return cursor.fetchall() if cursor.description else cursor.statusmessage
+        except psycopg2.Error as error:
+            assert SECRET not in str(error) and "SECRETSHOP" not in str(error)
+            return error.pgcode
+
+
+NOTHING = ([], [(None, None)], [(None,)], [(False,)], "VACUUM", "ANALYZE", "ROLLBACK")
+HARMLESS = {
+    "SET search_path = pg_temp; SELECT count(*) FROM hg.lots",
+    "SELECT hg.own_office(), hg.own_gid()",
+    "SELECT hg.sees_all()",
+    "SELECT hg.own_members()",
+}
+
+
+def test_a_company_learns_nothing_of_others(two):
+    ((other, gid),) = two.rows(f"SELECT lot_id, gid FROM hg.lots WHERE lot = '{SECRET}'")
+    ((house,),) = two.rows("SELECT lot_id FROM hg.lots WHERE lot = 'W-1'")
+    tries = attempts(other, gid, house)
+    assert len(tries) > 120
+    learned = []
+    with contextlib.closing(two.cluster.connect(two.name, role_of(two, "ACME"))) as base:
+        for sql in tries:
+            given = told(base, sql)
+            is_refused = isinstance(given, str) and len(given) == 5 or given in NOTHING
+            if not is_refused and sql not in HARMLESS:
+                learned.append((sql, given))
+            told(base, "ROLLBACK")
+            told(base, "RESET ALL")
+    assert not learned
+    assert two.rows(f"SELECT count(*) FROM hg.lots WHERE lot = '{SECRET}'") == [(1,)]
+
+
+def test_a_company_sees_its_own_and_what_it_used_of_the_plants(two):
+    with contextlib.closing(two.cluster.connect(two.name, role_of(two, "ACME"))) as base:
+        ((start,),) = [row[:1] for row in database.rows(base, "SELECT lot_id, file FROM hg.find_lot('NORTH', 'ACME', 'B-1')")]
+        reached = [row[0] for row in database.rows(base, "SELECT dst FROM hg.back(ARRAY[%s]::bigint[])", (start,))]
+        lots = database.rows(base, "SELECT owner, lot, on_hand FROM hg.lots_of(%s::bigint[]) ORDER BY 1", (reached,))
+        assert lots == [("ACME", "S-1", 999), ("HOUSE", "W-1", None)]  # how much is left of the plant's isn't told
+        onward = database.rows(base, "SELECT DISTINCT dst FROM hg.onward(%s::bigint[])", (reached,))
+        assert onward == [(start,)]
+        assert [row[0] for row in database.rows(base, "SELECT office FROM hg.ages()")] == ["NORTH"]
+
+
+def test_a_reader_sees_all_and_changes_nothing(two):
+    two.rows("CREATE ROLE jane LOGIN; GRANT hg_reader TO jane; SELECT 1")
+    try:
+        with contextlib.closing(two.cluster.connect(two.name, "jane")) as base:
+            assert len(database.rows(base, "SELECT lot_id FROM hg.find_lot('NORTH', 'BOLT', %s)", (SECRET,))) == 1
+            assert told(base, "SELECT count(*) FROM hg.lots") == "42501" and told(base, "DELETE FROM hg.joins") == "42501"
+    finally:
+        two.rows("DROP OWNED BY jane; DROP ROLE jane; SELECT 1")
+
+
+def test_a_publisher_writes_rows_of_its_own_office_and_members_alone(two):
+    south = two.plant("SOUTH")
+    assert south.publish() is not None
+    before = two.content()
+    row = "VALUES ({}, {}, 1, 999, 'K-9')"
+    with contextlib.closing(two.cluster.connect(two.name, "hg_publisher_SOUTH")) as base:
+        assert told(base, "SELECT count(*) FROM hg.moves WHERE office = 1") == [(0,)]
+        for sql in (
+            "INSERT INTO hg.voids (gid, office, file, n, mkey) " + row.format(1, 1),
+            "INSERT INTO hg.voids (gid, office, file, n, mkey) " + row.format(1_000_001, 2),
+            "DELETE FROM hg.moves", "UPDATE hg.moves SET amount = 0", "TRUNCATE hg.moves", "UPDATE hg.heads SET office = 1",
+            "UPDATE hg.heads SET owner = 'X'", "SELECT hg.retract(7::smallint, 1, 'm', 0, '', '')", "INSERT INTO hg.joins (src, dst, reason) VALUES (1, 2, '')",
+            "SELECT count(*) FROM hg.joins", "COPY hg.voids FROM STDIN", "INSERT INTO hg.looked VALUES (1, now())",
+        ):
+            given = told(base, sql)
+            assert isinstance(given, str) and len(given) == 5 or given == "UPDATE 0", (sql, given)
+        assert told(base, "UPDATE hg.heads SET n = 0 WHERE office = 1") == "UPDATE 0"
+    assert two.content() == before
+
+
+def test_a_member_of_the_group_hilpoven_gives_none_of_these_words(two, monkeypatch):
+    from hilpoven.cli import caller
+
+    monkeypatch.setattr(caller, "STARTED_AS", 1)
+    monkeypatch.setenv("SUDO_UID", "4711")
+    for words in (["publish", "--once"], ["publish", "status"], ["publish", "verify"], ["publish", "digest", "ACME"], ["group", "status"], ["group", "init"],
+                  ["group", "recall", "NORTH", "ACME", "S-1"], ["group", "office", "add", "EVIL"]):
+        told_words = two.run(*words, office=two.plants["NORTH"] if words[0] == "publish" else None)
+        assert told_words.exit_code == 2 and told_words.stdout == "", words
+
+
+def test_hostile_words(two):
+    for name in ("", "A B", "x" * 33, "../x", '"', "'; DROP TABLE hg.lots; --", "-x", "\u202e"):
+        assert two.run("group", "office", "add", "--", name).exit_code == 2, name
+    for name in ("", "\n", "x" * 61, "\x1b[31m"):
+        assert two.run("group", "company", "add", "--", name).exit_code == 2, name
+    two.ok("group", "company", "add", "O'Neil \"and\" Sons; --")
+    for words in (["recall", "'", "'", "'"], ["recall", "NORTH", "ACME", "%"], ["verify", "'; --"], ["join", "'", "'", "'", "'", "'", "'", "--reason", "x"]):
+        assert two.run("group", *words).exit_code == 1, words
+    for gln in ("4012345000001", "401234500000", "abcdefghijklm"):
+        assert two.run("group", "office", "add", "GLN", "--gln", gln).exit_code == 2
+    two.ok("group", "office", "add", "GLN", "--gln", "4012345000009")
+    assert two.run("group", "office", "add", "GLN").exit_code == 1
+    assert two.run("group", "member", "add", "NORTH", "acme!", "ACME").exit_code == 2
+    assert two.run("group", "party", "NORTH", "ACME", "SELF", "NORTH").exit_code == 2
