@@ -6,8 +6,9 @@ import psycopg2
 import pytest
 from group_of_plants import SHIP
 from hilpoven_group import database
+from hilpoven_group.questions import FUNCTIONS
 
-TABLES = """companies members offices parties joins files heads looked retracted materials lots moves voids results notes states facts links
+TABLES = """companies logins members offices parties joins files heads looked retracted materials lots moves voids results notes states facts links
     standing""".split()
 VIEWS = "standing_moves current_states current_facts current_links current_standing matched".split()
 SECRET = "B-SECRET"
@@ -48,6 +49,7 @@ def test_functions_are_for_roles_alone_and_have_a_path(two):
     functions = two.rows("SELECT p.proname, p.prosecdef, coalesce(p.proconfig::text, ''), coalesce(p.proacl::text, '') FROM pg_proc AS p WHERE p.pronamespace = 'hg'::regnamespace")
     for name, is_definer, config, rights in functions:
         assert re.search(r"[{,]=X", rights) is None and rights, name  # `=X` would be everybody's
+        assert name not in FUNCTIONS or {"jit=off", "plan_cache_mode=force_generic_plan"} <= set(config.strip("{}").replace('"', "").split(",")), name
         assert not is_definer or "search_path=hg, pg_catalog, pg_temp" in config, name
     for role in ("hg_company", "hg_reader", "hg_questions", "hg_publisher"):
         assert two.rows(f"SELECT rolsuper OR rolbypassrls OR rolcanlogin OR rolcreaterole FROM pg_roles WHERE rolname = '{role}'") == [(False,)]

@@ -16,7 +16,7 @@ from hilpoven.core import settings  # noqa: E402
 OFFICE = """toll@acme.service toll-backup@acme.service toll-companion@acme.service toll-follow@acme.service
     toll-publish@acme.service
     toll-backup@acme.timer toll-companion@acme.timer toll-failed@toll@acme.service.service""".split()
-SINGLE = ["toll.service", "toll-backup.service", "toll-backup.timer"]
+SINGLE = ["toll.service", "toll-backup.service", "toll-backup.timer", "hilpoven-group.service"]
 PROGRAMS = r"(?m)^(Exec\w+=)(toll|hilpoven)\b"
 
 

@@ -58,6 +58,27 @@ def party(context: Context, plant: str, owner: str, party: str, office: str) -> 
         members.add_party(base, plant, owner, party, office)
 
 
+def login_add(context: Context, login: str, company: str | None) -> None:
+    """`hilpoven group login add`."""
+    with asked(context, is_read_only=False) as base:
+        secret = members.add_login(base, login, company)
+    click.echo(secret)
+
+
+def login_remove(context: Context, login: str) -> None:
+    """`hilpoven group login remove`."""
+    with asked(context, is_read_only=False) as base:
+        members.remove_login(base, login)
+
+
+def serve(context: Context) -> None:
+    """`hilpoven group serve`."""
+    context.person.require_operator("group")
+    from . import service
+
+    service.serve(settings.load())
+
+
 def recall(context: Context, office: str, owner: str, lot: str, way: str | None, file: str, form: str | None) -> None:
     """`hilpoven group recall`."""
     with asked(context) as base:

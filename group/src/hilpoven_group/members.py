@@ -1,5 +1,6 @@
 """Who belongs to a group: offices, companies, which owner of an office is which company, and which party of a company
 is another office. The group's administrator says so."""
+import os
 import re
 from importlib.resources import files
 
@@ -12,6 +13,7 @@ from .database import Connection
 from .numbers import FIRST_HOUSE, MOST_FILES, MOST_OFFICES
 
 PLANT = re.compile("[A-Za-z0-9][A-Za-z0-9_.-]{0,31}")
+SECRET, QUALITY = 20, "hg_quality"  # bytes of a login's secret; the role of logins of no company
 MOST_LETTERS = 60  # of a company's name
 GLN = re.compile("[0-9]{13}")
 PARTY = """
@@ -39,7 +41,7 @@ def grant_database(base: Connection) -> None:
     name = quoted(base, str(database.value(base, "SELECT current_database()")))
     with base.cursor() as cursor:
         cursor.execute(f"REVOKE ALL ON DATABASE {name} FROM PUBLIC")
-        cursor.execute(f"GRANT CONNECT ON DATABASE {name} TO hg_publisher, hg_company, hg_reader")
+        cursor.execute(f"GRANT CONNECT ON DATABASE {name} TO hg_publisher, hg_company, hg_reader, hg_service")
         cursor.execute(f"GRANT TEMPORARY ON DATABASE {name} TO hg_publisher")
 
 
@@ -93,6 +95,26 @@ def add_company(base: Connection, name: str) -> str:
     database.run(base, "INSERT INTO hg.companies (gid, name, role) VALUES (%s, %s, %s)", (gid, name, role))
     make_role(base, role, "hg_company")
     return role
+
+
+def add_login(base: Connection, login: str, company: str | None) -> str:
+    """Adds a login of the question service, of a company or, without one, of the group's quality people; the secret,
+    which is told once."""
+    require_plant(login)
+    sql = "SELECT role FROM hg.companies WHERE name = %s AND role IS NOT NULL"
+    role = database.value(base, sql, (company,)) if company else QUALITY
+    if role is None:
+        raise Failure(f"the group has no company {company}", REFUSED, "`group company add` adds one")
+    secret = os.urandom(SECRET).hex()
+    sql = "INSERT INTO hg.logins (login, secret, role) VALUES (%s, sha256(%s), %s)"
+    database.run(base, sql, (login, secret.encode(), role))
+    return secret
+
+
+def remove_login(base: Connection, login: str) -> None:
+    """Removes a login of the question service."""
+    if not database.run(base, "DELETE FROM hg.logins WHERE login = %s", (login,)):
+        raise Failure(f"there is no login {login}", REFUSED)
 
 
 def office_number(base: Connection, name: str) -> int:

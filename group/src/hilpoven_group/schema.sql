@@ -20,6 +20,11 @@ CREATE TABLE parties (gid integer REFERENCES companies, office smallint REFERENC
 CREATE TABLE joins (src bigint, dst bigint, reason text NOT NULL, who name NOT NULL DEFAULT session_user,
   at timestamptz NOT NULL DEFAULT now(), PRIMARY KEY (src, dst));
 
+-- Who may ask the question service, and as which role it asks then, by the hash of a secret of random bytes that only
+-- the person has.
+CREATE TABLE logins (login text PRIMARY KEY, secret bytea NOT NULL, role name NOT NULL,
+  at timestamptz NOT NULL DEFAULT now());
+
 -- How far each office's rows are here, with the head of their chain of hashes. `looked` has when the office had nothing
 -- more to send.
 CREATE TABLE files (office smallint REFERENCES offices, file smallint, name text NOT NULL,
@@ -115,6 +120,13 @@ BEGIN
       WHERE a.member = m.oid AND g.rolname = 'hg_reader')));
 END $$;
 
+-- As which role the service asks for a login with a secret; nothing if there is none such.
+CREATE FUNCTION role_of(asked text, given bytea) RETURNS name LANGUAGE plpgsql STABLE SECURITY DEFINER
+SET search_path = hg, pg_catalog, pg_temp AS $$
+BEGIN
+  RETURN (SELECT l.role FROM hg.logins AS l WHERE l.login = asked AND l.secret = sha256(given));
+END $$;
+
 -- Roles. hg_questions has the functions below and sees what whoever asks may see; nobody logs in as it, and nobody is a
 -- member of it. Companies and readers have no rights on tables at all: they ask questions.
 DO $$
@@ -123,10 +135,16 @@ BEGIN
   FOREACH r IN ARRAY ARRAY['hg_questions', 'hg_publisher', 'hg_company', 'hg_reader'] LOOP
     IF NOT EXISTS (SELECT 1 FROM pg_roles WHERE rolname = r) THEN EXECUTE format('CREATE ROLE %I NOLOGIN', r); END IF;
   END LOOP;
+  -- The question service looks logins up as hg_service, and asks for the group's quality people as hg_quality.
+  FOREACH r IN ARRAY ARRAY['hg_service', 'hg_quality'] LOOP
+    IF NOT EXISTS (SELECT 1 FROM pg_roles WHERE rolname = r) THEN EXECUTE format('CREATE ROLE %I LOGIN', r); END IF;
+  END LOOP;
+  GRANT hg_reader TO hg_quality;
 END $$;
-GRANT USAGE ON SCHEMA hg TO hg_questions, hg_publisher, hg_company, hg_reader;
+GRANT USAGE ON SCHEMA hg TO hg_questions, hg_publisher, hg_company, hg_reader, hg_service;
 REVOKE ALL ON ALL FUNCTIONS IN SCHEMA hg FROM PUBLIC;
 GRANT EXECUTE ON FUNCTION chain_next, chain, first_head TO hg_questions;
+GRANT EXECUTE ON FUNCTION role_of TO hg_service;
 GRANT EXECUTE ON FUNCTION own_office, own_gid, own_members, sees_all TO hg_questions, hg_publisher;
 
 DO $$
@@ -170,6 +188,8 @@ CREATE POLICY seen ON parties FOR SELECT TO hg_questions USING ((SELECT hg.sees_
   OR gid = (SELECT hg.own_gid()) OR office = (SELECT hg.own_office()));
 CREATE POLICY seen ON joins FOR SELECT TO hg_questions USING ((SELECT hg.sees_all())
   OR (src >> 41 = (SELECT hg.own_gid()) AND dst >> 41 = (SELECT hg.own_gid())));
+CREATE POLICY nobody ON logins USING (false);
+REVOKE ALL ON logins FROM hg_questions;
 CREATE POLICY seen ON retracted FOR SELECT TO hg_questions USING ((SELECT hg.sees_all())
   OR gid = (SELECT hg.own_gid()) OR office = (SELECT hg.own_office()));
 

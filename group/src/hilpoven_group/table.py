@@ -70,6 +70,24 @@ group member add PLANT OWNER COMPANY:filled : grouping.member_add
   Notes which company an owner of an office is. A later owner of the same name is another one, from a later file on.
   > group member add NORTH ACME 'Acme Foods Ltd'
 
+group login
+  = adds and removes logins of the question service
+  Says who may ask the question service.
+  > group login add jane --company 'Acme Foods Ltd'
+
+group login add LOGIN : grouping.login_add
+  --company COMPANY :filled  Whose rows the login sees; by default those of all, for the group's quality people.
+  Adds a login of the question service, and prints its secret, which is told this once.
+  > group login add jane --company 'Acme Foods Ltd'
+
+group login remove LOGIN : grouping.login_remove
+  Removes a login of the question service.
+  > group login remove jane
+
+group serve : grouping
+  Answers questions over HTTP, each as the role of who asks, until it is ended. A proxy with TLS stands before it.
+  > group serve
+
 group party PLANT OWNER PARTY OFFICE : grouping.party
   Notes that a party of an owner is another office of the group, so that a recall goes on there.
   > group party NORTH ACME SOUTHCO SOUTH
