@@ -5,9 +5,10 @@ import sys
 
 import hilpoven_group
 from group_of_plants import ROOT
-from hilpoven.cli import building
-from hilpoven.cli.table import ADDED
+from hilpoven.cli.table import PACKAGED, read
 from hilpoven_group import questions, table, tables
+
+SCRIPT = "from hilpoven.cli import main; import sys; sys.argv = ['hilpoven', *sys.argv[1:]]; main()"
 
 
 def test_nothing_of_the_plants_command_imports_it():
@@ -17,21 +18,20 @@ def test_nothing_of_the_plants_command_imports_it():
 
 def test_without_it_the_plants_command_says_which_package_has_the_word():
     for word in ("publish", "group"):
-        done = subprocess.run([ROOT / "plant" / "bin" / "hilpoven", word], capture_output=True, text=True)
+        done = subprocess.run([sys.executable, "-c", SCRIPT, word], capture_output=True, text=True, env={"PYTHONPATH": f"{ROOT}/plant/src"})
         assert (done.returncode, done.stdout) == (2, "")
-        assert done.stderr == f"hilpoven: {word} is of the package hilpoven-group, which isn't installed\n"
+        assert done.stderr == f"hilpoven: {word} is a command of the package hilpoven-group, which isn't installed\n"
 
 
 def test_its_words_are_those_that_the_plants_command_knows():
-    (module, words), = [ADDED["hilpoven-group"]]
-    own = {entry.name for entry in building.read(table.TABLE, module) if not entry.group}
-    assert own == words and hilpoven_group.VERSION
+    own = {entry.name: entry.about for entry in read(table.TABLE, "hilpoven_group") if not entry.group}
+    assert own == {word: about for word, (package, about) in PACKAGED.items() if package == "hilpoven_group"}
+    assert hilpoven_group.VERSION
 
 
 def test_each_subcommand_has_its_help():
-    script = "from hilpoven.cli import main; import sys; sys.argv = ['hilpoven', *sys.argv[1:]]; main()"
     for words in (["publish", "--help"], ["publish", "verify", "--help"], ["group", "--help"], ["group", "office", "add", "--help"], ["group", "export", "--help"]):
-        done = subprocess.run([sys.executable, "-c", script, *words], capture_output=True, text=True, env={"PYTHONPATH": f"{ROOT}/plant/src:{ROOT}/group/src"})
+        done = subprocess.run([sys.executable, "-c", SCRIPT, *words], capture_output=True, text=True, env={"PYTHONPATH": f"{ROOT}/plant/src:{ROOT}/group/src"})
         assert done.returncode == 0 and "Example: hilpoven" in done.stdout, done.stderr
 
 

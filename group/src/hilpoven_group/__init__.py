@@ -2,3 +2,4 @@
 import hilpoven
 
 VERSION = hilpoven.VERSION
+NEEDS = ("psycopg2",)  # modules of other packages, without which this isn't installed

@@ -7,6 +7,7 @@ publish : publishing.publish_group
   --once  Sends what is new, and ends.
   --check =is_check  Says only how much the group has, and whether the office was set back.
   --accept-set-back ROWS =accepted :1..  Puts aside in the group so many rows that the office no longer has.
+  = sends the office's rows to the database of a group of plants
   Sends the office's rows and notes to the group's database, and what is new each second, until it is ended.
 
   It reads a copy that follows FILE's log, so neither owners nor the plant wait. Each row comes once, whatever is lost

@@ -35,7 +35,11 @@ KINDS = {
     for metavar in metavars.split()
 }
 # The packages that have subcommands of their own (`packages.py`), by these, with what lists say of each.
-PACKAGED = {"desk": ("hilpoven_desk", "serves the plant's screens, for people who don't type commands")}
+PACKAGED = {
+    "desk": ("hilpoven_desk", "serves the plant's screens, for people who don't type commands"),
+    "publish": ("hilpoven_group", "sends the office's rows to the database of a group of plants"),
+    "group": ("hilpoven_group", "one recall across the offices of a group"),
+}
 SHARED_LINES = """
 .sheet
   --digits COLUMN,.. *  Accepts names of only digits: 100000 may have been 1E5, 7 may have been 007.
