@@ -8,6 +8,7 @@ import pytest
 from click.testing import CliRunner
 from conftest import Told, script
 from hilpoven.cli import caller, hilpoven
+from hilpoven.cli.table import PACKAGED
 from hilpoven.record import on_behalf
 from hilpoven.core import roles, settings as site
 from hilpoven.core.failure import Failure
@@ -59,7 +60,7 @@ def words_of(group, before=()):
 
 
 def test_each_subcommand_has_a_role_or_changes_nothing():
-    names = set(words_of(hilpoven)) - {"demo", "setup"}  # which no member gives
+    names = set(words_of(hilpoven)) - {"demo", "setup", *PACKAGED}  # which no member gives
     assert set(roles.ROLES) <= names and set(roles.ROLES.values()) == {field.name for field in dataclasses.fields(site.Roles)}
     assert set(on_behalf.PATHS) <= set(roles.ROLES)  # whose roles `for` asks for
     assert {name for name in names - set(roles.ROLES) - {"for"} if name.split()[0] not in GROUPS_OF_QUESTIONS} == QUESTIONS
