@@ -70,12 +70,12 @@ def cluster() -> Iterator[Cluster]:
         yield Cluster(pathlib.Path(running), is_running=True)
         return
     with tempfile.TemporaryDirectory(prefix="hg.", ignore_cleanup_errors=True) as folder:
-        made = Cluster(pathlib.Path(folder))
+        own = Cluster(pathlib.Path(folder))
         try:
-            yield made
+            yield own
         finally:
             with contextlib.suppress(subprocess.CalledProcessError):
-                made.stop("immediate")
+                own.stop("immediate")
 
 
 import group_of_plants  # noqa: E402
@@ -84,5 +84,5 @@ import group_of_plants  # noqa: E402
 @pytest.fixture
 def group(cluster, request, tmp_path, monkeypatch) -> Iterator["group_of_plants.Group"]:
     """A group without offices, in a database of its own."""
-    with group_of_plants.made(cluster, tmp_path, monkeypatch) as new:
+    with group_of_plants.new_group(cluster, tmp_path, monkeypatch) as new:
         yield new

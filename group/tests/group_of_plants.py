@@ -57,9 +57,9 @@ class Plant:
     @contextlib.contextmanager
     def publisher(self) -> Iterator[publisher.Publisher]:
         """A publisher of it, which tells into a list."""
-        told: list[str] = []
-        with publisher.publishing(self.context(), self.settings(), told.append) as publish:
-            publish.told = told
+        lines: list[str] = []
+        with publisher.publishing(self.context(), self.settings(), lines.append) as publish:
+            publish.lines = lines
             yield publish
 
     def publish(self) -> int | None:
@@ -115,8 +115,8 @@ class Plant:
         """A batch, with lots by their segments; a lot that is consumed may be HOUSE's, as ('HOUSE', LOT)."""
         base.execute("INSERT INTO batches VALUES (?, ?, ?, 'UNIT', 11, 1)", (owner, order, number))
         for lot, segment in consumed.items():
-            whose, name = lot if isinstance(lot, tuple) else (owner, lot)
-            self.move(base, owner, CONSUMED, name, 1, lot_owner=whose, order=order, number=number, segment=segment)
+            lot_owner, name = lot if isinstance(lot, tuple) else (owner, lot)
+            self.move(base, owner, CONSUMED, name, 1, lot_owner=lot_owner, order=order, number=number, segment=segment)
         for lot, segment in produced.items():
             self.lot(base, owner, lot, order, number)
             self.move(base, owner, PRODUCED, lot, 100, order=order, number=number, segment=segment)
@@ -250,7 +250,7 @@ class Group:
 
 
 @contextlib.contextmanager
-def made(cluster: Any, folder: pathlib.Path, monkeypatch: Any) -> Iterator[Group]:
+def new_group(cluster: Any, folder: pathlib.Path, monkeypatch: Any) -> Iterator[Group]:
     """A group without offices."""
     name = f"group{os.getpid()}_{next(NUMBERS)}"
     with contextlib.closing(cluster.connect()) as base:
@@ -328,7 +328,7 @@ class Sets:
                     if kind == RECEIVE and (owner, key) not in came and fact:
                         receipts.append((plant.name, owner, id, fact))
                 for rows in batches.values():
-                    self.edges |= {(used, made) for kind, first, used in rows if kind == CONSUMED for other, last, made in rows if other == PRODUCED and first <= last}
+                    self.edges |= {(used, product) for kind, first, used in rows if kind == CONSUMED for other, last, product in rows if other == PRODUCED and first <= last}
 
     def trace(self, start: tuple, way: str) -> dict[tuple, int]:
         """The lots of a recall with their fewest steps."""

@@ -43,10 +43,10 @@ def test_events_are_those_of_the_lots_alone(pair, group):
     events = document["epcisBody"]["eventList"]
     assert "BOLT" not in str(events)  # the plant's water went into its batch, too
     assert len({event["eventID"] for event in events}) == len(events)
-    made = [event for event in events if event["type"] == "TransformationEvent"]
-    names = [[quantity["epcClass"].rpartition("/")[2] for quantity in event["outputQuantityList"]] for event in made]
+    transformed = [event for event in events if event["type"] == "TransformationEvent"]
+    names = [[quantity["epcClass"].rpartition("/")[2] for quantity in event["outputQuantityList"]] for event in transformed]
     assert names == [["ACME-1"], ["ACME-2"]]  # by their last segments
-    used = [{quantity["epcClass"].rpartition("/")[2]: quantity.get("quantity") for quantity in event["inputQuantityList"]} for event in made]
+    used = [{quantity["epcClass"].rpartition("/")[2]: quantity.get("quantity") for quantity in event["inputQuantityList"]} for event in transformed]
     assert used == [{"S-1": 1}, {"W-1": 1, "S-1": None}]
     steps = {event["bizStep"]: event for event in events}
     assert steps["shipping"]["destinationList"][0]["destination"] == "https://id.gs1.org/417/4012345000009"

@@ -166,7 +166,7 @@ def attempts(other_lot: int, other_gid: int, house_lot: int) -> list[str]:
     ]
 
 
-def told(base, sql: str) -> object:
+def answer_of(base, sql: str) -> object:
     """What SQL gives: its rows, or the kind of its error, whose text has nothing of others."""
     with base.cursor() as cursor:
         try:
@@ -194,12 +194,12 @@ def test_a_company_learns_nothing_of_others(two):
     learned = []
     with contextlib.closing(two.cluster.connect(two.name, role_of(two, "ACME"))) as base:
         for sql in tries:
-            given = told(base, sql)
+            given = answer_of(base, sql)
             is_refused = isinstance(given, str) and len(given) == 5 or given in NOTHING
             if not is_refused and sql not in HARMLESS:
                 learned.append((sql, given))
-            told(base, "ROLLBACK")
-            told(base, "RESET ALL")
+            answer_of(base, "ROLLBACK")
+            answer_of(base, "RESET ALL")
     assert not learned
     assert two.rows(f"SELECT count(*) FROM hg.lots WHERE lot = '{SECRET}'") == [(1,)]
 
@@ -220,7 +220,7 @@ def test_a_reader_sees_all_and_changes_nothing(two):
     try:
         with contextlib.closing(two.cluster.connect(two.name, "jane")) as base:
             assert len(database.rows(base, "SELECT lot_id FROM hg.find_lot('NORTH', 'BOLT', %s)", (SECRET,))) == 1
-            assert told(base, "SELECT count(*) FROM hg.lots") == "42501" and told(base, "DELETE FROM hg.joins") == "42501"
+            assert answer_of(base, "SELECT count(*) FROM hg.lots") == "42501" and answer_of(base, "DELETE FROM hg.joins") == "42501"
     finally:
         two.rows("DROP OWNED BY jane; DROP ROLE jane; SELECT 1")
 
@@ -231,7 +231,7 @@ def test_a_publisher_writes_rows_of_its_own_office_and_members_alone(two):
     before = two.content()
     row = "VALUES ({}, {}, 1, 999, 'K-9')"
     with contextlib.closing(two.cluster.connect(two.name, "hg_publisher_SOUTH")) as base:
-        assert told(base, "SELECT count(*) FROM hg.moves WHERE office = 1") == [(0,)]
+        assert answer_of(base, "SELECT count(*) FROM hg.moves WHERE office = 1") == [(0,)]
         for sql in (
             "INSERT INTO hg.voids (gid, office, file, n, mkey) " + row.format(1, 1),
             "INSERT INTO hg.voids (gid, office, file, n, mkey) " + row.format(1_000_001, 2),
@@ -239,9 +239,9 @@ def test_a_publisher_writes_rows_of_its_own_office_and_members_alone(two):
             "UPDATE hg.heads SET owner = 'X'", "SELECT hg.retract(7::smallint, 1, 'm', 0, '', '')", "INSERT INTO hg.joins (src, dst, reason) VALUES (1, 2, '')",
             "SELECT count(*) FROM hg.joins", "COPY hg.voids FROM STDIN", "INSERT INTO hg.looked VALUES (1, now())",
         ):
-            given = told(base, sql)
+            given = answer_of(base, sql)
             assert isinstance(given, str) and len(given) == 5 or given == "UPDATE 0", (sql, given)
-        assert told(base, "UPDATE hg.heads SET n = 0 WHERE office = 1") == "UPDATE 0"
+        assert answer_of(base, "UPDATE hg.heads SET n = 0 WHERE office = 1") == "UPDATE 0"
     assert two.content() == before
 
 
@@ -252,8 +252,8 @@ def test_a_member_of_the_group_hilpoven_gives_none_of_these_words(two, monkeypat
     monkeypatch.setenv("SUDO_UID", "4711")
     for words in (["publish", "--once"], ["publish", "status"], ["publish", "verify"], ["publish", "digest", "ACME"], ["group", "status"], ["group", "init"],
                   ["group", "recall", "NORTH", "ACME", "S-1"], ["group", "office", "add", "EVIL"]):
-        told_words = two.run(*words, office=two.plants["NORTH"] if words[0] == "publish" else None)
-        assert told_words.exit_code == 2 and told_words.stdout == "", words
+        answer = two.run(*words, office=two.plants["NORTH"] if words[0] == "publish" else None)
+        assert answer.exit_code == 2 and answer.stdout == "", words
 
 
 def test_hostile_words(two):

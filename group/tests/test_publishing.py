@@ -383,6 +383,6 @@ def test_the_database_is_away(plant, group, tmp_path):
         publish.disconnect()
         publish.group = publish.group.__class__(database="host=/nowhere", plant="NORTH")
         assert publish.step() is None and publish.step() is None
-        assert len(publish.told) == 1 and publish.state.fault
-    told = plant.run("publish", "status")
-    assert told.exit_code == 1 and "ATTENTION" in told.stdout
+        assert len(publish.lines) == 1 and publish.state.fault
+    status = plant.run("publish", "status")
+    assert status.exit_code == 1 and "ATTENTION" in status.stdout

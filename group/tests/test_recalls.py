@@ -59,13 +59,13 @@ class Works:
                     used = {lot: dice.choice((1, 2)) for lot in dice.sample(lots[-RECENT:], min(len(lots), dice.choice((1, 2, 3))))}
                     if dice.random() < 0.3:
                         used["HOUSE", f"W{file}"] = 1
-                    made = {f"B{file}-{number}-{at}": dice.choice((1, 2)) for at in range(dice.choice((1, 2)))}
-                    plant.batch(base, owner, f"O{file}", number, used, made)
+                    products = {f"B{file}-{number}-{at}": dice.choice((1, 2)) for at in range(dice.choice((1, 2)))}
+                    plant.batch(base, owner, f"O{file}", number, used, products)
                     if dice.random() < 0.2:
                         plant.void(base, owner, dice.choice(base.execute("SELECT mkey FROM moves WHERE owner = ? AND number = ? AND ord = ? AND kind = 4", (owner, number, f"O{file}")).fetchall())[0])
-                    lots += made
+                    lots += products
                     if dice.random() < 0.3:
-                        lot, document = next(iter(made)), dice.choice(("", f"D{number}"))
+                        lot, document = next(iter(products)), dice.choice(("", f"D{number}"))
                         key = plant.move(base, owner, SHIP, lot, 5)
                         base.commit()
                         self.note(plant, after, kind="movement", owner=owner, key=key, party="AFTER", document=document)
@@ -94,13 +94,13 @@ def compare(group: Group, sets: Sets, base: object, owner: str = "") -> int:
     """Compares recalls of lots, of one owner's or of all, with sets; how many."""
     offices = dict(group.rows("SELECT office, name FROM hg.offices"))
     rows = group.rows("SELECT lot_id, owner, lot FROM hg.lots WHERE NOT came ORDER BY lot_id")
-    names = {number: (offices[place_of(number).office], place_of(number).file, whose, lot) for number, whose, lot in rows}
+    names = {number: (offices[place_of(number).office], place_of(number).file, lot_owner, lot) for number, lot_owner, lot in rows}
     count = 0
     for number, name in names.items():
         if owner in ("", name[2]):
             for way in (FORWARD, BACK):
-                found = recalls.trace(base, number, way)
-                assert {names[lot]: steps for lot, steps in found.steps.items()} == sets.trace(name, way), (name, way)
+                traced = recalls.trace(base, number, way)
+                assert {names[lot]: steps for lot, steps in traced.steps.items()} == sets.trace(name, way), (name, way)
                 count += 1
     return count
 
@@ -163,9 +163,9 @@ def test_an_ambiguous_match_follows_all_and_says_so(pair, group):
 
 
 def test_a_recall_says_who_has_what_and_how_old_it_is(pair, group):
-    told = group.run("group", "recall", "NORTH", "ACME", "S-1")
-    assert "SOUTHCO" in told.stdout and "LS 1" in told.stdout and "SOUTH" in told.stdout
-    assert "oldest: NORTH, as of" in told.stderr
+    recalled = group.run("group", "recall", "NORTH", "ACME", "S-1")
+    assert "SOUTHCO" in recalled.stdout and "LS 1" in recalled.stdout and "SOUTH" in recalled.stdout
+    assert "oldest: NORTH, as of" in recalled.stderr
     group.rows("UPDATE hg.looked SET at = at - interval '1 hour' WHERE office = 2 RETURNING 1")
     assert "oldest: SOUTH" in group.run("group", "recall", "NORTH", "ACME", "S-1").stderr
     group.plant("EAST")
@@ -213,8 +213,8 @@ def test_recalls_equal_those_of_toll(group, tmp_path):
     for path in filter(pathlib.Path.is_file, pathlib.Path(tmp_path / "day").glob("office.db*")):
         shutil.copy(path, plant.file.parent)
     assert plant.publish() > 0
-    told = plant.run("publish", "verify", "--full")
-    assert told.exit_code == 0 and "the same" in told.stdout and " 0 recalls" not in told.stdout, (told.stdout, told.stderr)
+    verified = plant.run("publish", "verify", "--full")
+    assert verified.exit_code == 0 and "the same" in verified.stdout and " 0 recalls" not in verified.stdout, (verified.stdout, verified.stderr)
     digest = json.loads(plant.run("publish", "digest", "ACME", "--json").stdout)
     ((role,),) = group.rows("SELECT role FROM hg.companies WHERE name = 'ACME'")
     with contextlib.closing(group.cluster.connect(group.name, role)) as base:

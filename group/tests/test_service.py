@@ -17,7 +17,7 @@ def asked(group):
     plant.note_movement("BOLT", key, party="SHOP", document="<script>")
     plant.publish()
     secrets = {name: group.ok("group", "login", "add", name, *(["--company", name.upper()] if name != "quality" else [])).strip() for name in ("acme", "bolt", "quality")}
-    client = service.made(settings.Group(database=group.database)).test_client()
+    client = service.application(settings.Group(database=group.database)).test_client()
 
     def ask(path: str, login: str = "", secret: str | None = None, method: str = "GET"):
         given = secrets.get(login, "") if secret is None else secret
@@ -73,6 +73,6 @@ def test_values_are_escaped_and_bounded(asked):
 
 
 def test_a_database_that_is_away_is_told_without_its_address(group):
-    client = service.made(settings.Group(database="host=/nowhere dbname=secret")).test_client()
+    client = service.application(settings.Group(database="host=/nowhere dbname=secret")).test_client()
     reply = client.get("/status", headers={"Authorization": "Basic " + base64.b64encode(b"a:b").decode()})
     assert reply.status_code == 503 and "secret" not in reply.text and "nowhere" not in reply.text

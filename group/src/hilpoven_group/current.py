@@ -92,12 +92,12 @@ def add_standing(own: Notes, office: Office, note: Note) -> None:
 
 def dispositions(office: Office) -> Said:
     """The disposition of each lot, as the newest file has it that has the lot."""
-    said: Said = {}
+    claims: Said = {}
     for file in office.files:
         for owner, lot, disposition in file.base.execute("SELECT owner, lot, disposition FROM lots"):
             if owner in file.gids:
-                said[file.gids[owner], file.lots[owner, lot]] = (disposition,)
-    return said
+                claims[file.gids[owner], file.lots[owner, lot]] = (disposition,)
+    return claims
 
 
 def said_by(office: Office, notes: Notes) -> dict[str, Said]:

@@ -68,8 +68,8 @@ def rows(base: Connection, sql: str, words: Sequence[Any] | dict[str, Any] = ())
 
 def value(base: Connection, sql: str, words: Sequence[Any] = ()) -> Any:
     """The only value of a query; `None` if it has no row."""
-    found = rows(base, sql, words)
-    return found[0][0] if found else None
+    records = rows(base, sql, words)
+    return records[0][0] if records else None
 
 
 def run(base: Connection, sql: str, words: Sequence[Any] = ()) -> int:

@@ -136,18 +136,18 @@ class Export:
     def observed(self, row: Happened) -> Json:
         """The event of a receipt, a shipment or a scrap."""
         step, action, disposition = STEPS[Kind(row.kind)]
-        more: Json = {}
+        extras: Json = {}
         if row.document:
             document = self.name(row.office, "document", row.document)
-            more["bizTransactionList"] = [{"type": "desadv", "bizTransaction": document}]
+            extras["bizTransactionList"] = [{"type": "desadv", "bizTransaction": document}]
         if row.party:
             end = "source" if row.kind == Kind.RECEIVE else "destination"
-            more[f"{end}List"] = [{"type": "possessing_party", end: self.other(row)}]
+            extras[f"{end}List"] = [{"type": "possessing_party", end: self.other(row)}]
         if row.supplier_lot:
-            more["hilpoven:supplierLot"] = row.supplier_lot
+            extras["hilpoven:supplierLot"] = row.supplier_lot
         quantities = [self.quantity(row.lot, row.amount)]
         named = {"action": action, "bizStep": step, "disposition": disposition, "quantityList": quantities}
-        return self.event("ObjectEvent", [row], **named, **more)
+        return self.event("ObjectEvent", [row], **named, **extras)
 
     def transformations(self, rows: Sequence[Happened]) -> list[Json]:
         """The events of a batch: one for each last segment of products, with what was consumed up to it, so that none
@@ -170,9 +170,9 @@ class Export:
                 "transformationID": self.name(rows[0].office, "batch", rows[0].gid, rows[0].order, rows[0].number),
             }
             lists = {"inputQuantityList": used} if used else {}
-            made = [self.quantity(*pair) for pair in totals(outputs).items()]
+            products = [self.quantity(*pair) for pair in totals(outputs).items()]
             events.append(
-                self.event("TransformationEvent", [*inputs, *outputs], **named, **lists, outputQuantityList=made)
+                self.event("TransformationEvent", [*inputs, *outputs], **named, **lists, outputQuantityList=products)
             )
         return events
 

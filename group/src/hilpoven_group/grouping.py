@@ -83,14 +83,14 @@ def recall(context: Context, office: str, owner: str, lot: str, way: str | None,
     """`hilpoven group recall`."""
     with asked(context) as base:
         for start in recalls.lots_named(base, office, owner, lot, file):
-            found = recalls.trace(base, start, way or FORWARD)
-            rows = recalls.lines(base, found)
+            traced = recalls.trace(base, start, way or FORWARD)
+            rows = recalls.lines(base, traced)
             give_table(recalls.COLUMNS, rows, form, "no lots")
-            if shipments := [] if way == BACK else recalls.shipments(base, found):
+            if shipments := [] if way == BACK else recalls.shipments(base, traced):
                 if not form:
                     click.echo()
                 give_table(recalls.SHIPMENT_COLUMNS, shipments, form, "no shipments")
-            tell(recalls.summary(found, rows))
+            tell(recalls.summary(traced, rows))
         tell(recalls.age_line(base))
 
 
@@ -132,11 +132,11 @@ def verify(context: Context, office: str | None) -> None:
             members.office_number(base, office)
         rows = database.rows(base, COMPUTED, (office,))
     faults = 0
-    for number, file, mark, owner, n, head, told, told_head in rows:
-        if (n, n and bytes(head)) != (told, told and bytes(told_head)):
+    for number, file, mark, owner, n, head, count, last in rows:
+        if (n, n and bytes(head)) != (count, count and bytes(last)):
             faults += 1
-            what = f"{TABLES[mark].name} of {owner or 'nobody'} in file {file} of office {number}"
-            click.echo(printable(f"{what}: {n:,} rows don't give the head of {told:,}"))
+            subject = f"{TABLES[mark].name} of {owner or 'nobody'} in file {file} of office {number}"
+            click.echo(printable(f"{subject}: {n:,} rows don't give the head of {count:,}"))
     state = "the same" if not faults else f"{faults:,} differ"
     click.echo(f"{len(rows):,} heads of {sum(row[4] for row in rows):,} rows: {state}")
     sys.exit(REFUSED if faults else 0)

@@ -147,7 +147,7 @@ class Progress:
     heads: dict[Key, Head] = field(default_factory=dict)
     places: dict[tuple[int, str], int] = field(default_factory=dict)
     skip: dict[Key, int] = field(default_factory=dict)
-    said: dict[str, Said] = field(default_factory=dict)
+    claims: dict[str, Said] = field(default_factory=dict)
 
 
 class Publisher:
@@ -269,7 +269,7 @@ class Publisher:
         at, theirs = Progress(), self.read_heads(self.base, self.office)
         back = [part for file in self.office.files for part in self.compute(at, file, theirs)]
         if not back:
-            at.said = {name: self.read_versions(self.base, versions) for name, versions in VERSIONS.items()}
+            at.claims = {name: self.read_versions(self.base, versions) for name, versions in VERSIONS.items()}
             self.at, self.is_new = at, True
         self.base.commit()
         return back
@@ -329,11 +329,11 @@ class Publisher:
         table, gid, kept = TABLES[mark], file.gids[owner], self.first(file.number, mark, owner)
         columns = ", ".join(table.names)
         sql = f"SELECT {columns} FROM hg.{table.name} WHERE office = %s AND file = %s AND gid = %s ORDER BY n"
-        own = (values for _, whose, values in self.rows(file, mark) if whose == owner)
-        for there, here in zip(database.rows(self.base, sql, (self.office.number, file.number, gid)), own):
-            if line_of(there) != line_of(here):
+        own = (values for _, of_owner, values in self.rows(file, mark) if of_owner == owner)
+        for group_row, own_row in zip(database.rows(self.base, sql, (self.office.number, file.number, gid)), own):
+            if line_of(group_row) != line_of(own_row):
                 break
-            kept = kept.with_line(line_of(here))
+            kept = kept.with_line(line_of(own_row))
         return SetBack((file.number, mark, owner), gid, kept, theirs.n - kept.n)
 
     def retract(self, back: list[SetBack], reason: str) -> None:
@@ -383,19 +383,19 @@ class Publisher:
     def stage_versions(self, at: Progress, batch: Batch) -> dict[str, Said]:
         """Adds what the office says otherwise now than the group has it; all that is said then."""
         assert self.office is not None
-        said = current.said_by(self.office, self.notes)
+        claims = current.said_by(self.office, self.notes)
         for name, versions in VERSIONS.items():
-            before = at.said[name]
-            said[name] = {**dict.fromkeys(before, versions.gone), **said[name]}
-            new = {key: value for key, value in said[name].items() if before.get(key) != value}
+            before = at.claims[name]
+            claims[name] = {**dict.fromkeys(before, versions.gone), **claims[name]}
+            new = {key: value for key, value in claims[name].items() if before.get(key) != value}
             batch.lines[f"stage_{name}"] += ["\t".join(map(cell_of, (*key, *value))) for key, value in new.items()]
             batch.count += len(new)
-        return said
+        return claims
 
-    def send(self, at: Progress, batch: Batch, said: dict[str, Said]) -> Progress:
+    def send(self, at: Progress, batch: Batch, claims: dict[str, Said]) -> Progress:
         """One transaction: the heads, which move from where they were alone, and the rows; where the group is then."""
         assert self.base is not None
-        then = Progress({**at.heads, **batch.heads}, {**at.places, **batch.places}, batch.skipped, said)
+        then = Progress({**at.heads, **batch.heads}, {**at.places, **batch.places}, batch.skipped, claims)
         self.doubt = then
         if batch.count:
             with self.base, self.base.cursor() as cursor:
@@ -435,7 +435,7 @@ class Publisher:
                 batch = self.staged(at, file)
                 is_all = batch.is_all
                 is_last = is_all and file is self.office.newest
-                at = self.send(at, batch, self.stage_versions(at, batch) if is_last else at.said)
+                at = self.send(at, batch, self.stage_versions(at, batch) if is_last else at.claims)
         self.is_new = False
         if self.sent != start or time.monotonic() - self.level_at >= LEVEL_EVERY:
             self.say_level(self.base, self.office)

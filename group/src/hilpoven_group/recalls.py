@@ -59,9 +59,9 @@ def trace(base: Connection, start: int, way: str) -> Trace:
     steps, level, edges, depth = {start: 0}, [start], list[Edge](), 0
     while level:
         depth += 1
-        found = database.rows(base, f"SELECT src, dst, how, batch FROM {FUNCTION[way]}(%s::bigint[])", (level,))
-        edges += [Edge(*row) for row in found]
-        level = sorted({row[1] for row in found} - steps.keys())
+        traced = database.rows(base, f"SELECT src, dst, how, batch FROM {FUNCTION[way]}(%s::bigint[])", (level,))
+        edges += [Edge(*row) for row in traced]
+        level = sorted({row[1] for row in traced} - steps.keys())
         steps |= dict.fromkeys(level, depth)
     matched = list({lot for edge in edges if edge.how in BY_MATCH for lot in (edge.src, edge.dst)})
     rows = database.rows(base, "SELECT lot_id FROM hg.ambiguous(%s::bigint[])", (matched,)) if matched else []
@@ -90,16 +90,16 @@ def lot_named(base: Connection, office: str, owner: str, lot: str, file: str = "
     return numbers[0]
 
 
-def lines(base: Connection, found: Trace) -> list[Row]:
+def lines(base: Connection, traced: Trace) -> list[Row]:
     """The lots of a trace by steps, each with where it is."""
-    ids = list(found.steps)
+    ids = list(traced.steps)
     known = {row[0]: row[1:] for row in database.rows(base, f"SELECT {LOT} FROM hg.lots_of(%s::bigint[])", (ids,))}
     rows: list[Row] = []
-    for lot in sorted(ids, key=lambda each: (found.steps[each], known.get(each, ("",))[0:4], each)):
+    for lot in sorted(ids, key=lambda each: (traced.steps[each], known.get(each, ("",))[0:4], each)):
         office, file, owner, name, material, measure, disposition, on_hand, shipped = known.get(lot, UNKNOWN)
         word = "" if disposition is None else "gone" if disposition < 0 else Disposition(disposition).word
-        by = found.by(lot) if found.steps[lot] else ""
-        rows.append((found.steps[lot], office, file, owner, name, material, word, on_hand, measure, shipped, by))
+        by = traced.by(lot) if traced.steps[lot] else ""
+        rows.append((traced.steps[lot], office, file, owner, name, material, word, on_hand, measure, shipped, by))
     return rows
 
 
@@ -107,10 +107,10 @@ LOT = "lot_id, office, file, owner, lot, material, measure, disposition, on_hand
 UNKNOWN = ("unknown", "", "", "", "", "", None, None, None)
 
 
-def shipments(base: Connection, found: Trace) -> list[Row]:
+def shipments(base: Connection, traced: Trace) -> list[Row]:
     """The shipments of the lots of a trace: who has what."""
     sql = "SELECT office, lot, mkey, day, amount, party, document, to_office FROM hg.shipments_of(%s::bigint[])"
-    return [tuple(row) for row in database.rows(base, sql, (list(found.steps),))]
+    return [tuple(row) for row in database.rows(base, sql, (list(traced.steps),))]
 
 
 def ends(base: Connection) -> list[Row]:
@@ -148,9 +148,9 @@ def join(base: Connection, src: int, dst: int, reason: str) -> None:
     database.run(base, "INSERT INTO hg.joins (src, dst, reason) VALUES (%s, %s, %s)", (src, dst, reason))
 
 
-def summary(found: Trace, rows: list[Row]) -> str:
+def summary(traced: Trace, rows: list[Row]) -> str:
     """How many lots, in how many offices, and by what they were reached."""
     offices = {row[1] for row in rows}
-    by = Counter(edge.how for edge in set(found.edges))
+    by = Counter(edge.how for edge in set(traced.edges))
     counts = [f"{len(rows):,} lots in {len(offices):,} offices", *(f"{by[how]:,} by {how}" for how in sorted(by))]
     return "; ".join(counts)

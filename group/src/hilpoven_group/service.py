@@ -73,10 +73,10 @@ def recall(base: Connection, values: Mapping[str, str]) -> Answer:
         raise Failure("way is forward or back", WRONG_USE)
     office, owner, lot = (values.get(name, "") for name in ("office", "owner", "lot"))
     for start in recalls.lots_named(base, office, owner, lot):
-        found = recalls.trace(base, start, way)
-        tables.append(Shown(f"{office} {owner} {lot}", recalls.COLUMNS, recalls.lines(base, found)))
+        traced = recalls.trace(base, start, way)
+        tables.append(Shown(f"{office} {owner} {lot}", recalls.COLUMNS, recalls.lines(base, traced)))
         if way == FORWARD:
-            tables.append(Shown("Shipments", recalls.SHIPMENT_COLUMNS, recalls.shipments(base, found)))
+            tables.append(Shown("Shipments", recalls.SHIPMENT_COLUMNS, recalls.shipments(base, traced)))
     return Answer("Recall", tables, recalls.age_line(base))
 
 
@@ -118,7 +118,7 @@ def is_plain(text: str) -> bool:
     return len(text) <= MOST_LETTERS and text.isprintable()
 
 
-def made(group: Group) -> Flask:
+def application(group: Group) -> Flask:
     """The service over a group's database."""
     app = Flask(__name__, static_folder=None)
 
@@ -145,7 +145,7 @@ def made(group: Group) -> Flask:
         app.add_url_rule(f"/{name}", name or "home", answered, methods=["GET"], defaults={"name": name})
 
     @app.errorhandler(Failure)
-    def told(failure: Failure) -> Response:
+    def failed(failure: Failure) -> Response:
         status = {WRONG_USE: 400, 1: 404}.get(failure.exit_code, 503)
         text = failure.message if status != 503 else "the group's database can't be asked"
         return Response(f"{printable(text)}\n", status, mimetype="text/plain")
@@ -170,4 +170,4 @@ def serve(group: Group) -> None:
 
     if "user" in parse_dsn(group.database):
         raise Failure(f"{PATH}: database names a user, and the service asks as many", WRONG_USE)
-    waitress.serve(made(group), listen=group.listen, threads=8, ident=None, max_request_header_size=16_384)
+    waitress.serve(application(group), listen=group.listen, threads=8, ident=None, max_request_header_size=16_384)

@@ -61,10 +61,10 @@ def compared(publish: Publisher) -> Report:
     assert base is not None and office is not None
     ours = own_heads(publish)
     compare_heads(base, office, ours, report)
-    said = current.said_by(office, publish.notes)
+    claims = current.said_by(office, publish.notes)
     for name, versions in VERSIONS.items():
         theirs = {key: value for key, value in publish.read_versions(base, versions).items() if value != versions.gone}
-        differing = [key for key in {*theirs, *said[name]} if theirs.get(key) != said[name].get(key)]
+        differing = [key for key in {*theirs, *claims[name]} if theirs.get(key) != claims[name].get(key)]
         report.faults += [f"{len(differing):,} of {name} differ, such as {min(differing)}"] if differing else []
     compare_stock(base, office, report)
     base.rollback()
@@ -74,11 +74,11 @@ def compared(publish: Publisher) -> Report:
 def compare_heads(base: Connection, office: Office, ours: dict[Key, Head], report: Report) -> None:
     """Compares heads that the group computes of its rows with the office's, and with those that were told it."""
     theirs: dict[Key, Head] = {}
-    for file, _, mark, owner, n, head, told, told_head in database.rows(base, COMPUTED, (office.name,)):
+    for file, _, mark, owner, n, head, count, last in database.rows(base, COMPUTED, (office.name,)):
         key = file, mark, owner
         if n:
             theirs[key] = Head(n, bytes(head))
-        if (n, n and bytes(head)) != (told, told and bytes(told_head)):
+        if (n, n and bytes(head)) != (count, count and bytes(last)):
             report.faults.append(f"{TABLES[mark].name} of {owner} in file {file}: the group's rows don't give its head")
     for key in sorted({*ours, *theirs}):
         own, other = (heads.get(key, Head(0, b"")) for heads in (ours, theirs))
