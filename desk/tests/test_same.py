@@ -67,7 +67,7 @@ def test_the_same_words_typed_leave_the_same(browse, office, tmp_path):
     with office.serve() as server:
         entries(browse("anna"), browse("quinn"), server)
     lines = office.lines()[first:]
-    given = [line for line in lines if line.get("words") and line.get("event") != "result"]
+    given = [line for line in lines if line.get("words") and line.get("event") != "told"]
     assert len(given) == 15, [line["words"][0] for line in given]
     with typed.serve() as server:
         for line in given:

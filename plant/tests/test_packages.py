@@ -1,4 +1,4 @@
-"""Subcommands of packages of their own: they are there where their package is, and otherwise its name is result."""
+"""Subcommands of packages of their own: they are there where their package is, and otherwise its name is told."""
 import sys
 
 import pytest
