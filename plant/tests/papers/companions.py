@@ -146,7 +146,7 @@ class Known(Filled):
     def look_at_notes(self) -> None:
         """The notes of each owner are those of all that are its own."""
         with self.plant.reading() as base:
-            register = standing.standing(Journal(str(self.plant.journal), str(self.plant.db)), base)
+            register = standing.read(Journal(str(self.plant.journal), str(self.plant.db)), base)
             for owner in [HOUSE, *self.owners]:
                 judged = [(note.lot, "hold" if isinstance(note, Held) else "signature", note.day, note.reason) for note in self.notes_of(owner, Held, Signed)]
                 assert judged and list(map(tuple, takeout.judgements(views.over(base, register), owner).rows)) == judged

@@ -20,7 +20,7 @@ def reading(plant: Plant) -> Iterator[Register]:
     """The notes that stand, while they are read."""
     context = Context(load(), str(plant.db), person=person(), tell=lambda line: print(line, file=sys.stderr))
     with snapshot.opened(context.office()) as base:
-        yield standing.standing(context.journal(), base)
+        yield standing.read(context.journal(), base)
 
 
 def register_of(plant: Plant) -> Register:

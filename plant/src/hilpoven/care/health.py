@@ -157,7 +157,7 @@ def count_rows(base: sqlite3.Connection, fullness: Fullness, day: date) -> None:
 def check_notes(context: Context, base: sqlite3.Connection, fullness: Fullness) -> Finding:
     """Looks for receipts that look as if a trace ended there, and for a drill that is under way."""
     try:
-        fullness.suspects = suspects(base, standing.standing(context.journal(), base))
+        fullness.suspects = suspects(base, standing.read(context.journal(), base))
         drill = drills.under_way(drills.drills_of(context.journal(), base))
     except Failure as failure:
         return Finding(attention=[failure.message])

@@ -12,7 +12,7 @@ from .answers import recall_lines
 from .rows import LotId
 from .register.file import Notes
 from .notes import Link
-from .register.standing import standing
+from .register import standing
 
 LINKED = f"""
 SELECT 1 FROM note WHERE kind = '{Link.KIND}' AND owner <> '' AND (? = '{HOUSE}' OR owner IN (?, '{HOUSE}')) LIMIT 1
@@ -28,7 +28,7 @@ def lines_below(office: Office, journal: Journal, words: Sequence[str], answer: 
     if not may_concern(Notes(journal), start):
         return []
     with snapshot.opened(office) as base:
-        trace = Genealogy(base, standing(journal, base)).trace(start, way)
+        trace = Genealogy(base, standing.read(journal, base)).trace(start, way)
         require_told(name, answer, trace.recorded)
         if name == "recall":
             return noted_text(answers.recall_text(recall_lines(base, trace.noted))[1:])

@@ -114,15 +114,15 @@ INCOMING, OUTGOING = (Kind.RECEIVE, Kind.PRODUCED), (Kind.SHIP, Kind.SCRAP, Kind
 ACTUAL_OF = {Role.CONSUMED: Kind.CONSUMED, Role.PRODUCED: Kind.PRODUCED}
 
 
-def among(column: str, codes: Iterable[Code]) -> str:
-    """SQL: a column's number is one of these."""
-    return f"{column} IN ({', '.join(f'{code:d}' for code in codes)})"
+def of_kinds(kinds: Iterable[Kind]) -> str:
+    """SQL: a movement is of one of these kinds."""
+    return f"m.kind IN ({', '.join(f'{kind:d}' for kind in kinds)})"
 
 
 # What a movement records, without its owner and its key.
 MOVE_COLUMNS = "kind, lot_owner, lot, sublot, target, material, ord, number, segment, amount, day"
-IS_INCOMING, IS_OUTGOING = among("m.kind", INCOMING), among("m.kind", OUTGOING)
-IS_ACTUAL = among("m.kind", ACTUAL_OF.values())
+IS_INCOMING, IS_OUTGOING = of_kinds(INCOMING), of_kinds(OUTGOING)
+IS_ACTUAL = of_kinds(ACTUAL_OF.values())
 STANDING = "NOT EXISTS (SELECT 1 FROM voids AS v WHERE v.owner = m.owner AND v.mkey = m.mkey)"
 # By how much a movement changes what is on hand of its lot.
 CHANGE = (

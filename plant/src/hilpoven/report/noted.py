@@ -45,11 +45,11 @@ def links(base: Base, where: str, words: Any = (), name: str = "links", shown: l
     return select(base, name, shown, f"FROM link AS k WHERE {where} ORDER BY k.note, k.place", words)
 
 
-def links_among(base: Base, register: Register, chosen: Collection[Link], shown: list[Column] = LINKS) -> Sheet:
+def links_among(base: Base, register: Register, chosen: Collection[Link]) -> Sheet:
     """Those of an owner's links that are chosen."""
-    rows = links(base, "k.owner = ?", (register.owner,), shown=shown).rows
+    rows = links(base, "k.owner = ?", (register.owner,)).rows
     kept = [row for row, link in zip(rows, Genealogy(base, register).links) if link in chosen]
-    return Sheet("links", shown, kept)
+    return Sheet("links", LINKS, kept)
 
 
 ABOUT = """

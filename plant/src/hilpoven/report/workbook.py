@@ -8,7 +8,7 @@ from ..model import views
 from ..model.notes import SENDS
 from ..model.register.standing import Register
 from ..model.rows import Base
-from ..model.schema import INCOMING, STANDING, Disposition, Kind, Role, among
+from ..model.schema import IS_INCOMING, STANDING, Disposition, Kind, Role
 from ..record.sheets.values import FORMULA
 from ..record.workbook.tables import (
     MATERIALS,
@@ -41,7 +41,7 @@ SELECT owner, recipe, segment, {Role.sql('role')}, source, material, amount FROM
     STOCK.title: f"""
 SELECT s.owner, l.material, s.lot, s.sublot, s.amount,
   (SELECT min(m.day) FROM moves AS m WHERE m.lot_owner = s.owner AND m.lot = s.lot AND {STANDING}
-    AND ({among('m.kind', INCOMING)} AND m.sublot = s.sublot OR m.kind = {Kind.SPLIT:d} AND m.target = s.sublot)),
+    AND ({IS_INCOMING} AND m.sublot = s.sublot OR m.kind = {Kind.SPLIT:d} AND m.target = s.sublot)),
   l.made, l.expires, l.retest
 FROM sublots AS s JOIN lot AS l USING (owner, lot) WHERE s.amount > 0""",
 }

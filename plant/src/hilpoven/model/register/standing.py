@@ -205,7 +205,8 @@ def status_of(row: tables.Row) -> Status:
 
 
 def read(journal: Journal, newest: Base, whole: Base | None = None) -> Register:
-    """The notes that stand, by the names of the newest file, or by those over all files."""
+    """The notes that stand, of an office of whose file this is a copy, by the names there, or by those over all
+    files."""
     notes = kept(journal, newest)
     if whole is None or chain.came_from(newest) is None:
         return Register(notes)
@@ -217,11 +218,6 @@ def read(journal: Journal, newest: Base, whole: Base | None = None) -> Register:
                 rows = [tables.values_of(status.noted, note) for note in reader.read(status.noted, status.note)]
                 tables.put(base, place, type(status.note), rows)
     return Register(Opened(base))
-
-
-def standing(journal: Journal, base: Base) -> Register:
-    """The notes that stand, of an office of whose file this is a copy."""
-    return read(journal, base)
 
 
 def register_of(context: Context, base: Base) -> Register:

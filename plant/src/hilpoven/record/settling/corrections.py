@@ -14,9 +14,9 @@ from ...model.notes import Link
 from ...model.register.standing import Register
 from ...model.genealogy import Genealogy
 from ...model.rows import OF_COUNT, OF_USE, Base, BatchId, Lot, LotId, Move, lots_of, moves_of, read_moves
-from ...model.schema import STANDING, Kind, among
+from ...model.schema import STANDING, Kind, of_kinds
 
-OF_OWNER = f"m.owner = ? AND {among('m.kind', (Kind.RECEIVE, Kind.SCRAP))} AND {STANDING}"
+OF_OWNER = f"m.owner = ? AND {of_kinds((Kind.RECEIVE, Kind.SCRAP))} AND {STANDING}"
 OF_KEY = f"m.owner = ? AND m.mkey = ? AND {STANDING}"
 MAKER = "SELECT ord, number FROM lots WHERE owner = ? AND lot = ? AND ord <> ''"
 

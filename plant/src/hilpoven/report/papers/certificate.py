@@ -1,7 +1,7 @@
 """Papers for an owner's customers: the certificate of a lot, of analysis if it was tested, else of release; and the
 delivery note of shipments."""
 import datetime
-from collections.abc import Sequence
+from collections.abc import Collection, Sequence
 from typing import Any, NamedTuple
 
 from ...core.days import day_of, format_day
@@ -15,28 +15,27 @@ from ...model.rows import Lot, LotId, require_lot, require_owner
 from ...model.schema import Disposition
 from ...record.expiry import past_day
 from ..columns import Sql, columns, measured
-from ..sheets import Sheet, select
+from ..sheets import select, table_of
 from .agreement import check_lots
 from .copies import Source
 from .letterhead import letterhead_of, number_of
 from .printing import Document
 
-HEADS = columns(
-    "day:day key lot sublot material amount=shipped:number measure=unit:text@beside", key="mkey", material="of_material"
-)
+HEADS = columns("day:day key lot sublot material amount=shipped:number measure=unit:text@beside")
 SHIPMENTS = """
-SELECT rowid, mkey, lot_owner, lot, amount, measure, day, party, document, name, address, contact, phone FROM shipment
-WHERE owner = ? ORDER BY rowid
+SELECT mkey, lot_owner, lot, sublot, of_material, amount, measure, day, party, document, name, address, contact, phone
+FROM shipment WHERE owner = ? ORDER BY rowid
 """
 
 
 class Shipment(NamedTuple):
     """A shipment, and as far as they are noted its party, its document, and how the party is reached."""
 
-    rowid: int
     key: str
     lot_owner: str
     lot: str
+    sublot: str
+    material: str
     amount: int
     measure: str
     day: int
@@ -60,20 +59,21 @@ class Shipment(NamedTuple):
         return {name: text for name, text in noted.items() if text}
 
 
-def require_shipment(source: Source, owner: str, key: str, lot: LotId | None = None) -> Shipment:
-    """A shipment of an owner, or of one of its lots; fails if there is none."""
+def require_shipments(source: Source, owner: str, keys: Collection[str], lot: LotId | None = None) -> list[Shipment]:
+    """Shipments of an owner, or of one of its lots; fails if one isn't there."""
     rows = [Shipment(*row) for row in source.base.execute(SHIPMENTS, (owner,))]
     shipments = {row.key: row for row in rows if lot in (None, (row.lot_owner, row.lot))}
-    if key in shipments:
-        return shipments[key]
-    subject = str(lot) if lot else owner
-    advice = nearest(key, list(shipments), f"shipments of {subject}")
-    raise Failure(f"there is no shipment {key} of {subject}", REFUSED, advice)
+    for key in keys:
+        if key not in shipments:
+            subject = str(lot) if lot else owner
+            advice = nearest(key, list(shipments), f"shipments of {subject}")
+            raise Failure(f"there is no shipment {key} of {subject}", REFUSED, advice)
+    return [shipments[key] for key in keys]
 
 
 def of_certificate(source: Source, lot: LotId, key: str) -> tuple[dict[str, str], bool]:
     """A shipment of a lot as a certificate names it, and whether any of it is noted by the plant."""
-    shipment = require_shipment(source, lot.owner, key, lot)
+    (shipment,) = require_shipments(source, lot.owner, [key], lot)
     shown = {name: text for name, text in shipment.noted.items() if name in ("recipient", "address", "document")}
     amount = f"{shipment.amount:,} {shipment.measure}"
     return {"shipped": amount, "on": format_day(shipment.day), **shown}, bool(shown)
@@ -83,20 +83,16 @@ def delivery_note(source: Source, owner: str, keys: Sequence[str], plant: PlantF
     """The delivery note of shipments of an owner, which all go to one recipient and have one document. The plant sends
     them for the owner."""
     require_owner(source.base, owner)
-    first, *others = all_shipments = [require_shipment(source, owner, key) for key in dict.fromkeys(keys)]
+    first, *others = all_shipments = require_shipments(source, owner, dict.fromkeys(keys))
     for other in others:
         require_same(first, other)
     check_lots(source, {LotId(each.lot_owner, each.lot) for each in all_shipments})
-    rows = [
-        row
-        for each in all_shipments
-        for row in select(source.base, "", HEADS, "FROM shipment WHERE rowid = ?", (each.rowid,)).rows
-    ]
     owner_noted = source.register.of(owner).owners.get(owner) or OwnerFacts(owner)
     facts = {**sender_of(plant), **owner_in_full(owner_noted), **first.noted}
     values: dict[str, Any] = {"facts": facts, "is_noted": bool(first.noted)}
     title = f"Delivery note {first.document}".strip()
-    return [Document("delivery", False, title, [Sheet("shipments", HEADS, rows)], values, is_across=False)]
+    sheet = table_of("shipments", HEADS, all_shipments)
+    return [Document("delivery", False, title, [sheet], values, is_across=False)]
 
 
 def sender_of(plant: PlantFacts) -> dict[str, str]:
