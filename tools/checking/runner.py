@@ -317,8 +317,11 @@ def main(usage: str) -> int:
     if words.list:
         print(*map(described, wanted), sep="\n")
         return 0
-    missing = debian.install(package for part in wanted for package in part.packages)
-    missing += ["rt, the toolchain"] if any(part in MAKERS for part in wanted) and not shutil.which("rt") else []
+    packages = [package for part in wanted for package in part.packages]
+    if any(part in MAKERS for part in wanted) and not shutil.which("rt"):  # nothing is downloaded then
+        missing = [*debian.missing_of(packages), "rt, the toolchain"]
+    else:
+        missing = debian.install(packages)
     if missing:
         print(f"check: these are missing: {', '.join(missing)}", file=sys.stderr)
         return 2

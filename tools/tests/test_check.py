@@ -7,6 +7,7 @@ import pathlib
 import re
 import signal
 import subprocess
+import sys
 from typing import Any
 
 import pytest
@@ -338,12 +339,13 @@ def test_the_proofs_take_all_processors_and_leave_memory_to_one_part(
     assert runner.maker_of([parts.UNPROVED], 4, free * GB) == parts.UNPROVED and runner.maker_of([], 4, GB) is None
 
 
-def test_what_is_missing_is_said_in_one_line(tmp_path: pathlib.Path, monkeypatch: pytest.MonkeyPatch) -> None:
-    for name in ("nice", "git", "python3"):
-        (tmp_path / name).symlink_to(f"/usr/bin/{name}")
-    monkeypatch.setitem(globals(), "PATH", str(tmp_path))
-    done = check(*only("proofs"))
-    assert (done.returncode, done.stdout) == (2, "") and done.stderr == "check: these are missing: rt, the toolchain\n"
+def test_what_is_missing_is_said_in_one_line_and_nothing_is_installed_without_rt(
+    tmp_path: pathlib.Path, monkeypatch: pytest.MonkeyPatch, capfd: Capture
+) -> None:
+    monkeypatch.setenv("PATH", str(tmp_path))
+    monkeypatch.setattr(sys, "argv", ["check", *only("proofs", "page-tests")])
+    assert runner.main("The gate.\n\n    check\n") == 2
+    assert capfd.readouterr() == ("", "check: these are missing: nodejs, rt, the toolchain\n")
 
 
 def test_a_package_that_is_nowhere_is_missing(monkeypatch: pytest.MonkeyPatch) -> None:
