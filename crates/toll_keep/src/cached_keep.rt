@@ -1,6 +1,9 @@
 //! A keep that remembers what it read.
-ghost use Rattle.std.specs.Prelude.{◌≡◌, ◌↔◌, OnErr, OnOk, false};
-ghost use Rattle.toll_keep.specs.Content.{Content};
+ghost use Rattle.std.specs.Prelude.{◌≡◌, ◌↔◌, IfOk, OnErr, OnOk, false};
+ghost use Rattle.toll_keep.specs.CallEffects.{IsReading};
+ghost use Rattle.toll_keep.specs.Content.{Content, slice_of};
+ghost use Rattle.toll_keep.specs.Fault.{damaged_owner_after};
+ghost use Rattle.toll_keep.specs.Meaning.{OverContent};
 ghost use Rattle.toll_keep.specs.Remembered.{IsNothing, IsCacheOf, OnlyKnownHaveRows};
 
 use crate::cache::Cache;
@@ -17,10 +20,12 @@ use toll_trace::{Step, Way};
 /// A keep around another one. It remembers the slices, the owners and the units that it read, and the
 /// graphs of owners over which it traced. Changes are made in the slices too, in place if no copy given to
 /// a caller is left. It forgets the owners and the units if one is added, and an owner's graph if its edges
-/// may change. At any fault it forgets everything.
+/// may change. At any fault it forgets everything, but remembers the owner whose slice it read when the keep
+/// inside answered [`KeepFault::Damaged`].
 pub struct CachedKeep<K: Keep> {
     keep: K,
     cache: Cache,
+    damaged_owner: Option<Name>,
     ghost unclosed: { ¬ (IsNothing cache) → K.meaning.is_closed keep ≡ false },
     ghost live: { ¬ (IsNothing cache) → K.meaning.is_honest keep → ∥ K.meaning.is_store_open keep ∥₁ },
 }
@@ -28,7 +33,11 @@ pub struct CachedKeep<K: Keep> {
 /// Written by hand: a derived `Drop` is expanded at every exit of every function that owns a keep.
 impl<K: Keep + Drop> Drop for CachedKeep<K> {
     fn drop(self) {
-        let CachedKeep { keep: _, cache: _ } = self;
+        let CachedKeep {
+            keep: _,
+            cache: _,
+            damaged_owner: _,
+        } = self;
     }
 }
 
@@ -38,11 +47,13 @@ impl<K: Keep> CachedKeep<K> {
     pub fn new(alloc: Global, keep: K) -> Self
         ensures keep { result.keep ≡ keep }
         ensures nothing { IsNothing result.cache }
+        ensures undamaged { result.damaged_owner ≡ None }
         ensures holds { (c : Content) → ⟦<CachedKeep<K> as Keep>⟧.meaning.holds result c ↔ (K.meaning.holds keep c × OnlyKnownHaveRows c) }
     {
         CachedKeep {
             keep,
             cache: Cache::nothing(alloc),
+            damaged_owner: None,
         }
     }
 
@@ -50,8 +61,19 @@ impl<K: Keep> CachedKeep<K> {
     pub fn inside(self) -> K
         ensures { result ≡ self.keep }
     {
-        let CachedKeep { keep, cache: _ } = self;
+        let CachedKeep {
+            keep,
+            cache: _,
+            damaged_owner: _,
+        } = self;
         keep
+    }
+
+    /// The owner whose rows the keep inside found damaged, if a call for an owner's slice did.
+    pub fn damaged_owner(&self) -> Option<Name>
+        ensures { result ≡ self.now.damaged_owner }
+    {
+        self.damaged_owner
     }
 }
 
@@ -71,6 +93,20 @@ fn or_forget<T>(
     answer
 }
 
+// The owner whose rows met damage, once a call for this owner's slice was answered.
+fn damaged_owner_after<T>(
+    owner: &Name,
+    answer: &Result<T, KeepFault>,
+    before: Option<Name>,
+) -> Option<Name>
+    ensures { result ≡ damaged_owner_after owner.now answer.now before }
+{
+    match answer {
+        Err(KeepFault::Damaged) => Some(*owner),
+        Ok(_) | Err(KeepFault::Memory | KeepFault::Disk | KeepFault::Closed) => before,
+    }
+}
+
 impl<K: Keep> Keep for CachedKeep<K> {
     ghost meaning = { record {
       holds = λ r c. K.meaning.holds r.keep c × IsCacheOf c r.cache × OnlyKnownHaveRows c;
@@ -82,38 +118,47 @@ impl<K: Keep> Keep for CachedKeep<K> {
       leaves = λ r cs. K.meaning.leaves r.keep cs;
     } };
 
-    fn slice(&mut self, alloc: Global, owner: &Name) -> Result<Option<Slice>, KeepFault> {
-        let CachedKeep { keep, cache } = self;
+    fn slice(&mut self, alloc: Global, owner: &Name) -> Result<Option<Slice>, KeepFault>
+        ensures reading { IsReading ⟦<CachedKeep<K> as Keep>⟧.meaning self.old self.new result }
+        ensures reads { OverContent ⟦<CachedKeep<K> as Keep>⟧.meaning self.old self.new (λ c. IfOk result (λ slice. slice ≡ slice_of c owner.now)) }
+        ensures damaged { self.new.damaged_owner ≡ damaged_owner_after owner.now result self.old.damaged_owner }
+    {
+        let CachedKeep {
+            keep,
+            cache,
+            damaged_owner,
+        } = self;
         let answer = read_slice(alloc, keep, &mut cache.slices, &[], owner);
+        *damaged_owner = damaged_owner_after(owner, &answer, *damaged_owner);
         or_forget(alloc, cache, answer)
     }
 
     fn owners(&mut self, alloc: Global) -> Result<Vec<OwnerRow>, KeepFault> {
-        let CachedKeep { keep, cache } = self;
+        let CachedKeep { keep, cache, .. } = self;
         let answer = read_rows(alloc, keep, &mut cache.owners);
         or_forget(alloc, cache, answer)
     }
 
     fn units(&mut self, alloc: Global) -> Result<Vec<UnitRow>, KeepFault> {
-        let CachedKeep { keep, cache } = self;
+        let CachedKeep { keep, cache, .. } = self;
         let answer = read_rows(alloc, keep, &mut cache.units);
         or_forget(alloc, cache, answer)
     }
 
     fn holder(&mut self, alloc: Global, unit: &Name) -> Result<Option<Holder>, KeepFault> {
-        let CachedKeep { keep, cache } = self;
+        let CachedKeep { keep, cache, .. } = self;
         let answer = keep.holder(alloc, unit);
         or_forget(alloc, cache, answer)
     }
 
     fn edges(&mut self, alloc: Global, owner: &Name) -> Result<Vec<Edge>, KeepFault> {
-        let CachedKeep { keep, cache } = self;
+        let CachedKeep { keep, cache, .. } = self;
         let answer = keep.edges(alloc, owner);
         or_forget(alloc, cache, answer)
     }
 
     fn all_edges(&mut self, alloc: Global) -> Result<Vec<Edge>, KeepFault> {
-        let CachedKeep { keep, cache } = self;
+        let CachedKeep { keep, cache, .. } = self;
         let answer = keep.all_edges(alloc);
         or_forget(alloc, cache, answer)
     }
@@ -125,7 +170,7 @@ impl<K: Keep> Keep for CachedKeep<K> {
         from: &LotId,
         way: Way,
     ) -> Result<Vec<Step>, KeepFault> {
-        let CachedKeep { keep, cache } = self;
+        let CachedKeep { keep, cache, .. } = self;
         let answer = read_trace(alloc, keep, cache, owners, from, way);
         or_forget(alloc, cache, answer)
     }

@@ -1,18 +1,17 @@
 //! The office on a file.
-ghost use Rattle.std.specs.Prelude.{◌≡◌, IfOk};
+ghost use Rattle.std.specs.Prelude.{◌≡◌, IfOk, Some};
 ghost use Rattle.toll_files.specs.Faults.{office_fault_name};
 ghost use Rattle.toll_sql.specs.Opened.{IsOpened};
 ghost use Rattle.toll_sql.specs.Opening.{open_fault_word};
 
 use sqlite::{File as StoreFile, FileStore, Unknown};
-use std::alloc::Global;
 use std::fs;
 use std::fs::OpenOptions;
 use std::io::ErrorKind;
 use std::os::unix::fs::OpenOptionsExt;
-use toll_base::{Name, Slice};
+use toll_base::Name;
 use toll_files::{FILE_MODE, Lease, LeftFiles, LockFile, OfficeFault};
-use toll_keep::{CachedKeep, Keep, KeepFault};
+use toll_keep::CachedKeep;
 use toll_service::{KeepOpener, OfficePath};
 use toll_sql::{OpenFault, SqlKeep};
 
@@ -53,6 +52,8 @@ pub fn office_at<'a>(rt: &'a HostRuntime, path: &'a str) -> OfficePath<'a, SqlOp
 /// NotOurs. A path that is no file is NotOurs too, such as a device, whose reads might never end.
 impl KeepOpener<FileKeep> for SqlOpener {
     ghost is_opened = { λ keep. IsOpened keep };
+
+    ghost has_damaged = { λ keep owner. keep.damaged_owner ≡ Some owner };
 
     fn lock(&mut self, rt: &HostRuntime, path: &str) -> Result<Lease, OfficeFault> {
         self.lock.lock(rt, path)
@@ -97,13 +98,8 @@ impl KeepOpener<FileKeep> for SqlOpener {
         }
     }
 
-    fn read_rows(
-        &mut self,
-        alloc: Global,
-        keep: &mut FileKeep,
-        owner: &Name,
-    ) -> Result<Option<Slice>, KeepFault> {
-        keep.slice(alloc, owner)
+    fn damaged_owner(&self, keep: &FileKeep) -> Option<Name> {
+        keep.damaged_owner()
     }
 
     fn close(&mut self, keep: FileKeep, _lease: &Lease) {

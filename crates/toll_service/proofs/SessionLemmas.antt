@@ -114,15 +114,15 @@ module _ {K : Type 0} (meaning : Meaning K) (is_opened : K → Type 0) where
     taken = one.taken;
   }
 
-  module _ (is_found : LeftFiles → Result Bool OfficeFault → Type 0) (is_probed : K → Bytes → K → Type 0) {O : Type 0} (session : O → OfficeSession K) (tally : O → Option Openings) (log : O → Option ServingFault) where
-    reported_so : (IsSo : Type 0) (old new : O) (input : Input ImportState) (poll : Poll ImportState) → IsToldBy meaning is_opened is_found is_probed session tally log IsSo old input poll new
+  module _ (is_found : LeftFiles → Result Bool OfficeFault → Type 0) (has_damaged : K → Bytes → Type 0) {O : Type 0} (session : O → OfficeSession K) (tally : O → Option Openings) (log : O → Option ServingFault) where
+    reported_so : (IsSo : Type 0) (old new : O) (input : Input ImportState) (poll : Poll ImportState) → IsToldBy meaning is_opened is_found has_damaged session tally log IsSo old input poll new
         → IsReportedOver (state_of_session (session old)) input poll (state_of_session (session new))
     reported_so IsSo old new input poll (inl (one, so)) =
         inl (taken_over (AreAsLeft is_found (session old)) (state_of_session (session old)) (state_of_session (session new)) input poll one)
     reported_so IsSo old new input poll (inr away) = inr (away.idle, inl (away.fault, away.reported))
 
     reported_by : (old new : O) (input : Input ImportState) (poll : Poll ImportState)
-        → Yields (AnswersBy meaning is_opened is_found is_probed session tally log) (ResumesBy meaning is_opened is_found is_probed session tally log) old input poll new
+        → Yields (AnswersBy meaning is_opened is_found has_damaged session tally log) (ResumesBy meaning is_opened is_found has_damaged session tally log) old input poll new
         → IsReportedOver (state_of_session (session old)) input poll (state_of_session (session new))
     reported_by old new (Request listener requested) poll (inl one) = reported_so _ old new (Request listener requested) poll one
     reported_by old new (Request listener requested) poll (inr unheard) =
@@ -130,7 +130,7 @@ module _ {K : Type 0} (meaning : Meaning K) (is_opened : K → Type 0) where
     reported_by old new (Task import) poll one = reported_so _ old new (Task import) poll one
 
     told_over : (old new : O) (turns : List (Turn ImportState))
-        → TakesTurns (AnswersBy meaning is_opened is_found is_probed session tally log) (ResumesBy meaning is_opened is_found is_probed session tally log) old turns new
+        → TakesTurns (AnswersBy meaning is_opened is_found has_damaged session tally log) (ResumesBy meaning is_opened is_found has_damaged session tally log) old turns new
         → TurnsLead (state_of_session (session old)) turns (state_of_session (session new))
     told_over old new [] same = ap (λ o. state_of_session (session o)) same
     told_over old new (t ∷ turns) (middle, one, rest) =
@@ -139,7 +139,7 @@ module _ {K : Type 0} (meaning : Meaning K) (is_opened : K → Type 0) where
     -- The inputs while one office stayed open are a run over it.
     pub sitting : ((k : K) (c : Content) → meaning.is_honest k → meaning.is_store_open k → meaning.holds k c → meaning.leaves k (c ∷ []))
         → (old new : O) (turns : List (Turn ImportState)) (first : K)
-        → TakesTurns (AnswersBy meaning is_opened is_found is_probed session tally log) (ResumesBy meaning is_opened is_found is_probed session tally log) old turns new
+        → TakesTurns (AnswersBy meaning is_opened is_found has_damaged session tally log) (ResumesBy meaning is_opened is_found has_damaged session tally log) old turns new
         → (state_of_session (session old)).keep ≡ Some first → (state_of_session (session new)).openings ≡ (state_of_session (session old)).openings
         → IsSessionRun meaning first turns (state_of_session (session new))
     sitting settled old new turns first reported there count =

@@ -34,14 +34,14 @@ pub record IsFresh {K O : Type 0} (meaning : Meaning K) (is_opened : K → Type 
   pub lock : IsLockKept service.session
 
 module _ {K O : Type 0} (meaning : Meaning K) (is_opened : K → Type 0) (is_found : LeftFiles → Result Bool OfficeFault → Type 0)
-    (is_probed : K → Bytes → K → Type 0) (openings : O → Option Openings) where
+    (has_damaged : K → Bytes → Type 0) (openings : O → Option Openings) where
   -- The service of an office in a file answers by its session.
   abbrev pub Answers : OfficeService K O → Listener → Bytes → Poll ImportState → OfficeService K O → Type 0
-  Answers = AnswersBy meaning is_opened is_found is_probed (λ service. service.session) (openings_of openings) logged_by
+  Answers = AnswersBy meaning is_opened is_found has_damaged (λ service. service.session) (openings_of openings) logged_by
 
   -- The service goes on with an import by its session.
   abbrev pub Resumes : OfficeService K O → ImportState → Poll ImportState → OfficeService K O → Type 0
-  Resumes = ResumesBy meaning is_opened is_found is_probed (λ service. service.session) (openings_of openings) logged_by
+  Resumes = ResumesBy meaning is_opened is_found has_damaged (λ service. service.session) (openings_of openings) logged_by
 
   -- The service had answered nothing at first and changed by turns alone, in order, among the events of a server over the network. Each import was
   -- continued for the client that began it, and once everything is over, none is left.

@@ -12,7 +12,7 @@ use Rattle.toll_keep.specs.CallEffects.{IsReading}
 use Rattle.toll_keep.specs.Meaning.{Meaning}
 use Rattle.toll_keep.specs.declared.keep_fault.KeepFault.{KeepFault}
 use Rattle.toll_keep.specs.declared.keep_fault.KeepFault.TheVariants.{Damaged as FoundDamaged}
-use Rattle.toll_service.specs.Damages.{IsKnown, IsNoted, KnowsNoMore, KnowsNothing, StaysWhere}
+use Rattle.toll_service.specs.Damages.{HasFoundDamage, IsKnown, IsNoted, KnowsNoMore, KnowsNothing, StaysWhere}
 use Rattle.toll_service.specs.Openings.{IsOneOpened, IsRefusedAfter, IsSomeRefused, IsNoneOpened, Openings}
 use Rattle.toll_service.specs.declared.damage.Damage.{Damage}
 use Rattle.toll_service.specs.declared.office_session.OfficeSession.{OfficeSession}
@@ -25,7 +25,6 @@ use Rattle.toll_server.specs.declared.poll.Poll.TheVariants.{Ready, Pending}
 use Rattle.toll_plant.specs.ImportStates.{ImportState}
 use Rattle.toll_programs.specs.Statuses.{exit_code}
 use Rattle.toll_programs.specs.declared.status.Status.TheVariants.{Failed}
-use Rattle.toll_service.specs.declared.turn_result.TurnResult.{TurnResult}
 use Rattle.toll_service.specs.Listeners.{IsImportAborted, IsReadyWith, ReportsFault}
 use Rattle.toll_service.specs.Serving.{AnswersOver, ResumesOver, WereServed}
 use Rattle.toll_wire.specs.OutTexts.{out_bytes}
@@ -131,6 +130,10 @@ module _ {K : Type 0} where
   abbrev pub AreAsLeft : (LeftFiles → Result Bool OfficeFault → Type 0) → OfficeSession K → Type 0
   AreAsLeft is_found s = IsSome s.lock ⊎ AreFound is_found s.left (Ok true)
 
+  -- This office is at hand between the two: the session's open one, in unchanged files, or one that was opened now.
+  abbrev pub IsUsedBy : (K → Type 0) → (LeftFiles → Result Bool OfficeFault → Type 0) → (old new : OfficeSession K) → K → Type 0
+  IsUsedBy is_opened is_found old new = IsAtHand is_opened (AreAsLeft is_found old) (state_of_session old) (state_of_session new)
+
   -- The look at the files that the session left found this fault, since committed changes are lost. No office was opened or refused.
   abbrev pub IsFoundLost : (LeftFiles → Result Bool OfficeFault → Type 0) → OfficeFault → OfficeSession K → (before behind : Option Openings) → Type 0
   IsFoundLost is_found fault s before behind = AreFound is_found s.left (Err fault) × IsNoneOpened before behind
@@ -159,7 +162,7 @@ module _ {K : Type 0} (meaning : Meaning K) (is_opened : K → Type 0) (is_found
   abbrev pub TakesInput : OfficeSession K → Input ImportState → Poll ImportState → OfficeSession K → Type 0
   TakesInput old input poll new = IsAnsweredAtHand meaning is_opened (AreAsLeft is_found old) (state_of_session old) input poll (state_of_session new)
 
-  module _ {O : Type 0} (is_probed : K → Bytes → K → Type 0) (session : O → OfficeSession K) (tally : O → Option Openings)
+  module _ {O : Type 0} (has_damaged : K → Bytes → Type 0) (session : O → OfficeSession K) (tally : O → Option Openings)
       (log : O → Option ServingFault) where
     -- No office was used because of a fault. The response names it, and so does the operator's log, unless it is damage that was known. The
     -- session knows no more of the files and their damage than before.
@@ -188,8 +191,8 @@ module _ {K : Type 0} (meaning : Meaning K) (is_opened : K → Type 0) (is_found
     -- files. New damage was met in this turn.
     abbrev pub AnswersBy : O → Listener → Bytes → Poll ImportState → O → Type 0
     AnswersBy old listener requested poll new =
-        IsToldBy (IsNoted meaning is_opened is_probed (AreAsLeft is_found (session old)) (ReportsFault FoundDamaged poll)
-        (session old).damage (session new).damage listener requested)
+        IsToldBy (IsNoted (HasFoundDamage meaning has_damaged (IsUsedBy is_opened is_found (session old) (session new)))
+        (AreAsLeft is_found (session old)) (ReportsFault FoundDamaged poll) (session old).damage (session new).damage listener requested)
         old (Request listener requested) poll new
         ⊎ IsUnheard old listener requested poll new
 
@@ -215,10 +218,10 @@ pub record IsSessionRun {K : Type 0} (meaning : Meaning K) (first : K) (turns : 
 
 -- While one office stands open and none is opened, the turns of a session's owner are a run over it.
 abbrev pub AreSessionRuns : {K : Type 0} → Meaning K → (K → Type 0) → (LeftFiles → Result Bool OfficeFault → Type 0)
-    → (K → Bytes → K → Type 0) → Type 0 → Type 0
-AreSessionRuns {K} meaning is_opened is_found is_probed O =
+    → (K → Bytes → Type 0) → Type 0 → Type 0
+AreSessionRuns {K} meaning is_opened is_found has_damaged O =
     (session : O → OfficeSession K) (tally : O → Option Openings) (log : O → Option ServingFault)
     (old new : O) (turns : List (Turn ImportState)) (first : K)
-    → TakesTurns (AnswersBy meaning is_opened is_found is_probed session tally log)
-    (ResumesBy meaning is_opened is_found is_probed session tally log) old turns new
+    → TakesTurns (AnswersBy meaning is_opened is_found has_damaged session tally log)
+    (ResumesBy meaning is_opened is_found has_damaged session tally log) old turns new
     → IsOneOffice first (state_of_session (session old)) (state_of_session (session new)) → IsSessionRun meaning first turns (state_of_session (session new))

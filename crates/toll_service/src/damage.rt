@@ -1,7 +1,7 @@
 //! What a server knows of damage in its office's file.
 ghost use Rattle.std.specs.Global.{Vec as Held};
 ghost use Rattle.std.specs.List.{list_any};
-ghost use Rattle.std.specs.Prelude.{◌≡◌, ◌⊎◌, ◌++◌, ◌||◌, ℕ, [], ◌∷◌, false, true, Contains};
+ghost use Rattle.std.specs.Prelude.{◌≡◌, ◌⊎◌, ℕ, true, Contains};
 ghost use Rattle.toll_base.specs.Bytes.{Bytes};
 ghost use Rattle.toll_server.specs.RequestBuffers.{bytes_received, listener_of};
 ghost use Rattle.toll_service.specs.Damages.{IsKnown, KnowsNothing, is_call, is_owner};
@@ -23,8 +23,6 @@ const MOST_REMEMBERED_BYTES: usize = 4096;
 pub struct Damage {
     /// Owners whose rows are damaged.
     pub owners: Vec<Name>,
-    /// Owners whose rows were read and are sound.
-    pub sound: Vec<Name>,
     /// Calls of the plant that met damage.
     pub calls: Vec<Vec<u8>>,
 }
@@ -36,7 +34,6 @@ impl Damage {
     {
         Damage {
             owners: Vec::new(alloc),
-            sound: Vec::new(alloc),
             calls: Vec::new(alloc),
         }
     }
@@ -46,7 +43,6 @@ impl Damage {
         ensures { KnowsNothing self.new }
     {
         self.owners.clear();
-        self.sound.clear();
         self.calls.clear();
     }
 
@@ -71,30 +67,19 @@ impl Damage {
         self.calls.iter().any(|call| call.as_slice() == bytes)
     }
 
-    /// Whether it is known that the owner's rows were read, and are damaged or sound.
-    pub fn was_probed(&self, owner: &Name) -> bool
-        ensures { result ≡ (list_any (is_owner owner.now) self.now.owners.items || list_any (is_owner owner.now) self.now.sound.items) }
-    {
-        has(&self.owners, owner) || has(&self.sound, owner)
-    }
-
-    /// Notes that an owner's rows were read, and whether they are damaged, if there is room.
-    pub fn note_owner(&mut self, owner: Name, is_damaged: bool)
-        ensures owners { (o : Bytes) → Contains self.new.owners.items o → Contains self.old.owners.items o ⊎ ((o ≡ owner) × (is_damaged ≡ true)) }
-        ensures sound { (o : Bytes) → Contains self.new.sound.items o → Contains self.old.sound.items o ⊎ ((o ≡ owner) × (is_damaged ≡ false)) }
+    /// Notes an owner whose rows are damaged, if there is room.
+    pub fn note_owner(&mut self, owner: Name)
+        ensures owners { (o : Bytes) → Contains self.new.owners.items o → Contains self.old.owners.items o ⊎ (o ≡ owner) }
         ensures calls { self.new.calls ≡ self.old.calls }
     {
-        if is_damaged {
-            add(&mut self.owners, owner);
-        } else {
-            add(&mut self.sound, owner);
+        if self.owners.len() < MOST_REMEMBERED {
+            let _ = self.owners.push(owner);
         }
     }
 
     /// Notes a call that met damage, if it is short and there is room.
     pub fn note_call(&mut self, alloc: Global, bytes: &[u8])
         ensures owners { self.new.owners ≡ self.old.owners }
-        ensures sound { self.new.sound ≡ self.old.sound }
         ensures calls { (c : Held ℕ) → Contains self.new.calls.items c → Contains self.old.calls.items c ⊎ (c.items ≡ bytes.now) }
     {
         if self.calls.len() >= MOST_REMEMBERED || bytes.len() > MOST_REMEMBERED_BYTES {
@@ -111,13 +96,4 @@ fn has(owners: &[Name], owner: &Name) -> bool
     ensures { result ≡ list_any (is_owner owner.now) owners.now }
 {
     owners.iter().any(|name| *name == *owner)
-}
-
-// Adds an owner, if there is room.
-fn add(owners: &mut Vec<Name>, owner: Name)
-    ensures { (owners.new.items ≡ owners.old.items) ⊎ (owners.new.items ≡ owners.old.items ++ owner ∷ []) }
-{
-    if owners.len() < MOST_REMEMBERED {
-        let _ = owners.push(owner);
-    }
 }

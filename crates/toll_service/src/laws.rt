@@ -29,5 +29,5 @@ pub fn turns_of_a_request_are_all_of_it()
 /// office were taken over the one keep that was open, one after another. In all other turns the client was
 /// refused or an import was given up.
 pub fn turns_between_two_openings_are_a_run<K: Keep, O: KeepOpener<K>, D>()
-    ensures { AreSessionRuns K.meaning O.is_opened O.is_found O.is_probed D }
+    ensures { AreSessionRuns K.meaning O.is_opened O.is_found O.has_damaged D }
 {}

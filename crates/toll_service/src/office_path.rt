@@ -1,15 +1,13 @@
 //! The place of an office in a file.
-ghost use Rattle.std.specs.Prelude.{◌≡◌, ⊤, Bool, Option, None, Result, option_map, IfOk};
+ghost use Rattle.std.specs.Prelude.{◌≡◌, ⊤, Bool, Option, None, Result, option_map, IfOk, IfSome};
 ghost use Rattle.toll_base.specs.Bytes.{Bytes};
 ghost use Rattle.toll_files.specs.declared.file_stamps.LeftFiles.{LeftFiles};
 ghost use Rattle.toll_files.specs.declared.office_fault.OfficeFault.{OfficeFault};
-ghost use Rattle.toll_keep.specs.CallEffects.{IsReading};
 ghost use Rattle.toll_service.specs.Openings.{Openings, after_lock, after_opening};
 
-use std::alloc::Global;
-use toll_base::{Name, Slice};
+use toll_base::Name;
 use toll_files::{Lease, LeftFiles, OfficeFault};
-use toll_keep::{Keep, KeepFault};
+use toll_keep::Keep;
 
 /// Opens the keep in a file, looks at the file and closes it, each under the lease of the file's lock.
 pub trait KeepOpener<K: Keep>: Drop {
@@ -22,8 +20,8 @@ pub trait KeepOpener<K: Keep>: Drop {
     // Files that had been left so were looked at, and this was found, if that is known.
     ghost is_found: { LeftFiles → Result Bool OfficeFault → Type 0 } = { λ left found. ⊤ };
 
-    // An opened keep was asked for this owner's rows, and was this one then, if that is known.
-    ghost is_probed: { K → Bytes → K → Type 0 } = { λ first owner last. ⊤ };
+    // The keep met damage in this owner's rows.
+    ghost has_damaged: { K → Bytes → Type 0 } = { λ keep owner. ⊥ };
 
     /// Takes the lock of the file, or fails, as [`take_lock`](toll_files::take_lock) does.
     fn lock(&mut self, rt: &HostRuntime, path: &str) -> Result<Lease, OfficeFault>
@@ -53,16 +51,13 @@ pub trait KeepOpener<K: Keep>: Drop {
         ensures opened { IfOk result is_opened }
         ensures counted { openings self.new ≡ option_map (after_opening result) (openings self.old) };
 
-    /// Reads an owner's rows in a keep that it opened. An `Err` is the fault that the keep met.
-    fn read_rows(
-        &mut self,
-        alloc: Global,
-        keep: &mut K,
-        owner: &Name,
-    ) -> Result<Option<Slice>, KeepFault>
-        ensures openings { openings self.new ≡ openings self.old }
-        ensures probed { is_probed keep.old owner.now keep.new }
-        ensures reading { IsReading K.meaning keep.old keep.new result };
+    /// The owner in whose rows this keep met damage. `None` if it met none, or doesn't know the owner.
+    fn damaged_owner(&self, keep: &K) -> Option<Name>
+        ensures { IfSome result (has_damaged keep.now) }
+    {
+        let _ = keep;
+        None
+    }
 
     /// Closes the file. All answered changes are in it even if the closing meets a fault.
     fn close(&mut self, keep: K, lease: &Lease)

@@ -107,9 +107,9 @@ impl<K: Keep + Drop, O: KeepOpener<K>> Service for OfficeService<'_, K, O> {
 
     ghost is_by = { IsBy };
 
-    ghost answers = { Answers K.meaning O.is_opened O.is_found O.is_probed O.openings };
+    ghost answers = { Answers K.meaning O.is_opened O.is_found O.has_damaged O.openings };
 
-    ghost resumes = { Resumes K.meaning O.is_opened O.is_found O.is_probed O.openings };
+    ghost resumes = { Resumes K.meaning O.is_opened O.is_found O.has_damaged O.openings };
 
     fn party(request: &RequestBuffer) -> Party
         ensures { IsBy (listener_of request.now) (bytes_received request.now) result }
@@ -137,13 +137,7 @@ impl<K: Keep + Drop, O: KeepOpener<K>> Service for OfficeService<'_, K, O> {
             }
         }
         match self.session.answer(&mut self.office_path, request) {
-            Ok(reply) => {
-                if let Some(fault) = reply.fault {
-                    self.session
-                        .note_damage(&mut self.office_path, request, fault);
-                }
-                self.logged(reply)
-            }
+            Ok(reply) => self.logged(reply),
             Err(fault) => {
                 self.log_closed(fault);
                 Poll::Ready(reserved.write(request, fault))

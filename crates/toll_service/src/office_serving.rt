@@ -57,7 +57,7 @@ pub fn serve_file<W: Announcing, K: Keep + Drop, O: KeepOpener<K>>(
     office_path: OfficePath<'_, O>,
     count: u64,
 ) -> io::Result<ServingEnd>
-    ensures served { IfOk result (λ end. IsFileServed K.meaning O.is_opened O.is_found O.is_probed O.openings
+    ensures served { IfOk result (λ end. IsFileServed K.meaning O.is_opened O.is_found O.has_damaged O.openings
         ⟦<Party as PartialEq>⟧.eq W.Stream.Source W.Stream.Sink (W.limit network.old) count office_path.entry.opener
         (W.tally network.old) (W.tally network.new) (end ≡ ServingEnd.All)) }
     ensures end { IfOk result (λ end. Tallies (EndsSo end count) (W.tally network.old) (W.tally network.new)) }

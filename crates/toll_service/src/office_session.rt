@@ -2,10 +2,10 @@
 ghost use Rattle.std.specs.Prelude.{◌≡◌, ◌⊎◌, ◌-◌, None, Some, IfErr, IfOk, IfSome, IsSome, OnErr, OnOk};
 ghost use Rattle.toll_server.specs.RequestBuffers.{bytes_received, listener_of};
 ghost use Rattle.toll_server.specs.Runs.{Request, Task};
-ghost use Rattle.toll_service.specs.Damages.{KnowsNoMore, StaysWhere};
+ghost use Rattle.toll_service.specs.Damages.{HasFoundDamage, IsNoted, KnowsNoMore, StaysWhere};
 ghost use Rattle.toll_service.specs.Listeners.{IsServedIfRoom, IsTurnFault, ReportsFault};
 ghost use Rattle.toll_service.specs.Openings.{IsSomeRefused, IsNoneOpened};
-ghost use Rattle.toll_service.specs.Sessions.{AreAsLeft, IsSessionIdle, IsLockKept, IsNewSession, IsOpenedAhead, IsWithheld, TakesInput, imports_if_begun, imports_if_ended, state_of_session};
+ghost use Rattle.toll_service.specs.Sessions.{AreAsLeft, IsSessionIdle, IsLockKept, IsNewSession, IsOpenedAhead, IsUsedBy, IsWithheld, TakesInput, imports_if_begun, imports_if_ended, state_of_session};
 
 mod damages;
 mod leases;
@@ -90,7 +90,7 @@ impl<K: Keep + Drop> OfficeSession<K> {
 
     /// The answer to a request, over the office in the file, or the import that it begins. The answer has no bytes if
     /// there is no memory. An `Err` if the lock isn't taken or the file isn't opened. After an answer that reports a
-    /// fault, the file is opened anew.
+    /// fault, the file is opened anew. Damage that the request met is remembered.
     pub fn answer<O: KeepOpener<K>>(
         &mut self,
         office_path: &mut OfficePath<'_, O>,
@@ -105,7 +105,9 @@ impl<K: Keep + Drop> OfficeSession<K> {
         ensures err { OnErr result (IsSessionIdle (state_of_session self.old) (state_of_session self.new) × (self.new.imports ≡ self.old.imports)) }
         ensures refused { IfErr result (λ fault. IsWithheld O.is_found fault self.old
             (O.openings office_path.old.opener) (O.openings office_path.new.opener)) }
-        ensures damage { OnOk result (StaysWhere (AreAsLeft O.is_found self.old) self.old.damage self.new.damage) }
+        ensures damage { IfOk result (λ reply. IsNoted (HasFoundDamage K.meaning O.has_damaged (IsUsedBy O.is_opened O.is_found self.old self.new))
+            (AreAsLeft O.is_found self.old) (ReportsFault KeepFault.Damaged reply.poll)
+            self.old.damage self.new.damage (listener_of request.now) (bytes_received request.now)) }
         ensures stays { OnErr result ((self.new.left ≡ self.old.left) × KnowsNoMore self.old.damage self.new.damage) }
         ensures lock { IsLockKept self.old → IsLockKept self.new }
     {
@@ -119,6 +121,7 @@ impl<K: Keep + Drop> OfficeSession<K> {
         if let Poll::Pending(_) = &reply.poll {
             self.imports = self.imports.saturating_add(1);
         }
+        self.note_damage(office_path, &opened.keep, request, reply.fault);
         self.check_in(office_path, opened, lease, reply.fault);
         Ok(reply)
     }

@@ -1,14 +1,11 @@
 -- What a service does for one client over an opener with a known tally.
-use Rattle.std.specs.Prelude.{◌≡◌, ◌⊎◌, List, [], Option, Some, Result, IfOk, map, reverse}
+use Rattle.std.specs.Prelude.{◌≡◌, ◌⊎◌, List, [], Option, Some, map, reverse}
 use Rattle.toll_base.specs.Bytes.{Bytes}
-use Rattle.toll_base.specs.declared.slice.Slice.{Slice}
 use Rattle.toll_files.specs.declared.fault_log.ServingFault.{ServingFault}
 use Rattle.toll_files.specs.declared.fault_log.ServingFault.TheVariants.{Office}
 use Rattle.toll_files.specs.declared.office_fault.OfficeFault.{OfficeFault}
 use Rattle.toll_files.specs.declared.office_fault.OfficeFault.TheVariants.{Memory}
-use Rattle.toll_keep.specs.Content.{slice_of}
-use Rattle.toll_keep.specs.Meaning.{Meaning, OverContent}
-use Rattle.toll_keep.specs.declared.keep_fault.KeepFault.{KeepFault}
+use Rattle.toll_keep.specs.Meaning.{Meaning}
 use Rattle.toll_plant.specs.ImportStates.{ImportState}
 use Rattle.toll_server.specs.declared.listener.Listener.{Listener}
 use Rattle.toll_server.specs.declared.listener.Listener.TheVariants.{Plant}
@@ -32,10 +29,6 @@ abbrev pub damaged_owners : {K O : Type 0} → OfficeService K O → List Bytes
 damaged_owners service = service.session.damage.owners.items
 
 module _ {K : Type 0} (meaning : Meaning K) where
-  -- The owner's rows were read, as the content has them, or there was a fault.
-  abbrev pub IsRead : K → Bytes → K → Type 0
-  IsRead first owner last = (read : Result (Option Slice) KeepFault) × OverContent meaning first last (λ c. IfOk read (λ slice. slice ≡ slice_of c owner))
-
   -- The client was answered over an office that was opened for it. Or it was turned away for the fault of the opener's latest refusal,
   -- which the operator's log has. Or it got no bytes: it asked the plant's listener nothing, or memory lacked, which the log has.
   abbrev pub IsAnsweredAnew : (is_opened : K → Type 0) → Option Openings → Option ServingFault → Listener → Bytes → Poll ImportState → Type 0

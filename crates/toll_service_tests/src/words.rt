@@ -1,11 +1,9 @@
 //! Words of the plant over an office in a file that has no server.
-use std::alloc::Global;
 use std::fs::File;
 use std::test::Fail;
 use std::{fs, io};
-use toll_base::{Name, Slice};
 use toll_files::{Lease, LeftFiles, OfficeFault, take_lock};
-use toll_keep::{Keep, KeepFault, MemKeep};
+use toll_keep::MemKeep;
 use toll_programs::{Connector, TrackedStream};
 use toll_protocol::Sink;
 use toll_service::{KeepOpener, OfficePath, do_words};
@@ -44,15 +42,6 @@ impl KeepOpener<MemKeep> for Counting {
     ) -> Result<MemKeep, OfficeFault> {
         self.opened = self.opened.saturating_add(1);
         Ok(MemKeep::new(rt.alloc()))
-    }
-
-    fn read_rows(
-        &mut self,
-        alloc: Global,
-        keep: &mut MemKeep,
-        owner: &Name,
-    ) -> Result<Option<Slice>, KeepFault> {
-        keep.slice(alloc, owner)
     }
 
     fn close(&mut self, _keep: MemKeep, _lease: &Lease) {}

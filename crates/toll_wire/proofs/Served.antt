@@ -1,5 +1,5 @@
 -- Requests that are served, over any keep.
-use Rattle.std.proofs.Common.{OnErr, IsTrue, nat_eq, codes, ◌≡◌, ℕ, Bool, true, false, ◌&&◌, cond, List, [], Some, None, Result, Ok, Err, IfErr, IfOk, refl, sym, subst, inl, inr}
+use Rattle.std.proofs.Common.{OnErr, IsTrue, nat_eq, codes, ◌≡◌, ℕ, Bool, true, false, ◌&&◌, cond, List, [], Some, None, Result, Ok, Err, IfErr, IfOk, refl, sym, subst, inl, inr, ◌∙◌}
 use Rattle.toll_wire.proofs.Common.{Vec, starts_with, digits, false≢true, Bytes, History, IsLawful, Meaning, Content, CallEffect, IsReading, Represents, KeepFault, Memory, Request, OwnerReply, ReplyForbidden, ReplyRefused, has_owner_key, IsReply, IsValidOwnerRequest, after_reply, is_granted, may_change, writes, finished, reply_text, Forbidden, IfOk-weaker, owner_steps, Calls, IsKeepStep, IsStepFrom, StoreEffect, calls_of, Text, Unavailable, fault_or_memory, text_of_failure, text_of_reply_meaning, text_if_reply, ClaimedRequest, Asks, Fails, Saying, By, Nobody, IsTold, MayBeReply, after_saying, IfPlacedBefore, IfSayingUnchanging, IsReplyWhere, IsGranted, IsSayingStep, IsFaultMet, SayingCalls, saying_steps}
 use Rattle.toll_base.specs.declared.decision.Change.{Change}
 use Rattle.toll_keep.proofs.Calls.{Rests, answered, failed_call, goes_fault, goes_memory, read_memory, settles_still}
@@ -129,8 +129,8 @@ module _ {K : Type 0} (meaning : Meaning K) where
 
     -- the fault is that of the reading, or there was no memory after it
     pub met_reading : {X : Type 0} (r : Result X KeepFault) → IsReading meaning old new r → IsFaultMet meaning old new (fault_or_memory r)
-    met_reading (Ok x) reads = inr (goes_memory meaning old new x reads.goes)
-    met_reading (Err fault) reads = inr (goes_fault meaning old new fault reads.goes)
+    met_reading (Ok x) reads = inr (goes_memory meaning old new x reads.goes, λ now c held keeps is. (cc is))
+    met_reading (Err fault) reads = inr (goes_fault meaning old new fault reads.goes, λ now c held keeps is. reads.whole now c held keeps (cc is))
 
     -- no reply, after calls that answered or after a fault of one
     pub untold : {X : Type 0} (o key : Bytes) (asking : ClaimedRequest) (r : Result X KeepFault) → IsReading meaning old new r
@@ -214,5 +214,8 @@ module _ {K : Type 0} (meaning : Meaning K) where
             → IsFaultMet meaning old new fault
         by_plan (Ok reported) goes is =
             let makes = goes_on meaning old middle new (Ok reported) made result goes tt commit.idle commit.goes in
-            inr (goes_fault meaning {X = OwnerReply} old new fault (subst (λ m. CallEffect meaning old new (finished {X = OwnerReply} (Ok reported) m)) failed makes))
+            inr (
+              goes_fault meaning {X = OwnerReply} old new fault (subst (λ m. CallEffect meaning old new (finished {X = OwnerReply} (Ok reported) m)) failed makes),
+              λ now c held keeps damaged. commit.whole now c ((reads.keeps (commit.honest now)).content c held) keeps (failed ∙ damaged),
+            )
         by_plan (Err failing) goes is = absurd is

@@ -1,7 +1,7 @@
 -- What is so once a request was served.
 use Rattle.std.specs.Prelude.{◌≡◌, ◌⊎◌, Bool, false, Some, None, Ok, Err, IsTrue, nat_eq, codes}
 use Rattle.toll_wire.specs.Common.{Bytes, History, Meaning, Content, KeepFault, Memory, writes, starts_with}
-use Rattle.toll_keep.specs.CallEffects.{CallEffect}
+use Rattle.toll_keep.specs.CallEffects.{CallEffect, FindsNoDamage}
 use Rattle.toll_desk.specs.Clauses.{IfPlacedAgain}
 use Rattle.toll_desk.specs.Steps.{Calls, IsKeepStep, StepKind}
 use Rattle.toll_wire.specs.declared.outgoing.Out.{Out}
@@ -63,9 +63,10 @@ saying_steps = record {
 }
 
 module _ {K : Type 0} (meaning : Meaning K) (old new : K) where
-  -- a call of the keep met this fault; or there was no memory, and the keep is untouched
+  -- a call of the keep met this fault, which is never damage if the rows keep the rules; or there was no memory, and the keep is untouched
   abbrev pub IsFaultMet : KeepFault → Type 0
-  IsFaultMet fault = ((new ≡ old) × (fault ≡ Memory)) ⊎ CallEffect {X = Unit {0}} meaning old new (Err fault)
+  IsFaultMet fault =
+      ((new ≡ old) × (fault ≡ Memory)) ⊎ (CallEffect {X = Unit {0}} meaning old new (Err fault) × FindsNoDamage {X = Unit {0}} meaning old new (Err fault))
 
   -- What the bytes say was served in one step; or there was no memory to read them, and the keep is untouched.
   abbrev pub IsAnswered : Bytes → Out → Type 0

@@ -1,17 +1,18 @@
 //! What a session does with damage that a turn met.
-ghost use Rattle.std.specs.Prelude.{◌≡◌, ◌≢◌, ◌⊎◌, true, Ok, ⊤, IfErr, OnOk};
+ghost use Rattle.std.specs.Prelude.{◌≡◌, ◌≢◌, ◌⊎◌, Contains, Some, true, Ok, ⊤, IfErr, OnOk};
+ghost use Rattle.toll_base.specs.Bytes.{Bytes};
 ghost use Rattle.toll_server.specs.RequestBuffers.{bytes_received, listener_of};
-ghost use Rattle.toll_service.specs.Damages.{AreOwnersFound, HasFoundDamage, IsKnown, IsNoted};
+ghost use Rattle.toll_service.specs.Damages.{IsKnown, IsNoted};
 ghost use Rattle.toll_service.specs.Openings.{IsOneRefused, IsNoneOpened};
-ghost use Rattle.toll_service.specs.Sessions.{AreAsLeft, IsLockKept, state_of_session};
+ghost use Rattle.toll_service.specs.Parties.{IsBy};
+ghost use Rattle.toll_service.specs.Sessions.{AreAsLeft};
 
 use super::OfficeSession;
-use super::leases::left_now;
 use crate::office_path::{KeepOpener, OfficePath};
 use crate::party::Party;
 use std::str;
 use toll_base::Name;
-use toll_files::{Lease, Notes, OfficeFault};
+use toll_files::{Notes, OfficeFault};
 use toll_keep::{Keep, KeepFault};
 use toll_server::RequestBuffer;
 
@@ -40,30 +41,27 @@ impl<K: Keep + Drop> OfficeSession<K> {
         Ok(are_as_left)
     }
 
-    /// After a turn that met damage, remembers a call of the plant, or an owner whose rows are damaged. Whose rows
-    /// are damaged is found by opening the file once more, since the fault doesn't say it: an owner's trace reads
-    /// the rows of HOUSE too.
-    pub fn note_damage<O: KeepOpener<K>>(
+    /// After a turn over this keep, remembers a call of the plant that met damage, or the owner that a request
+    /// claims if the request met damage in the rows of this very owner.
+    pub(super) fn note_damage<O: KeepOpener<K>>(
         &mut self,
-        office_path: &mut OfficePath<'_, O>,
+        office_path: &OfficePath<'_, O>,
+        keep: &K,
         request: &RequestBuffer,
-        fault: KeepFault,
+        fault: Option<KeepFault>,
     )
-        ensures state { state_of_session self.new ≡ state_of_session self.old }
-        ensures imports { self.new.imports ≡ self.old.imports }
-        ensures spared { fault ≢ KeepFault.Damaged → self.new ≡ self.old }
-        ensures noted { IsNoted K.meaning O.is_opened O.is_probed ⊤ (fault ≡ KeepFault.Damaged) self.old.damage self.new.damage
-            (listener_of request.now) (bytes_received request.now) }
-        ensures files { (self.new.left ≡ self.old.left) ⊎ AreAsLeft O.is_found self.old }
-        ensures lock { IsLockKept self.old → IsLockKept self.new }
+        ensures beside { self.new ≡ record self.old { damage = self.new.damage; notes = self.new.notes } }
+        ensures spared { fault ≢ Some KeepFault.Damaged → self.new ≡ self.old }
+        ensures noted { IsNoted (λ owner. (fault ≡ Some KeepFault.Damaged) × O.has_damaged keep.now owner) ⊤ (fault ≡ Some KeepFault.Damaged)
+            self.old.damage self.new.damage (listener_of request.now) (bytes_received request.now) }
     {
-        if fault != KeepFault::Damaged {
+        let Some(KeepFault::Damaged) = fault else {
             return;
-        }
+        };
         match request {
             RequestBuffer::Owner(_) => {
-                if let Party::Owner(owner) = Party::of(request) {
-                    self.probe_owner(office_path, owner);
+                if let Some(owner) = office_path.opener.damaged_owner(keep) {
+                    self.note_claimed(office_path.rt, request, owner);
                 }
             }
             RequestBuffer::Plant(frame) => {
@@ -72,68 +70,25 @@ impl<K: Keep + Drop> OfficeSession<K> {
         }
     }
 
-    // Reads an owner's rows, if that wasn't done yet and the files are as they were left.
-    fn probe_owner<O: KeepOpener<K>>(&mut self, office_path: &mut OfficePath<'_, O>, owner: Name)
-        ensures state { state_of_session self.new ≡ state_of_session self.old }
-        ensures imports { self.new.imports ≡ self.old.imports }
-        ensures owners { AreOwnersFound K.meaning O.is_opened O.is_probed self.old.damage self.new.damage owner }
+    // Remembers an owner whose rows are damaged, if the request claims it.
+    fn note_claimed(&mut self, rt: &HostRuntime, request: &RequestBuffer, owner: Name)
+        ensures beside { self.new ≡ record self.old { damage = self.new.damage; notes = self.new.notes } }
+        ensures owners { (o : Bytes) → Contains self.new.damage.owners.items o → Contains self.old.damage.owners.items o
+            ⊎ ((o ≡ owner) × IsBy (listener_of request.now) (bytes_received request.now) (Party.Owner o)) }
         ensures calls { self.new.damage.calls ≡ self.old.damage.calls }
-        ensures files { (self.new.left ≡ self.old.left) ⊎ AreAsLeft O.is_found self.old }
-        ensures lock { IsLockKept self.old → IsLockKept self.new }
     {
-        if self.damage.was_probed(&owner) {
-            return;
-        }
-        let Some(lease) = self.lease_unchanged(office_path) else {
+        let Party::Owner(claimed) = Party::of(request) else {
             return;
         };
-        self.probe_rows(office_path, &lease, owner);
-        self.give_back(office_path, lease);
-    }
-
-    // Opens the file, only to read an owner's rows, and closes it.
-    fn probe_rows<O: KeepOpener<K>>(
-        &mut self,
-        office_path: &mut OfficePath<'_, O>,
-        lease: &Lease,
-        owner: Name,
-    )
-        ensures beside { self.new ≡ record self.old { left = self.new.left; damage = self.new.damage; notes = self.new.notes } }
-        ensures owners { AreOwnersFound K.meaning O.is_opened O.is_probed self.old.damage self.new.damage owner }
-        ensures calls { self.new.damage.calls ≡ self.old.damage.calls }
-    {
-        let is_damaged = has_damaged_rows(office_path, lease, &owner);
-        self.damage.note_owner(owner, is_damaged);
-        note_rows(&mut self.notes, office_path.rt, &owner, is_damaged);
-        self.left = left_now(&self.left, office_path.rt, office_path.path, lease, None);
+        if claimed == owner {
+            self.damage.note_owner(owner);
+            note_rows(&mut self.notes, rt, &owner);
+        }
     }
 }
 
-// Whether an office that is opened for it finds damage in an owner's rows.
-fn has_damaged_rows<K: Keep + Drop, O: KeepOpener<K>>(
-    office_path: &mut OfficePath<'_, O>,
-    lease: &Lease,
-    owner: &Name,
-) -> bool
-    ensures { result ≡ true → HasFoundDamage K.meaning O.is_opened O.is_probed owner.now }
-{
-    let Ok(mut keep) = office_path
-        .opener
-        .open(office_path.rt, office_path.path, lease)
-    else {
-        return false;
-    };
-    let alloc = office_path.rt.alloc();
-    let read = office_path.opener.read_rows(alloc, &mut keep, owner);
-    office_path.opener.close(keep, lease);
-    matches!(read, Err(KeepFault::Damaged))
-}
-
-// Writes on standard error that an owner's rows are damaged, if they are.
-fn note_rows(notes: &mut Notes, rt: &HostRuntime, owner: &Name, is_damaged: bool) {
-    if !is_damaged {
-        return;
-    }
+// Writes on standard error that an owner's rows are damaged.
+fn note_rows(notes: &mut Notes, rt: &HostRuntime, owner: &Name) {
     if let Ok(name) = str::from_utf8(owner.as_bytes()) {
         notes.write(rt, format_args!("damaged rows of {name}"));
     }

@@ -1,5 +1,5 @@
 //! How a session has its office and its files between two turns.
-ghost use Rattle.std.specs.Prelude.{◌≡◌, ◌⊎◌, ◌+◌, true, None, Some, Ok, IfErr, IfNone, IfOk, IfSome, IsSome, OnErr, OnOk, OnSome};
+ghost use Rattle.std.specs.Prelude.{◌≡◌, ◌⊎◌, ◌+◌, true, None, Some, Ok, IfErr, IfOk, IfSome, IsSome, OnErr, OnOk};
 ghost use Rattle.toll_files.specs.FileChanges.{AreFound};
 ghost use Rattle.toll_service.specs.Damages.{KnowsNoMore, StaysWhere};
 ghost use Rattle.toll_service.specs.Openings.{IsOneOpened, IsOneRefused, IsRefusedAfter, IsNoneOpened};
@@ -187,30 +187,11 @@ impl<K: Keep + Drop> OfficeSession<K> {
             None
         };
     }
-
-    // The lease, if the files are as they were left: the one that is kept, or one that is taken. `None` if the lock
-    // isn't taken, or if another program has changed the files.
-    pub(super) fn lease_unchanged<O: KeepOpener<K>>(
-        &mut self,
-        office_path: &mut OfficePath<'_, O>,
-    ) -> Option<Lease>
-        ensures beside { self.new ≡ record self.old { lock = self.new.lock } }
-        ensures none { IfNone result (self.new.lock ≡ self.old.lock) }
-        ensures found { OnSome result (AreAsLeft O.is_found self.old) }
-    {
-        if let Some(lease) = self.lock.take() {
-            return Some(lease);
-        }
-        match office_path.opener.lock(office_path.rt, office_path.path) {
-            Ok(lease) if self.are_files_as_left(office_path, &lease) => Some(lease),
-            _ => None,
-        }
-    }
 }
 
-/// The state in which the files are left now: by an office whose log is open, if that was open before the turn and
-/// met no fault. None if it can't be read.
-pub(super) fn left_now(
+// The state in which the files are left now: by an office whose log is open, if that was open before the turn and
+// met no fault. None if it can't be read.
+fn left_now(
     before: &Option<LeftFiles>,
     rt: &HostRuntime,
     path: &str,

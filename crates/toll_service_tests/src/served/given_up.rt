@@ -4,9 +4,8 @@ use crate::served::{ADD_OWNER, NO_MEMORY, received};
 use std::alloc::Global;
 use std::fs;
 use std::test::Fail;
-use toll_base::{Name, Slice};
 use toll_files::{Lease, LeftFiles, OfficeFault, take_lock};
-use toll_keep::{Keep, KeepFault, MemKeep};
+use toll_keep::MemKeep;
 use toll_plant::GROUP_RECORDS;
 use toll_protocol::{EncodeFault, Response};
 use toll_server::{Listener, Poll, RequestBuffer, Service};
@@ -49,15 +48,6 @@ impl KeepOpener<Refusing<MemKeep>> for Once {
         }
         self.is_opened = true;
         Ok(Refusing::new(MemKeep::new(rt.alloc()), Refused::Apply))
-    }
-
-    fn read_rows(
-        &mut self,
-        alloc: Global,
-        keep: &mut Refusing<MemKeep>,
-        owner: &Name,
-    ) -> Result<Option<Slice>, KeepFault> {
-        keep.slice(alloc, owner)
     }
 
     fn close(&mut self, _keep: Refusing<MemKeep>, _lease: &Lease) {}

@@ -1,21 +1,19 @@
-//! An opener whose openings, looks and readings are known. It shows that an opener can meet the clauses of
+//! An opener whose openings and looks are known. It shows that an opener can meet the clauses of
 //! `KeepOpener` about them, and what the clauses of an office's service say of it.
-ghost use Rattle.std.specs.Prelude.{◌≡◌, ◌+◌, ◌∷◌, Contains, Ok, Some, false, length};
+ghost use Rattle.std.specs.Prelude.{◌≡◌, ◌+◌, ◌∷◌, ⊤, Contains, Ok, Some, false, length};
 ghost use Rattle.toll_base.specs.Bytes.{Bytes};
 ghost use Rattle.toll_keep.specs.Content.{empty_content};
 ghost use Rattle.toll_keep.specs.Slices.{content_of};
 ghost use Rattle.toll_server.specs.RequestBuffers.{bytes_received, listener_of};
 ghost use Rattle.toll_service.specs.FileServing.{logged_by, openings_of};
-ghost use Rattle.toll_service_tests.specs.Openers.{IsAnsweredAnew, IsRead, damaged_owners, faults_of};
+ghost use Rattle.toll_service_tests.specs.Openers.{IsAnsweredAnew, damaged_owners, faults_of};
 
 use crate::served::{ADD_OWNER, received};
 use http_server::Log;
-use std::alloc::Global;
 use std::fs;
 use std::test::Fail;
-use toll_base::{Name, Slice};
 use toll_files::{Lease, LeftFiles, OfficeFault, take_lock};
-use toll_keep::{Keep, KeepFault, MemKeep};
+use toll_keep::{Keep, MemKeep};
 use toll_server::{Poll, RequestBuffer, Service};
 use toll_service::{KeepOpener, OfficePath, OfficeService, PendingImport, fault_response};
 
@@ -45,7 +43,7 @@ impl KeepOpener<MemKeep> for KnownOpener {
 
     ghost is_found = { λ left found. found ≡ Ok false };
 
-    ghost is_probed = { IsRead ⟦<MemKeep as Keep>⟧.meaning };
+    ghost has_damaged = { λ keep owner. ⊤ };
 
     fn lock(&mut self, rt: &HostRuntime, path: &str) -> Result<Lease, OfficeFault> {
         let lock = take_lock(rt, path);
@@ -77,15 +75,6 @@ impl KeepOpener<MemKeep> for KnownOpener {
         }
         self.opened = self.opened.and(&(), &());
         Ok(MemKeep::new(rt.alloc()))
-    }
-
-    fn read_rows(
-        &mut self,
-        alloc: Global,
-        keep: &mut MemKeep,
-        owner: &Name,
-    ) -> Result<Option<Slice>, KeepFault> {
-        keep.slice(alloc, owner)
     }
 
     fn close(&mut self, _keep: MemKeep, _lease: &Lease) {}

@@ -7,9 +7,8 @@ use std::fs::{File, OpenOptions};
 use std::io::Write;
 use std::test::Fail;
 use std::{fs, io};
-use toll_base::{Name, Slice};
 use toll_files::{Lease, LeftFiles, OfficeFault, take_lock};
-use toll_keep::{Keep, KeepFault, MemKeep};
+use toll_keep::MemKeep;
 use toll_server::{Listener, Poll, RequestBuffer, Service};
 use toll_service::{KeepOpener, OfficePath, OfficeService};
 
@@ -67,15 +66,6 @@ impl KeepOpener<MemKeep> for Shelf<'_> {
     ) -> Result<MemKeep, OfficeFault> {
         add_one(&self.counts.opened);
         Ok(MemKeep::new(rt.alloc()))
-    }
-
-    fn read_rows(
-        &mut self,
-        alloc: Global,
-        keep: &mut MemKeep,
-        owner: &Name,
-    ) -> Result<Option<Slice>, KeepFault> {
-        keep.slice(alloc, owner)
     }
 
     fn close(&mut self, _keep: MemKeep, _lease: &Lease) {

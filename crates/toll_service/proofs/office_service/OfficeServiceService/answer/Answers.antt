@@ -1,46 +1,28 @@
-use Rattle.std.proofs.Common.{◌≡◌, ◌∙◌, Some, ap, inl, inr, rules, subst, sym}
+use Rattle.std.proofs.Common.{◌≡◌, inl, inr, rules, subst, sym}
 use Rattle.toll_keep.specs.declared.keep_fault.KeepFault.TheVariants.{Damaged}
 use Rattle.toll_server.specs.RequestBuffers.{bytes_received, listener_of}
 use Rattle.toll_service.specs.Common.{Request}
-use Rattle.toll_service.specs.Damages.{IsNoted, KnowsNoMore}
+use Rattle.toll_service.specs.Damages.{HasFoundDamage, IsNoted, KnowsNoMore}
 use Rattle.toll_service.specs.Listeners.{ReportsFault}
 use Rattle.toll_service.specs.Openings.{IsNoneOpened}
-use Rattle.toll_service.specs.Sessions.{AreAsLeft, IsSessionIdle, IsAnsweredAtHand, IsWithheld, state_of_session}
-use Rattle.toll_service.proofs.DamageLemmas.{noted_behind, noted_none}
+use Rattle.toll_service.specs.Sessions.{AreAsLeft, IsSessionIdle, IsUsedBy, IsWithheld, TakesInput, state_of_session}
 use Rattle.toll_service.proofs.office_service.OfficeServiceService.answer.Goals as goal
-use Rattle.toll_service.proofs.office_service.OfficeServiceService.answer.Goals.{in-Some, in_default-fault}
 
-pub returns-after-reply : goal.returns-after-reply
-returns-after-reply g c =
+pub returns-in-Ok-answer : goal.returns-in-Ok-answer
+returns-in-Ok-answer g c =
+    let K = g.K.Keep in
+    let O = g.O.KeepOpener in
     let first = c.args.self.now.session in
-    let known = first.damage in
-    let old = state_of_session first in
-    let reply = c.in-Ok-answer.reply in
-    let Kept : Type 0 = AreAsLeft g.O.KeepOpener.is_found first in
-    let Reports : Type 0 = ReportsFault Damaged reply.poll in
-    let session : c.logged.new.self.session ≡ c.match-reply.self.session = c.logged.ensures.session in
-    let noted : (state_of_session c.match-reply.self.session ≡ state_of_session c.answer.new.self)
-    × IsNoted g.K.Keep.meaning g.O.KeepOpener.is_opened g.O.KeepOpener.is_probed Kept Reports known c.match-reply.self.session.damage (listener_of c.args.request.now) (bytes_received c.args.request.now) =
-    elim (c.match-reply.branch) [
-      | in-Some w ↦ (
-        ap (λ s. state_of_session s.session) w.self-is ∙ w.note_damage.ensures.state,
-        subst (λ s. IsNoted g.K.Keep.meaning g.O.KeepOpener.is_opened g.O.KeepOpener.is_probed Kept Reports known s.session.damage (listener_of c.args.request.now) (bytes_received c.args.request.now)) (sym w.self-is)
-            (noted_behind g.K.Keep.meaning g.O.KeepOpener.is_opened g.O.KeepOpener.is_probed Kept (w.in-Some.fault ≡ Damaged) Reports known c.answer.new.self.damage w.note_damage.new.self.damage (listener_of c.args.request.now) (bytes_received c.args.request.now)
-            c.in-Ok-answer.ensures.damage (λ is met. c.in-Ok-answer.ensures.reports is (w.in-Some.is ∙ ap (λ fault. Some fault) met)) w.note_damage.ensures.noted),
-      )
-      | in_default-fault w ↦ (
-        ap (λ s. state_of_session s.session) w.self-is,
-        subst (λ s. IsNoted g.K.Keep.meaning g.O.KeepOpener.is_opened g.O.KeepOpener.is_probed Kept Reports known s.session.damage (listener_of c.args.request.now) (bytes_received c.args.request.now)) (sym w.self-is)
-            (noted_none g.K.Keep.meaning g.O.KeepOpener.is_opened g.O.KeepOpener.is_probed Kept Reports known c.answer.new.self.damage (listener_of c.args.request.now) (bytes_received c.args.request.now) c.in-Ok-answer.ensures.damage),
-      )
-    ] in
-    let state : state_of_session c.logged.new.self.session ≡ state_of_session c.answer.new.self = ap (λ s. state_of_session s) session ∙ noted.0 in
+    let listener = listener_of c.args.request.now in
+    let requested = bytes_received c.args.request.now in
+    let Kept : Type 0 = AreAsLeft O.is_found first in
     inl (inl (
-      subst (λ s. IsAnsweredAtHand g.K.Keep.meaning g.O.KeepOpener.is_opened Kept old (Request (listener_of c.args.request.now) (bytes_received c.args.request.now)) c.logged.result s) (sym state)
-          (subst (λ p. IsAnsweredAtHand g.K.Keep.meaning g.O.KeepOpener.is_opened Kept old (Request (listener_of c.args.request.now) (bytes_received c.args.request.now)) p (state_of_session c.answer.new.self)) (sym c.logged.ensures.poll)
-          c.in-Ok-answer.ensures.ok),
-      subst (λ s. IsNoted g.K.Keep.meaning g.O.KeepOpener.is_opened g.O.KeepOpener.is_probed Kept (ReportsFault Damaged c.logged.result) known s.damage (listener_of c.args.request.now) (bytes_received c.args.request.now)) (sym session)
-          (subst (λ p. IsNoted g.K.Keep.meaning g.O.KeepOpener.is_opened g.O.KeepOpener.is_probed Kept (ReportsFault Damaged p) known c.match-reply.self.session.damage (listener_of c.args.request.now) (bytes_received c.args.request.now)) (sym c.logged.ensures.poll) noted.1),
+      subst (λ s. TakesInput K.meaning O.is_opened O.is_found first (Request listener requested) c.logged.result s) (sym c.logged.ensures.session)
+          (subst (λ p. TakesInput K.meaning O.is_opened O.is_found first (Request listener requested) p c.answer.new.self) (sym c.logged.ensures.poll) c.in-Ok-answer.ensures.ok),
+      subst (λ s. IsNoted (HasFoundDamage K.meaning O.has_damaged (IsUsedBy O.is_opened O.is_found first s)) Kept (ReportsFault Damaged c.logged.result) first.damage s.damage listener requested)
+          (sym c.logged.ensures.session)
+          (subst (λ p. IsNoted (HasFoundDamage K.meaning O.has_damaged (IsUsedBy O.is_opened O.is_found first c.answer.new.self)) Kept (ReportsFault Damaged p) first.damage c.answer.new.self.damage listener requested)
+          (sym c.logged.ensures.poll) c.in-Ok-answer.ensures.damage),
     ))
 
 pub returns-in-Err-answer : goal.returns-in-Err-answer

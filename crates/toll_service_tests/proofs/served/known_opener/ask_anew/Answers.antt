@@ -1,4 +1,4 @@
-use Rattle.std.proofs.Common.{refl}
+use Rattle.std.proofs.Common.{inl, inr, refl}
 use Rattle.toll_base.proofs.SliceFits.{empty_keeps}
 use Rattle.toll_keep.specs.Content.{empty_content}
 use Rattle.toll_service_tests.proofs.OpenerLemmas.{answered_anew, none_damaged}
@@ -11,4 +11,7 @@ returns-clause-answered c =
 pub returns-clause-sound : goal.returns-clause-sound
 returns-clause-sound c =
     none_damaged _ _ _ _ _ _ _ _ _ _ _ (λ left found is. is) (c.open_ahead.ensures c.new-service.ensures.session) c.answer-poll.ensures
-    (λ owner found. found.found.whole tt empty_content found.opened (λ o. empty_keeps o) refl)
+    (λ first last opened met. elim met [
+      | inl (same, is) ↦ absurd (cc is)
+      | inr (goes, whole) ↦ whole tt empty_content opened (λ o. empty_keeps o) refl
+    ])
