@@ -69,7 +69,8 @@ def invoked(plant, words):
     error = done.exception
     if error and not isinstance(error, (SystemExit, OSError, sqlite3.Error)):
         raise error
-    return (3 if isinstance(error, (OSError, sqlite3.Error)) else done.exit_code), done.stdout_bytes.decode() + done.stderr_bytes.decode()
+    output = "" if done.stdout_bytes.startswith(b"PK") else done.stdout_bytes.decode()  # a workbook is no text
+    return (3 if isinstance(error, (OSError, sqlite3.Error)) else done.exit_code), output + done.stderr_bytes.decode()
 
 
 @SOME
