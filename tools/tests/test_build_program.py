@@ -588,7 +588,7 @@ def compiled(unproved: Unproved) -> Unproved:
 def test_an_unproved_build_is_the_tried_module_optimized_and_says_what_it_is(unproved: Unproved) -> None:
     done = unproved.build("--unproved")
     assert done.status == 0 and "toll: out/quick/toll is compiled, and NOTHING OF IT IS PROVED" in done.err, done.err
-    assert unproved.compiled() == "linked -fPIE -O3\nfn it\n"
+    assert unproved.compiled() == "linked -fPIE -O1\nfn it\n"
     assert not unproved.is_left() and not (unproved.out("toll") / "toll").exists()
 
 
@@ -633,4 +633,4 @@ def test_an_unproved_build_says_what_it_compiles_and_how_far_it_is(unproved: Unp
     forms = [re.compile(beginning + step + end) for step in steps]
     numbers = [[number for number, form in enumerate(forms, 1) if form.fullmatch(line)] for line in lines]
     assert {tuple(found_by) for found_by in numbers} == {(1,), (2,)} and numbers == sorted(numbers), lines
-    assert lines[0].endswith("0 seconds so far, some 7 minutes to go")
+    assert lines[0].endswith("0 seconds so far, some 5 minutes to go")
