@@ -4,6 +4,7 @@ import secrets
 import socket
 import threading
 from collections.abc import Iterator
+from typing import Any
 
 from hilpoven.core.failure import Failure
 
@@ -35,7 +36,8 @@ def shown(settings: str) -> Iterator[list[str]]:
         raise Failure(f"nothing can listen for the screens: {error.strerror}") from error
     origin = f"http://localhost:{listener.getsockname()[1]}"
     desk = Desk(Contexts(settings=settings), SampleAccounts(accounts), origin)
-    server = server_of(desk, sockets=[listener])
+    channels: dict[int, Any] = {}  # what the server's loop looks after: without any it ends
+    server = server_of(desk, sockets=[listener], map=channels)
     thread = threading.Thread(target=server.run, daemon=True)
     thread.start()
     try:
@@ -45,6 +47,9 @@ def shown(settings: str) -> Iterator[list[str]]:
             *(f"  {login} {passwords[login]}   ({PERSONS[login][0]})" for login in PERSONS),
         ]
     finally:
-        listener.shutdown(socket.SHUT_RDWR)
+        channels.clear()
+        server.pull_trigger()
+        thread.join()
+        server.task_dispatcher.shutdown()
         server.close()
         desk.tables.close()
