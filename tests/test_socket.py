@@ -14,6 +14,7 @@ import shutil
 import signal
 import socket
 import socketserver
+import sqlite3
 import stat
 import subprocess
 import threading
@@ -516,6 +517,27 @@ def test_a_server_refuses_files_that_lost_rows_and_writes_nothing(at_work: Offic
     assert answers_around(at_work, change) == (["503", "503"], NOT_OURS, ["fault NotOurs began"], True)
 
 
+def test_a_log_that_was_cut_before_the_first_change_is_a_loss_too(at_work: Office) -> None:
+    at_work.lay(ORDER % "O-2")
+    with at_work.serve() as server:
+        assert is_answered(server)
+        change_log(at_work.db, EARLIER_ENDS["a log cut by its last frame"])
+        assert server.ask(ORDERS) == UNAVAILABLE and server.lines() == ["fault NotOurs began"]
+
+
+def test_while_sqlite_reads_the_file_that_a_server_lent_nothing_is_answered_or_written(at_work: Office) -> None:
+    with at_work.serve() as server, contextlib.closing(sqlite3.connect(at_work.db, isolation_level=None)) as reader:
+        assert server.ask(ORDER % "O-2").startswith("200 ")
+        reader.execute("BEGIN")
+        orders = reader.execute("SELECT * FROM orders").fetchall()
+        assert server.ask(ORDER % "O-3") == UNAVAILABLE
+        assert reader.execute("SELECT * FROM orders").fetchall() == orders
+        reader.execute("COMMIT")
+        reader.close()
+        assert server.ask(ORDER % "O-3").startswith("200 ")
+        assert [line for line in server.lines() if line.startswith("fault")] == ["fault Disk began", "fault Disk ended"]
+
+
 def test_bytes_that_others_wrote_in_place_are_read_if_the_time_of_writing_is_put_back(at_work: Office) -> None:
     file = pathlib.Path(at_work.db)
     CHECKPOINT(at_work.db)
@@ -583,9 +605,12 @@ def test_a_server_whose_network_fails_ends_with_3(disk: Disk) -> None:
 def test_a_command_waits_five_seconds_for_a_server_that_is_stopped(at_work: Office) -> None:
     with at_work.serve() as server:
         server.ask(ORDERS)
+        began = time.monotonic()
+        assert at_work.plant("stock", "ACME").status == 0
+        own = time.monotonic() - began  # what a command takes without waiting: some ms, on a busy machine more
         server.process.send_signal(signal.SIGSTOP)
         began = time.monotonic()
-        assert at_work.plant("unit-add", "U2") == ACCEPTED and 4 < time.monotonic() - began < 8
+        assert at_work.plant("unit-add", "U2") == ACCEPTED and 4 < time.monotonic() - began < 8 + 10 * own
         server.process.send_signal(signal.SIGCONT)
         assert is_answered(server)
         assert at_work.plant("unit-add", "U2").status == 1 and at_work.plant("unit-add", "U3") == ACCEPTED

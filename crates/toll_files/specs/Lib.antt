@@ -1,3 +1,5 @@
 pub mod Faults
 pub mod FileChanges
 pub mod LogEnds
+pub mod LogMarks
+pub mod OfficeFiles

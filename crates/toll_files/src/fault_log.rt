@@ -1,6 +1,7 @@
 //! What an operator sees of a server's faults.
-ghost use Rattle.std.specs.Prelude.{◌≡◌, None, option_map};
-ghost use Rattle.toll_files.specs.Faults.{serving_fault_name};
+ghost use Rattle.std.specs.Prelude.{◌≡◌, ◌≢◌, List, ◌∷◌, Option, None, option_map};
+ghost use Rattle.toll_base.specs.Bytes.{Bytes};
+ghost use Rattle.toll_files.specs.Faults.{fault_note_text, lines_of_change, serving_fault_name};
 ghost use Rattle.toll_files.specs.declared.fault_log.FaultNote.TheVariants as note;
 
 use crate::notes::Notes;
@@ -73,14 +74,30 @@ impl fmt::Display for FaultNote {
     }
 }
 
-/// The fault that a server has now, if it has one.
-#[derive(Clone, Copy, Debug, PartialEq, Eq)]
-pub struct FaultLog {
-    pub fault: Option<ServingFault>,
-    notes: Notes,
+/// What takes an operator's lines.
+pub trait OperatorLines {
+    // The lines that it was given, the latest first, if they are known.
+    ghost given: { Self → Option (List Bytes) } = { λ _. None };
+
+    /// Writes the line of this note, or drops and counts it if that would have to wait.
+    fn give(&mut self, rt: &HostRuntime, note: FaultNote)
+        ensures { given self.new ≡ option_map (λ lines. fault_note_text note ∷ lines) (given self.old) };
 }
 
-impl FaultLog {
+impl OperatorLines for Notes {
+    fn give(&mut self, rt: &HostRuntime, note: FaultNote) {
+        self.write(rt, note);
+    }
+}
+
+/// The fault that a server has now, if it has one.
+#[derive(Clone, Copy, Debug, PartialEq, Eq)]
+pub struct FaultLog<N = Notes> {
+    pub fault: Option<ServingFault>,
+    notes: N,
+}
+
+impl FaultLog<Notes> {
     /// The log of a server that has no fault yet.
     pub fn new() -> Self
         ensures { result.fault ≡ None }
@@ -90,21 +107,25 @@ impl FaultLog {
             notes: Notes::new(),
         }
     }
+}
 
+impl<N: OperatorLines> FaultLog<N> {
     /// Notes the fault that the server has now, or that it has none. If that is new, writes a line on
     /// standard error: that the fault before it ended, and that this one began.
     pub fn update(&mut self, rt: &HostRuntime, found: Option<ServingFault>)
-        ensures { self.new.fault ≡ found }
+        ensures noted { self.new.fault ≡ found }
+        ensures same { self.old.fault ≡ found → N.given self.new.notes ≡ N.given self.old.notes }
+        ensures told { self.old.fault ≢ found → N.given self.new.notes ≡ option_map (lines_of_change self.old.fault found) (N.given self.old.notes) }
     {
         if self.fault == found {
             return;
         }
         let (ended, began) = FaultNote::of_change(self.fault, found);
         if let Some(note) = ended {
-            self.notes.write(rt, note);
+            self.notes.give(rt, note);
         }
         if let Some(note) = began {
-            self.notes.write(rt, note);
+            self.notes.give(rt, note);
         }
         self.fault = found;
     }

@@ -1,14 +1,20 @@
 //! How an office's files have changed since a server left them.
-ghost use Rattle.std.specs.Prelude.{◌≡◌, ◌↔◌, None, true, IfErr, IfOk, IfSome};
+ghost use Rattle.std.specs.Prelude.{◌≡◌, ◌↔◌, None, true, IfErr, IfOk, IfSome, IsOk, IsTrue};
 ghost use Rattle.toll_files.specs.FileChanges.{AreUntouched, HadSomething, HasContentOf, AreCommitsLost, IsEndLost, IsLogLost, IsStampUnchanged};
+ghost use Rattle.toll_files.specs.LogEnds.{HasEnd, IsEarlierEnd, IsEndOf, IsFoundAs};
+ghost use Rattle.toll_files.specs.LogMarks.{IsFileAsMarked};
+ghost use Rattle.toll_files.specs.OfficeFiles.{AreCompared, AreLookedAt, AreNoted, IsContinued, IsTurnNoted, answer_to};
+ghost use Rattle.toll_files.specs.declared.file_stamps.FileChange.{FileChange};
 
 use crate::file_id::FileId;
 use crate::lock::Lease;
-use crate::log_end::{FoundEnd, LogEnd, ReadAt, end_of};
+use crate::log_end::{FoundEnd, LogEnd, end_of};
+use crate::log_mark::LogMark;
 use crate::office_fault::OfficeFault;
-use std::fs::{File, Metadata};
+use crate::office_files::{OfficeFiles, StampedLog};
+use std::fs::Metadata;
 use std::io::ErrorKind;
-use std::os::unix::fs::{FileExt, MetadataExt};
+use std::os::unix::fs::MetadataExt;
 use std::{fs, io};
 
 /// Which file it is, its length, when it was written, and when that or its name or mode changed. All fields
@@ -61,8 +67,8 @@ impl Stamp {
         self.id == other.id && self.bytes == other.bytes && self.written == other.written
     }
 
-    // Whether neither the file nor its name or mode changed either.
-    fn is_same(&self, other: &Stamp) -> bool
+    /// Whether neither the file nor its name or mode changed either.
+    pub fn is_same(&self, other: &Stamp) -> bool
         ensures { (result ≡ true) ↔ IsStampUnchanged self.now other.now }
     {
         self.has_content_of(other) && self.changed == other.changed
@@ -74,61 +80,6 @@ impl Stamp {
 pub struct FileStamps {
     pub database: Stamp,
     pub log: Stamp,
-}
-
-impl FileStamps {
-    /// The stamps of the office at this path. An `Err` if the metadata of a file can't be read, or if there is no
-    /// memory for the path of the log.
-    pub fn of(rt: &HostRuntime, path: &str, _lease: &Lease) -> io::Result<Self> {
-        let log = log_path(rt, path)?;
-        Ok(FileStamps {
-            database: Stamp::of(rt, path)?,
-            log: Stamp::of(rt, log.as_str())?,
-        })
-    }
-}
-
-/// The log of an office, which stays open to be read.
-#[derive(Drop)]
-pub struct OpenLog {
-    file: File,
-}
-
-impl OpenLog {
-    /// Opens the log at this path. An `Err` if it isn't there or can't be opened.
-    pub fn open(rt: &HostRuntime, log: &str) -> io::Result<Self> {
-        let file = File::open(rt, log)?;
-        Ok(OpenLog { file })
-    }
-
-    // The log, with its stamp of now. An `Err` if its metadata can't be read.
-    fn now(&self) -> io::Result<StampedLog<'_>> {
-        Ok(StampedLog {
-            file: &self.file,
-            stamp: Stamp::from(&self.file.metadata()?),
-        })
-    }
-}
-
-/// An open log, of which only the bytes are read that it had when it was stamped.
-#[derive(Clone, Copy)]
-struct StampedLog<'a> {
-    file: &'a File,
-    stamp: Stamp,
-}
-
-impl ReadAt for StampedLog<'_> {
-    fn len(&self) -> u64 {
-        self.stamp.bytes
-    }
-
-    fn fill_at(&self, at: u64, buffer: &mut [u8]) -> io::Result<bool> {
-        match self.file.read_exact_at(buffer, at) {
-            Ok(()) => Ok(true),
-            Err(fault) if fault.kind() == ErrorKind::UnexpectedEof => Ok(false),
-            Err(fault) => Err(fault),
-        }
-    }
 }
 
 /// What other programs did to the files of an office.
@@ -160,14 +111,16 @@ pub struct FoundFiles {
 }
 
 impl FoundFiles {
-    /// The state of the files at this path, which were left so. The log is read only if it has changed. An `Err` if
+    /// The state of the files, which were left so. The log is read only if it has changed. An `Err` if
     /// the stamps can't be read.
-    pub fn of(rt: &HostRuntime, path: &str, lease: &Lease, left: &LeftFiles) -> io::Result<Self>
-        ensures { IfOk result (λ found. IsStampUnchanged found.stamps.log left.now.stamps.log → found.log_end ≡ None) }
+    pub fn of<F: OfficeFiles>(files: &F, lease: &Lease, left: &LeftFiles) -> io::Result<Self>
+        ensures untouched { IfOk result (λ found. IsStampUnchanged found.stamps.log left.now.stamps.log → found.log_end ≡ None) }
+        ensures looked { IfOk result (λ found. IfSome (F.known files.now) (λ known. AreLookedAt (F.are_readable files.now) left.now known.0 known.1 found)) }
+        ensures readable { F.are_readable files.now → IsOk result }
     {
-        let stamps = FileStamps::of(rt, path, lease)?;
+        let stamps = files.stamps(lease)?;
         let log_end = match &left.log_end {
-            Some(end) if !stamps.log.is_same(&left.stamps.log) => find_end(rt, path, end).ok(),
+            Some(end) if !stamps.log.is_same(&left.stamps.log) => find_end(files, end).ok(),
             _ => None,
         };
         Ok(FoundFiles { stamps, log_end })
@@ -177,19 +130,19 @@ impl FoundFiles {
 impl LeftFiles {
     /// The state of the files now, which were left as `before` says. The log is read only if it has changed since.
     /// An `Err` if the stamps or the log can't be read.
-    pub fn of(
-        rt: &HostRuntime,
-        path: &str,
+    pub fn of<F: OfficeFiles>(
+        files: &F,
         lease: &Lease,
         before: &Option<LeftFiles>,
     ) -> io::Result<Self>
-        ensures { IfOk result (λ left. IfSome before.now (λ known. IsStampUnchanged known.stamps.log left.stamps.log → left.log_end ≡ known.log_end)) }
+        ensures kept { IfOk result (λ left. IfSome before.now (λ known. IsStampUnchanged known.stamps.log left.stamps.log → left.log_end ≡ known.log_end)) }
+        ensures noted { IfOk result (λ left. IfSome (F.known files.now) (λ known. AreNoted before.now known.0 known.1 left)) }
     {
-        let stamps = FileStamps::of(rt, path, lease)?;
+        let stamps = files.stamps(lease)?;
         let log_end = match before {
             Some(before) if before.stamps.log.is_same(&stamps.log) => before.log_end,
-            Some(before) => log_end(rt, path, &before.log_end)?,
-            None => log_end(rt, path, &None)?,
+            Some(before) => log_end(files, &before.log_end)?,
+            None => log_end(files, &None)?,
         };
         Ok(LeftFiles { stamps, log_end })
     }
@@ -198,16 +151,17 @@ impl LeftFiles {
     /// whose log is open and which met no fault. The database is looked at only if the log was begun anew, since
     /// the office writes to it only then. So a change that another program made meanwhile isn't taken for its own.
     /// An `Err` if the stamps or the log can't be read.
-    pub fn after_turn(
+    pub fn after_turn<F: OfficeFiles>(
         &self,
-        rt: &HostRuntime,
-        path: &str,
+        files: &F,
         lease: &Lease,
-        open: &OpenLog,
+        opened: &F::Log,
     ) -> io::Result<Self>
-        ensures { IfOk result (λ left. IsStampUnchanged self.now.stamps.log left.stamps.log → left.log_end ≡ self.now.log_end) }
+        ensures kept { IfOk result (λ left. IsStampUnchanged self.now.stamps.log left.stamps.log → left.log_end ≡ self.now.log_end) }
+        ensures noted { IfOk result (λ left. IfSome (F.known files.now) (λ known. IfSome (F.Log.stamped opened.now) (λ now. IfSome (F.Log.content opened.now)
+            (λ bytes. IsTurnNoted self.now now bytes known.0 known.1 left)))) }
     {
-        let log = open.now()?;
+        let log = StampedLog::of(opened)?;
         if self.stamps.log.is_same(&log.stamp) {
             return Ok(*self);
         }
@@ -220,32 +174,34 @@ impl LeftFiles {
                 return Ok(LeftFiles { stamps, log_end });
             }
         }
-        LeftFiles::of(rt, path, lease, &Some(*self))
+        LeftFiles::of(files, lease, &Some(*self))
     }
 
-    /// Whether no other program has changed the files of the office at this path since they were left so. If
+    /// Whether no other program has changed the files of the office since they were left so. If
     /// the files can't be read, they count as changed. NotOurs if committed changes are gone.
-    pub fn is_unchanged(
+    pub fn is_unchanged<F: OfficeFiles>(
         &self,
-        rt: &HostRuntime,
-        path: &str,
+        files: &F,
         lease: &Lease,
     ) -> Result<bool, OfficeFault>
-        ensures { IfErr result (λ fault. (fault ≡ OfficeFault.NotOurs) × HadSomething self.now) }
+        ensures lost { IfErr result (λ fault. (fault ≡ OfficeFault.NotOurs) × HadSomething self.now) }
+        ensures compared { IfSome (F.known files.now) (λ known. (change : FileChange) × AreCompared (F.are_readable files.now) self.now known.0 known.1 change
+            × (result ≡ answer_to change)) }
     {
-        match self.compare(rt, path, lease) {
+        match self.compare(files, lease) {
             FileChange::Same => Ok(true),
             FileChange::ByOthers => Ok(false),
             FileChange::NotOurs => Err(OfficeFault::NotOurs),
         }
     }
 
-    /// What other programs did to the files of the office at this path since they were left so. If the files
+    /// What other programs did to the files of the office since they were left so. If the files
     /// can't be read, they count as written.
-    pub fn compare(&self, rt: &HostRuntime, path: &str, lease: &Lease) -> FileChange
-        ensures { result ≡ FileChange.NotOurs → HadSomething self.now }
+    pub fn compare<F: OfficeFiles>(&self, files: &F, lease: &Lease) -> FileChange
+        ensures lost { result ≡ FileChange.NotOurs → HadSomething self.now }
+        ensures compared { IfSome (F.known files.now) (λ known. AreCompared (F.are_readable files.now) self.now known.0 known.1 result) }
     {
-        match FoundFiles::of(rt, path, lease, self) {
+        match FoundFiles::of(files, lease, self) {
             Ok(found) => self.change_to(&found),
             Err(_) => FileChange::ByOthers,
         }
@@ -309,41 +265,59 @@ impl LeftFiles {
     }
 }
 
-// The path of the log of the office at this path. An `Err` if there is no memory for it.
-fn log_path(rt: &HostRuntime, path: &str) -> io::Result<String> {
-    Ok(format!(in rt.alloc(); "{path}-wal")?)
+/// Whether the log still has the commit that the mark in FILE.lock names, or there is no mark of this FILE. Damaged if
+/// the log was cut or changed since it was marked, so that SQLite would stop before that commit. Disk if the files
+/// can't be looked at, Memory if there is none for their paths.
+pub fn check_mark<F: OfficeFiles>(files: &F, lease: &Lease) -> Result<(), OfficeFault> {
+    let Some(mark) = lease.mark() else {
+        return Ok(());
+    };
+    match is_mark_lost(files, lease, &mark) {
+        Ok(false) => Ok(()),
+        Ok(true) => Err(OfficeFault::Damaged),
+        Err(fault) if fault.kind() == ErrorKind::OutOfMemory => Err(OfficeFault::Memory),
+        Err(_) => Err(OfficeFault::Disk),
+    }
+}
+
+// Whether the commit that the mark names is lost. The log is read only if FILE is as it was marked.
+fn is_mark_lost<F: OfficeFiles>(files: &F, lease: &Lease, mark: &LogMark) -> io::Result<bool>
+    ensures { IfOk result (λ lost. IfSome (F.known files.now) (λ known. IsTrue lost ↔ (IsFileAsMarked mark.now known.0.database × ¬ HasEnd known.1 mark.now.end))) }
+{
+    let database = files.stamps(lease)?.database;
+    if !mark.is_of(&database) {
+        return Ok(false);
+    }
+    Ok(mark.is_lost(&database, find_end(files, &mark.end)?))
 }
 
 // Whether a log has the salts that it had before, so that it was only added to.
-fn is_continued(before: &Option<LogEnd>, end: &Option<LogEnd>) -> bool {
+fn is_continued(before: &Option<LogEnd>, end: &Option<LogEnd>) -> bool
+    ensures { IsTrue result ↔ IsContinued before.now end.now }
+{
     match (before, end) {
         (Some(before), Some(end)) => before.salts == end.salts,
         _ => false,
     }
 }
 
-// The last commit in the log of the office at this path, of which an earlier one may be known.
-fn log_end(rt: &HostRuntime, path: &str, before: &Option<LogEnd>) -> io::Result<Option<LogEnd>> {
-    match open_log(rt, path)? {
-        Some(log) => end_of(&log.now()?, before),
+// The last commit in the log, of which an earlier one may be known.
+fn log_end<F: OfficeFiles>(files: &F, before: &Option<LogEnd>) -> io::Result<Option<LogEnd>>
+    ensures { IfOk result (λ end. IfSome (F.known files.now) (λ known. IsEarlierEnd known.1 before.now → IsEndOf known.1 end)) }
+{
+    match files.log()? {
+        Some(log) => end_of(&StampedLog::of(&log)?, before),
         None => Ok(None),
     }
 }
 
 // What became of the end of the log.
-fn find_end(rt: &HostRuntime, path: &str, end: &LogEnd) -> io::Result<FoundEnd> {
-    match open_log(rt, path)? {
-        Some(log) => end.find(&log.now()?),
+fn find_end<F: OfficeFiles>(files: &F, end: &LogEnd) -> io::Result<FoundEnd>
+    ensures found { IfOk result (λ found. IfSome (F.known files.now) (λ known. IsFoundAs known.1 end.now found)) }
+    ensures readable { F.are_readable files.now → IsOk result }
+{
+    match files.log()? {
+        Some(log) => end.find(&StampedLog::of(&log)?),
         None => Ok(FoundEnd::BegunAnew),
-    }
-}
-
-// The log of the office at this path, if there is one.
-fn open_log(rt: &HostRuntime, path: &str) -> io::Result<Option<OpenLog>> {
-    let log = log_path(rt, path)?;
-    match OpenLog::open(rt, log.as_str()) {
-        Ok(log) => Ok(Some(log)),
-        Err(fault) if fault.kind() == ErrorKind::NotFound => Ok(None),
-        Err(fault) => Err(fault),
     }
 }

@@ -1,8 +1,10 @@
 //! The lock of an office's file.
 use crate::file_id::FileId;
+use crate::file_stamps::LeftFiles;
+use crate::log_mark::{LogMark, MARK_BYTES};
 use crate::office_fault::OfficeFault;
 use std::fs::{File, OpenOptions};
-use std::os::unix::fs::OpenOptionsExt;
+use std::os::unix::fs::{FileExt, OpenOptionsExt};
 use std::{fs, io};
 
 /// The mode of each file that is made for an office: only its user may read and write it.
@@ -19,6 +21,34 @@ impl Lease {
     /// Releases the lock to other programs, and closes its file.
     pub fn release(self) {
         let _ = self.lock.file.unlock();
+    }
+
+    /// The mark in the lock's file. `None` if it has none, or can't be read.
+    pub fn mark(&self) -> Option<LogMark> {
+        let mut bytes = [0; MARK_BYTES];
+        match self.lock.file.read_exact_at(&mut bytes, 0) {
+            Ok(()) => LogMark::from_bytes(&bytes),
+            Err(_) => None,
+        }
+    }
+
+    /// Marks the last commit of files that are left so, if it isn't the one that was marked when they were left as
+    /// `marked` says. The mark is written without a sync. If it can't be written, the file has the mark before it, or
+    /// none. A file that is no lock's, because it is longer than a mark, is left as it is.
+    pub fn mark_end(&self, marked: &Option<LeftFiles>, left: &Option<LeftFiles>) {
+        if !self.lock.takes_marks {
+            return;
+        }
+        if let Some(mark) = LogMark::unwritten(marked, left) {
+            let _ = self.lock.file.write_all_at(&mark.to_bytes(), 0);
+        }
+    }
+
+    /// Takes the mark out of the lock's file. If that fails, the mark stays.
+    pub fn clear_mark(&self) {
+        if self.lock.takes_marks {
+            let _ = self.lock.file.set_len(0);
+        }
     }
 }
 
@@ -72,6 +102,7 @@ impl LockFile {
 struct OpenLock {
     file: File,
     id: FileId,
+    takes_marks: bool,
 }
 
 impl OpenLock {
@@ -82,8 +113,12 @@ impl OpenLock {
             .create(true)
             .mode(FILE_MODE)
             .open(rt, name)?;
-        let id = FileId::from(&file.metadata()?);
-        Ok(OpenLock { file, id })
+        let metadata = file.metadata()?;
+        Ok(OpenLock {
+            file,
+            id: FileId::from(&metadata),
+            takes_marks: metadata.is_file() && metadata.len() <= MARK_BYTES as u64,
+        })
     }
 
     // Whether it is the file at this path. This is looked at under the lock: whoever finds another file there

@@ -1,7 +1,7 @@
 //! The committed end of a write-ahead log of SQLite, whose format is public
 //! (https://sqlite.org/fileformat2.html#the_write_ahead_log): a header, and frames of one page each.
 ghost use Rattle.std.proofs.Props.{props};
-ghost use Rattle.std.specs.Prelude.{◌≡◌, ◌↔◌, ◌+◌, ◌*◌, ◌<◌, ◌≤◌, ◌^◌, ℕ, List, Option, None, true, IsTrue, IfOk, IfSome, MatchOption, length};
+ghost use Rattle.std.specs.Prelude.{◌≡◌, ◌↔◌, ◌+◌, ◌*◌, ◌<◌, ◌≤◌, ◌^◌, ℕ, List, Option, None, true, IsTrue, IfOk, IfSome, IsOk, MatchOption, length};
 ghost use Rattle.sqlite_wal.specs.Format.{IsFrame, IsHeader, IsSigned, be32, part, stored_sum};
 ghost use Rattle.sqlite_wal.specs.PageSize.{IsPageSize, bytes_of};
 ghost use Rattle.sqlite_wal.specs.Recovery.{frame_at, header};
@@ -34,6 +34,9 @@ pub trait ReadAt {
     // The bytes of the file, if they are known.
     ghost content: { Self → Option (List ℕ) } = { λ _. None };
 
+    // Its bytes can be read.
+    ghost is_readable: { Self → Type 0 } = { λ _. ⊥ };
+
     /// The number of its bytes.
     fn len(&self) -> u64
         ensures { IfSome (content self.now) (λ bytes. result ≡ length bytes) };
@@ -41,7 +44,8 @@ pub trait ReadAt {
     /// Fills the buffer with the bytes from this place on. Returns false if the file ends before. An `Err` if the
     /// bytes can't be read.
     fn fill_at(&self, at: u64, buffer: &mut [u8]) -> io::Result<bool>
-        ensures { IfOk result (λ filled. IfSome (content self.now) (λ bytes. IsFilled bytes at filled buffer.new)) };
+        ensures filled { IfOk result (λ filled. IfSome (content self.now) (λ bytes. IsFilled bytes at filled buffer.new)) }
+        ensures readable { is_readable self.now → IsOk result };
 }
 
 /// A file of which some bytes were read ahead.
@@ -94,6 +98,8 @@ impl<'a, F: ReadAt> ReadAhead<'a, F> {
 impl<F: ReadAt> ReadAt for ReadAhead<'_, F> {
     ghost content = { λ ahead. F.content ahead.file.now };
 
+    ghost is_readable = { λ ahead. F.is_readable ahead.file.now };
+
     fn len(&self) -> u64 {
         self.file.len()
     }
@@ -139,7 +145,8 @@ impl LogEnd {
     /// What became of this end in the log. All frames up to it are read, and their sums computed. An `Err` if the log
     /// can't be read.
     pub fn find<F: ReadAt>(&self, log: &F) -> io::Result<FoundEnd>
-        ensures { IfOk result (λ found. IfSome (F.content log.now) (λ bytes. IsFoundAs bytes self.now found)) }
+        ensures found { IfOk result (λ found. IfSome (F.content log.now) (λ bytes. IsFoundAs bytes self.now found)) }
+        ensures readable { F.is_readable log.now → IsOk result }
     {
         let Some(head) = head_of(log)? else {
             return Ok(FoundEnd::BegunAnew);
@@ -159,7 +166,8 @@ impl LogEnd {
 
     // Whether SQLite takes all frames up to it, under this header, and the running sum is then its sum.
     fn is_reached<F: ReadAt>(&self, log: &F, head: &[u8; 32]) -> io::Result<bool>
-        ensures { IfOk result (λ reached. IfSome (F.content log.now) (λ bytes. head.now ≡ header bytes → (IsTrue reached ↔ IsReached bytes self.now))) }
+        ensures reached { IfOk result (λ reached. IfSome (F.content log.now) (λ bytes. head.now ≡ header bytes → (IsTrue reached ↔ IsReached bytes self.now))) }
+        ensures readable { F.is_readable log.now → IsOk result }
     {
         let mut buffer = [0; MOST_FRAME_BYTES];
         let frame = &mut buffer[..FRAME_HEADER_BYTES + self.page_size.bytes()];
@@ -262,7 +270,8 @@ fn salts_in(head: &[u8; 32]) -> [u8; 8]
 
 // The first 32 bytes of the file, if it has as many.
 fn head_of<F: ReadAt>(log: &F) -> io::Result<Option<[u8; 32]>>
-    ensures { IfOk result (λ found. IfSome (F.content log.now) (λ bytes. MatchOption found (length bytes < 32) (λ head. (32 ≤ length bytes) × (head ≡ header bytes)))) }
+    ensures head { IfOk result (λ found. IfSome (F.content log.now) (λ bytes. MatchOption found (length bytes < 32) (λ head. (32 ≤ length bytes) × (head ≡ header bytes)))) }
+    ensures readable { F.is_readable log.now → IsOk result }
 {
     let mut head = [0; HEADER_BYTES];
     if log.fill_at(0, &mut head)? {
@@ -318,7 +327,7 @@ fn is_frame(head: &[u8; 32], before: Sum, frame: &[u8]) -> bool
 }
 
 // The sum that is stored at this place.
-fn sum_at(bytes: &[u8], at: usize) -> Sum
+pub(crate) fn sum_at(bytes: &[u8], at: usize) -> Sum
     requires { at + 8 ≤ length bytes.now }
     ensures { result ≡ stored_sum bytes.now at }
 {
@@ -326,7 +335,7 @@ fn sum_at(bytes: &[u8], at: usize) -> Sum
 }
 
 // Four bytes as a number, the highest first.
-fn be32_at(bytes: &[u8], at: usize) -> u32
+pub(crate) fn be32_at(bytes: &[u8], at: usize) -> u32
     requires { at + 4 ≤ length bytes.now }
     ensures { result ≡ be32 bytes.now at }
 {

@@ -12,7 +12,7 @@ const LOCKED_BYTES: u64 = 512;
 /// How many descriptors are searched for that of a file. Each connection of a server takes one descriptor.
 const MOST_DESCRIPTORS: i32 = 1024;
 
-/// A file that `sqlite` has open and locked. It can be unlocked for other programs and locked again.
+/// A file that `sqlite` has open and locked.
 #[derive(Drop)]
 pub struct SharedFile {
     descriptor: i32,
@@ -26,14 +26,27 @@ impl SharedFile {
         Ok(SharedFile { descriptor })
     }
 
-    /// Locks the file without waiting. An `Err` if another program has it, or if the system refuses.
-    pub fn lock(&self) -> io::Result<()> {
-        set_lock(self.descriptor, RangeLock::Exclusive)
+    /// Unlocks the file for other programs. An `Err` if the system refuses.
+    pub fn unlock(self) -> io::Result<UnlockedFile> {
+        let SharedFile { descriptor } = self;
+        set_lock(descriptor, RangeLock::Unlock)?;
+        Ok(UnlockedFile { descriptor })
     }
+}
 
-    /// Unlocks the file. An `Err` if the system refuses.
-    pub fn unlock(&self) -> io::Result<()> {
-        set_lock(self.descriptor, RangeLock::Unlock)
+/// A file that `sqlite` has open, and that is unlocked for other programs. Only [`UnlockedFile::lock`] makes it one
+/// that may be used.
+#[derive(Drop)]
+pub struct UnlockedFile {
+    descriptor: i32,
+}
+
+impl UnlockedFile {
+    /// Locks the file again without waiting. An `Err` if another program has it, or if the system refuses.
+    pub fn lock(self) -> io::Result<SharedFile> {
+        let UnlockedFile { descriptor } = self;
+        set_lock(descriptor, RangeLock::Exclusive)?;
+        Ok(SharedFile { descriptor })
     }
 }
 

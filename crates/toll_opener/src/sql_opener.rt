@@ -10,7 +10,7 @@ use std::fs::OpenOptions;
 use std::io::ErrorKind;
 use std::os::unix::fs::OpenOptionsExt;
 use toll_base::Name;
-use toll_files::{FILE_MODE, Lease, LeftFiles, LockFile, OfficeFault};
+use toll_files::{FILE_MODE, Lease, LeftFiles, LockFile, OfficeFault, PathFiles, check_mark};
 use toll_keep::CachedKeep;
 use toll_service::{KeepOpener, OfficePath};
 use toll_sql::{OpenFault, SqlKeep};
@@ -49,7 +49,8 @@ pub fn office_at<'a>(rt: &'a HostRuntime, path: &'a str) -> OfficePath<'a, SqlOp
 /// If the making of an office was stopped, its tables may be in the log alone, or a file that is not empty
 /// may have no tables. So if the file isn't what its length says, it is opened the other way. If a file isn't
 /// there and its log has bytes, the file was moved away, and opening it would write the log anew: that is
-/// NotOurs. A path that is no file is NotOurs too, such as a device, whose reads might never end.
+/// NotOurs. A path that is no file is NotOurs too, such as a device, whose reads might never end. A log that lacks the
+/// commit that FILE.lock marks is Damaged. The mark stays until a closing has copied the log into the file.
 impl KeepOpener<FileKeep> for SqlOpener {
     ghost is_opened = { λ keep. IsOpened keep };
 
@@ -70,14 +71,14 @@ impl KeepOpener<FileKeep> for SqlOpener {
         lease: &Lease,
         left: &LeftFiles,
     ) -> Result<bool, OfficeFault> {
-        left.is_unchanged(rt, path, lease)
+        left.is_unchanged(&PathFiles { rt, path }, lease)
     }
 
     fn open(
         &mut self,
         rt: &HostRuntime,
         path: &str,
-        _lease: &Lease,
+        lease: &Lease,
     ) -> Result<FileKeep, OfficeFault> {
         let Ok(log) = format!(in rt.alloc(); "{path}-wal") else {
             return Err(OfficeFault::Memory);
@@ -89,6 +90,7 @@ impl KeepOpener<FileKeep> for SqlOpener {
         if is_fresh && is_absent(rt, path) && has_bytes(rt, log.as_str()) {
             return Err(OfficeFault::NotOurs);
         }
+        check_mark(&PathFiles { rt, path }, lease)?;
         if is_fresh {
             make_private(rt, path);
         }
@@ -102,8 +104,10 @@ impl KeepOpener<FileKeep> for SqlOpener {
         keep.damaged_owner()
     }
 
-    fn close(&mut self, keep: FileKeep, _lease: &Lease) {
-        let _ = keep.inside().close();
+    fn close(&mut self, keep: FileKeep, lease: &Lease) {
+        if keep.inside().close().is_ok() {
+            lease.clear_mark();
+        }
     }
 }
 

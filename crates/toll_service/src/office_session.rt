@@ -13,7 +13,7 @@ mod leases;
 use crate::answering::answer_at;
 use crate::damage::Damage;
 use crate::office_path::{KeepOpener, OfficePath};
-use crate::open_office::OpenOffice;
+use crate::open_office::LeftOffice;
 use crate::pending_import::PendingImport;
 use crate::reading_ahead::read_ahead;
 use crate::stopped_import::StoppedImport;
@@ -28,7 +28,7 @@ use toll_wire::OfficeRouter;
 /// changes it. If another program writes it between two requests, the file is opened anew, so the change is
 /// seen. While an import is under way, no other program may use the file: its lock is kept.
 pub struct OfficeSession<K> {
-    opened: Option<OpenOffice<K>>,
+    opened: Option<LeftOffice<K>>,
     openings: u64,
     imports: u64,
     lock: Option<Lease>,

@@ -4,10 +4,10 @@ ghost use Rattle.toll_service.specs.Openings.{IsOneOpened, IsOneRefused, IsNoneO
 
 use crate::office_path::{KeepOpener, OfficePath};
 use std::io;
-use toll_files::{Lease, OfficeFault, OpenLog, SharedFile};
+use toll_files::{Lease, OfficeFault, OpenLog, SharedFile, UnlockedFile};
 use toll_keep::{Keep, KeepFault};
 
-/// An open office, and its files if they can be released.
+/// An open office that may be used, and its files if they can be released.
 pub struct OpenOffice<K> {
     pub keep: K,
     files: Option<Files>,
@@ -18,6 +18,26 @@ impl<K: Drop> Drop for OpenOffice<K> {
     fn drop(self) {
         let OpenOffice { keep: _, files: _ } = self;
     }
+}
+
+/// An office that stays open between two turns. Only [`LeftOffice::reacquire`] makes it one that may be used.
+pub struct LeftOffice<K> {
+    pub keep: K,
+    files: LeftOpen,
+}
+
+/// By hand, as an open office's.
+impl<K: Drop> Drop for LeftOffice<K> {
+    fn drop(self) {
+        let LeftOffice { keep: _, files: _ } = self;
+    }
+}
+
+/// The files of an office that stays open: locked, while an import is under way, or released to other programs.
+#[derive(Drop)]
+enum LeftOpen {
+    Locked(Option<Files>),
+    Released(UnlockedFile, OpenLog),
 }
 
 /// The files of an open office, and whether they were released since it was opened.
@@ -53,27 +73,26 @@ impl<K: Keep + Drop> OpenOffice<K> {
         self,
         office_path: &mut OfficePath<'_, O>,
         lease: &Lease,
-    ) -> Option<Self>
-        ensures released { IfSome result (λ released. released.keep ≡ self.keep) }
+    ) -> Option<LeftOffice<K>>
+        ensures released { IfSome result (λ left. left.keep ≡ self.keep) }
         ensures unasked { IsNoneOpened (O.openings office_path.old.opener) (O.openings office_path.new.opener) }
     {
         let OpenOffice { keep, files } = self;
-        let files = match files {
-            Some(files) => files.release(),
-            None => None,
-        };
-        if files.is_some() {
-            return Some(OpenOffice { keep, files });
+        if let Some(files) = released(files) {
+            return Some(LeftOffice { keep, files });
         }
         office_path.opener.close(keep, lease);
         None
     }
 
-    /// Locks the files again, and returns whether that succeeded. It fails if another program has them.
-    pub fn reacquire(&self, _lease: &Lease) -> bool {
-        match &self.files {
-            Some(files) => files.database.lock().is_ok(),
-            None => false,
+    /// Leaves the office open with its files locked.
+    pub fn stay(self) -> LeftOffice<K>
+        ensures { result.keep ≡ self.keep }
+    {
+        let OpenOffice { keep, files } = self;
+        LeftOffice {
+            keep,
+            files: LeftOpen::Locked(files),
         }
     }
 
@@ -100,7 +119,7 @@ impl Files {
     fn of(rt: &HostRuntime, path: &str) -> io::Result<Self> {
         let log = format!(in rt.alloc(); "{path}-wal")?;
         let database = SharedFile::of(rt, path)?;
-        SharedFile::of(rt, log.as_str())?.unlock()?;
+        let _ = SharedFile::of(rt, log.as_str())?.unlock()?;
         let log = OpenLog::open(rt, log.as_str())?;
         Ok(Files {
             database,
@@ -108,15 +127,31 @@ impl Files {
             were_released: false,
         })
     }
+}
 
-    // Releases the files to other programs. `None` if the system refuses that.
-    fn release(self) -> Option<Self> {
-        match self.database.unlock() {
-            Ok(()) => Some(Files {
+// The files, released to other programs. `None` if there are none, or the system refuses that.
+fn released(files: Option<Files>) -> Option<LeftOpen> {
+    let Files { database, log, .. } = files?;
+    match database.unlock() {
+        Ok(database) => Some(LeftOpen::Released(database, log)),
+        Err(_) => None,
+    }
+}
+
+impl<K: Keep + Drop> LeftOffice<K> {
+    /// The office with its files locked again. `None` if another program has them: the office is then closed.
+    pub fn reacquire(self, _lease: &Lease) -> Option<OpenOffice<K>>
+        ensures { IfSome result (λ opened. opened.keep ≡ self.keep) }
+    {
+        let LeftOffice { keep, files } = self;
+        let files = match files {
+            LeftOpen::Locked(files) => files,
+            LeftOpen::Released(database, log) => Some(Files {
+                database: database.lock().ok()?,
+                log,
                 were_released: true,
-                ..self
             }),
-            Err(_) => None,
-        }
+        };
+        Some(OpenOffice { keep, files })
     }
 }

@@ -2,7 +2,7 @@
 use std::fs::File;
 use std::test::Fail;
 use std::{fs, io};
-use toll_files::{Lease, LeftFiles, OfficeFault, take_lock};
+use toll_files::{Lease, LeftFiles, OfficeFault, PathFiles, take_lock};
 use toll_keep::MemKeep;
 use toll_programs::{Connector, TrackedStream};
 use toll_protocol::Sink;
@@ -31,7 +31,7 @@ impl KeepOpener<MemKeep> for Counting {
         lease: &Lease,
         left: &LeftFiles,
     ) -> Result<bool, OfficeFault> {
-        left.is_unchanged(rt, path, lease)
+        left.is_unchanged(&PathFiles { rt, path }, lease)
     }
 
     fn open(

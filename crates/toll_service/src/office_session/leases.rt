@@ -1,16 +1,17 @@
 //! How a session has its office and its files between two turns.
-ghost use Rattle.std.specs.Prelude.{◌≡◌, ◌⊎◌, ◌+◌, true, None, Some, Ok, IfErr, IfOk, IfSome, IsSome, OnErr, OnOk};
+ghost use Rattle.std.specs.Prelude.{◌≡◌, ◌⊎◌, ◌+◌, true, None, Some, option_map, Ok, IfErr, IfOk, IfSome, IsSome, OnErr, OnOk};
 ghost use Rattle.toll_files.specs.FileChanges.{AreFound};
+ghost use Rattle.toll_files.specs.OfficeFiles.{AreNoted};
 ghost use Rattle.toll_service.specs.Damages.{KnowsNoMore, StaysWhere};
 ghost use Rattle.toll_service.specs.Openings.{IsOneOpened, IsOneRefused, IsRefusedAfter, IsNoneOpened};
 ghost use Rattle.toll_service.specs.Sessions.{AreAsLeft, AreCounted, IsAtHand, IsSessionIdle, IsLeftOpen, IsLockKept, IsFoundLost, IsWithheld, state_of_session};
 
 use super::OfficeSession;
 use crate::office_path::{KeepOpener, OfficePath};
-use crate::open_office::OpenOffice;
+use crate::open_office::{LeftOffice, OpenOffice};
 use std::io;
 use std::time::Instant;
-use toll_files::{Lease, LeftFiles, Notes, OfficeFault, OpenLog};
+use toll_files::{Lease, LeftFiles, Notes, OfficeFault, OfficeFiles, PathFiles};
 use toll_keep::{Keep, KeepFault};
 
 impl<K: Keep + Drop> OfficeSession<K> {
@@ -66,13 +67,11 @@ impl<K: Keep + Drop> OfficeSession<K> {
         ensures files { self.new.left ≡ self.old.left }
     {
         if let Some(lease) = self.lock.take() {
-            return Ok((self.opened.take(), lease));
+            let opened = reacquired(self.opened.take(), &lease);
+            return Ok((opened, lease));
         }
         let lease = office_path.opener.lock(office_path.rt, office_path.path)?;
-        let opened = match self.opened.take() {
-            Some(opened) if opened.reacquire(&lease) => Some(opened),
-            _ => None,
-        };
+        let opened = reacquired(self.opened.take(), &lease);
         if self.is_as_left(office_path, &lease)? {
             return Ok((opened, lease));
         }
@@ -161,11 +160,17 @@ impl<K: Keep + Drop> OfficeSession<K> {
         ensures lock { IsLockKept self.new }
     {
         let log = opened.log_after(fault);
-        self.left = left_now(&self.left, office_path.rt, office_path.path, &lease, log);
+        let marked = if log.is_some() { self.left } else { None };
+        let OfficePath { rt, path, .. } = *office_path;
+        let left = left_now(&self.left, &PathFiles { rt, path }, &lease, log);
+        if fault.is_none() {
+            lease.mark_end(&marked, &left);
+        }
+        self.left = left;
         self.opened = match (fault, self.imports) {
             (Some(_), _) => None,
             (None, 0) => opened.release(office_path, &lease),
-            (None, _) => Some(opened),
+            (None, _) => Some(opened.stay()),
         };
         self.give_back(office_path, lease);
     }
@@ -189,18 +194,29 @@ impl<K: Keep + Drop> OfficeSession<K> {
     }
 }
 
+// The office that was left, with its files locked again, if one was left and they can be locked.
+fn reacquired<K: Keep + Drop>(left: Option<LeftOffice<K>>, lease: &Lease) -> Option<OpenOffice<K>>
+    ensures { IfSome result (λ opened. option_map (λ left. left.keep) left ≡ Some opened.keep) }
+{
+    match left {
+        Some(left) => left.reacquire(lease),
+        None => None,
+    }
+}
+
 // The state in which the files are left now: by an office whose log is open, if that was open before the turn and
 // met no fault. None if it can't be read.
-fn left_now(
+fn left_now<F: OfficeFiles>(
     before: &Option<LeftFiles>,
-    rt: &HostRuntime,
-    path: &str,
+    files: &F,
     lease: &Lease,
-    log: Option<&OpenLog>,
-) -> Option<LeftFiles> {
+    log: Option<&F::Log>,
+) -> Option<LeftFiles>
+    ensures { log.entry ≡ None → IfSome result (λ left. IfSome (F.known files.now) (λ known. AreNoted before.now known.0 known.1 left)) }
+{
     let left = match (before, log) {
-        (Some(left), Some(log)) => left.after_turn(rt, path, lease, log),
-        (left, _) => LeftFiles::of(rt, path, lease, left),
+        (Some(left), Some(log)) => left.after_turn(files, lease, log),
+        (left, _) => LeftFiles::of(files, lease, left),
     };
     left.ok()
 }

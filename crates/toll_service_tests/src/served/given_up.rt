@@ -4,7 +4,7 @@ use crate::served::{ADD_OWNER, NO_MEMORY, received};
 use std::alloc::Global;
 use std::fs;
 use std::test::Fail;
-use toll_files::{Lease, LeftFiles, OfficeFault, take_lock};
+use toll_files::{Lease, LeftFiles, OfficeFault, PathFiles, take_lock};
 use toll_keep::MemKeep;
 use toll_plant::GROUP_RECORDS;
 use toll_protocol::{EncodeFault, Response};
@@ -34,7 +34,7 @@ impl KeepOpener<Refusing<MemKeep>> for Once {
         lease: &Lease,
         left: &LeftFiles,
     ) -> Result<bool, OfficeFault> {
-        left.is_unchanged(rt, path, lease)
+        left.is_unchanged(&PathFiles { rt, path }, lease)
     }
 
     fn open(

@@ -7,7 +7,7 @@ use std::fs::{File, OpenOptions};
 use std::io::Write;
 use std::test::Fail;
 use std::{fs, io};
-use toll_files::{Lease, LeftFiles, OfficeFault, take_lock};
+use toll_files::{Lease, LeftFiles, OfficeFault, PathFiles, take_lock};
 use toll_keep::MemKeep;
 use toll_server::{Listener, Poll, RequestBuffer, Service};
 use toll_service::{KeepOpener, OfficePath, OfficeService};
@@ -55,7 +55,7 @@ impl KeepOpener<MemKeep> for Shelf<'_> {
         lease: &Lease,
         left: &LeftFiles,
     ) -> Result<bool, OfficeFault> {
-        left.is_unchanged(rt, path, lease)
+        left.is_unchanged(&PathFiles { rt, path }, lease)
     }
 
     fn open(
