@@ -1,12 +1,14 @@
 -- A keep with a cache around another keep: facts of it that follow from facts of the one inside.
-use Rattle.std.proofs.Common.{IsSome, Contains, ◌≡◌, ◌≢◌, false, Some, Result, Ok, Err, OnOk, OnErr, sym, subst}
-use Rattle.toll_keep.proofs.Common.{false≢true, All-nil, Contains-none, Content, ContentKeepsRules, slice_of, CallEffect, IsReading, AreOf, AreCachedRows, IsNothing, IsCacheOf, OnlyKnownHaveRows, Meaning, meaning_of, HaveRead, KeepFault}
+use Rattle.std.proofs.Common.{IsSome, Contains, List, ◌≡◌, ◌≢◌, false, Some, Result, Ok, Err, OnOk, OnErr, refl, sym, subst}
+use Rattle.toll_keep.proofs.Common.{false≢true, All-nil, AllChangesFit, Bytes, Change, Contains-none, Content, ContentKeepsRules, content_after, slice_of, CallEffect, IsReading, Keeps, KeepsHeld, MakesHeld, AreCachedRows, AreOf, IsNothing, IsCacheFor, IsCacheOf, OnlyKnownFor, OnlyKnownHaveRows, Meaning, OverContent, Part, meaning_of, HaveRead, KeepFault}
+use Rattle.toll_keep.specs.Around.{cache_narrowed}
 use Rattle.std.proofs.Math.Logic.{∥∥₁_elim}
 use Rattle.toll_keep.specs.declared.keep_fault.KeepFault.TheVariants.{Damaged}
 use Rattle.toll_keep.specs.declared.keep.Keep.{Ghosts}
 use Rattle.toll_keep.specs.declared.cache.Cache.{Cache}
 use Rattle.toll_keep.specs.declared.cached_keep.CachedKeep.{CachedKeep}
-use Rattle.toll_keep.proofs.Calls.{Rests, rests}
+use Rattle.toll_keep.proofs.Calls.{Rests, rests, spared}
+use Rattle.toll_keep.proofs.Outcomes.{on_err_all, on_ok_all}
 
 -- An empty cache is a cache of any content.
 pub nothing_of : (c : Content) (r : Cache) → IsNothing r → IsCacheOf c r
@@ -17,55 +19,53 @@ nothing_of c r none = record {
   graphs = λ known i. absurd (Contains-none known (subst (λ graphs. Contains graphs known) none.graphs i));
 }
 
+pub nothing_for : (os : List Bytes) (c : Content) (r : Cache) → IsNothing r → IsCacheFor os c r
+nothing_for os c r none = cache_narrowed os c r (nothing_of c r none)
+
 pub some_owners : (r : Cache) → IsSome r.owners → ¬ (IsNothing r)
 some_owners r some none = false≢true (subst IsSome none.owners some)
 
 pub some_units : (r : Cache) → IsSome r.units → ¬ (IsNothing r)
 some_units r some none = false≢true (subst IsSome none.units some)
 
--- A cache that is emptied at a fault and otherwise kept is of any content that it was of.
-pub or_forgotten : {X : Type 0} (c : Content) (reported : Result X KeepFault) (old new : Cache) → OnOk reported (new ≡ old) → OnErr reported (IsNothing new) → IsCacheOf c old → IsCacheOf c new
-or_forgotten c (Ok x) old new kept forgotten of = subst (IsCacheOf c) (sym kept) of
-or_forgotten c (Err e) old new kept forgotten of = nothing_of c new forgotten
+-- ---- a keep with a cache, whatever it holds around what the keep inside holds
 
-module _ {T : Type 0} (K : Ghosts T) where
-  -- ---- both keeps
+-- what is held: by the keep inside, by the cache, and of which owners rows may be there
+pub record Held {T : Type 0} (K : Ghosts T) : Type 1 where
+  pub part : Part T
+  pub IsOf : Content → Cache → Type 0
+  pub Only : Content → Type 0
+  pub empty : (c : Content) (r : Cache) → IsNothing r → IsOf c r
 
-  -- the meaning of a keep with a cache around one with this meaning
-  abbrev pub remembers : Meaning (CachedKeep T K)
-  remembers = record (meaning_of (λ r. r.keep) K.meaning) { holds = λ r c. K.meaning.holds r.keep c × IsCacheOf c r.cache × OnlyKnownHaveRows c }
+-- what is held of all owners, and of some
+abbrev pub whole : {T : Type 0} (K : Ghosts T) → Held K
+whole K = record { part = record { holds = λ k c. K.meaning.holds k c; leaves = λ k cs. K.meaning.leaves k cs }; IsOf = IsCacheOf; Only = OnlyKnownHaveRows; empty = nothing_of }
 
-  abbrev pub GoesInside : {X : Type 0} → T → T → Result X KeepFault → Type 0
-  GoesInside before now answer = CallEffect K.meaning before now answer
+abbrev pub of_some : {T : Type 0} (K : Ghosts T) → List Bytes → Held K
+of_some K os = record { part = K.part os; IsOf = IsCacheFor os; Only = OnlyKnownFor os; empty = nothing_for os }
 
-  abbrev pub GoesAround : {X : Type 0} → CachedKeep T K → CachedKeep T K → Result X KeepFault → Type 0
-  GoesAround old new answer = CallEffect remembers old new answer
+module _ {T : Type 0} (K : Ghosts T) (h : Held K) where
+  -- the meaning of the keep inside, and of the one around it
+  abbrev pub inside_by : Meaning T
+  inside_by = record K.meaning { holds = λ k c. h.part.holds k c; leaves = λ k cs. h.part.leaves k cs }
 
-  abbrev pub ReadsInside : {X : Type 0} → T → T → Result X KeepFault → Type 0
-  ReadsInside before now answer = IsReading K.meaning before now answer
+  abbrev pub around_by : Meaning (CachedKeep T K)
+  around_by = record (meaning_of (λ r. r.keep) inside_by) { holds = λ r c. h.part.holds r.keep c × h.IsOf c r.cache × h.Only c }
 
-  abbrev pub ReadsAround : {X : Type 0} → CachedKeep T K → CachedKeep T K → Result X KeepFault → Type 0
-  ReadsAround old new answer = IsReading remembers old new answer
+  -- The first cache may become the second.
+  abbrev Follows : CachedKeep T K → T → Cache → Type 0
+  Follows old now r = K.meaning.is_honest now → (c : Content) → h.part.holds old.keep c → h.IsOf c old.cache → h.Only c → h.IsOf c r
 
-  -- ---- what the cache may have beside the keep inside
-
-  abbrev pub MayStand : T → Cache → Type 0
-  MayStand keep r = record { unclosed : ¬ (IsNothing r) → K.meaning.is_closed keep ≡ false; live : ¬ (IsNothing r) → K.meaning.is_honest keep → ∥ K.meaning.is_store_open keep ∥₁ }
-
-  -- an empty cache, beside any keep
-  pub cached_nothing_stands : (keep : T) (r : Cache) → IsNothing r → MayStand keep r
-  cached_nothing_stands keep r none = record { unclosed = λ some. absurd (some none); live = λ some. absurd (some none) }
-
-  -- any cache, beside a keep that did what it was asked; after a fault the cache is empty
-  pub told_stands : {X : Type 0} (before now : T) (reported : Result X KeepFault) (r : Cache) → OnErr reported (IsNothing r) → GoesInside before now reported → MayStand now r
-  told_stands before now (Ok x) r forgotten went = record { unclosed = λ some. went.closes; live = λ some honest. ∣ went.shown honest ∣₁ }
-  told_stands before now (Err e) r forgotten went = cached_nothing_stands now r forgotten
+  -- A cache that is emptied at a fault and otherwise kept is of any content that it was of.
+  or_forgotten : {X : Type 0} (c : Content) (reported : Result X KeepFault) (old new : Cache) → OnOk reported (new ≡ old) → OnErr reported (IsNothing new) → h.IsOf c old → h.IsOf c new
+  or_forgotten c (Ok x) old new kept forgotten of = subst (h.IsOf c) (sym kept) of
+  or_forgotten c (Err e) old new kept forgotten of = h.empty c new forgotten
 
   -- ---- the answer of the keep inside is passed on
 
-  pub goes_around : {X : Type 0} (old new : CachedKeep T K) (reported answer : Result X KeepFault) → answer ≡ reported → GoesInside old.keep new.keep reported → GoesAround old new answer
-  goes_around old new reported answer same went =
-      let goes = subst (GoesInside old.keep new.keep) (sym same) went in
+  pub goes_by : {X : Type 0} (old new : CachedKeep T K) (reported answer : Result X KeepFault) → answer ≡ reported → CallEffect inside_by old.keep new.keep reported → CallEffect around_by old new answer
+  goes_by old new reported answer same went =
+      let goes = subst (CallEffect inside_by old.keep new.keep) (sym same) went in
       record {
         honest = goes.honest;
         closed = goes.closed;
@@ -80,17 +80,25 @@ module _ {T : Type 0} (K : Ghosts T) where
         shut = goes.shut;
       }
 
+  content_by : (old new : CachedKeep T K) → Follows old new.keep new.cache → (K.meaning.is_honest new.keep → Keeps inside_by old.keep new.keep) → K.meaning.is_honest new.keep → Keeps around_by old new
+  content_by old new kept keeps honest = record {
+    content = λ c held. ((keeps honest).content c held.0, kept honest c held.0 held.1 held.2, held.2);
+    crash = λ lives c held. (keeps honest).crash lives c held.0;
+  }
+
+  pub keeps_by : {X : Type 0} (old new : CachedKeep T K) (reported answer : Result X KeepFault) → answer ≡ reported → Follows old new.keep new.cache → KeepsHeld inside_by old.keep new.keep reported → KeepsHeld around_by old new answer
+  keeps_by old new reported answer same kept held = record {
+    goes = goes_by old new reported answer same held.goes;
+    keeps = content_by old new kept held.keeps;
+  }
+
   -- The cache is of the content after the call.
-  pub reads_around : {X : Type 0} (old new : CachedKeep T K) (reported answer : Result X KeepFault) → answer ≡ reported → (K.meaning.is_honest new.keep → (c : Content) → K.meaning.holds old.keep c → IsCacheOf c old.cache → OnlyKnownHaveRows c → IsCacheOf c new.cache) → ReadsInside old.keep new.keep reported → ReadsAround old new answer
-  reads_around old new reported answer same kept reads =
-      record {
-        goes = goes_around old new reported answer same reads.goes;
-        keeps = λ honest. record {
-          content = λ c held. ((reads.keeps honest).content c held.0, kept honest c held.0 held.1 held.2, held.2);
-          crash = λ lives c held. (reads.keeps honest).crash lives c held.0;
-        };
-        whole = λ honest c held. subst (λ r. ContentKeepsRules c → r ≢ Err Damaged) (sym same) (reads.whole honest c held.0);
-      }
+  reads_by : {X : Type 0} (old new : CachedKeep T K) (reported answer : Result X KeepFault) → answer ≡ reported → Follows old new.keep new.cache → IsReading inside_by old.keep new.keep reported → IsReading around_by old new answer
+  reads_by old new reported answer same kept reads = record {
+    goes = goes_by old new reported answer same reads.goes;
+    keeps = content_by old new kept reads.keeps;
+    whole = λ honest c held. subst (λ r. ContentKeepsRules c → r ≢ Err Damaged) (sym same) (reads.whole honest c held.0);
+  }
 
   -- ---- calls that the cache answers
 
@@ -100,17 +108,60 @@ module _ {T : Type 0} (K : Ghosts T) where
 
   -- If the cache isn't empty, the keep inside is as after an answered reading call.
   abbrev RestsWhereSome : CachedKeep T K → Type 0
-  RestsWhereSome old = ¬ (IsNothing old.cache) → HaveRead K.meaning old.keep old.keep
+  RestsWhereSome old = ¬ (IsNothing old.cache) → HaveRead inside_by old.keep old.keep
 
   -- The keep inside is open, and live while it is honest.
-  pub rested : Rests K.meaning → LivesOnce → (old : CachedKeep T K) → RestsWhereSome old
-  rested settled once old some = rests K.meaning settled old.keep (old.unclosed some) (λ honest. ∥∥₁_elim (old.live some honest) (once old.keep) (λ there. there))
+  pub rested_by : Rests inside_by → LivesOnce → (old : CachedKeep T K) → RestsWhereSome old
+  rested_by settled once old some = rests inside_by settled old.keep (old.unclosed some) (λ honest. ∥∥₁_elim (old.live some honest) (once old.keep) (λ there. there))
 
   -- The answer comes from the cache, or was read and added to it.
-  pub tells_around : {X : Type 0} → Rests K.meaning → LivesOnce → (old new : CachedKeep T K) (middle : Cache) (reported answer : Result X KeepFault) → answer ≡ reported → OnOk reported (new.cache ≡ middle) → OnErr reported (IsNothing new.cache) → (K.meaning.is_honest new.keep → (c : Content) → K.meaning.holds old.keep c → IsCacheOf c old.cache → OnlyKnownHaveRows c → IsCacheOf c middle) → (RestsWhereSome old → ReadsInside old.keep new.keep reported) → ReadsAround old new answer
-  tells_around settled once old new middle reported answer same kept forgotten own reads =
-      reads_around old new reported answer same (λ honest c held of only. or_forgotten c reported middle new.cache kept forgotten (own honest c held of only)) (reads (rested settled once old))
+  pub tells_by : {X : Type 0} → Rests inside_by → LivesOnce → (old new : CachedKeep T K) (middle : Cache) (reported answer : Result X KeepFault) → answer ≡ reported → OnOk reported (new.cache ≡ middle) → OnErr reported (IsNothing new.cache) → Follows old new.keep middle
+      → (RestsWhereSome old → IsReading inside_by old.keep new.keep reported) → IsReading around_by old new answer
+  tells_by settled once old new middle reported answer same kept forgotten own reads =
+      reads_by old new reported answer same (λ honest c held of only. or_forgotten c reported middle new.cache kept forgotten (own honest c held of only)) (reads (rested_by settled once old))
 
-  -- The cache after such a call may stand.
-  pub telling_stands : {X : Type 0} → Rests K.meaning → LivesOnce → (old : CachedKeep T K) (now : T) (reported : Result X KeepFault) (r : Cache) → OnErr reported (IsNothing r) → (RestsWhereSome old → ReadsInside old.keep now reported) → MayStand now r
-  telling_stands settled once old now reported r forgotten reads = told_stands old.keep now reported r forgotten (reads (rested settled once old)).goes
+  -- So is an answer about rows that the keep doesn't hold.
+  pub passes_by : {X : Type 0} → Rests inside_by → LivesOnce → (old new : CachedKeep T K) (middle : Cache) (reported answer : Result X KeepFault) → answer ≡ reported → OnOk reported (new.cache ≡ middle) → OnErr reported (IsNothing new.cache) → Follows old new.keep middle
+      → (RestsWhereSome old → KeepsHeld inside_by old.keep new.keep reported) → KeepsHeld around_by old new answer
+  passes_by settled once old new middle reported answer same kept forgotten own reads =
+      keeps_by old new reported answer same (λ honest c held of only. or_forgotten c reported middle new.cache kept forgotten (own honest c held of only)) (reads (rested_by settled once old))
+
+  -- ---- changes
+
+  -- After the call the cache is of the content with all changes, or of the one from before.
+  pub makes_by : {X : Type 0} → Rests inside_by → (old new : CachedKeep T K) (answer : Result X KeepFault) (changes : List Change)
+      → (K.meaning.is_honest new.keep → (c : Content) → h.part.holds old.keep c → h.IsOf c old.cache → h.Only c → AllChangesFit c changes → OnOk answer (h.IsOf (content_after changes c) new.cache × h.Only (content_after changes c)))
+      → (K.meaning.is_honest new.keep → (c : Content) → h.part.holds old.keep c → h.IsOf c old.cache → h.Only c → OnErr answer (h.IsOf c new.cache × h.Only c)) → MakesHeld inside_by old.keep new.keep answer changes → MakesHeld around_by old new answer changes
+  makes_by settled old new answer changes after before makes = record {
+    goes = goes;
+    all = λ honest c held fits. on_ok_all (h.part.holds new.keep (content_after changes c)) (h.IsOf (content_after changes c) new.cache) (h.Only (content_after changes c)) answer (makes.all honest c held.0 fits) (after honest c held.0 held.1 held.2 fits);
+    none = none;
+    spared = λ is. spared around_by old new answer (λ k c honest lives held. settled k.keep c honest lives held.0) is goes none;
+    whole = λ honest c held. makes.whole honest c held.0;
+    crash = λ honest lives c held fits. makes.crash honest lives c held.0 fits;
+  }
+    where
+      goes : CallEffect around_by old new answer
+      goes = goes_by old new answer answer refl makes.goes
+
+      none : OverContent around_by old new (λ c. OnErr answer (around_by.holds new c))
+      none = λ honest c held. on_err_all (h.part.holds new.keep c) (h.IsOf c new.cache) (h.Only c) answer (makes.none honest c held.0) (before honest c held.0 held.1 held.2)
+
+-- ---- what the cache may have beside the keep inside
+
+module _ {T : Type 0} (K : Ghosts T) where
+  abbrev pub MayStand : T → Cache → Type 0
+  MayStand keep r = record { unclosed : ¬ (IsNothing r) → K.meaning.is_closed keep ≡ false; live : ¬ (IsNothing r) → K.meaning.is_honest keep → ∥ K.meaning.is_store_open keep ∥₁ }
+
+  -- an empty cache, beside any keep
+  pub cached_nothing_stands : (keep : T) (r : Cache) → IsNothing r → MayStand keep r
+  cached_nothing_stands keep r none = record { unclosed = λ some. absurd (some none); live = λ some. absurd (some none) }
+
+  -- any cache, beside a keep that did what it was asked; after a fault the cache is empty
+  pub told_stands : {X : Type 0} (before now : T) (reported : Result X KeepFault) (r : Cache) → OnErr reported (IsNothing r) → CallEffect K.meaning before now reported → MayStand now r
+  told_stands before now (Ok x) r forgotten went = record { unclosed = λ some. went.closes; live = λ some honest. ∣ went.shown honest ∣₁ }
+  told_stands before now (Err e) r forgotten went = cached_nothing_stands now r forgotten
+
+  -- The cache after a call that it answered may stand.
+  pub telling_stands : {X : Type 0} → Rests K.meaning → ((k : T) (a b : K.meaning.is_store_open k) → a ≡ b) → (old : CachedKeep T K) (now : T) (reported : Result X KeepFault) (r : Cache) → OnErr reported (IsNothing r) → ((¬ (IsNothing old.cache) → HaveRead K.meaning old.keep old.keep) → IsReading K.meaning old.keep now reported) → MayStand now r
+  telling_stands settled once old now reported r forgotten reads = told_stands old.keep now reported r forgotten (reads (rested_by K (whole K) settled once old)).goes

@@ -1,6 +1,6 @@
 -- One call of a keep after another, and a call under another answer.
 use Rattle.std.proofs.Common.{◌≡◌, false, [], ◌∷◌, Result, Ok, Err, inl, inr, refl, sym, subst, ◌∙◌, ◌≢◌, ◌↔◌, ◌⊎◌, IsTrue, OnErr, OnOk}
-use Rattle.toll_keep.proofs.Common.{Content, ContentKeepsRules, CallEffect, Keeps, IsReading, IsSpared, Settles, closes_keep, Meaning, OverContent, KeepFault}
+use Rattle.toll_keep.proofs.Common.{Content, ContentKeepsRules, CallEffect, Keeps, IsReading, IsSpared, KeepsHeld, Settles, closes_keep, Meaning, OverContent, KeepFault}
 use mathlib.Core.Bool.{false≢true}
 use Rattle.toll_keep.specs.declared.keep_fault.KeepFault.TheVariants.{Memory, Disk, Damaged, Closed}
 
@@ -134,3 +134,26 @@ module _ {K : Type 0} (meaning : Meaning K) where
 
   pub read_memory : {X Y : Type 0} (old new : K) (x : X) → GoesTo old new (answered x) → KeepsTo old new → ReadsTo {X = Y} old new (failed_call Memory)
   read_memory old new x goes keeps = record { goes = goes_memory old new x goes; keeps = keeps; whole = λ now c held rules is. (cc) }
+
+  -- ---- what is held is kept
+
+  pub kept_of : {X : Type 0} {old new : K} {r : Result X KeepFault} → IsReading meaning old new r → KeepsHeld meaning old new r
+  kept_of reading = record { goes = reading.goes; keeps = reading.keeps }
+
+  pub kept_then : {X Y : Type 0} (old middle new : K) (x : X) (r : Result Y KeepFault) → KeepsHeld meaning old middle (answered x) → KeepsHeld meaning middle new r → KeepsHeld meaning old new r
+  kept_then old middle new x r first second = record {
+    goes = goes_then old middle new x r first.goes second.goes;
+    keeps = λ now. let before = second.goes.honest now in record {
+      content = λ c held. (second.keeps now).content c ((first.keeps before).content c held);
+      crash = λ live c held. (second.keeps now).crash (first.goes.shown before) c ((first.keeps before).content c held);
+    };
+  }
+
+  pub kept_as : {X Y : Type 0} (old new : K) (x : X) (y : Y) → KeepsHeld meaning old new (answered x) → KeepsHeld meaning old new (answered y)
+  kept_as old new x y kept = record { goes = goes_as old new x y kept.goes; keeps = kept.keeps }
+
+  pub kept_memory : {X Y : Type 0} (old new : K) (x : X) → KeepsHeld meaning old new (answered x) → KeepsHeld {X = Y} meaning old new (failed_call Memory)
+  kept_memory old new x kept = record { goes = goes_memory old new x kept.goes; keeps = kept.keeps }
+
+  pub kept_fault : {X Y : Type 0} (old new : K) (fault : KeepFault) → KeepsHeld {X = X} meaning old new (failed_call fault) → KeepsHeld {X = Y} meaning old new (failed_call fault)
+  kept_fault old new fault kept = record { goes = goes_fault old new fault kept.goes; keeps = kept.keeps }

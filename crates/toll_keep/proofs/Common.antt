@@ -16,11 +16,12 @@ pub use Rattle.toll_base.specs.Words.{is_some_where, none_or}
 pub use Rattle.toll_keep.specs.CallEffects.{CallEffect, IsAmong, IsReading, IsSpared, Keeps, Settles, closes_keep}
 pub use Rattle.toll_keep.specs.Common.{AllByRecursion, AreEdges, Bytes, Change, IsEdge, Owner, OwnerRow, Put, Slice, Unit, UnitRow, after_change, after_changes, batch_at, bytes_cmp, empty_slice, list_any, same_bytes, with_row}
 pub use Rattle.toll_keep.specs.Content.{AllChangesFit, ChangeFits, Content, ContentKeepsRules, after_owners, after_units, content_after, knows, slice_of}
-pub use Rattle.toll_keep.specs.Graphs.{AreGraphsOf, HasGraph, IsKnownGraph, is_actual, lacks_key, may_change_graph, may_draw}
+pub use Rattle.toll_keep.specs.Graphs.{AreGraphsFor, AreGraphsOf, HasGraph, IsKnownGraph, is_actual, lacks_key, may_change_graph, may_draw}
+pub use Rattle.toll_keep.specs.HeldFor.{AgreeFor, AreAmong, KeepsHeld, KeepsOneMore, MakesHeld, PutsOutside, ReadsHeld}
 pub use Rattle.toll_keep.specs.Holding.{AreGathered, GivesTrace, IsEdgeOfOne, IsEdgeOfSome, IsHolder, IsHolderAmong, IsHolderIn, is_on}
-pub use Rattle.toll_keep.specs.Meaning.{Meaning, OverContent, meaning_of}
+pub use Rattle.toll_keep.specs.Meaning.{Meaning, OverContent, Part, meaning_for, meaning_of}
 pub use Rattle.toll_keep.specs.Reads.{HaveRead, IsContentKept}
-pub use Rattle.toll_keep.specs.Remembered.{AreCachedRows, AreOf, IsCacheOf, IsNothing, OnlyKnownHaveRows, is_addition, is_put_for}
+pub use Rattle.toll_keep.specs.Remembered.{AreCachedRows, AreFor, AreOf, IsCacheFor, IsCacheOf, IsNothing, OnlyKnownFor, OnlyKnownHaveRows, is_addition, is_put_for}
 pub use Rattle.toll_keep.specs.Slices.{IsOneEach, Kept, content_of, has_slice, is_slice_of, put_slice, rows_in}
 pub use Rattle.toll_keep.specs.declared.keep_fault.KeepFault.{KeepFault}
 pub use Rattle.toll_trace.proofs.Common.{Contains-append_cases, Contains-append_left, Contains-append_right, Edge, IsTotalOrder, Ordering, edge_cmp, is_eq, or_left, or_right, ordering_reverse, take_more}

@@ -1,5 +1,5 @@
 -- Edges stay through changes that add none and remove none.
-use Rattle.std.proofs.Common.{◌≡◌, Bool, true, false, not, ◌&&◌, ◌||◌, cond, Option, Some, None, is_some, List, [], ◌∷◌, refl, sym, ap, ◌∙◌, Contains, filter}
+use Rattle.std.proofs.Common.{◌≡◌, Bool, true, false, not, ◌&&◌, ◌||◌, cond, Option, Some, None, is_some, List, [], ◌∷◌, refl, sym, ap, subst, ◌∙◌, Contains, filter}
 use Rattle.std.proofs.lemmas.Cmp.{nat_list_cmp_total}
 use Rattle.std.proofs.lemmas.Map.Lookups.{exact_bytes}
 use Rattle.std.proofs.lemmas.Map.Views.{tells_apart}
@@ -10,10 +10,10 @@ use Rattle.toll_base.specs.declared.rows.Row.{Row}
 use Rattle.toll_base.specs.declared.rows.Row.TheVariants as row
 use Rattle.toll_trace.proofs.Members.{Contains-from_filter}
 use Rattle.toll_trace.proofs.Recording.{graph_same}
-use Rattle.toll_keep.proofs.Common.{false≢true, list_any, is_eq, All-contains, Bytes, bytes_cmp, same_bytes, same_bytes-exact, Slice, with_row, after_change, after_changes, Change, Owner, Unit as UnitAdded, Put, Edge, IsEdge, Contains-here, Contains-later, Stands, Content, slice_of, knows, content_after, AreGraphsOf, is_actual, may_change_graph, lacks_key, may_draw, AreOf, is_slice_of, and_parts, not-true}
+use Rattle.toll_keep.proofs.Common.{false≢true, list_any, is_eq, All-contains, Bytes, bytes_cmp, same_bytes, same_bytes-exact, Slice, with_row, after_change, after_changes, Change, Owner, Unit as UnitAdded, Put, Edge, IsEdge, Contains-here, Contains-later, Stands, Content, slice_of, knows, content_after, AreGraphsFor, AreGraphsOf, IsKnownGraph, is_actual, may_change_graph, lacks_key, may_draw, AreFor, AreOf, is_slice_of, and_parts, not-true}
 use Rattle.toll_keep.specs.declared.known_graph.KnownGraph.{KnownGraph}
 use Rattle.toll_keep.proofs.Changed.{own_after}
-use Rattle.toll_keep.proofs.RememberedLemmas.{cached_known_slice}
+use Rattle.toll_keep.proofs.RememberedLemmas.{cached_known_slice, owner_after}
 
 -- The two slices have the same actuals and the same voids.
 pub record SameActuals (s t : Slice) : Type 0 where
@@ -120,29 +120,42 @@ pub drawn_any_member : {X : Type 0} (p : X → Bool) (xs : List X) → list_any 
 drawn_any_member p [] h = absurd (false≢true h)
 drawn_any_member p (x ∷ xs) h = any_where p x xs (p x) refl h (λ t. drawn_any_member p xs t)
 
-pub lacks_in : (c : Content) (slices : List Slice) (o : Bytes) (key : Bytes) → AreOf c slices → lacks_key slices o key ≡ true → move_at (c.rows o) key ≡ None
-lacks_in c slices o key all h =
+lacks_in : (c : Content) (slices : List Slice) (o : Bytes) (key : Bytes) → ((s : Slice) → Contains slices s → s.owner ≡ o → slice_of c s.owner ≡ Some s) → lacks_key slices o key ≡ true → move_at (c.rows o) key ≡ None
+lacks_in c slices o key are h =
     let (s, there, test) = drawn_any_member (λ s. is_slice_of o s && not (is_some (move_at s key))) slices h in
     let two = and_parts (is_slice_of o s) (not (is_some (move_at s key))) test in
     let own : s.owner ≡ o = same_bytes-exact s.owner o two.0 in
-    let rows : c.rows s.owner ≡ s = (cached_known_slice (knows c s.owner) (c.rows s.owner) s (All-contains (λ s. slice_of c s.owner ≡ Some s) slices s all there)).1 in
+    let rows : c.rows s.owner ≡ s = (cached_known_slice (knows c s.owner) (c.rows s.owner) s (are s there own)).1 in
     ap (λ p. move_at (c.rows p) key) (sym own) ∙ ap (λ t. move_at t key) rows ∙ none_of (move_at s key) (not-true _ two.1)
 
 -- ---- the graphs that are kept
 
-pub graphs_left : (changes : List Change) (c : Content) (slices : List Slice) (old : List KnownGraph) → AreOf c slices → AreGraphsOf c old → AreGraphsOf (content_after changes c) (filter (λ known. not (may_change_graph slices changes known)) old)
-graphs_left changes c slices old all of known i =
-    let r = Contains-from_filter (λ (k : KnownGraph). not (may_change_graph slices changes k)) old known i in
+-- A graph that the changes leave is of the content after them.
+graph_left : (changes : List Change) (c : Content) (slices : List Slice) (known : KnownGraph) → ((s : Slice) → Contains slices s → s.owner ≡ known.owner → slice_of c s.owner ≡ Some s) → not (may_change_graph slices changes known) ≡ true → IsKnownGraph c known → IsKnownGraph (content_after changes c) known
+graph_left changes c slices known are left is =
     let o = known.owner in
-    let is = of known r.0 in
     let start : SameActuals (c.rows o) (c.rows o) = record { there = λ row a h. h; back = λ row a h. h; voids = refl } in
-    let same = all_stay slices o known.named (c.rows o) (λ key h. lacks_in c slices o key all h) changes (c.rows o) is.named (not-true _ r.1) start in
+    let same = all_stay slices o known.named (c.rows o) (λ key h. lacks_in c slices o key are h) changes (c.rows o) is.named (not-true _ left) start in
     let edges = edges_stay (c.rows o) (after_changes changes (c.rows o)) same in
     record {
       named = owner_after changes (c.rows o) ∙ is.named;
       graph = graph_same (IsEdge (c.rows o)) (IsEdge (after_changes changes (c.rows o))) edges.0 edges.1 known.graph is.graph;
     }
-  where
-    owner_after : (changes : List Change) (t : Slice) → (after_changes changes t).owner ≡ t.owner
-    owner_after [] t = refl
-    owner_after (change ∷ changes) t = owner_after changes (after_change change t) ∙ own_after change t
+
+-- the graphs that the changes leave
+abbrev pub left_graphs : List Slice → List Change → List KnownGraph → List KnownGraph
+left_graphs slices changes old = filter (λ known. not (may_change_graph slices changes known)) old
+
+pub graphs_left : (changes : List Change) (c : Content) (slices : List Slice) (old : List KnownGraph) → AreOf c slices → AreGraphsOf c old → AreGraphsOf (content_after changes c) (left_graphs slices changes old)
+graphs_left changes c slices old all of known i =
+    let r = Contains-from_filter (λ (k : KnownGraph). not (may_change_graph slices changes k)) old known i in
+    graph_left changes c slices known (λ s there own. All-contains (λ s. slice_of c s.owner ≡ Some s) slices s all there) r.1 (of known r.0)
+
+pub graphs_left_for : (os : List Bytes) (changes : List Change) (c : Content) (slices : List Slice) (old : List KnownGraph) → AreFor os c slices → AreGraphsFor os c old → AreGraphsFor os (content_after changes c) (left_graphs slices changes old)
+graphs_left_for os changes c slices old all of known i mine =
+    let r = Contains-from_filter (λ (k : KnownGraph). not (may_change_graph slices changes k)) old known i in
+    graph_left changes c slices known (λ s there own. All-contains (λ s. Contains os s.owner → slice_of c s.owner ≡ Some s) slices s all there (subst (Contains os) (sym own) mine)) r.1 (of known r.0 mine)
+
+-- They are of the content that they were of before.
+pub graphs_still_for : (os : List Bytes) (changes : List Change) (c : Content) (slices : List Slice) (old : List KnownGraph) → AreGraphsFor os c old → AreGraphsFor os c (left_graphs slices changes old)
+graphs_still_for os changes c slices old of known i mine = of known (Contains-from_filter (λ (k : KnownGraph). not (may_change_graph slices changes k)) old known i).0 mine

@@ -9,7 +9,7 @@ use Rattle.toll_trace.specs.declared.way.Way.{Way}
 use Rattle.toll_trace.proofs.Members.{Contains-filter, Contains-from_filter, Contains-map, Contains-from_map}
 use Rattle.toll_trace.proofs.Unique.{trace_same}
 use Rattle.toll_base.specs.declared.lot.LotId.{LotId}
-use Rattle.toll_keep.proofs.Common.{list_any, Bytes, same_bytes, same_bytes-exact, same_bytes-refl, Slice, empty_slice, IsEdge, Contains-none, Contains-cases, Contains-append_left, Contains-append_cases, Contains-push, Contains-push_cases, take_more, Edge, take-append-drop, Content, slice_of, knows, AreGraphsOf, HasGraph, IsKnownGraph, IsEdgeOfOne, GivesTrace, OnlyKnownHaveRows, map-append, or_right}
+use Rattle.toll_keep.proofs.Common.{list_any, Bytes, same_bytes, same_bytes-exact, same_bytes-refl, Slice, empty_slice, IsEdge, Contains-none, Contains-cases, Contains-append_left, Contains-append_cases, Contains-push, Contains-push_cases, take_more, Edge, take-append-drop, Content, slice_of, knows, AreGraphsFor, AreGraphsOf, HasGraph, IsKnownGraph, IsEdgeOfOne, GivesTrace, map-append, or_right}
 use Rattle.toll_keep.specs.declared.known_graph.KnownGraph.{KnownGraph}
 use Rattle.toll_keep.proofs.DrawnStay.{drawn_any_member}
 use Rattle.toll_keep.proofs.RememberedLemmas.{cached_known_slice, unknown_if_none}
@@ -26,8 +26,8 @@ known_of c known o s own rows named graph =
 pub rows_there : (c : Content) (o : Bytes) (s : Slice) → slice_of c o ≡ Some s → c.rows o ≡ s
 rows_there c o s there = (cached_known_slice (knows c o) (c.rows o) s there).1
 
-pub no_rows_there : (c : Content) (o : Bytes) → OnlyKnownHaveRows c → slice_of c o ≡ None → c.rows o ≡ empty_slice o
-no_rows_there c o only none = only o (unknown_if_none (knows c o) (c.rows o) none)
+pub no_rows_there : (c : Content) (o : Bytes) → (knows c o ≡ false → c.rows o ≡ empty_slice o) → slice_of c o ≡ None → c.rows o ≡ empty_slice o
+no_rows_there c o only none = only (unknown_if_none (knows c o) (c.rows o) none)
 
 -- ---- the graphs that are there
 
@@ -46,6 +46,12 @@ graphs_pushed c graphs known are is k i = elim (Contains-append_cases graphs (kn
   | inr i ↦ elim (Contains-cases known [] k i) [ inl same ↦ subst (IsKnownGraph c) same is | inr none ↦ absurd (Contains-none k none) ]
 ]
 
+pub graphs_pushed_for : (os : List Bytes) (c : Content) (graphs : List KnownGraph) (known : KnownGraph) → AreGraphsFor os c graphs → (Contains os known.owner → IsKnownGraph c known) → AreGraphsFor os c (graphs ++ known ∷ [])
+graphs_pushed_for os c graphs known are is k i own = elim (Contains-append_cases graphs (known ∷ []) k i) [
+  | inl i ↦ are k i own
+  | inr i ↦ elim (Contains-cases known [] k i) [ inl same ↦ subst (IsKnownGraph c) same (is (subst (λ (t : KnownGraph). Contains os t.owner) (sym same) own)) | inr none ↦ absurd (Contains-none k none) ]
+]
+
 -- ---- the graphs of some owners
 
 learnt_any_of : {X : Type 0} (p : X → Bool) (xs : List X) (x : X) → Contains xs x → p x ≡ true → list_any p xs ≡ true
@@ -59,7 +65,7 @@ learnt_any_of p (y ∷ xs) x i h = elim (Contains-cases y xs x i) [
 abbrev pub graphs_of : List Bytes → List KnownGraph → List Graph
 graphs_of owners graphs = map (λ known. known.graph) (filter (λ known. list_any (same_bytes known.owner) owners) graphs)
 
-pub lead_of_one : (c : Content) (owners : List Bytes) (graphs : List KnownGraph) → AreGraphsOf c graphs → ((o : Bytes) → Contains owners o → HasGraph graphs o) → (way : Way) (from : LotId) (steps : List Step) → IsTrace (LeadAmong (graphs_of owners graphs) way) from steps → IsTrace (λ a b. IsEdgeOfOne c owners (edge_of way a b)) from steps
+pub lead_of_one : (c : Content) (owners : List Bytes) (graphs : List KnownGraph) → AreGraphsFor owners c graphs → ((o : Bytes) → Contains owners o → HasGraph graphs o) → (way : Way) (from : LotId) (steps : List Step) → IsTrace (LeadAmong (graphs_of owners graphs) way) from steps → IsTrace (λ a b. IsEdgeOfOne c owners (edge_of way a b)) from steps
 lead_of_one c owners graphs are each way from steps traced = trace_same (LeadAmong (graphs_of owners graphs) way) (λ a b. IsEdgeOfOne c owners (edge_of way a b)) to back from steps traced
   where
     chosen : KnownGraph → Bool
@@ -71,19 +77,20 @@ lead_of_one c owners graphs are each way from steps traced = trace_same (LeadAmo
         let there = Contains-from_filter chosen graphs r.0 r.1 in
         let o = drawn_any_member (same_bytes r.0.owner) owners there.1 in
         let own : r.0.owner ≡ o.0 = same_bytes-exact r.0.owner o.0 o.2 in
+        let named = subst (Contains owners) (sym own) o.1 in
         record {
           owner = r.0.owner;
-          named = subst (Contains owners) (sym own) o.1;
-          edge = (are r.0 there.0).graph.only way a b (subst (λ g. Leads g way a b) (sym r.2) leads.2);
+          named = named;
+          edge = (are r.0 there.0 named).graph.only way a b (subst (λ g. Leads g way a b) (sym r.2) leads.2);
         }
 
     back : (a b : LotId) → IsEdgeOfOne c owners (edge_of way a b) → LeadAmong (graphs_of owners graphs) way a b
     back a b edge =
         let (known, there, own) = each edge.owner edge.named in
         let test : chosen known ≡ true = learnt_any_of (same_bytes known.owner) owners edge.owner edge.named (ap (same_bytes known.owner) (sym own) ∙ same_bytes-refl known.owner) in
-        (known.graph, Contains-map (λ (k : KnownGraph). k.graph) (filter chosen graphs) known (Contains-filter chosen graphs known there test), (are known there).graph.every way a b (subst (λ o. IsEdge (c.rows o) (edge_of way a b)) (sym own) edge.edge))
+        (known.graph, Contains-map (λ (k : KnownGraph). k.graph) (filter chosen graphs) known (Contains-filter chosen graphs known there test), (are known there (subst (Contains owners) (sym own) edge.named)).graph.every way a b (subst (λ o. IsEdge (c.rows o) (edge_of way a b)) (sym own) edge.edge))
 
-pub gives_trace : {E : Type 0} (c : Content) (owners : List Bytes) (graphs : List KnownGraph) → AreGraphsOf c graphs → ((o : Bytes) → Contains owners o → HasGraph graphs o) → (way : Way) (from : LotId) (reported : Result (Vec Step Global) E) → IfOk reported (λ steps. IsTrace (LeadAmong (graphs_of owners graphs) way) from steps.items) → GivesTrace c owners from way reported
+pub gives_trace : {E : Type 0} (c : Content) (owners : List Bytes) (graphs : List KnownGraph) → AreGraphsFor owners c graphs → ((o : Bytes) → Contains owners o → HasGraph graphs o) → (way : Way) (from : LotId) (reported : Result (Vec Step Global) E) → IfOk reported (λ steps. IsTrace (LeadAmong (graphs_of owners graphs) way) from steps.items) → GivesTrace c owners from way reported
 gives_trace c owners graphs are each way from (Ok steps) led = lead_of_one c owners graphs are each way from steps.items led
 gives_trace c owners graphs are each way from (Err e) led = tt
 
@@ -110,6 +117,9 @@ graphs_more owners graphs i known b lt is e =
 
 pub graphs_taken : (c : Content) (graphs : List KnownGraph) (n : ℕ) → AreGraphsOf c graphs → AreGraphsOf c (take n graphs)
 graphs_taken c graphs n are known i = are known (subst (λ gs. Contains gs known) (take-append-drop n graphs) (Contains-append_left (take n graphs) (drop n graphs) known i))
+
+pub graphs_taken_for : (os : List Bytes) (c : Content) (graphs : List KnownGraph) (n : ℕ) → AreGraphsFor os c graphs → AreGraphsFor os c (take n graphs)
+graphs_taken_for os c graphs n are known i = are known (subst (λ gs. Contains gs known) (take-append-drop n graphs) (Contains-append_left (take n graphs) (drop n graphs) known i))
 
 pub chosen_more : (owners : List Bytes) (graphs : List KnownGraph) (i : ℕ) (known : KnownGraph) (refs : List (Bor Graph)) (ref : Bor Graph) → i < length graphs → known ≡ get_or graphs i known → list_any (same_bytes known.owner) owners ≡ true → ref.now ≡ known.graph → map (λ graph. graph.now) refs ≡ graphs_of owners (take i graphs) → map (λ graph. graph.now) (refs ++ ref ∷ []) ≡ graphs_of owners (take (i + 1) graphs)
 chosen_more owners graphs i known refs ref lt is e shown before =

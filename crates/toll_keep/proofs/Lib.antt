@@ -11,3 +11,4 @@ pub mod Learning
 pub mod Around
 pub mod Calls
 pub mod StagedLemmas
+pub mod InMemory

@@ -6,6 +6,10 @@ pub on_ok_weaker : {T E P Q : Type 0} (r : Result T E) → (P → Q) → OnOk r 
 on_ok_weaker (Ok x) so h = so h
 on_ok_weaker (Err e) so h = tt
 
+pub on_err_weaker : {T E P Q : Type 0} (r : Result T E) → (P → Q) → OnErr r P → OnErr r Q
+on_err_weaker (Ok x) so h = tt
+on_err_weaker (Err e) so h = so h
+
 -- a fact that follows from either clause
 pub either_way : {T E P Q S : Type 0} (r : Result T E) → (P → S) → (Q → S) → OnOk r P → OnErr r Q → S
 either_way (Ok x) ok err p q = ok p
@@ -20,3 +24,12 @@ of_ok (Err e) is h = absurd (false≢true is)
 pub on_err_always : {T E P : Type 0} (r : Result T E) → P → OnErr r P
 on_err_always (Ok x) p = tt
 on_err_always (Err e) p = p
+
+-- one fact of Ok, or of Err, with two others
+pub on_ok_all : {T E : Type 0} (P Q S : Type 0) (r : Result T E) → OnOk r P → OnOk r (Q × S) → OnOk r (P × Q × S)
+on_ok_all P Q S (Ok x) p more = (p, more.0, more.1)
+on_ok_all P Q S (Err e) p more = tt
+
+pub on_err_all : {T E : Type 0} (P Q S : Type 0) (r : Result T E) → OnErr r P → OnErr r (Q × S) → OnErr r (P × Q × S)
+on_err_all P Q S (Ok x) p more = tt
+on_err_all P Q S (Err e) p more = (p, more.0, more.1)

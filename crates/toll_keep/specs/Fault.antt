@@ -1,5 +1,5 @@
 -- The names of faults, and whose rows met damage.
-use Rattle.std.specs.Prelude.{ℕ, List, Option, Some, Result, Ok, Err, codes}
+use Rattle.std.specs.Prelude.{ℕ, List, Option, Some, Result, Err, codes}
 use Rattle.toll_base.specs.Bytes.{Bytes}
 use Rattle.toll_keep.specs.declared.keep_fault.KeepFault.{KeepFault}
 use Rattle.toll_keep.specs.declared.keep_fault.KeepFault.TheVariants.{Memory, Disk, Damaged, Closed}

@@ -18,6 +18,10 @@ pub record IsKnownGraph (c : Content) (known : KnownGraph) : Type 0 where
 abbrev pub AreGraphsOf : Content → List KnownGraph → Type 0
 AreGraphsOf c graphs = (known : KnownGraph) → Contains graphs known → IsKnownGraph c known
 
+-- Each graph of one of these owners is of the content.
+abbrev pub AreGraphsFor : List Bytes → Content → List KnownGraph → Type 0
+AreGraphsFor os c graphs = (known : KnownGraph) → Contains graphs known → Contains os known.owner → IsKnownGraph c known
+
 -- One of the graphs is the owner's.
 abbrev pub HasGraph : List KnownGraph → Bytes → Type 0
 HasGraph graphs o = (known : KnownGraph) × Contains graphs known × (known.owner ≡ o)

@@ -9,4 +9,5 @@ pub mod Graphs
 pub mod Remembered
 pub mod Around
 pub mod Reads
+pub mod HeldFor
 pub mod StagedChanges

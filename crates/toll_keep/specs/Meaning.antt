@@ -1,5 +1,6 @@
 -- What a keep means. To trust a keep, read which record its type has here.
 use Rattle.std.specs.Prelude.{◌≡◌, Bool, false, List}
+use Rattle.toll_keep.specs.Common.{Bytes}
 use Rattle.toll_keep.specs.Content.{Content}
 
 pub record Meaning (K : Type 0) : Type 1 where
@@ -17,6 +18,17 @@ pub record Meaning (K : Type 0) : Type 1 where
   pub has_cause : K → K → Type 0
   -- A stop at this moment leaves one of these contents.
   pub leaves : K → List Content → Type 0
+
+-- What a keep holds for some owners, whatever it has of others.
+pub record Part (K : Type 0) : Type 1 where
+  -- It has the owners and the units of this content, and its rows of these owners.
+  pub holds : K → Content → Type 0
+  -- A stop at this moment leaves these of one of these contents.
+  pub leaves : K → List Content → Type 0
+
+-- the meaning of a keep for these owners: in all but what it holds and leaves it means the same
+abbrev pub meaning_for : {K : Type 0} → Meaning K → (List Bytes → Part K) → List Bytes → Meaning K
+meaning_for meaning part os = record meaning { holds = λ k c. (part os).holds k c; leaves = λ k cs. (part os).leaves k cs }
 
 -- the meaning of a keep around another one, if it means the same as the one inside
 abbrev pub meaning_of : {K L : Type 0} → (L → K) → Meaning K → Meaning L

@@ -1,8 +1,8 @@
 -- What a cache remembers of a content.
-use Rattle.std.specs.Prelude.{◌≡◌, Bool, true, false, Option, Some, None, IfSome, List, [], All, Vec}
+use Rattle.std.specs.Prelude.{◌≡◌, Bool, true, false, Option, Some, None, IfSome, List, [], All, Contains, Vec}
 use Rattle.toll_keep.specs.Common.{Global, Bytes, same_bytes, Slice, empty_slice, list_any, Change, Put}
 use Rattle.toll_keep.specs.Content.{Content, content_after, knows, slice_of}
-use Rattle.toll_keep.specs.Graphs.{AreGraphsOf}
+use Rattle.toll_keep.specs.Graphs.{AreGraphsFor, AreGraphsOf}
 use Rattle.toll_keep.specs.Meaning.{Meaning, OverContent}
 use Rattle.toll_keep.specs.declared.cache.Cache.{Cache}
 
@@ -29,6 +29,29 @@ pub record IsCacheOf (c : Content) (r : Cache) : Type 0 where
   pub units : AreCachedRows c.units r.units
   pub graphs : AreGraphsOf c r.graphs.items
 
+-- ---- for some owners
+
+-- Each slice of one of these owners is the one that it has in the content.
+abbrev pub AreFor : List Bytes → Content → List Slice → Type 0
+AreFor os c slices = All (λ s. Contains os s.owner → slice_of c s.owner ≡ Some s) slices
+
+-- One of these owners that isn't known has no rows.
+abbrev pub OnlyKnownFor : List Bytes → Content → Type 0
+OnlyKnownFor os c = (o : Bytes) → Contains os o → knows c o ≡ false → c.rows o ≡ empty_slice o
+
+-- If the slices of these owners are of the content, and only known ones of them have rows in it, then P holds.
+abbrev pub IfFor : List Bytes → Content → List Slice → Type 0 → Type 0
+IfFor os c slices P = AreFor os c slices → OnlyKnownFor os c → P
+
+-- The owners and the units in the cache are of the content, and so are the slices and graphs of these owners.
+pub record IsCacheFor (os : List Bytes) (c : Content) (r : Cache) : Type 0 where
+  pub slices : AreFor os c r.slices.items
+  pub owners : AreCachedRows c.owners r.owners
+  pub units : AreCachedRows c.units r.units
+  pub graphs : AreGraphsFor os c r.graphs.items
+
+-- ---- changes
+
 -- The cache is empty.
 pub record IsNothing (r : Cache) : Type 0 where
   pub slices : r.slices.items ≡ []
@@ -50,3 +73,7 @@ is_put_for o _ = false
 -- that content.
 abbrev pub OverPut : {K : Type 0} → Meaning K → (old new : K) → List Change → List Slice → (Content → Type 0) → Type 0
 OverPut meaning old new changes slices P = OverContent meaning old new (λ c. list_any is_addition changes ≡ false → AreOf (content_after changes c) slices → P (content_after changes c))
+
+-- The same for slices of these owners.
+abbrev pub OverPutFor : {K : Type 0} → List Bytes → Meaning K → (old new : K) → List Change → List Slice → (Content → Type 0) → Type 0
+OverPutFor os meaning old new changes slices P = OverContent meaning old new (λ c. list_any is_addition changes ≡ false → AreFor os (content_after changes c) slices → P (content_after changes c))

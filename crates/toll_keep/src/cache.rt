@@ -1,8 +1,9 @@
 //! The remembered rows of a keep.
-ghost use Rattle.std.specs.Prelude.{◌≡◌, OnOk};
-ghost use Rattle.toll_keep.specs.Common.{list_any};
+ghost use Rattle.std.specs.Prelude.{◌≡◌, List, OnOk};
+ghost use Rattle.toll_keep.specs.Common.{Bytes, list_any};
 ghost use Rattle.toll_keep.specs.Content.{Content, content_after};
-ghost use Rattle.toll_keep.specs.Remembered.{IsNothing, IsCacheOf, is_addition};
+ghost use Rattle.toll_keep.specs.HeldFor.{PutsOutside};
+ghost use Rattle.toll_keep.specs.Remembered.{IsNothing, IsCacheFor, IsCacheOf, is_addition};
 
 use crate::drawing::forget_drawn;
 use crate::known_graph::KnownGraph;
@@ -48,7 +49,9 @@ impl Cache {
     /// owners and the units if one is added. It forgets an owner's graph if a change may add or remove an
     /// edge of the owner. If memory runs out, or a row doesn't fit, the rest can't be used any more.
     pub fn follow(&mut self, alloc: Global, changes: &[Change]) -> Result<(), AllocError>
-        ensures { OnOk result ((c : Content) → IsCacheOf c self.old → IsCacheOf (content_after changes.now c) self.new) }
+        ensures all { OnOk result ((c : Content) → IsCacheOf c self.old → IsCacheOf (content_after changes.now c) self.new) }
+        ensures alone { OnOk result ((os : List Bytes) (c : Content) → IsCacheFor os c self.old → IsCacheFor os (content_after changes.now c) self.new) }
+        ensures others { OnOk result ((os : List Bytes) (c : Content) → PutsOutside os changes.now → IsCacheFor os c self.old → IsCacheFor os c self.new) }
     {
         forget_drawn(&mut self.graphs, &self.slices, changes);
         follow_all(alloc, &mut self.slices, changes)?;

@@ -1,9 +1,12 @@
 //! A keep that remembers what it read.
-ghost use Rattle.std.specs.Prelude.{◌≡◌, ◌↔◌, IfOk, OnErr, OnOk, false};
-ghost use Rattle.toll_keep.specs.CallEffects.{IsReading};
-ghost use Rattle.toll_keep.specs.Content.{Content, slice_of};
+ghost use Rattle.std.specs.Prelude.{◌≡◌, ◌≢◌, ◌↔◌, List, Contains, [], ◌∷◌, Err, IfOk, IfSome, OnErr, OnOk, false};
+ghost use Rattle.toll_keep.specs.Common.{AreEdges, Bytes, IsEdge};
+ghost use Rattle.toll_keep.specs.CallEffects.{CallEffect, IsReading, IsSpared};
+ghost use Rattle.toll_keep.specs.Content.{AllChangesFit, Content, ContentKeepsRules, content_after, slice_of};
 ghost use Rattle.toll_keep.specs.Fault.{damaged_owner_after};
-ghost use Rattle.toll_keep.specs.Meaning.{OverContent};
+ghost use Rattle.toll_keep.specs.HeldFor.{AreAmong, KeepsHeld, MakesHeld, PutsOutside, ReadsHeld};
+ghost use Rattle.toll_keep.specs.Holding.{GivesTrace, IsEdgeOfSome, IsHolder};
+ghost use Rattle.toll_keep.specs.Meaning.{OverContent, OverLive};
 ghost use Rattle.toll_keep.specs.Remembered.{IsNothing, IsCacheOf, OnlyKnownHaveRows};
 
 use crate::cache::Cache;
@@ -108,6 +111,8 @@ fn damaged_owner_after<T>(
 }
 
 impl<K: Keep> Keep for CachedKeep<K> {
+    ghost use Rattle.toll_keep.specs.Around.{cached_for, cached_part};
+
     ghost meaning = { record {
       holds = λ r c. K.meaning.holds r.keep c × IsCacheOf c r.cache × OnlyKnownHaveRows c;
       is_honest = λ r. K.meaning.is_honest r.keep;
@@ -118,9 +123,15 @@ impl<K: Keep> Keep for CachedKeep<K> {
       leaves = λ r cs. K.meaning.leaves r.keep cs;
     } };
 
+    ghost part = { cached_part ⟦<K as Keep>⟧ };
+
     fn slice(&mut self, alloc: Global, owner: &Name) -> Result<Option<Slice>, KeepFault>
         ensures reading { IsReading ⟦<CachedKeep<K> as Keep>⟧.meaning self.old self.new result }
         ensures reads { OverContent ⟦<CachedKeep<K> as Keep>⟧.meaning self.old self.new (λ c. IfOk result (λ slice. slice ≡ slice_of c owner.now)) }
+        ensures alone { (os : List Bytes) → Contains os owner.now → ReadsHeld (cached_for ⟦<K as Keep>⟧ os) self.old self.new result
+            (λ c. IfOk result (λ slice. slice ≡ slice_of c owner.now)) }
+        ensures others { (os : List Bytes) → KeepsHeld (cached_for ⟦<K as Keep>⟧ os) self.old self.new result }
+        ensures named { IfOk result (λ slice. IfSome slice (λ s. s.owner ≡ owner.now)) }
         ensures damaged { self.new.damaged_owner ≡ damaged_owner_after owner.now result self.old.damaged_owner }
     {
         let CachedKeep {
@@ -133,31 +144,58 @@ impl<K: Keep> Keep for CachedKeep<K> {
         or_forget(alloc, cache, answer)
     }
 
-    fn owners(&mut self, alloc: Global) -> Result<Vec<OwnerRow>, KeepFault> {
+    fn owners(&mut self, alloc: Global) -> Result<Vec<OwnerRow>, KeepFault>
+        ensures reading { IsReading ⟦<CachedKeep<K> as Keep>⟧.meaning self.old self.new result }
+        ensures reads { OverContent ⟦<CachedKeep<K> as Keep>⟧.meaning self.old self.new (λ c. IfOk result (λ rows. rows.items ≡ c.owners)) }
+        ensures alone { (os : List Bytes) → ReadsHeld (cached_for ⟦<K as Keep>⟧ os) self.old self.new result
+            (λ c. IfOk result (λ rows. rows.items ≡ c.owners)) }
+        ensures left { self.new.damaged_owner ≡ self.old.damaged_owner }
+    {
         let CachedKeep { keep, cache, .. } = self;
         let answer = read_rows(alloc, keep, &mut cache.owners);
         or_forget(alloc, cache, answer)
     }
 
-    fn units(&mut self, alloc: Global) -> Result<Vec<UnitRow>, KeepFault> {
+    fn units(&mut self, alloc: Global) -> Result<Vec<UnitRow>, KeepFault>
+        ensures reading { IsReading ⟦<CachedKeep<K> as Keep>⟧.meaning self.old self.new result }
+        ensures reads { OverContent ⟦<CachedKeep<K> as Keep>⟧.meaning self.old self.new (λ c. IfOk result (λ rows. rows.items ≡ c.units)) }
+        ensures alone { (os : List Bytes) → ReadsHeld (cached_for ⟦<K as Keep>⟧ os) self.old self.new result
+            (λ c. IfOk result (λ rows. rows.items ≡ c.units)) }
+        ensures left { self.new.damaged_owner ≡ self.old.damaged_owner }
+    {
         let CachedKeep { keep, cache, .. } = self;
         let answer = read_rows(alloc, keep, &mut cache.units);
         or_forget(alloc, cache, answer)
     }
 
-    fn holder(&mut self, alloc: Global, unit: &Name) -> Result<Option<Holder>, KeepFault> {
+    fn holder(&mut self, alloc: Global, unit: &Name) -> Result<Option<Holder>, KeepFault>
+        ensures reading { IsReading ⟦<CachedKeep<K> as Keep>⟧.meaning self.old self.new result }
+        ensures reads { OverContent ⟦<CachedKeep<K> as Keep>⟧.meaning self.old self.new (λ c. IfOk result (IsHolder c unit.now)) }
+        ensures others { (os : List Bytes) → KeepsHeld (cached_for ⟦<K as Keep>⟧ os) self.old self.new result }
+        ensures left { self.new.damaged_owner ≡ self.old.damaged_owner }
+    {
         let CachedKeep { keep, cache, .. } = self;
         let answer = keep.holder(alloc, unit);
         or_forget(alloc, cache, answer)
     }
 
-    fn edges(&mut self, alloc: Global, owner: &Name) -> Result<Vec<Edge>, KeepFault> {
+    fn edges(&mut self, alloc: Global, owner: &Name) -> Result<Vec<Edge>, KeepFault>
+        ensures reading { IsReading ⟦<CachedKeep<K> as Keep>⟧.meaning self.old self.new result }
+        ensures reads { OverContent ⟦<CachedKeep<K> as Keep>⟧.meaning self.old self.new (λ c. IfOk result (λ edges. AreEdges (IsEdge (c.rows owner.now)) edges.items)) }
+        ensures others { (os : List Bytes) → KeepsHeld (cached_for ⟦<K as Keep>⟧ os) self.old self.new result }
+        ensures left { self.new.damaged_owner ≡ self.old.damaged_owner }
+    {
         let CachedKeep { keep, cache, .. } = self;
         let answer = keep.edges(alloc, owner);
         or_forget(alloc, cache, answer)
     }
 
-    fn all_edges(&mut self, alloc: Global) -> Result<Vec<Edge>, KeepFault> {
+    fn all_edges(&mut self, alloc: Global) -> Result<Vec<Edge>, KeepFault>
+        ensures reading { IsReading ⟦<CachedKeep<K> as Keep>⟧.meaning self.old self.new result }
+        ensures reads { OverContent ⟦<CachedKeep<K> as Keep>⟧.meaning self.old self.new (λ c. IfOk result (λ edges. AreEdges (IsEdgeOfSome c) edges.items)) }
+        ensures others { (os : List Bytes) → KeepsHeld (cached_for ⟦<K as Keep>⟧ os) self.old self.new result }
+        ensures left { self.new.damaged_owner ≡ self.old.damaged_owner }
+    {
         let CachedKeep { keep, cache, .. } = self;
         let answer = keep.all_edges(alloc);
         or_forget(alloc, cache, answer)
@@ -169,7 +207,14 @@ impl<K: Keep> Keep for CachedKeep<K> {
         owners: &[Name],
         from: &LotId,
         way: Way,
-    ) -> Result<Vec<Step>, KeepFault> {
+    ) -> Result<Vec<Step>, KeepFault>
+        ensures reading { IsReading ⟦<CachedKeep<K> as Keep>⟧.meaning self.old self.new result }
+        ensures reads { OverContent ⟦<CachedKeep<K> as Keep>⟧.meaning self.old self.new (λ c. GivesTrace c owners.now from.now way result) }
+        ensures alone { (os : List Bytes) → AreAmong owners.now os → ReadsHeld (cached_for ⟦<K as Keep>⟧ os) self.old self.new result
+            (λ c. GivesTrace c owners.now from.now way result) }
+        ensures others { (os : List Bytes) → KeepsHeld (cached_for ⟦<K as Keep>⟧ os) self.old self.new result }
+        ensures left { self.new.damaged_owner ≡ self.old.damaged_owner }
+    {
         let CachedKeep { keep, cache, .. } = self;
         let answer = read_trace(alloc, keep, cache, owners, from, way);
         or_forget(alloc, cache, answer)
@@ -177,7 +222,19 @@ impl<K: Keep> Keep for CachedKeep<K> {
 
     // The keep inside makes the changes first: it alone can refuse them. The remembered rows are taken
     // out before, and put back if all changes succeed.
-    fn apply(&mut self, alloc: Global, changes: &[Change]) -> Result<(), KeepFault> {
+    fn apply(&mut self, alloc: Global, changes: &[Change]) -> Result<(), KeepFault>
+        ensures goes { CallEffect ⟦<CachedKeep<K> as Keep>⟧.meaning self.old self.new result }
+        ensures all { OverContent ⟦<CachedKeep<K> as Keep>⟧.meaning self.old self.new (λ c. AllChangesFit c changes.now
+            → OnOk result (⟦<CachedKeep<K> as Keep>⟧.meaning.holds self.new (content_after changes.now c))) }
+        ensures none { OverContent ⟦<CachedKeep<K> as Keep>⟧.meaning self.old self.new (λ c. OnErr result (⟦<CachedKeep<K> as Keep>⟧.meaning.holds self.new c)) }
+        ensures spared { result ≡ Err KeepFault.Memory → IsSpared ⟦<CachedKeep<K> as Keep>⟧.meaning self.old self.new }
+        ensures whole { OverContent ⟦<CachedKeep<K> as Keep>⟧.meaning self.old self.new (λ c. ContentKeepsRules c → result ≢ Err KeepFault.Damaged) }
+        ensures crash { OverLive ⟦<CachedKeep<K> as Keep>⟧.meaning self.old self.new (λ c. AllChangesFit c changes.now
+            → ⟦<CachedKeep<K> as Keep>⟧.meaning.leaves self.new (c ∷ content_after changes.now c ∷ [])) }
+        ensures alone { (os : List Bytes) → MakesHeld (cached_for ⟦<K as Keep>⟧ os) self.old self.new result changes.now }
+        ensures others { (os : List Bytes) → PutsOutside os changes.now → KeepsHeld (cached_for ⟦<K as Keep>⟧ os) self.old self.new result }
+        ensures left { self.new.damaged_owner ≡ self.old.damaged_owner }
+    {
         // This names the type for the proof: a change may have a row.
         let _row: Option<Row> = None;
         let mut cache = mem::replace(&mut self.cache, Cache::nothing(alloc));
@@ -193,4 +250,12 @@ impl<K: Keep> Keep for CachedKeep<K> {
     ghost lives_once = { λ r. K.lives_once r.keep };
 
     ghost widened = { λ r cs more left. K.widened r.keep cs more left };
+
+    ghost use Rattle.toll_keep.specs.Around.{cache_narrowed, known_narrowed};
+
+    ghost narrows = { λ os r c held. (K.narrows os r.keep c held.0, cache_narrowed os c r.cache held.1, known_narrowed os c held.2) };
+
+    ghost settled_for = { λ os r c honest live held. K.settled_for os r.keep c honest live held.0 };
+
+    ghost widened_for = { λ os r cs more left. K.widened_for os r.keep cs more left };
 }

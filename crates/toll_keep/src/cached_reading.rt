@@ -1,10 +1,12 @@
 //! Answers from remembered rows, or from rows that are read of a keep and then remembered.
-ghost use Rattle.std.specs.Prelude.{◌≡◌, ◌≢◌, [], IfOk, IsSome};
+ghost use Rattle.std.specs.Prelude.{◌≡◌, ◌≢◌, [], List, Contains, IfOk, IfSome, IsSome};
+ghost use Rattle.toll_keep.specs.Common.{Bytes};
 ghost use Rattle.toll_keep.specs.Content.{slice_of};
 ghost use Rattle.toll_keep.specs.CallEffects.{IsReading};
-ghost use Rattle.toll_keep.specs.Meaning.{OverContent};
+ghost use Rattle.toll_keep.specs.Meaning.{OverContent, meaning_for};
+ghost use Rattle.toll_keep.specs.HeldFor.{KeepsHeld};
 ghost use Rattle.toll_keep.specs.Reads.{HaveRead, IsContentKept};
-ghost use Rattle.toll_keep.specs.Remembered.{AreOf, AreCachedRows, OverPut};
+ghost use Rattle.toll_keep.specs.Remembered.{AreFor, AreOf, AreCachedRows, OverPut, OverPutFor};
 
 use crate::keep::Keep;
 use crate::keep_fault::KeepFault;
@@ -27,6 +29,17 @@ pub fn read_slice<K: Keep>(
     ensures reads { OverPut K.meaning keep.old keep.new changes.now slices.old.items (λ c. IfOk result (λ slice. slice ≡ slice_of c owner.now)) }
     ensures own { OverPut K.meaning keep.old keep.new changes.now slices.old.items (λ c. AreOf c slices.new.items) }
     ensures kept { IsContentKept K.meaning keep.old keep.new }
+    ensures alone { (os : List Bytes) → Contains os owner.now
+        → (slices.old.items ≢ [] → HaveRead (meaning_for K.meaning K.part os) keep.old keep.old)
+        → IsReading (meaning_for K.meaning K.part os) keep.old keep.new result }
+    ensures others { (os : List Bytes) → (slices.old.items ≢ [] → HaveRead (meaning_for K.meaning K.part os) keep.old keep.old)
+        → KeepsHeld (meaning_for K.meaning K.part os) keep.old keep.new result }
+    ensures found { (os : List Bytes) → Contains os owner.now
+        → OverPutFor os (meaning_for K.meaning K.part os) keep.old keep.new changes.now slices.old.items
+        (λ c. IfOk result (λ slice. slice ≡ slice_of c owner.now)) }
+    ensures apart { (os : List Bytes)
+        → OverPutFor os (meaning_for K.meaning K.part os) keep.old keep.new changes.now slices.old.items (λ c. AreFor os c slices.new.items) }
+    ensures named { IfOk result (λ slice. IfSome slice (λ s. s.owner ≡ owner.now)) }
 {
     if let Some(known) = remembered(slices, owner) {
         return Ok(Some(known.copy(alloc)?));
@@ -48,6 +61,13 @@ pub fn read_rows<R: PlantRow, K: Keep>(
     ensures reads { OverContent K.meaning keep.old keep.new (λ c. AreCachedRows (R.rows_of c) known.old → IfOk result (λ rows. rows.items ≡ R.rows_of c)) }
     ensures own { OverContent K.meaning keep.old keep.new (λ c. AreCachedRows (R.rows_of c) known.old → AreCachedRows (R.rows_of c) known.new) }
     ensures kept { IsContentKept K.meaning keep.old keep.new }
+    ensures alone { (os : List Bytes) → (IsSome known.old → HaveRead (meaning_for K.meaning K.part os) keep.old keep.old)
+        → IsReading (meaning_for K.meaning K.part os) keep.old keep.new result }
+    ensures found { (os : List Bytes) → OverContent (meaning_for K.meaning K.part os) keep.old keep.new
+        (λ c. AreCachedRows (R.rows_of c) known.old → IfOk result (λ rows. rows.items ≡ R.rows_of c)) }
+    ensures apart { (os : List Bytes) → OverContent (meaning_for K.meaning K.part os) keep.old keep.new
+        (λ c. AreCachedRows (R.rows_of c) known.old → AreCachedRows (R.rows_of c) known.new) }
+    ensures stays { (os : List Bytes) → IsContentKept (meaning_for K.meaning K.part os) keep.old keep.new }
 {
     if let Some(rows) = &*known {
         return Ok(Vec::from_slice(alloc, rows)?);

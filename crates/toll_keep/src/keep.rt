@@ -1,10 +1,11 @@
 //! The keep of the office's rows.
-ghost use Rattle.std.specs.Prelude.{◌≡◌, ◌≢◌, Err, List, [], ◌∷◌, ◌++◌, IfOk, OnOk, OnErr};
-ghost use Rattle.toll_keep.specs.Common.{AreEdges, IsEdge};
+ghost use Rattle.std.specs.Prelude.{◌≡◌, ◌≢◌, Err, List, Contains, [], ◌∷◌, ◌++◌, IfOk, IfSome, OnOk, OnErr};
+ghost use Rattle.toll_keep.specs.Common.{AreEdges, Bytes, IsEdge};
 ghost use Rattle.toll_keep.specs.Content.{Content, slice_of, content_after, AllChangesFit, ContentKeepsRules};
 ghost use Rattle.toll_keep.specs.CallEffects.{CallEffect, IsReading, IsSpared};
+ghost use Rattle.toll_keep.specs.HeldFor.{AreAmong, KeepsHeld, MakesHeld, PutsOutside, ReadsHeld};
 ghost use Rattle.toll_keep.specs.Holding.{IsHolder, IsEdgeOfSome, GivesTrace};
-ghost use Rattle.toll_keep.specs.Meaning.{Meaning, OverContent, OverLive};
+ghost use Rattle.toll_keep.specs.Meaning.{Meaning, OverContent, OverLive, Part, meaning_for};
 
 use crate::holder::Holder;
 use crate::keep_fault::KeepFault;
@@ -24,36 +25,50 @@ pub trait Keep {
     // What a keep of this type means: what it holds, when it is honest, live and closed, what a stop leaves.
     ghost meaning: { Meaning Self };
 
+    // What it holds for some owners, and what a stop leaves of that, whatever it has of others.
+    ghost part: { List Bytes → Part Self };
+
     /// All rows of an owner: `None` for an unknown owner. HOUSE is always known.
     fn slice(&mut self, alloc: Global, owner: &Name) -> Result<Option<Slice>, KeepFault>
         ensures reading { IsReading meaning self.old self.new result }
-        ensures reads { OverContent meaning self.old self.new (λ c. IfOk result (λ slice. slice ≡ slice_of c owner.now)) };
+        ensures reads { OverContent meaning self.old self.new (λ c. IfOk result (λ slice. slice ≡ slice_of c owner.now)) }
+        ensures alone { (os : List Bytes) → Contains os owner.now → ReadsHeld (meaning_for meaning part os) self.old self.new result
+            (λ c. IfOk result (λ slice. slice ≡ slice_of c owner.now)) }
+        ensures others { (os : List Bytes) → KeepsHeld (meaning_for meaning part os) self.old self.new result }
+        ensures named { IfOk result (λ slice. IfSome slice (λ s. s.owner ≡ owner.now)) };
 
     /// The owners besides HOUSE, in the order of their names.
     fn owners(&mut self, alloc: Global) -> Result<Vec<OwnerRow>, KeepFault>
         ensures reading { IsReading meaning self.old self.new result }
-        ensures reads { OverContent meaning self.old self.new (λ c. IfOk result (λ rows. rows.items ≡ c.owners)) };
+        ensures reads { OverContent meaning self.old self.new (λ c. IfOk result (λ rows. rows.items ≡ c.owners)) }
+        ensures alone { (os : List Bytes) → ReadsHeld (meaning_for meaning part os) self.old self.new result
+            (λ c. IfOk result (λ rows. rows.items ≡ c.owners)) };
 
     /// The units, in the order of their names.
     fn units(&mut self, alloc: Global) -> Result<Vec<UnitRow>, KeepFault>
         ensures reading { IsReading meaning self.old self.new result }
-        ensures reads { OverContent meaning self.old self.new (λ c. IfOk result (λ rows. rows.items ≡ c.units)) };
+        ensures reads { OverContent meaning self.old self.new (λ c. IfOk result (λ rows. rows.items ≡ c.units)) }
+        ensures alone { (os : List Bytes) → ReadsHeld (meaning_for meaning part os) self.old self.new result
+            (λ c. IfOk result (λ rows. rows.items ≡ c.units)) };
 
     /// The batch, of any owner, that holds the unit: `None` if no batch does.
     fn holder(&mut self, alloc: Global, unit: &Name) -> Result<Option<Holder>, KeepFault>
         ensures reading { IsReading meaning self.old self.new result }
-        ensures reads { OverContent meaning self.old self.new (λ c. IfOk result (IsHolder c unit.now)) };
+        ensures reads { OverContent meaning self.old self.new (λ c. IfOk result (IsHolder c unit.now)) }
+        ensures others { (os : List Bytes) → KeepsHeld (meaning_for meaning part os) self.old self.new result };
 
     /// The genealogy of an owner's own batches, in order, each edge once: empty for an unknown owner. Only
     /// tests call it: programs follow edges with [`Keep::trace`].
     fn edges(&mut self, alloc: Global, owner: &Name) -> Result<Vec<Edge>, KeepFault>
         ensures reading { IsReading meaning self.old self.new result }
-        ensures reads { OverContent meaning self.old self.new (λ c. IfOk result (λ edges. AreEdges (IsEdge (c.rows owner.now)) edges.items)) };
+        ensures reads { OverContent meaning self.old self.new (λ c. IfOk result (λ edges. AreEdges (IsEdge (c.rows owner.now)) edges.items)) }
+        ensures others { (os : List Bytes) → KeepsHeld (meaning_for meaning part os) self.old self.new result };
 
     /// The genealogy of all batches, in order, each edge once. Only tests call it.
     fn all_edges(&mut self, alloc: Global) -> Result<Vec<Edge>, KeepFault>
         ensures reading { IsReading meaning self.old self.new result }
-        ensures reads { OverContent meaning self.old self.new (λ c. IfOk result (λ edges. AreEdges (IsEdgeOfSome c) edges.items)) };
+        ensures reads { OverContent meaning self.old self.new (λ c. IfOk result (λ edges. AreEdges (IsEdgeOfSome c) edges.items)) }
+        ensures others { (os : List Bytes) → KeepsHeld (meaning_for meaning part os) self.old self.new result };
 
     /// Every lot that ends a chain of the edges of these owners' own batches from the lot, the lot itself
     /// included: the same steps as those of `toll_trace::Graph::trace`. An unknown owner has no edges.
@@ -65,7 +80,10 @@ pub trait Keep {
         way: Way,
     ) -> Result<Vec<Step>, KeepFault>
         ensures reading { IsReading meaning self.old self.new result }
-        ensures reads { OverContent meaning self.old self.new (λ c. GivesTrace c owners.now from.now way result) };
+        ensures reads { OverContent meaning self.old self.new (λ c. GivesTrace c owners.now from.now way result) }
+        ensures alone { (os : List Bytes) → AreAmong owners.now os → ReadsHeld (meaning_for meaning part os) self.old self.new result
+            (λ c. GivesTrace c owners.now from.now way result) }
+        ensures others { (os : List Bytes) → KeepsHeld (meaning_for meaning part os) self.old self.new result };
 
     /// Makes all of these changes, in order, or none.
     ///
@@ -81,7 +99,9 @@ pub trait Keep {
         ensures spared { result ≡ Err KeepFault.Memory → IsSpared meaning self.old self.new }
         ensures whole { OverContent meaning self.old self.new (λ c. ContentKeepsRules c → result ≢ Err KeepFault.Damaged) }
         ensures crash { OverLive meaning self.old self.new (λ c. AllChangesFit c changes.now
-            → meaning.leaves self.new (c ∷ content_after changes.now c ∷ [])) };
+            → meaning.leaves self.new (c ∷ content_after changes.now c ∷ [])) }
+        ensures alone { (os : List Bytes) → MakesHeld (meaning_for meaning part os) self.old self.new result changes.now }
+        ensures others { (os : List Bytes) → PutsOutside os changes.now → KeepsHeld (meaning_for meaning part os) self.old self.new result };
 
     // While the store lives, a stop between two calls leaves the content and nothing else.
     ghost settled: { (k : Self) (c : Content) → meaning.is_honest k → meaning.is_store_open k → meaning.holds k c → meaning.leaves k (c ∷ []) };
@@ -91,4 +111,14 @@ pub trait Keep {
 
     // If a stop leaves one of some contents, it also leaves one of more contents.
     ghost widened: { (k : Self) (cs more : List Content) → meaning.leaves k cs → meaning.leaves k (cs ++ more) };
+
+    // What is held is held for any owners.
+    ghost narrows: { (os : List Bytes) (k : Self) (c : Content) → meaning.holds k c → (part os).holds k c };
+
+    // For some owners too, a stop between two calls leaves the content and nothing else, while the store lives.
+    ghost settled_for: { (os : List Bytes) (k : Self) (c : Content)
+        → meaning.is_honest k → meaning.is_store_open k → (part os).holds k c → (part os).leaves k (c ∷ []) };
+
+    // For some owners too, if a stop leaves one of some contents, it also leaves one of more contents.
+    ghost widened_for: { (os : List Bytes) (k : Self) (cs more : List Content) → (part os).leaves k cs → (part os).leaves k (cs ++ more) };
 }

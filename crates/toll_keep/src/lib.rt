@@ -20,8 +20,9 @@ mod tracing;
 
 pub use cached_keep::CachedKeep;
 pub use ghosts::{
-    a_cached_keep_has_the_content_inside, a_cached_keep_is_as_open_as_the_one_inside,
-    a_keep_in_memory_has_its_content, a_keep_in_memory_is_always_open,
+    a_cached_keep_has_rows_for_some_owners, a_cached_keep_has_the_content_inside,
+    a_cached_keep_is_as_open_as_the_one_inside, a_keep_in_memory_has_its_content,
+    a_keep_in_memory_has_rows_for_some_owners, a_keep_in_memory_is_always_open,
 };
 pub use holder::Holder;
 pub use keep::Keep;

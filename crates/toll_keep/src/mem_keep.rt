@@ -1,8 +1,9 @@
 //! A keep of lists in memory.
-ghost use Rattle.std.specs.Prelude.{◌≡◌, ◌↔◌, ◌⊎◌, [], ◌∷◌, false, ⊤, IfOk, OnOk, OnErr, IsOkUnless};
+ghost use Rattle.std.specs.Prelude.{◌≡◌, ◌↔◌, ◌⊎◌, List, [], ◌∷◌, false, ⊤, IfOk, OnOk, OnErr, IsOkUnless};
 ghost use Rattle.toll_keep.specs.Common.{AreEdges, IsEdge};
 ghost use Rattle.toll_keep.specs.Content.{empty_content, knows, slice_of, content_after};
 ghost use Rattle.toll_keep.specs.CallEffects.{IsAmong};
+ghost use Rattle.toll_keep.specs.HeldFor.{AgreeFor};
 ghost use Rattle.toll_keep.specs.Holding.{DrawsFor, IsEdgeOfSome, GivesTrace};
 ghost use Rattle.toll_base.specs.declared.lot.Edge.{Edge};
 ghost use Rattle.toll_trace.specs.Recorded.{Draws};
@@ -189,6 +190,11 @@ impl Keep for MemKeep {
       leaves = λ k cs. IsAmong (λ c. content_of k ≡ c) cs;
     } };
 
+    ghost part = { λ os. record {
+      holds = λ k c. AgreeFor os (content_of k) c;
+      leaves = λ k cs. IsAmong (λ c. AgreeFor os (content_of k) c) cs;
+    } };
+
     fn slice(&mut self, alloc: Global, owner: &Name) -> Result<Option<Slice>, KeepFault> {
         Ok(self.shared_slice(alloc, owner)?)
     }
@@ -235,4 +241,12 @@ impl Keep for MemKeep {
     ghost lives_once = { λ _ _ _. refl };
 
     ghost widened = { λ k cs more. among-more (λ c. content_of k ≡ c) cs more };
+
+    ghost use Rattle.toll_keep.specs.HeldFor.{same_agrees};
+
+    ghost narrows = { λ os k c held. same_agrees os (content_of k) c held };
+
+    ghost settled_for = { λ os k c _ _ held. inl held };
+
+    ghost widened_for = { λ os k cs more. among-more (λ c. AgreeFor os (content_of k) c) cs more };
 }

@@ -1,7 +1,8 @@
 //! The plant's own rows.
-ghost use Rattle.std.specs.Prelude.{◌≡◌, IfOk};
+ghost use Rattle.std.specs.Prelude.{◌≡◌, IfOk, List};
 ghost use Rattle.toll_keep.specs.CallEffects.{IsReading};
-ghost use Rattle.toll_keep.specs.Meaning.{OverContent};
+ghost use Rattle.toll_keep.specs.Common.{Bytes};
+ghost use Rattle.toll_keep.specs.Meaning.{OverContent, meaning_for};
 
 use crate::keep::Keep;
 use crate::keep_fault::KeepFault;
@@ -19,7 +20,10 @@ pub trait PlantRow: Copy {
     /// The rows of this kind, as the keep gives them.
     fn read<K: Keep>(alloc: Global, keep: &mut K) -> Result<Vec<Self>, KeepFault>
         ensures reading { IsReading K.meaning keep.old keep.new result }
-        ensures reads { OverContent K.meaning keep.old keep.new (λ c. IfOk result (λ rows. rows.items ≡ rows_of c)) };
+        ensures reads { OverContent K.meaning keep.old keep.new (λ c. IfOk result (λ rows. rows.items ≡ rows_of c)) }
+        ensures alone { (os : List Bytes) → IsReading (meaning_for K.meaning K.part os) keep.old keep.new result }
+        ensures found { (os : List Bytes) → OverContent (meaning_for K.meaning K.part os) keep.old keep.new
+            (λ c. IfOk result (λ rows. rows.items ≡ rows_of c)) };
 }
 
 impl PlantRow for OwnerRow {

@@ -1,8 +1,8 @@
 //! Remembered slices, each with rows that its copies share.
-ghost use Rattle.std.specs.Prelude.{◌≡◌, ◌≢◌, [], Some, OnOk, IfOk, IfSome, is_some, map, position};
-ghost use Rattle.toll_keep.specs.Common.{after_change, after_changes, list_any};
+ghost use Rattle.std.specs.Prelude.{◌≡◌, ◌≢◌, [], Some, List, Contains, OnOk, IfOk, IfSome, is_some, map, position};
+ghost use Rattle.toll_keep.specs.Common.{Bytes, after_change, after_changes, list_any};
 ghost use Rattle.toll_keep.specs.Content.{Content, slice_of};
-ghost use Rattle.toll_keep.specs.Remembered.{AreOf, is_put_for};
+ghost use Rattle.toll_keep.specs.Remembered.{AreFor, AreOf, is_put_for};
 ghost use Rattle.toll_keep.specs.Slices.{is_slice_of};
 
 use crate::slices::{index_of_slice, shared};
@@ -13,6 +13,9 @@ use toll_base::{Change, Name, Row, Slice, UniqueSlice};
 pub fn remembered<'a>(slices: &'a [Slice], owner: &Name) -> Option<&'a Slice>
     ensures found { is_some result ≡ is_some (position (is_slice_of owner.now) slices.now) }
     ensures own { IfSome result (λ slice. (c : Content) → AreOf c slices.now → slice_of c owner.now ≡ Some slice.now) }
+    ensures alone { IfSome result (λ slice. (os : List Bytes) (c : Content) → Contains os owner.now → AreFor os c slices.now
+        → slice_of c owner.now ≡ Some slice.now) }
+    ensures named { IfSome result (λ slice. slice.now.owner ≡ owner.now) }
     ensures some { IfSome result (λ _. slices.now ≢ []) }
 {
     Some(&slices[index_of_slice(slices, owner)?])
@@ -30,6 +33,8 @@ pub fn remember(
 ) -> Result<Slice, AllocError>
     ensures put { IfOk result (λ slice. slice ≡ after_changes changes.now read) }
     ensures own { (c : Content) → slice_of c owner.now ≡ Some (after_changes changes.now read) → AreOf c slices.old.items → AreOf c slices.new.items }
+    ensures apart { (os : List Bytes) (c : Content) → (Contains os owner.now → slice_of c owner.now ≡ Some (after_changes changes.now read))
+        → AreFor os c slices.old.items → AreFor os c slices.new.items }
 {
     follow(alloc, &mut read, changes)?;
     if *read.owner() != *owner {

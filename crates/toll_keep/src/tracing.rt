@@ -1,14 +1,15 @@
 //! Traces over remembered graphs, or over graphs of slices that are read.
-ghost use Rattle.std.specs.Prelude.{◌≡◌, [], ◌∷◌, ◌++◌, map, IfOk, OnErr, OnOk};
+ghost use Rattle.std.specs.Prelude.{◌≡◌, [], ◌∷◌, ◌++◌, List, Contains, map, IfOk, OnErr, OnOk};
 ghost use Rattle.std.specs.List.{list_any};
 ghost use Rattle.toll_base.specs.Bytes.{Bytes, same_bytes};
 ghost use Rattle.toll_keep.specs.Content.{Content};
 ghost use Rattle.toll_keep.specs.CallEffects.{IsReading};
-ghost use Rattle.toll_keep.specs.Graphs.{AreGraphsOf, HasGraph, HaveGraphs, IsKnownGraph, graphs_among};
+ghost use Rattle.toll_keep.specs.Graphs.{AreGraphsFor, AreGraphsOf, HasGraph, HaveGraphs, IsKnownGraph, graphs_among};
+ghost use Rattle.toll_keep.specs.HeldFor.{AreAmong, KeepsHeld, KeepsOneMore};
 ghost use Rattle.toll_keep.specs.Holding.{GivesTrace};
-ghost use Rattle.toll_keep.specs.Meaning.{OverContent};
-ghost use Rattle.toll_keep.specs.Reads.{HaveRead, IsContentKept};
-ghost use Rattle.toll_keep.specs.Remembered.{IfOf, IsNothing, IsCacheOf, OnlyKnownHaveRows};
+ghost use Rattle.toll_keep.specs.Meaning.{OverContent, meaning_for};
+ghost use Rattle.toll_keep.specs.Reads.{HaveRead, IsContentKept, ReadsOneMore};
+ghost use Rattle.toll_keep.specs.Remembered.{IfFor, IfOf, IsNothing, IsCacheFor, IsCacheOf, OnlyKnownFor, OnlyKnownHaveRows};
 
 use crate::cache::Cache;
 use crate::cached_reading::read_rows;
@@ -37,6 +38,15 @@ pub fn read_trace<K: Keep>(
     ensures reading { (¬ (IsNothing cache.old) → HaveRead K.meaning keep.old keep.old) → IsReading K.meaning keep.old keep.new result }
     ensures reads { OverContent K.meaning keep.old keep.new (λ c. IsCacheOf c cache.old → OnlyKnownHaveRows c → GivesTrace c owners.now from.now way result) }
     ensures own { OverContent K.meaning keep.old keep.new (λ c. IsCacheOf c cache.old → OnlyKnownHaveRows c → IsCacheOf c cache.new) }
+    ensures alone { (os : List Bytes) → AreAmong owners.now os
+        → (¬ (IsNothing cache.old) → HaveRead (meaning_for K.meaning K.part os) keep.old keep.old)
+        → IsReading (meaning_for K.meaning K.part os) keep.old keep.new result }
+    ensures others { (os : List Bytes) → (¬ (IsNothing cache.old) → HaveRead (meaning_for K.meaning K.part os) keep.old keep.old)
+        → KeepsHeld (meaning_for K.meaning K.part os) keep.old keep.new result }
+    ensures found { (os : List Bytes) → AreAmong owners.now os → OverContent (meaning_for K.meaning K.part os) keep.old keep.new
+        (λ c. IsCacheFor os c cache.old → OnlyKnownFor os c → GivesTrace c owners.now from.now way result) }
+    ensures apart { (os : List Bytes) → OverContent (meaning_for K.meaning K.part os) keep.old keep.new
+        (λ c. IsCacheFor os c cache.old → OnlyKnownFor os c → IsCacheFor os c cache.new) }
 {
     // So the keep was asked at least once: now, or when it gave the owners that are remembered.
     match read_rows(alloc, keep, &mut cache.owners) {
@@ -68,6 +78,13 @@ fn trace_read<K: Keep>(
     ensures own { OverContent K.meaning keep.old keep.new (λ c. IfOf c slices.now (AreGraphsOf c graphs.old.items → AreGraphsOf c graphs.new.items)) }
     ensures reported { OverContent K.meaning keep.old keep.new (λ c. IfOf c slices.now (AreGraphsOf c graphs.old.items
         → GivesTrace c owners.now from.now way result)) }
+    ensures alone { (os : List Bytes) → AreAmong owners.now os → ReadsOneMore (meaning_for K.meaning K.part os) keep.old keep.new result }
+    ensures others { (os : List Bytes) → KeepsOneMore (meaning_for K.meaning K.part os) keep.old keep.new result }
+    ensures stays { (os : List Bytes) → IsContentKept (meaning_for K.meaning K.part os) keep.old keep.new }
+    ensures apart { (os : List Bytes) → OverContent (meaning_for K.meaning K.part os) keep.old keep.new
+        (λ c. IfFor os c slices.now (AreGraphsFor os c graphs.old.items → AreGraphsFor os c graphs.new.items)) }
+    ensures found { (os : List Bytes) → AreAmong owners.now os → OverContent (meaning_for K.meaning K.part os) keep.old keep.new
+        (λ c. IfFor os c slices.now (AreGraphsFor os c graphs.old.items → GivesTrace c owners.now from.now way result)) }
 {
     read_graphs(alloc, keep, slices, graphs, owners)?;
     let reported = trace_known(alloc, graphs, owners, from, way);
@@ -83,7 +100,8 @@ fn trace_known(
     from: &LotId,
     way: Way,
 ) -> Result<Vec<Step>, AllocError>
-    ensures { (c : Content) → AreGraphsOf c graphs.now → HaveGraphs graphs.now owners.now → GivesTrace c owners.now from.now way result }
+    ensures all { (c : Content) → AreGraphsOf c graphs.now → HaveGraphs graphs.now owners.now → GivesTrace c owners.now from.now way result }
+    ensures alone { (c : Content) → AreGraphsFor owners.now c graphs.now → HaveGraphs graphs.now owners.now → GivesTrace c owners.now from.now way result }
 {
     let chosen = chosen(alloc, graphs, owners)?;
     trace_among(alloc, &chosen, from, way)
@@ -126,6 +144,11 @@ fn read_graphs<K: Keep>(
     ensures kept { IsContentKept K.meaning keep.old keep.new }
     ensures own { OverContent K.meaning keep.old keep.new (λ c. IfOf c slices.now (AreGraphsOf c graphs.old.items → AreGraphsOf c graphs.new.items)) }
     ensures there { OnOk result (HaveGraphs graphs.new.items owners.now) }
+    ensures alone { (os : List Bytes) → AreAmong owners.now os → ReadsOneMore (meaning_for K.meaning K.part os) keep.old keep.new result }
+    ensures others { (os : List Bytes) → KeepsOneMore (meaning_for K.meaning K.part os) keep.old keep.new result }
+    ensures stays { (os : List Bytes) → IsContentKept (meaning_for K.meaning K.part os) keep.old keep.new }
+    ensures apart { (os : List Bytes) → OverContent (meaning_for K.meaning K.part os) keep.old keep.new
+        (λ c. IfFor os c slices.now (AreGraphsFor os c graphs.old.items → AreGraphsFor os c graphs.new.items)) }
 {
     for owner in owners {
         read_graph(alloc, keep, slices, graphs, owner)?;
@@ -146,6 +169,11 @@ fn read_graph<K: Keep>(
     ensures own { OverContent K.meaning keep.old keep.new (λ c. IfOf c slices.now (AreGraphsOf c graphs.old.items → AreGraphsOf c graphs.new.items)) }
     ensures stay { OnOk result ((o : Bytes) → HasGraph graphs.old.items o → HasGraph graphs.new.items o) }
     ensures there { OnOk result (HasGraph graphs.new.items owner.now) }
+    ensures alone { (os : List Bytes) → Contains os owner.now → ReadsOneMore (meaning_for K.meaning K.part os) keep.old keep.new result }
+    ensures others { (os : List Bytes) → KeepsOneMore (meaning_for K.meaning K.part os) keep.old keep.new result }
+    ensures stays { (os : List Bytes) → IsContentKept (meaning_for K.meaning K.part os) keep.old keep.new }
+    ensures apart { (os : List Bytes) → OverContent (meaning_for K.meaning K.part os) keep.old keep.new
+        (λ c. IfFor os c slices.now (AreGraphsFor os c graphs.old.items → AreGraphsFor os c graphs.new.items)) }
 {
     if is_known(graphs, owner) {
         return Ok(());
@@ -179,6 +207,11 @@ fn own_graph<K: Keep>(
     ensures kept { IsContentKept K.meaning keep.old keep.new }
     ensures owner { IfOk result (λ known. known.owner ≡ owner.now) }
     ensures reported { OverContent K.meaning keep.old keep.new (λ c. IfOf c slices.now (IfOk result (IsKnownGraph c))) }
+    ensures alone { (os : List Bytes) → Contains os owner.now → ReadsOneMore (meaning_for K.meaning K.part os) keep.old keep.new result }
+    ensures found { (os : List Bytes) → Contains os owner.now → OverContent (meaning_for K.meaning K.part os) keep.old keep.new
+        (λ c. IfFor os c slices.now (IfOk result (IsKnownGraph c))) }
+    ensures others { (os : List Bytes) → KeepsOneMore (meaning_for K.meaning K.part os) keep.old keep.new result }
+    ensures stays { (os : List Bytes) → IsContentKept (meaning_for K.meaning K.part os) keep.old keep.new }
 {
     match remembered(slices, owner) {
         Some(slice) => Ok(KnownGraph::of(alloc, owner, slice)?),
@@ -191,6 +224,10 @@ fn graph_once<K: Keep>(alloc: Global, keep: &mut K, owner: &Name) -> Result<Know
     ensures reading { IsReading K.meaning keep.old keep.new result }
     ensures owner { IfOk result (λ known. known.owner ≡ owner.now) }
     ensures reads { OverContent K.meaning keep.old keep.new (λ c. OnlyKnownHaveRows c → IfOk result (IsKnownGraph c)) }
+    ensures alone { (os : List Bytes) → Contains os owner.now → IsReading (meaning_for K.meaning K.part os) keep.old keep.new result }
+    ensures found { (os : List Bytes) → Contains os owner.now → OverContent (meaning_for K.meaning K.part os) keep.old keep.new
+        (λ c. OnlyKnownFor os c → IfOk result (IsKnownGraph c)) }
+    ensures others { (os : List Bytes) → KeepsHeld (meaning_for K.meaning K.part os) keep.old keep.new result }
 {
     match keep.slice(alloc, owner)? {
         Some(slice) => Ok(graph_in(alloc, owner, slice)?),

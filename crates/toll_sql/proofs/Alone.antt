@@ -1,7 +1,7 @@
 -- What is reported of one owner, by the table of owners and by this owner's rows.
-use Rattle.std.proofs.Common.{◌≡◌, ◌≢◌, Option, Some, None, List, Ok, Err, Result, IfOk, if◌then◌else◌, inl, inr, refl, sym, ap, subst, ◌∙◌}
-use Rattle.toll_sql.proofs.Common.{cases_Bool, State, Bytes, Slice, KeepsRules, OwnerRow, ContentKeepsRules, knows, slice_of, KeepFault, Damaged, ForContent, ForSlice, IsLooking, ReportsOwnerAlone, IsUnknownOwner, is_owned, ForOwners}
-use Rattle.toll_sql.proofs.LookLemmas.{held_on, slice_part}
+use Rattle.std.proofs.Common.{◌≡◌, ◌≢◌, Option, Some, None, List, [], ◌∷◌, Contains, Ok, Err, Result, IfOk, if◌then◌else◌, inl, inr, refl, sym, ap, subst, ◌∙◌}
+use Rattle.toll_sql.proofs.Common.{cases_Bool, State, Bytes, Slice, KeepsRules, OwnerRow, ContentKeepsRules, knows, slice_of, KeepFault, Damaged, ForContent, ForContentBy, ForSlice, HoldsFor, Contains-here, IsLooking, ReportsOwnerAlone, IsUnknownOwner, is_owned, ForOwners}
+use Rattle.toll_sql.proofs.LookLemmas.{held_on, narrowed_in, part_for}
 use Rattle.toll_sql.proofs.ReadOn.{clean_before}
 
 same_fault : {X Y : Type 0} {d e : KeepFault} → ◌≡◌ {A = Result X KeepFault} (Err d) (Err e) → ◌≡◌ {A = Result Y KeepFault} (Err d) (Err e)
@@ -24,18 +24,28 @@ module _ {X : Type 0} (o : Bytes) (old mid new : State) (x : X) (first : IsLooki
     whole = λ clean has owners held _ s part keeps is. cc;
   }
 
--- ---- what is reported of one owner alone holds over a content
+-- ---- what is reported of one owner alone holds over what is held for it, whatever is stored for others
 
-module _ (o : Bytes) (old new : State) where
-  pub told_reads : (r : Result (Option Slice) KeepFault) → ReportsOwnerAlone o old new r → ForContent old new (λ c. IfOk r (λ slice. slice ≡ slice_of c o))
-  told_reads (Err e) t clean c held = tt
-  told_reads (Ok None) t clean c held =
-      let unknown = (t.known clean held.ours.schema c.owners held.rows.owners).0 refl in
-      ap (λ b. if b then Some (c.rows o) else None) (sym unknown)
-  told_reads (Ok (Some slice)) t clean c held = elim (cases_Bool (knows c o)) [
-    | inl known ↦ ap Some (t.given clean (c.rows o) (slice_part old c held o)) ∙ ap (λ b. if b then Some (c.rows o) else None) (sym known)
-    | inr unknown ↦ (let none = (t.known clean held.ours.schema c.owners held.rows.owners).1 unknown in absurd (cc))
-  ]
+module _ (o : Bytes) (old new : State) (r : Result (Option Slice) KeepFault) (t : ReportsOwnerAlone o old new r) where
+  pub told_reads_for : (os : List Bytes) → Contains os o → ForContentBy (HoldsFor os) old new (λ c. IfOk r (λ slice. slice ≡ slice_of c o))
+  told_reads_for os own clean c held = go r t
+    where
+      go : (r : Result (Option Slice) KeepFault) → ReportsOwnerAlone o old new r → IfOk r (λ slice. slice ≡ slice_of c o)
+      go (Err e) t = tt
+      go (Ok None) t =
+          let unknown = (t.known clean held.ours.schema c.owners held.rows.owners).0 refl in
+          ap (λ b. if b then Some (c.rows o) else None) (sym unknown)
+      go (Ok (Some slice)) t = elim (cases_Bool (knows c o)) [
+        | inl known ↦ ap Some (t.given clean (c.rows o) (part_for os old c held o own)) ∙ ap (λ b. if b then Some (c.rows o) else None) (sym known)
+        | inr unknown ↦ (let none = (t.known clean held.ours.schema c.owners held.rows.owners).1 unknown in absurd (cc))
+      ]
 
-  pub told_whole : (r : Result (Option Slice) KeepFault) → ReportsOwnerAlone o old new r → ForContent old new (λ c. ContentKeepsRules c → r ≢ Err Damaged)
-  told_whole r t clean c held keeps = t.whole clean held.ours.schema c.owners held.rows.owners clean (c.rows o) (slice_part old c held o) (keeps o)
+  pub told_whole_for : (os : List Bytes) → Contains os o → ForContentBy (HoldsFor os) old new (λ c. ContentKeepsRules c → r ≢ Err Damaged)
+  told_whole_for os own clean c held keeps = t.whole clean held.ours.schema c.owners held.rows.owners clean (c.rows o) (part_for os old c held o own) (keeps o)
+
+  -- The same over a whole content.
+  pub told_reads : ForContent old new (λ c. IfOk r (λ slice. slice ≡ slice_of c o))
+  told_reads clean c held = told_reads_for (o ∷ []) (Contains-here o []) clean c (narrowed_in (o ∷ []) old c held)
+
+  pub told_whole : ForContent old new (λ c. ContentKeepsRules c → r ≢ Err Damaged)
+  told_whole clean c held = told_whole_for (o ∷ []) (Contains-here o []) clean c (narrowed_in (o ∷ []) old c held)

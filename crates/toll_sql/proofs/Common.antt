@@ -92,7 +92,7 @@ pub use Rattle.toll_keep.specs.Content.{ContentKeepsRules, content_after, knows,
 pub use Rattle.toll_keep.specs.Holding.{IsEdgeOfSome, IsHolder, is_on}
 pub use Rattle.toll_sql.specs.Asked.{AreReadBy, AreReadWith, IsUnreadBy, IsWholeText, ShowsMeta, meta_text}
 pub use Rattle.toll_sql.specs.AskedTexts.{all_text, owners_text, unit_text}
-pub use Rattle.toll_sql.specs.Asking.{ForContent, ForIdle, ForSlice, IsFinding, IsLooking, IsProbedAfter, IsQuerying, LeavesStore, memory_or_fault}
+pub use Rattle.toll_sql.specs.Asking.{ForContent, ForContentBy, ForIdle, ForSlice, IsFinding, IsLooking, IsProbedAfter, IsQuerying, LeavesStore, memory_or_fault}
 pub use Rattle.toll_sql.specs.Bag.{NeverFalls, Rises, SameBag, all_cells, owned_by, place, total}
 pub use Rattle.toll_sql.specs.Causes.{IsErrorCaused, Reason, is_disk_fault}
 pub use Rattle.toll_sql.specs.Cells.{cells_of, columns_from, fill, fit, is_of_kind, key_cells, key_order}
@@ -105,10 +105,10 @@ pub use Rattle.toll_sql.specs.FromFiles.{IsLeftIn, IsUnclosed, fault_of_files}
 pub use Rattle.toll_sql.specs.Fronts.{IsStoredAs, front_slice}
 pub use Rattle.toll_sql.specs.Given.{IsGiven}
 pub use Rattle.toll_sql.specs.HolderRows.{AreBatchRows, HasNoBatch, IsHolderOf, IsRowOfBatch, IsShownIn, ReportsHolder, ShowHolders, batch_columns, open_on}
-pub use Rattle.toll_sql.specs.Holds.{HasRows, Holds, HoldsAll, HoldsEach, HoldsPart, HoldsSlice, NamesOwner, version}
+pub use Rattle.toll_sql.specs.Holds.{HasRows, Holds, HoldsAll, HoldsEach, HoldsFor, HoldsPart, HoldsSlice, NameOwners, NamesOwner, version}
 pub use Rattle.toll_sql.specs.Kinds.{AreValidIn, IsRow, PlantKind, RowKind, batch_kind, cells_for, lot_kind, material_kind, move_kind, order_kind, owner_kind, recipe_kind, requirement_kind, result_kind, rows_for, sublot_kind, table_for, test_kind, unit_kind, void_kind}
 pub use Rattle.toll_sql.specs.LastPuts.{AreNoted, IsSublotValid, are_putting, is_put_again, is_same, key_for, last_puts, sublot_cmp, sublot_put}
-pub use Rattle.toll_sql.specs.Meant.{sql_meaning}
+pub use Rattle.toll_sql.specs.Meant.{meaning_by, sql_meaning, sql_part}
 pub use Rattle.toll_sql.specs.Opening.{Adopts, Brings, Creates, FindsVersion, HoldsEither, IsForeign, IsQueryInside, IsUnlike, IsUnreadFor, LeavesRaised, LeavesTables, TakesOver, without_limit}
 pub use Rattle.toll_sql.specs.Others.{GuardsNone, HasOurs, RefersToNone}
 pub use Rattle.toll_sql.specs.Plain.{no_schema}
@@ -120,7 +120,7 @@ pub use Rattle.toll_sql.specs.Schema.{create_text, earlier, every_table, is_owne
 pub use Rattle.toll_sql.specs.Select.{AreShown, plain_query}
 pub use Rattle.toll_sql.specs.Shown.{AreOwnedBy, AreReported, AreRowsIn, AreRowsOf, FirstIs, IsReportedUnknown, IsRowOfOwner, IsUnknownOwner, ShowsOwnRows, tables_of_owners}
 pub use Rattle.toll_sql.specs.StoredLaws.{AreStoredOfOwner, AreStoredOfPlant}
-pub use Rattle.toll_sql.specs.Stores.{Applies, HasApplied, HoldsIn, HoldsPartIn, IsApplied, IsOurs, IsReady, IsTransactionStep, IsValidChange, LeavesIn, LeavesPut, LiesIdle, LiesOpen, MakesPuts, PutsAll, PutsChange, PutsRow, WritesRow, cells_of_change, has_row_key, table_of_change}
+pub use Rattle.toll_sql.specs.Stores.{Applies, HasApplied, HoldsBy, HoldsIn, HoldsPartIn, IsApplied, IsOurs, IsReady, IsTransactionStep, IsValidChange, LeavesBy, LeavesIn, LeavesPut, LiesIdle, LiesOpen, MakesPuts, PutsAll, PutsChange, PutsRow, WritesRow, cells_of_change, has_row_key, table_of_change}
 pub use Rattle.toll_sql.specs.Valid.{IsBatch, IsLot, IsMaterial, IsMove, IsMovement, IsOrder, IsOrigin, IsOwner, IsRecipe, IsRequirement, IsResult, IsStorable, IsSublot, IsTest, IsUnit, IsVoid}
 pub use Rattle.toll_sql.specs.declared.open_fault.OpenFault.{OpenFault}
 pub use Rattle.toll_sql.specs.declared.table_kind.TableKind.{TableKind}

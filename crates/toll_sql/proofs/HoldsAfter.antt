@@ -1,9 +1,12 @@
 -- The effect of changes on a content that the tables hold.
-use Rattle.std.proofs.Common.{◌≡◌, ◌≢◌, ◌⊎◌, inl, inr, ◌+◌, ◌≤◌, Bool, true, false, List, [], ◌∷◌, map, length, refl, sym, ap, subst, ◌∙◌, arith}
-use Rattle.toll_sql.proofs.Common.{false≢true, nat_list_cmp_total, AllByRecursion, is_eq, and_parts, IsPermutation-map, Row, column, value_cmp, Trees, Text, all-permutation, Bytes, bytes_cmp, same_bytes, Slice, with_row, Change, Owner, Unit as UnitAdded, Put, OwnerRow, UnitRow, is_eq-then, same_bytes-exact, same_bytes-refl, Content, content_after, place, all_cells, owned_by, cells_of, fill, key_order, meta_cells, owner_cells, unit_cells, HasRows, Holds, HoldsAll, HoldsEach, HoldsSlice, NamesOwner, version, ReplacesOrAdds, IsRowAdded, PutsAll, PutsChange, PutsRow, has_row_key, tree_of, key_columns, table_of, width_of, is_owned, PlantKind, owner_kind, unit_kind, table_for, cells_for, rows_for, IsRow, TableKind, Meta, Owners, Units}
+use Rattle.std.proofs.Common.{◌≡◌, ◌≢◌, ◌⊎◌, inl, inr, ◌+◌, ◌≤◌, Bool, true, false, List, [], ◌∷◌, Contains, map, length, refl, sym, ap, subst, ◌∙◌, arith}
+use Rattle.toll_sql.proofs.Common.{Contains-here, cases_Bool, false≢true, nat_list_cmp_total, AllByRecursion, is_eq, and_parts, IsPermutation-map, Row, column, value_cmp, Trees, Text, all-permutation, Bytes, bytes_cmp, same_bytes, Slice, with_row, Change, Owner, Unit as UnitAdded, Put, OwnerRow, UnitRow, is_eq-then, same_bytes-exact, same_bytes-refl, Content, content_after, place, all_cells, owned_by, cells_of, fill, key_order, meta_cells, owner_cells, unit_cells, HasRows, Holds, HoldsAll, HoldsEach, HoldsFor, HoldsSlice, NameOwners, NamesOwner, version, ReplacesOrAdds, IsRowAdded, PutsAll, PutsChange, PutsRow, has_row_key, tree_of, key_columns, table_of, width_of, is_owned, PlantKind, owner_kind, unit_kind, table_for, cells_for, rows_for, IsRow, TableKind, Meta, Owners, Units}
 use Rattle.std.specs.Prelude.{if◌then◌else◌}
 use Rattle.toll_base.specs.declared.rows.Row.{Row as OfficeRow}
 use Rattle.toll_base.specs.declared.rows.Row.TheVariants as of
+use Rattle.toll_keep.specs.HeldFor.{PutsOutside}
+use Rattle.toll_sql.specs.Laws.{narrowed}
+use Rattle.toll_base.proofs.SliceFits.{owner-with_row}
 use Rattle.toll_sql.proofs.Bags.{placed_in}
 use Rattle.toll_sql.proofs.CellLemmas.{fit_length}
 use Rattle.toll_sql.proofs.ChangeLemmas.{fills}
@@ -103,14 +106,10 @@ module _ (o q : Bytes) (row : OfficeRow) (s : Slice) (old new : Trees) (put : Pu
 
   slice_after : IsRow row → HoldsSlice old q s → (b : Bool) → same_bytes o q ≡ b → HoldsSlice new q (if b then with_row s row else s)
   slice_after valid h true e = record {
-    named = named_with row s ∙ h.named;
+    named = owner-with_row s row ∙ h.named;
     stored = own_rows_after h (same_bytes-exact o q e);
     valid = λ j owned. valid_with j s row valid (h.valid j owned);
   }
-    where
-      named_with : (row : OfficeRow) (s : Slice) → (with_row s row).owner ≡ s.owner
-      named_with (of.Material x) s = refl
-      named_with _ s = refl
   slice_after valid h false e = record { named = h.named; stored = others_rows h e; valid = h.valid }
 
 -- ---- the whole content
@@ -141,10 +140,48 @@ same_each old new rows same h = record {
   owned = λ j owned. subst (λ tree. AllByRecursion NamesOwner (all_cells tree)) (sym (same j owned)) (h.owned j owned);
 }
 
-holds_one : (change : Change) (c : Content) (old new : Trees) → Holds old c → PutsChange change old new → Holds new (content_after (change ∷ []) c)
-holds_one (Owner x) c old new h p =
+-- The tables that are divided by owner still name one in each row.
+named_one : (change : Change) (old new : Trees) → PutsChange change old new → NameOwners old → NameOwners new
+named_one (Owner x) old new p all j owned =
+    subst (λ tree. AllByRecursion NamesOwner (all_cells tree)) (sym (other_tree j Owners (owner_cells x) old new (λ same. unowned_apart Owners j refl owned (sym same)) p.put)) (all j owned)
+named_one (UnitAdded x) old new p all j owned = subst (λ tree. AllByRecursion NamesOwner (all_cells tree)) (sym (other_tree j Units (unit_cells x) old new (λ same. unowned_apart Units j refl owned (sym same)) p.put)) (all j owned)
+named_one (Put o row) old new p all j owned =
+    let k = table_for row in
+    elim (same_table j k) [
+      | inl same ↦ subst (λ j. AllByRecursion NamesOwner (all_cells (new (tree_of j)))) (sym same)
+          (owned_after k (cells_for o row) (fills (Put o row)) (old (tree_of k)) (new (tree_of k)) (o, p.valid.0, owner_first o row) p.put.here (all k (is_owned_for row)))
+      | inr differ ↦ subst (λ tree. AllByRecursion NamesOwner (all_cells tree)) (sym (other_tree j k (cells_for o row) old new differ p.put)) (all j owned)
+    ]
+
+-- A row of an owner leaves the tables that aren't divided by owner.
+module _ (os : List Bytes) (o : Bytes) (row : OfficeRow) (c : Content) (old new : Trees) (h : HoldsFor os old c) (p : PutsChange (Put o row) old new) where
+  plant_stays : (j : TableKind) → is_owned j ≡ false → new (tree_of j) ≡ old (tree_of j)
+  plant_stays j free = other_tree j (table_for row) (cells_for o row) old new (unowned_apart j (table_for row) free (is_owned_for row)) p.put
+
+  held_with : (rows : Bytes → Slice) → ((q : Bytes) → Contains os q → HoldsSlice new q (rows q)) → HoldsFor os new (record { owners = c.owners; units = c.units; rows = rows })
+  held_with rows slices = record {
+    meta = subst (λ tree. HasRows Meta (meta_cells version ∷ []) tree) (sym (plant_stays Meta refl)) h.meta;
+    owners = same_all owner_kind old new c.owners (plant_stays Owners refl) h.owners;
+    units = same_all unit_kind old new c.units (plant_stays Units refl) h.units;
+    slices = slices;
+  }
+
+  held_put : HoldsFor os new (content_after (Put o row ∷ []) c)
+  held_put = held_with _ (λ q own.
+      let s = c.rows q in
+      let was = h.slices q own in
+      subst (λ p. HoldsSlice new q (if same_bytes o p then with_row s row else s)) (sym was.named) (slice_after o q row s old new p.put p.valid.1 was (same_bytes o q) refl))
+
+  -- A row of another owner leaves what is held.
+  held_outside : ¬ (Contains os o) → HoldsFor os new c
+  held_outside outside = held_with c.rows (λ q own. slice_after o q row (c.rows q) old new p.put p.valid.1 (h.slices q own) false (elim (cases_Bool (same_bytes o q)) [
+    | inl same ↦ absurd (outside (subst (Contains os) (sym (same_bytes-exact o q same)) own))
+    | inr other ↦ other
+  ]))
+
+held_one : (os : List Bytes) (change : Change) (c : Content) (old new : Trees) → HoldsFor os old c → PutsChange change old new → HoldsFor os new (content_after (change ∷ []) c)
+held_one os (Owner x) c old new h p =
     let other = λ (j : TableKind) (differ : table_number j ≡ table_number Owners → ⊥). other_tree j Owners (owner_cells x) old new differ p.put in
-    let tables = λ (j : TableKind) (owned : is_owned j ≡ true). other j (λ same. unowned_apart Owners j refl owned (sym same)) in
     record {
       meta = subst (λ tree. HasRows Meta (meta_cells version ∷ []) tree) (sym (other Meta (λ e. absurd (omega (arith, e))))) h.meta;
       owners = record {
@@ -154,11 +191,10 @@ holds_one (Owner x) c old new h p =
         valid = all_put (λ (row : OwnerRow). row.owner) _ x p.valid bytes_cmp c.owners h.owners.valid;
       };
       units = same_all unit_kind old new c.units (other Units (λ e. absurd (omega (arith, e)))) h.units;
-      each = same_each old new c.rows tables h.each;
+      slices = λ o own. same_slice old new o (c.rows o) (λ j owned. other j (λ same. unowned_apart Owners j refl owned (sym same))) (h.slices o own);
     }
-holds_one (UnitAdded x) c old new h p =
+held_one os (UnitAdded x) c old new h p =
     let other = λ (j : TableKind) (differ : table_number j ≡ table_number Units → ⊥). other_tree j Units (unit_cells x) old new differ p.put in
-    let tables = λ (j : TableKind) (owned : is_owned j ≡ true). other j (λ same. unowned_apart Units j refl owned (sym same)) in
     record {
       meta = subst (λ tree. HasRows Meta (meta_cells version ∷ []) tree) (sym (other Meta (λ e. absurd (omega (arith, e))))) h.meta;
       owners = same_all owner_kind old new c.owners (other Owners (λ e. absurd (omega (arith, e)))) h.owners;
@@ -168,25 +204,20 @@ holds_one (UnitAdded x) c old new h p =
             (rows_held_after Units (unit_cells x) (fills (UnitAdded x)) (map unit_cells c.units) (old (tree_of Units)) (new (tree_of Units)) h.units.stored p.put.here);
         valid = all_put (λ (row : UnitRow). row.unit) _ x p.valid bytes_cmp c.units h.units.valid;
       };
-      each = same_each old new c.rows tables h.each;
+      slices = λ o own. same_slice old new o (c.rows o) (λ j owned. other j (λ same. unowned_apart Units j refl owned (sym same))) (h.slices o own);
     }
-holds_one (Put o row) c old new h p =
-    let k = table_for row in
-    let other = λ (j : TableKind) (free : is_owned j ≡ false). other_tree j k (cells_for o row) old new (unowned_apart j k free (is_owned_for row)) p.put in
+held_one os (Put o row) c old new h p = held_put os o row c old new h p
+
+holds_one : (change : Change) (c : Content) (old new : Trees) → Holds old c → PutsChange change old new → Holds new (content_after (change ∷ []) c)
+holds_one change c old new h p =
+    let plant = held_one [] change c old new (narrowed [] old c h) p in
     record {
-      meta = subst (λ tree. HasRows Meta (meta_cells version ∷ []) tree) (sym (other Meta refl)) h.meta;
-      owners = same_all owner_kind old new c.owners (other Owners refl) h.owners;
-      units = same_all unit_kind old new c.units (other Units refl) h.units;
+      meta = plant.meta;
+      owners = plant.owners;
+      units = plant.units;
       each = record {
-        slices = λ q.
-            let s = c.rows q in
-            let was = h.each.slices q in
-            subst (λ p. HoldsSlice new q (if same_bytes o p then with_row s row else s)) (sym was.named) (slice_after o q row s old new p.put p.valid.1 was (same_bytes o q) refl);
-        owned = λ j owned. elim (same_table j k) [
-          | inl same ↦ subst (λ j. AllByRecursion NamesOwner (all_cells (new (tree_of j)))) (sym same)
-              (owned_after k (cells_for o row) (fills (Put o row)) (old (tree_of k)) (new (tree_of k)) (o, p.valid.0, owner_first o row) p.put.here (h.each.owned k (is_owned_for row)))
-          | inr differ ↦ subst (λ tree. AllByRecursion NamesOwner (all_cells tree)) (sym (other_tree j k (cells_for o row) old new differ p.put)) (h.each.owned j owned)
-        ];
+        slices = λ o. (held_one (o ∷ []) change c old new (narrowed (o ∷ []) old c h) p).slices o (Contains-here o []);
+        owned = named_one change old new p h.each.owned;
       };
     }
 
@@ -195,3 +226,17 @@ holds_all [] c old new h p = subst (λ db. Holds db c) (sym p) h
 holds_all (Owner x ∷ more) c old new h p = holds_all more (content_after (Owner x ∷ []) c) p.0 new (holds_one (Owner x) c old p.0 h p.1) p.2
 holds_all (UnitAdded x ∷ more) c old new h p = holds_all more (content_after (UnitAdded x ∷ []) c) p.0 new (holds_one (UnitAdded x) c old p.0 h p.1) p.2
 holds_all (Put o row ∷ more) c old new h p = holds_all more (content_after (Put o row ∷ []) c) p.0 new (holds_one (Put o row) c old p.0 h p.1) p.2
+
+-- The same for some owners, whatever rows the tables have of others.
+pub held_all : (os : List Bytes) (changes : List Change) (c : Content) (old new : Trees) → HoldsFor os old c → PutsAll changes old new → HoldsFor os new (content_after changes c)
+held_all os [] c old new h p = subst (λ db. HoldsFor os db c) (sym p) h
+held_all os (Owner x ∷ more) c old new h p = held_all os more (content_after (Owner x ∷ []) c) p.0 new (held_one os (Owner x) c old p.0 h p.1) p.2
+held_all os (UnitAdded x ∷ more) c old new h p = held_all os more (content_after (UnitAdded x ∷ []) c) p.0 new (held_one os (UnitAdded x) c old p.0 h p.1) p.2
+held_all os (Put o row ∷ more) c old new h p = held_all os more (content_after (Put o row ∷ []) c) p.0 new (held_one os (Put o row) c old p.0 h p.1) p.2
+
+-- Changes of others leave what is held for these.
+pub held_still : (os : List Bytes) (changes : List Change) → PutsOutside os changes → (c : Content) (old new : Trees) → HoldsFor os old c → PutsAll changes old new → HoldsFor os new c
+held_still os [] outside c old new h p = subst (λ db. HoldsFor os db c) (sym p) h
+held_still os (Owner x ∷ more) outside c old new h p = absurd outside
+held_still os (UnitAdded x ∷ more) outside c old new h p = absurd outside
+held_still os (Put o row ∷ more) outside c old new h p = held_still os more outside.1 c p.0 new (held_outside os o row c old p.0 h p.1 outside.0) p.2

@@ -57,6 +57,7 @@ pub mod ReadOn
 pub mod Alone
 pub mod ListLemmas
 pub mod PassLemmas
+pub mod Keeping
 pub mod KeepLemmas
 pub mod JoinQuery
 pub mod JoinRows

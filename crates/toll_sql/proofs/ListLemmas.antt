@@ -1,5 +1,5 @@
 -- Stored rows, listed in the order in which they are read.
-use Rattle.std.proofs.Common.{◌≡◌, ℕ, zero, suc, ◌+◌, ◌<◌, ◌≤◌, Bool, true, false, cond, ◌||◌, List, [], ◌∷◌, ◌++◌, map, take, length, get_or, Option, Some, is_some, refl, sym, ap, subst, ◌∙◌, arith, Ordering}
+use Rattle.std.proofs.Common.{◌≡◌, ℕ, ◌+◌, ◌<◌, Bool, true, false, cond, ◌||◌, List, [], ◌∷◌, ◌++◌, map, take, length, get_or, Option, Some, is_some, refl, sym, ap, subst, ◌∙◌, Ordering}
 use Rattle.toll_sql.proofs.Common.{AllByRecursion, list_any, is_eq, get_or-map, length-map, take_more, Row, row_at, map_push, AreStoredOfPlant, columns_from, width_of, PlantKind}
 use Rattle.toll_sql.proofs.WriteLemmas.{whole_row}
 use Rattle.toll_sql.proofs.SoFar.{value_at, first_item}

@@ -1,6 +1,7 @@
 -- What is read of a store whose tables hold a content.
-use Rattle.std.proofs.Common.{◌≡◌, ◌≢◌, Bool, true, false, List, [], ◌∷◌, map, Ok, Err, Result, OnOk, IsTrue, refl, sym, subst, ◌∙◌}
-use Rattle.toll_sql.proofs.Common.{AllByRecursion, Database, Row, State, HasCleanDisk, Trees, Bytes, Slice, Content, KeepFault, Disk, Closed, LeavesStore, IsLooking, owned_by, fill, rows_for, IsStoredAs, HoldsAll, HoldsPart, HasOurs, AreAll, AreOfOwner, AreStoredOfPlant, PlantKind, HoldsIn, HoldsPartIn, tree_of, is_owned, TableKind, Meta, Owners, Units}
+use Rattle.std.proofs.Common.{◌≡◌, ◌≢◌, Bool, true, false, List, [], ◌∷◌, Contains, map, Ok, Err, Result, OnOk, IsTrue, refl, sym, subst, ◌∙◌}
+use Rattle.toll_sql.proofs.Common.{AllByRecursion, Database, Row, State, HasCleanDisk, Trees, Bytes, Slice, Content, KeepFault, Disk, Closed, LeavesStore, IsLooking, owned_by, fill, rows_for, IsStoredAs, HoldsAll, HoldsFor, HoldsPart, HasOurs, AreAll, AreOfOwner, AreStoredOfPlant, PlantKind, HoldsBy, HoldsIn, HoldsPartIn, tree_of, is_owned, TableKind, Meta, Owners, Units}
+use Rattle.toll_sql.specs.Laws.{narrowed}
 use Rattle.toll_sql.proofs.ReadLemmas.{read_rows}
 
 -- ---- the rows of a slice fill the columns of their tables
@@ -62,3 +63,10 @@ holds_part is_such less s c held o = record { ours = held.ours.schema; idle = he
 
 pub slice_part : (s : State) (c : Content) → HoldsIn s c → (o : Bytes) → HoldsPartIn is_owned s o (c.rows o)
 slice_part = holds_part is_owned (λ k owned. owned)
+
+-- A store that holds rows of some owners holds each of their parts.
+pub part_for : (os : List Bytes) (s : State) (c : Content) → HoldsBy (HoldsFor os) s c → (o : Bytes) → Contains os o → HoldsPartIn is_owned s o (c.rows o)
+part_for os s c held o own = record { ours = held.ours.schema; idle = held.idle; rows = held.rows.slices o own }
+
+pub narrowed_in : (os : List Bytes) (s : State) (c : Content) → HoldsIn s c → HoldsBy (HoldsFor os) s c
+narrowed_in os s c held = record { ours = held.ours; idle = held.idle; rows = narrowed os s.now.trees c held.rows }

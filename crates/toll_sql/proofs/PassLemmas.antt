@@ -1,6 +1,6 @@
 -- An answer that was passed on. After Memory, the store was asked whether it is open.
 use Rattle.std.proofs.Common.{◌≡◌, ◌≢◌, inl, inr, Bool, List, Ok, Err, Result, IfOk, OnErr, OnOk, IsTrue, refl, sym, ap, subst, ◌∙◌, ◌⊎◌, is_err}
-use Rattle.toll_sql.proofs.Common.{survives_then, Database, State, Survives, HasCleanDisk, Trees, Change, Content, KeepFault, Memory, Disk, Damaged, Closed, ForIdle, IsProbedAfter, IsFinding, IsLooking, LeavesStore, memory_or_fault, Reason, HasOurs, Applies, HoldsIn, LeavesPut}
+use Rattle.toll_sql.proofs.Common.{survives_then, Database, State, Survives, HasCleanDisk, Trees, Change, KeepFault, Memory, Disk, Damaged, Closed, ForIdle, IsProbedAfter, IsFinding, IsLooking, LeavesStore, memory_or_fault, Reason, HasOurs, Applies, LeavesPut}
 use Rattle.toll_sql.proofs.CauseLemmas.{reason_before}
 use Rattle.toll_sql.proofs.ReadOn.{clean_before}
 
@@ -23,7 +23,7 @@ pub record IsMadeOrRefused (changes : List Change) (old new : State) (made : Res
   pub unclosed : made ≢ Err Closed
   pub whole : made ≢ Err Damaged
   pub all : Applies changes old new made
-  pub none : (c : Content) → HoldsIn old c → HasCleanDisk new → IsTrue new.is_open → OnErr made ((new.now ≡ old.now) × (new.committed ≡ old.committed))
+  pub none : HasOurs old.now.schema → old.now ≡ old.committed → HasCleanDisk new → IsTrue new.is_open → OnErr made ((new.now ≡ old.now) × (new.committed ≡ old.committed))
 
 -- If Disk is reported, Disk was found; Closed and Damaged are never reported.
 found_disk : {X : Type 0} (found : Result (Unit {0}) KeepFault) → memory_or_fault {X = X} found ≡ Err Disk → found ≡ Err Disk
@@ -83,9 +83,9 @@ module _ (a b c : State) where
     unclosed = not_reported found Closed (λ is. (cc)) f.looks.unclosed;
     whole = not_reported found Damaged (λ is. (cc)) f.undamaged;
     all = λ clean ours free. not_ok _ _ found;
-    none = λ content held clean live.
+    none = λ has idle clean live.
         let before = clean_before a b c f.survives clean in
-        on_err_behind (Unit {0}) found (pass_still_there found f clean live held.ours.schema held.idle (p.none content held before (f.looks.asks.live clean live)));
+        on_err_behind (Unit {0}) found (pass_still_there found f clean live has idle (p.none has idle before (f.looks.asks.live clean live)));
   }
 
   -- the effect, whatever was answered
@@ -116,6 +116,10 @@ module _ (a b c : State) where
   pub ok_on : {X : Type 0} (Q : X → Type 0) (answer result : Result X KeepFault) (unsure : Bool) → PassesOn b c answer result unsure → HasCleanDisk c → (HasCleanDisk b → IfOk answer Q) → IfOk result Q
   ok_on Q answer result unsure on clean given =
       passed_on_any (λ k r. HasCleanDisk k → IfOk r Q) answer result unsure on (λ found _ _ _ _. reported_without_value Q found) given clean
+
+  -- The same, whatever the disk returned.
+  pub ok_always : {X : Type 0} (Q : X → Type 0) (answer result : Result X KeepFault) (unsure : Bool) → PassesOn b c answer result unsure → IfOk answer Q → IfOk result Q
+  ok_always Q answer result unsure on given = passed_on_any (λ k r. IfOk r Q) answer result unsure on (λ found _ _ _. reported_without_value Q found) given
 
   -- What is so of the answer is so of the one that is passed on, if it is so of each fault but damage.
   pub told_on : {X : Type 0} (P : Result X KeepFault → Type 0) → ((fault : KeepFault) → fault ≢ Damaged → P (Err fault)) → (answer result : Result X KeepFault) (unsure : Bool) → PassesOn b c answer result unsure → HasCleanDisk c

@@ -2,14 +2,18 @@
 use Rattle.std.specs.Prelude.{◌≡◌, ◌≢◌, Bool, true, false, IsTrue, Result, Ok, Err, IfErr, OnOk, is_err}
 use Rattle.toll_sql.specs.Common.{Database, State, HasCleanDisk, Survives, Trees, Error, Bytes, Slice, Content, KeepFault, Memory, Disk, Damaged, Closed}
 use Rattle.toll_sql.specs.Causes.{IsErrorCaused, Reason}
-use Rattle.toll_sql.specs.Stores.{HoldsIn, HoldsPartIn, LiesIdle}
+use Rattle.toll_sql.specs.Holds.{Holds}
+use Rattle.toll_sql.specs.Stores.{HoldsBy, HoldsPartIn, LiesIdle}
 use Rattle.toll_sql.specs.Others.{HasOurs}
 use Rattle.toll_sql.specs.Schema.{is_owned}
 use Rattle.toll_sql.specs.declared.table_kind.TableKind.{TableKind}
 
 -- If the disk has returned what was written to it, P holds of each content that the store held.
+abbrev pub ForContentBy : (Trees → Content → Type 0) → State → State → (Content → Type 0) → Type 0
+ForContentBy Rows old new P = HasCleanDisk new → (c : Content) → HoldsBy Rows old c → P c
+
 abbrev pub ForContent : State → State → (Content → Type 0) → Type 0
-ForContent old new P = HasCleanDisk new → (c : Content) → HoldsIn old c → P c
+ForContent = ForContentBy Holds
 
 -- If the disk has returned what was written to it, P holds of the slice whose rows these tables held as this owner's, whatever rows they
 -- had of others.

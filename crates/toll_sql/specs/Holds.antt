@@ -1,5 +1,5 @@
 -- Tables that hold the rows of a content.
-use Rattle.std.specs.Prelude.{◌≡◌, ℕ, Bool, true, IsTrue, List, [], ◌∷◌, map}
+use Rattle.std.specs.Prelude.{◌≡◌, ℕ, Bool, true, IsTrue, List, [], ◌∷◌, map, Contains}
 use Rattle.toll_sql.specs.Common.{AllByRecursion, Row, column, Trees, Text, Bytes, Slice, is_name, OwnerRow, UnitRow, Content}
 use Rattle.toll_sql.specs.Bag.{Rises, SameBag, all_cells, owned_by}
 use Rattle.toll_sql.specs.Cells.{key_order}
@@ -54,3 +54,15 @@ pub record Holds (db : Trees) (c : Content) : Type 0 where
   pub owners : HoldsOwners db c.owners
   pub units : HoldsUnits db c.units
   pub each : HoldsEach is_owned db c.rows
+
+-- Each row of the tables that are divided by owner names one.
+abbrev pub NameOwners : Trees → Type 0
+NameOwners db = (k : TableKind) → is_owned k ≡ true → AllByRecursion NamesOwner (all_cells (db (tree_of k)))
+
+-- The tables have exactly the owners and the units of the content, and exactly the rows of these of its owners. Of others they may have any
+-- rows, sound or damaged.
+pub record HoldsFor (os : List Bytes) (db : Trees) (c : Content) : Type 0 where
+  pub meta : HasRows Meta (meta_cells version ∷ []) (db (tree_of Meta))
+  pub owners : HoldsOwners db c.owners
+  pub units : HoldsUnits db c.units
+  pub slices : (o : Bytes) → Contains os o → HoldsSlice db o (c.rows o)

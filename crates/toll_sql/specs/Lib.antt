@@ -22,6 +22,7 @@ pub mod Asked
 pub mod AskedTexts
 pub mod Asking
 pub mod Stores
+pub mod HeldFor
 pub mod LastPuts
 pub mod Meant
 pub mod Reading

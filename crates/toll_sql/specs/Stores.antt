@@ -117,11 +117,15 @@ pub record LiesOpen (s : State) : Type 0 where
 abbrev pub LiesIdle : State → Type 0
 LiesIdle s = IsTrue s.is_open → s.now ≡ s.committed
 
--- The tables are ours, nothing is pending, and they have these rows.
-pub record HoldsIn (s : State) (c : Content) : Type 0 where
+-- The tables are ours, nothing is pending, and they have rows of this content.
+pub record HoldsBy (Rows : Trees → Content → Type 0) (s : State) (c : Content) : Type 0 where
   pub ours : IsOurs s.now
   pub idle : s.now ≡ s.committed
-  pub rows : Holds s.now.trees c
+  pub rows : Rows s.now.trees c
+
+-- The same, if they have exactly its rows.
+abbrev pub HoldsIn : State → Content → Type 0
+HoldsIn = HoldsBy Holds
 
 -- The tables are ours, nothing is pending, and these tables have these rows of this owner, whatever they have of others.
 pub record HoldsPartIn (is_such : TableKind → Bool) (s : State) (o : Bytes) (slice : Slice) : Type 0 where
@@ -130,9 +134,15 @@ pub record HoldsPartIn (is_such : TableKind → Bool) (s : State) (o : Bytes) (s
   pub rows : HoldsPart is_such s.now.trees o slice
 
 -- If the store is open, its tables hold the content.
+abbrev pub HoldsOpenBy : (Trees → Content → Type 0) → State → Content → Type 0
+HoldsOpenBy Rows s c = LiesOpen s → HoldsBy Rows s c
+
 abbrev pub HoldsWhileOpen : State → Content → Type 0
-HoldsWhileOpen s c = LiesOpen s → HoldsIn s c
+HoldsWhileOpen = HoldsOpenBy Holds
 
 -- A stop leaves tables with one of these contents.
+abbrev pub LeavesBy : (Trees → Content → Type 0) → State → List Content → Type 0
+LeavesBy Rows s cs = (db : Trees) → s.may_leave db → IsAmong (Rows db) cs
+
 abbrev pub LeavesIn : State → List Content → Type 0
-LeavesIn s cs = (db : Trees) → s.may_leave db → IsAmong (Holds db) cs
+LeavesIn = LeavesBy Holds

@@ -35,7 +35,9 @@ pub use adopting::adopt_tables;
 pub use creating::create_tables;
 pub use edges::read_edges;
 pub use ghosts::{
-    a_keep_over_sqlite_has_the_content_of_its_tables, a_keep_over_sqlite_is_as_honest_as_its_disk,
+    a_keep_over_sqlite_has_the_content_of_its_tables,
+    a_keep_over_sqlite_holds_rows_for_some_owners, a_keep_over_sqlite_is_as_honest_as_its_disk,
+    what_is_held_for_owners_is_in_their_rows,
 };
 pub use open_fault::OpenFault;
 pub use slice_reading::read_slice;

@@ -1,12 +1,15 @@
 //! Making a keep over a store, and giving the store back.
-ghost use Rattle.std.specs.Prelude.{◌≡◌, false, None, Err, codes, IfOk, IfErr, OnOk};
+ghost use Rattle.std.specs.Prelude.{◌≡◌, false, None, Err, List, codes, IfOk, IfErr, OnOk};
 ghost use Rattle.sqlite.specs.Held.{state};
+ghost use Rattle.sqlite.specs.State.{HasCleanDisk};
 ghost use Rattle.sqlite.specs.Steps.{over_memory};
 ghost use Rattle.sqlite_wal.specs.Files.{image_at};
-ghost use Rattle.toll_keep.specs.Content.{empty_content};
+ghost use Rattle.toll_base.specs.Bytes.{Bytes};
+ghost use Rattle.toll_keep.specs.Content.{Content, empty_content};
 ghost use Rattle.toll_sql.specs.FromFiles.{IsKeptFrom, IsLeftIn, IsOpenedFrom, IsUnclosed, RefusesFrom, CreatesOrAdopts, UnopensFrom, fault_of_files};
+ghost use Rattle.toll_sql.specs.Holds.{HoldsFor};
 ghost use Rattle.toll_sql.specs.Opening.{Adopts, Creates, open_refusal, succeeds};
-ghost use Rattle.toll_sql.specs.Stores.{HoldsIn};
+ghost use Rattle.toll_sql.specs.Stores.{HoldsBy, HoldsIn};
 
 use crate::adopting::{adopt_tables, new_office};
 use crate::creating::create_tables;
@@ -45,13 +48,16 @@ impl<S: Alter> SqlKeep<S> {
         }
     }
 
-    /// A keep of the office's tables as they are. Those of version 1 are brought to this version. A
-    /// refusal gives the connection back. Its faults are those of [`adopt_tables`].
+    /// A keep of the office's tables as they are. Those of version 1 are brought to this version. What those
+    /// of this version hold for some owners stays, whatever rows they have of others. A refusal gives the
+    /// connection back. Its faults are those of [`adopt_tables`].
     pub fn adopt(
         alloc: Global,
         mut conn: Connection<S>,
     ) -> Result<SqlKeep<S>, (OpenFault, Connection<S>)>
         ensures found { IfOk result (λ keep. Adopts (state S.Store conn) (state S.Store keep.conn) succeeds × (keep.closed ≡ false)) }
+        ensures held { IfOk result (λ keep. HasCleanDisk (state S.Store keep.conn) → (os : List Bytes) (c : Content)
+            → HoldsBy (HoldsFor os) (state S.Store conn) c → HoldsBy (HoldsFor os) (state S.Store keep.conn) c) }
         ensures refused { IfErr result (λ left. Adopts (state S.Store conn) (state S.Store left.1) (open_refusal left.0)) }
     {
         match adopt_tables(alloc, &mut conn) {

@@ -31,6 +31,7 @@ pub fn read_table<S: Alter, X: StoredRow>(
 ) -> Result<(), KeepFault>
     ensures reads { table ≡ X.kind.table → AreStoredOfOwner X.kind
         → ReadsNext table owner.now (state S.Store conn.old) (state S.Store conn.new) slice.old slice.new result }
+    ensures named { OnOk result (slice.new.owner ≡ slice.old.owner) }
     ensures lack { result ≡ Err KeepFault.Memory → IsTrue lack.new.is_noted }
 {
     match owners_rows(conn, table, owner) {
@@ -52,6 +53,7 @@ fn read_rows<X: StoredRow>(
     ensures takes { ForOwned X.kind rows.now (λ o. TakesRows X.kind.table o rows.now slice.old slice.new result) }
     ensures disk { result ≢ Err KeepFault.Disk }
     ensures closed { result ≢ Err KeepFault.Closed }
+    ensures named { OnOk result (slice.new.owner ≡ slice.old.owner) }
     ensures lack { result ≡ Err KeepFault.Memory → IsTrue lack.new.is_noted }
 {
     for row in rows {
@@ -72,6 +74,7 @@ fn read_row<X: StoredRow>(
     ensures takes { ForOwned X.kind (row.now ∷ []) (λ o. TakesRows X.kind.table o (row.now ∷ []) slice.old slice.new result) }
     ensures disk { result ≢ Err KeepFault.Disk }
     ensures closed { result ≢ Err KeepFault.Closed }
+    ensures named { OnOk result (slice.new.owner ≡ slice.old.owner) }
     ensures lack { result ≡ Err KeepFault.Memory → IsTrue lack.new.is_noted }
 {
     match X::read(row) {
@@ -88,6 +91,7 @@ fn put_read(slice: &mut Slice, lack: &mut MemoryLack, row: Row) -> Result<(), Ke
     ensures lacks { result ≡ Err KeepFault.Memory → KeepsRules (with_row slice.old row) × (slice.new ≡ slice.old) }
     ensures disk { result ≢ Err KeepFault.Disk }
     ensures closed { result ≢ Err KeepFault.Closed }
+    ensures named { OnOk result (slice.new.owner ≡ slice.old.owner) }
     ensures lack { result ≡ Err KeepFault.Memory → IsTrue lack.new.is_noted }
 {
     if !slice.fits(&row) {

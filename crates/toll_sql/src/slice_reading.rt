@@ -1,5 +1,5 @@
 //! All rows of an owner, read from the tables.
-ghost use Rattle.std.specs.Prelude.{◌≡◌, ◌≢◌, ◌||◌, true, None, Err, IfOk, IsTrue, is_some};
+ghost use Rattle.std.specs.Prelude.{◌≡◌, ◌≢◌, ◌||◌, true, None, Err, IfOk, IfSome, IsTrue, OnOk, is_some};
 ghost use Rattle.sqlite.specs.Held.{state};
 ghost use Rattle.sqlite.specs.State.{HasCleanDisk};
 ghost use Rattle.std.specs.List.{list_any};
@@ -47,6 +47,7 @@ pub fn read_slice<S: Alter>(
     ensures known { HasCleanDisk (state S.Store conn.new) → IfOk result (λ slice. slice ≡ None → IsReportedUnknown (state S.Store conn.old).now owner.now) }
     ensures whole { ForContent (state S.Store conn.old) (state S.Store conn.new) (λ c. ContentKeepsRules c → result ≢ Err KeepFault.Damaged) }
     ensures alone { ReportsOwnerAlone owner.now (state S.Store conn.old) (state S.Store conn.new) result }
+    ensures named { IfOk result (λ slice. IfSome slice (λ s. s.owner ≡ owner.now)) }
     ensures lack { result ≡ Err KeepFault.Memory → IsTrue lack.new.is_noted }
 {
     let owners = read_owners(conn, lack, alloc)?;
@@ -82,6 +83,7 @@ pub fn read_rows_of<S: Alter>(
     ensures reads { ForSlice owner.now (state S.Store conn.old) (state S.Store conn.new) (λ s. IfOk result (λ slice. slice ≡ s)) }
     ensures shown { ShowsOwnRows tables_of_owners owner.now (state S.Store conn.old) (state S.Store conn.new) result }
     ensures whole { ForSlice owner.now (state S.Store conn.old) (state S.Store conn.new) (λ s. KeepsRules s → result ≢ Err KeepFault.Damaged) }
+    ensures named { IfOk result (λ slice. slice.owner ≡ owner.now) }
     ensures lack { result ≡ Err KeepFault.Memory → IsTrue lack.new.is_noted }
 {
     let mut slice = Slice::new(alloc, *owner);
@@ -99,6 +101,7 @@ fn read_tables<S: Alter>(
     requires { HasCleanDisk (state S.Store conn.old) → IsTrue (state S.Store conn.old).is_open }
     ensures reads { ReadsOn (front_slice Materials 0) (λ s. s) tables_of_owners owner.now
         (state S.Store conn.old) (state S.Store conn.new) slice.old slice.new result }
+    ensures named { OnOk result (slice.new.owner ≡ slice.old.owner) }
     ensures lack { result ≡ Err KeepFault.Memory → IsTrue lack.new.is_noted }
 {
     let every = every_table();
@@ -117,6 +120,7 @@ fn read_kind<S: Alter>(
     table: TableKind,
 ) -> Result<(), KeepFault>
     ensures reads { is_owned table ≡ true → ReadsNext table owner.now (state S.Store conn.old) (state S.Store conn.new) slice.old slice.new result }
+    ensures named { OnOk result (slice.new.owner ≡ slice.old.owner) }
     ensures lack { result ≡ Err KeepFault.Memory → IsTrue lack.new.is_noted }
 {
     match table {

@@ -103,6 +103,11 @@ fn refusal<T>(requested: Result<Vec<OwnerRow>, KeepFault>) -> Result<T, KeepFaul
 impl<K: Keep> Keep for Refusing<K> {
     ghost meaning = { meaning_of (λ r. r.keep) K.meaning };
 
+    ghost part = { λ os. record {
+      holds = λ r c. (K.part os).holds r.keep c;
+      leaves = λ r cs. (K.part os).leaves r.keep cs;
+    } };
+
     fn slice(&mut self, alloc: Global, owner: &Name) -> Result<Option<Slice>, KeepFault> {
         if self.refuses(Call::Read) {
             return refusal(self.keep.owners(alloc));
@@ -170,4 +175,10 @@ impl<K: Keep> Keep for Refusing<K> {
     ghost lives_once = { λ r. K.lives_once r.keep };
 
     ghost widened = { λ r cs more left. K.widened r.keep cs more left };
+
+    ghost narrows = { λ os r c held. K.narrows os r.keep c held };
+
+    ghost settled_for = { λ os r c honest live held. K.settled_for os r.keep c honest live held };
+
+    ghost widened_for = { λ os r cs more left. K.widened_for os r.keep cs more left };
 }

@@ -7,12 +7,12 @@ pub refuse-requires : goal.refuse-requires
 refuse-requires g c =
     let reported = c.args.outcomes.now in
     let some = accepted_if_fault reported.items c.deref.result.now c.commit.result c.in-Err.fault (λ none. c.deref.ensures.value ∙ c.requires none)
-    c.commit.ensures.idle c.in-Err.is in
+    c.commit.ensures.made.idle c.in-Err.is in
     omega (arith, shorter_before reported.items some, reported.ok)
 
 pub returns-clause-within : goal.returns-clause-within
 returns-clause-within g c =
     let reported = c.args.outcomes.now in
     let some = accepted_if_fault reported.items c.deref.result.now c.commit.result c.in-Err.fault (λ none. c.deref.ensures.value ∙ c.requires none)
-    c.commit.ensures.idle c.in-Err.is in
+    c.commit.ensures.made.idle c.in-Err.is in
     omega (arith, shorter_before reported.items some, reported.ok, c.refuse.ensures.len)

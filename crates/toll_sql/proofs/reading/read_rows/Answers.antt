@@ -21,6 +21,7 @@ loop-row-preserved g c =
           ∙ with_table_item X.kind stand s rows stored i lt c.loop-row.slice (c.loop-row.invariant.reads stand s stored first);
       taken = λ stand o all. one_more_taken X.kind.table o rows i row lt c.row-item.is c.args.slice.now c.loop-row.slice c.read_row.new.slice (c.loop-row.invariant.taken stand o all) (c.in_ok-read_row.ensures.takes stand o (value_there (λ r. column r 0 ≡ Text o) rows i row lt c.row-item.is all, tt)).taken;
       shown = λ o all. all_with_one_more (IsRowOfOwner X.kind o) rows i row lt c.row-item.is (c.loop-row.invariant.shown o all) (c.in_ok-read_row.ensures.shown o (value_there (λ r. column r 0 ≡ Text o) rows i row lt c.row-item.is all));
+      named = c.in_ok-read_row.ensures.named ∙ c.loop-row.invariant.named;
     }
 
 pub returns-in_err-read_row-clause-whole : goal.returns-in_err-read_row-clause-whole

@@ -37,6 +37,7 @@ returns g c =
       known = λ clean none. absurd (cc none);
       whole = told_whole o old two _ alone;
       alone = alone;
+      named = slice.named;
       lack = λ is. absurd (cc);
     }
 

@@ -1,4 +1,4 @@
-use Rattle.std.proofs.Common.{◌≡◌, ◌<◌, ◌+◌, List, take, drop, length, Err, rules, ap, subst, arith}
+use Rattle.std.proofs.Common.{◌≡◌, ◌<◌, ◌+◌, List, take, drop, length, Err, rules, ap, subst, arith, ◌∙◌}
 use Rattle.toll_sql.proofs.Common.{state, front_slice, ReadsOn, tables_of_owners, every_table, TableKind, Materials}
 use Rattle.toll_sql.proofs.ReadOn.{HasRead, kind_at, one_more_read, read_well, reads_not, owners_table_step}
 use Rattle.toll_sql.proofs.slice_reading.read_tables.Goals as goal
@@ -7,7 +7,7 @@ listed : (every : List TableKind) → every ≡ every_table → take 11 (drop 3 
 listed every is = ap (λ tables. take 11 (drop 3 tables)) is
 
 pub loop-table-preserved : goal.loop-table-preserved
-loop-table-preserved g c = record { reads = one_more_read _ (listed _ c.every_table-every.ensures) _ c.loop-table-test.true _ _ _ _ _ _ _ read_well c.loop-table.invariant.reads c.in_ok-read_kind.ensures.reads }
+loop-table-preserved g c = record { reads = one_more_read _ (listed _ c.every_table-every.ensures) _ c.loop-table-test.true _ _ _ _ _ _ _ read_well c.loop-table.invariant.reads c.in_ok-read_kind.ensures.reads; named = c.in_ok-read_kind.ensures.named ∙ c.loop-table.invariant.named }
 
 pub returns-in_err-read_kind-clause-reads : goal.returns-in_err-read_kind-clause-reads
 returns-in_err-read_kind-clause-reads g c =
