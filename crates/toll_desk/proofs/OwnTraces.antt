@@ -1,7 +1,9 @@
 -- Traces over the edges that a keep has.
 use Rattle.std.specs.Prelude.{if◌then◌else◌}
 use Rattle.std.proofs.Common.{◌≡◌, ◌⊎◌, Bool, true, false, Some, ◌||◌, is_some, List, [], ◌∷◌, Contains, Result, IfOk, refl, sym, ap, subst, inl, inr, ◌∙◌}
-use Rattle.toll_desk.proofs.Common.{false≢true, list_any, Bytes, same_bytes, same_bytes-refl, same_bytes-symm, house_name, lot_id, Slice, Edge, LotId, History, acts, IsRowsOf, lot_row, IsLawful, Contains-here, Contains-later, IsOwnEdge, IsOwnJoined, lots_known, IsTraceOr, OwnerReply, KeepFault, Content, slice_of, Represents}
+use Rattle.toll_desk.proofs.Common.{false≢true, list_any, Bytes, same_bytes, same_bytes-refl, same_bytes-symm, house_name, lot_id, Slice, Edge, LotId, History, acts, IsRowsOf, lot_row, IsLawful, Contains-here, Contains-later, IsOwnEdge, IsOwnJoined, lots_known, IsTraceOr, OwnerReply, KeepFault, Content, slice_of, Represents, Contains-cases}
+use Rattle.toll_keep.specs.HeldFor.{AreAmong}
+use Rattle.toll_trace.proofs.Members.{Contains-none}
 use Rattle.toll_answers.specs.Views.{has_consumed}
 use Rattle.toll_trace.specs.declared.way.Way.{Way}
 use Rattle.toll_desk.specs.Clauses.{AnswersTrace}
@@ -17,6 +19,10 @@ module _ {X : Type 0} (p : X → Bool) where
         | true ↦ λ passes any. (x, Contains-here x xs, passes)
         | false ↦ λ fails any. let later = any_member xs any in (later.0, Contains-later x xs later.0 later.1, later.2)
       ] refl any
+
+-- An owner who is one of these is among them.
+pub one_among : (os : List Bytes) (x o : Bytes) → x ≡ o → Contains os o → AreAmong (x ∷ []) os
+one_among os x o is own p i = elim (Contains-cases x [] p i) [ inl same ↦ subst (Contains os) (sym is ∙ same) own | inr none ↦ absurd (Contains-none p none) ]
 
 -- ---- rows
 

@@ -1,11 +1,11 @@
 //! Admission: an added owner is admitted with its key.
-ghost use Rattle.std.specs.Prelude.{◌≡◌, IfOk, IfSome};
-ghost use Rattle.toll_base.specs.Bytes.{bytes_cmp, same_bytes};
+ghost use Rattle.std.specs.Prelude.{◌≡◌, List, IfOk, IfSome};
+ghost use Rattle.toll_base.specs.Bytes.{Bytes, bytes_cmp, same_bytes};
 ghost use Rattle.toll_base.specs.Table.{row_at};
 ghost use Rattle.toll_base.specs.Values.{house_name};
 ghost use Rattle.toll_base.specs.Words.{where_so};
 ghost use Rattle.toll_keep.specs.CallEffects.{IsReading};
-ghost use Rattle.toll_keep.specs.Meaning.{OverContent};
+ghost use Rattle.toll_keep.specs.Meaning.{OverContent, meaning_for};
 ghost use Rattle.toll_desk.specs.Clauses.{IsFoundBy};
 ghost use Rattle.toll_desk.specs.Admission.{is_admitted};
 
@@ -62,6 +62,8 @@ pub fn admit<K: Keep>(
     ensures reads { IsReading K.meaning keep.old keep.new result }
     ensures named { IfOk result (λ found. IfSome found (λ name. name ≡ owner.now)) }
     ensures found { OverContent K.meaning keep.old keep.new (λ c. IsFoundBy c owner.now key.now result) }
+    ensures alone { (os : List Bytes) → IsReading (meaning_for K.meaning K.part os) keep.old keep.new result }
+    ensures own { (os : List Bytes) → OverContent (meaning_for K.meaning K.part os) keep.old keep.new (λ c. IsFoundBy c owner.now key.now result) }
 {
     match keep.owners(alloc) {
         Ok(rows) => Ok(admitted(&rows, owner, key)),

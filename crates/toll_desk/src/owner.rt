@@ -1,6 +1,9 @@
 //! Owners' requests over a keep.
+ghost use Rattle.std.specs.Prelude.{List, Contains};
+ghost use Rattle.toll_base.specs.Bytes.{Bytes};
 ghost use Rattle.toll_answers.specs.Replies.{IsValidOwnerRequest};
 ghost use Rattle.toll_keep.specs.CallEffects.{IsReading};
+ghost use Rattle.toll_keep.specs.Meaning.{meaning_for};
 ghost use Rattle.toll_desk.specs.Clauses.{ChangesIfMayWrite, IsPlannedBy, OverContentRows};
 ghost use Rattle.toll_desk.specs.OfficeSteps.{owner_steps};
 ghost use Rattle.toll_desk.specs.Reads.{Over};
@@ -29,6 +32,12 @@ pub fn owner_plan<K: Keep>(
     ensures reads { IsReading K.meaning keep.old keep.new (meaning_of_reply result.reply) }
     ensures idle { ChangesIfMayWrite (OverContentRows K.meaning keep.old keep.new owner.now) request.now result }
     ensures plan { Over K.meaning keep.old keep.new (λ c H. IsPlannedBy c H owner.now key.now request.now result) }
+    ensures alone { (os : List Bytes) → Contains os owner.now
+        → IsReading (meaning_for K.meaning K.part os) keep.old keep.new (meaning_of_reply result.reply) }
+    ensures quiet { (os : List Bytes) → Contains os owner.now
+        → ChangesIfMayWrite (OverContentRows (meaning_for K.meaning K.part os) keep.old keep.new owner.now) request.now result }
+    ensures own { (os : List Bytes) → Contains os owner.now → Over (meaning_for K.meaning K.part os) keep.old keep.new
+        (λ c H. IsPlannedBy c H owner.now key.now request.now result) }
 {
     match admit(alloc, keep, owner, key) {
         Ok(Some(owner)) => plan_for(alloc, keep, &owner, request),
@@ -46,7 +55,9 @@ pub fn owner_do<K: Keep>(
     key: &[u8],
     request: &Request,
 ) -> Reply
-    ensures { IsKeepStep K.meaning (owner_steps owner.now key.now) keep.old request.now (meaning_of_reply result) keep.new }
+    ensures step { IsKeepStep K.meaning (owner_steps owner.now key.now) keep.old request.now (meaning_of_reply result) keep.new }
+    ensures alone { (os : List Bytes) → Contains os owner.now
+        → IsKeepStep (meaning_for K.meaning K.part os) (owner_steps owner.now key.now) keep.old request.now (meaning_of_reply result) keep.new }
 {
     // For the proof: the bounds that the types give the values.
     keeps_bounds(request);

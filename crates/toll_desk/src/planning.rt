@@ -1,6 +1,8 @@
 //! Plans of owners' requests over their rows.
-ghost use Rattle.std.specs.Prelude.{◌≡◌, IfOk, OnErr};
+ghost use Rattle.std.specs.Prelude.{◌≡◌, List, Contains, IfOk, OnErr};
+ghost use Rattle.toll_base.specs.Bytes.{Bytes};
 ghost use Rattle.toll_keep.specs.CallEffects.{IsReading};
+ghost use Rattle.toll_keep.specs.Meaning.{meaning_for};
 ghost use Rattle.toll_keep.specs.Reads.{IsContentKept, ReadsOneMore};
 ghost use Rattle.toll_desk.specs.Clauses.{ChangesIfMayWrite, IfRowsOf, IsPlannedFor, IsPlannedOver, OverContentRows, OverOwner, OverSlice};
 ghost use Rattle.toll_desk.specs.Reads.{Over};
@@ -26,6 +28,12 @@ pub fn plan_for<K: Keep>(
     ensures reads { IsReading K.meaning keep.old keep.new (meaning_of_reply result.reply) }
     ensures idle { ChangesIfMayWrite (OverContentRows K.meaning keep.old keep.new owner.now) request.now result }
     ensures plan { OverOwner K.meaning keep.old keep.new owner.now (λ c H. IsPlannedFor c H owner.now request.now result) }
+    ensures alone { (os : List Bytes) → Contains os owner.now
+        → IsReading (meaning_for K.meaning K.part os) keep.old keep.new (meaning_of_reply result.reply) }
+    ensures quiet { (os : List Bytes) → Contains os owner.now
+        → ChangesIfMayWrite (OverContentRows (meaning_for K.meaning K.part os) keep.old keep.new owner.now) request.now result }
+    ensures own { (os : List Bytes) → Contains os owner.now → OverOwner (meaning_for K.meaning K.part os) keep.old keep.new owner.now
+        (λ c H. IsPlannedFor c H owner.now request.now result) }
 {
     match keep.slice(alloc, owner) {
         Ok(Some(slice)) => match plan_over(alloc, keep, &slice, request) {
@@ -50,6 +58,11 @@ fn plan_over<K: Keep>(
     ensures unread { OnErr result (keep.new ≡ keep.old) }
     ensures idle { IfOk result (ChangesIfMayWrite (OverSlice slice.now) request.now) }
     ensures over { Over K.meaning keep.old keep.new (λ c H. IfRowsOf H slice.now (IsPlannedOver H slice.now request.now result)) }
+    ensures alone { (os : List Bytes) → Contains os slice.now.owner
+        → IfOk result (λ planned. ReadsOneMore (meaning_for K.meaning K.part os) keep.old keep.new (meaning_of_reply planned.reply)) }
+    ensures stays { (os : List Bytes) → IsContentKept (meaning_for K.meaning K.part os) keep.old keep.new }
+    ensures own { (os : List Bytes) → Contains os slice.now.owner → Over (meaning_for K.meaning K.part os) keep.old keep.new
+        (λ c H. IfRowsOf H slice.now (IsPlannedOver H slice.now request.now result)) }
 {
     let owner = *slice.owner();
     match *request {

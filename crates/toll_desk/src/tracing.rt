@@ -1,9 +1,11 @@
 //! Owners' traces.
-ghost use Rattle.std.specs.Prelude.{◌≡◌, []};
+ghost use Rattle.std.specs.Prelude.{◌≡◌, List, Contains, []};
+ghost use Rattle.toll_base.specs.Bytes.{Bytes};
 ghost use Rattle.toll_base.specs.Lots.{lot_id};
 ghost use Rattle.toll_history.specs.History.{History};
 ghost use Rattle.toll_history.specs.OwnerFacts.{IsRowsOf};
 ghost use Rattle.toll_history.specs.Verdict.{IsLawful};
+ghost use Rattle.toll_keep.specs.Meaning.{meaning_for};
 ghost use Rattle.toll_keep.specs.Reads.{IsContentKept, ReadsOneMore};
 ghost use Rattle.toll_desk.specs.Clauses.{RowsAnswerTrace};
 ghost use Rattle.toll_desk.specs.Translations.{meaning_of_reply};
@@ -31,6 +33,11 @@ pub fn plan_trace<K: Keep>(
     ensures kept { IsContentKept K.meaning keep.old keep.new }
     ensures none { result.changes.items ≡ [] }
     ensures over { Over K.meaning keep.old keep.new (λ c H. RowsAnswerTrace H slice.now (lot_id owner lot) way (meaning_of_reply result.reply)) }
+    ensures alone { (os : List Bytes) → Contains os slice.now.owner
+        → ReadsOneMore (meaning_for K.meaning K.part os) keep.old keep.new (meaning_of_reply result.reply) }
+    ensures stays { (os : List Bytes) → IsContentKept (meaning_for K.meaning K.part os) keep.old keep.new }
+    ensures own { (os : List Bytes) → Contains os slice.now.owner → Over (meaning_for K.meaning K.part os) keep.old keep.new
+        (λ c H. RowsAnswerTrace H slice.now (lot_id owner lot) way (meaning_of_reply result.reply)) }
 {
     let reply = trace_own(alloc, keep, slice, &LotId { owner, lot }, way);
     Plan::unchanged(alloc, reply)
@@ -42,6 +49,11 @@ fn trace_own<K: Keep>(alloc: Global, keep: &mut K, slice: &Slice, lot: &LotId, w
     ensures reads { ReadsOneMore K.meaning keep.old keep.new (meaning_of_reply result) }
     ensures kept { IsContentKept K.meaning keep.old keep.new }
     ensures over { Over K.meaning keep.old keep.new (λ c H. RowsAnswerTrace H slice.now lot.now way (meaning_of_reply result)) }
+    ensures alone { (os : List Bytes) → Contains os slice.now.owner
+        → ReadsOneMore (meaning_for K.meaning K.part os) keep.old keep.new (meaning_of_reply result) }
+    ensures stays { (os : List Bytes) → IsContentKept (meaning_for K.meaning K.part os) keep.old keep.new }
+    ensures own { (os : List Bytes) → Contains os slice.now.owner → Over (meaning_for K.meaning K.part os) keep.old keep.new
+        (λ c H. RowsAnswerTrace H slice.now lot.now way (meaning_of_reply result)) }
 {
     if !may_trace(slice, lot) {
         return Reply::Refused(Refusal::UnknownLot);

@@ -1,5 +1,5 @@
 -- What the bytes of a request say, the replies to it, and what it makes of a history.
-use Rattle.std.specs.Prelude.{◌≡◌, Bool, if◌then◌else◌, Option, Some, None, Result, Ok, Err}
+use Rattle.std.specs.Prelude.{◌≡◌, Bool, if◌then◌else◌, List, Contains, Option, Some, None, Result, Ok, Err}
 use Rattle.toll_wire.specs.Common.{Bytes, same_bytes, History, Request, OwnerReply, Failure, Forbidden}
 use Rattle.toll_base.specs.Words.{is_some_where}
 use Rattle.toll_answers.specs.Replies.{has_owner_key, IsReply, after_reply}
@@ -43,6 +43,15 @@ Says bytes saying = (outcome : ParseResult) × IsParsedAs bytes outcome × IsSai
 abbrev pub claimed_in : Saying → Option Bytes
 claimed_in (By o key asking) = Some o
 claimed_in (Nobody text) = None
+
+-- If it claims an owner with a key, it is one of these.
+abbrev pub IsByOneOf : List Bytes → Saying → Type 0
+IsByOneOf os (By o (Some key) asking) = Contains os o
+IsByOneOf os _ = Unit {0}
+
+-- So it is of what the bytes say.
+abbrev pub AreOfOneOf : List Bytes → Bytes → Type 0
+AreOfOneOf os bytes = (saying : Saying) → Says bytes saying → IsByOneOf os saying
 
 -- the saying claims to be this owner's
 abbrev pub claims : Bytes → Saying → Bool

@@ -1,14 +1,15 @@
 //! Answering a request.
-ghost use Rattle.std.specs.Prelude.{◌≡◌, IfErr, Some};
+ghost use Rattle.std.specs.Prelude.{◌≡◌, List, Contains, IfErr, Some};
 ghost use Rattle.toll_answers.specs.Replies.{IsValidOwnerRequest};
 ghost use Rattle.toll_base.specs.Bytes.{Bytes};
+ghost use Rattle.toll_keep.specs.Meaning.{meaning_for};
 ghost use Rattle.toll_desk.specs.Steps.{IsKeepStep};
 ghost use Rattle.toll_desk.specs.Translations.{meaning_of_reply};
 ghost use Rattle.toll_protocol.specs.Parsed.{parse_outcome};
 ghost use Rattle.toll_protocol.specs.Parsing.{IsParsedAs};
 ghost use Rattle.toll_wire.specs.OutTexts.{out_of};
 ghost use Rattle.toll_wire.specs.ReplyTexts.{fault_or_memory, text_of_failure};
-ghost use Rattle.toll_wire.specs.Sayings.{Asks, By, Fails};
+ghost use Rattle.toll_wire.specs.Sayings.{AreOfOneOf, Asks, By, Fails};
 ghost use Rattle.toll_wire.specs.Steps.{IsAnswered, IsFaultMet, saying_steps};
 
 use crate::outgoing::Out;
@@ -26,7 +27,8 @@ use toll_protocol::{Failure, HttpRequest, parse_http};
 /// anything changes. So if the answer is [`Out::Unavailable`], nothing changed; or, after a fault of the
 /// disk, the change is there whole or not at all. A reply other than 200 or 503 means that nothing changed.
 pub fn answer<K: Keep>(alloc: Global, keep: &mut K, bytes: &[u8]) -> Out
-    ensures { IsAnswered K.meaning keep.old keep.new bytes.now result }
+    ensures answered { IsAnswered K.meaning keep.old keep.new bytes.now result }
+    ensures alone { (os : List Bytes) → AreOfOneOf os bytes.now → IsAnswered (meaning_for K.meaning K.part os) keep.old keep.new bytes.now result }
 {
     reply_by_router(alloc, &mut OfficeRouter::new(), keep, bytes)
 }
@@ -38,7 +40,8 @@ pub fn reply_by_router<K: Keep>(
     keep: &mut K,
     bytes: &[u8],
 ) -> Out
-    ensures { IsAnswered K.meaning keep.old keep.new bytes.now result }
+    ensures answered { IsAnswered K.meaning keep.old keep.new bytes.now result }
+    ensures alone { (os : List Bytes) → AreOfOneOf os bytes.now → IsAnswered (meaning_for K.meaning K.part os) keep.old keep.new bytes.now result }
 {
     Out::of(answer_with_router(alloc, router, keep, parse_http(bytes)))
 }
@@ -52,6 +55,8 @@ pub fn answer_with_router<K: Keep>(
     parsed: Result<HttpRequest<'_>, Failure>,
 ) -> Result<Vec<u8>, KeepFault>
     ensures answered { (bytes : Bytes) → IsParsedAs bytes (parse_outcome parsed.entry) → IsAnswered K.meaning keep.old keep.new bytes (out_of result) }
+    ensures alone { (os : List Bytes) (bytes : Bytes) → IsParsedAs bytes (parse_outcome parsed.entry) → AreOfOneOf os bytes
+        → IsAnswered (meaning_for K.meaning K.part os) keep.old keep.new bytes (out_of result) }
     ensures met { IfErr result (IsFaultMet K.meaning keep.old keep.new) }
 {
     match parsed {
@@ -79,6 +84,8 @@ fn serve<K: Keep>(
 ) -> Result<Vec<u8>, KeepFault>
     requires { IsValidOwnerRequest request.now }
     ensures serves { IsKeepStep K.meaning saying_steps keep.old (By owner.now (Some key.now) (Asks request.now)) (out_of result) keep.new }
+    ensures alone { (os : List Bytes) → Contains os owner.now → IsKeepStep (meaning_for K.meaning K.part os) saying_steps keep.old
+        (By owner.now (Some key.now) (Asks request.now)) (out_of result) keep.new }
     ensures met { IfErr result (IsFaultMet K.meaning keep.old keep.new) }
 {
     let planned = owner_plan(alloc, keep, owner, key, request);
@@ -110,6 +117,8 @@ fn refuse<K: Keep>(
     failure: Failure,
 ) -> Result<Vec<u8>, KeepFault>
     ensures serves { IsKeepStep K.meaning saying_steps keep.old (By owner.now (Some key.now) (Fails (text_of_failure failure))) (out_of result) keep.new }
+    ensures alone { (os : List Bytes) → IsKeepStep (meaning_for K.meaning K.part os) saying_steps keep.old
+        (By owner.now (Some key.now) (Fails (text_of_failure failure))) (out_of result) keep.new }
     ensures met { IfErr result (IsFaultMet K.meaning keep.old keep.new) }
 {
     match admit(alloc, keep, owner, key) {

@@ -16,7 +16,7 @@ returns g c =
     let planned = c.plan-planned in
     let outcome = meaning_of_plant_reply c.finished.result in
     commit_step K.meaning g.met.K.Keep.settled c.args.keep.now planned.new.keep c.commit-made.new.keep (meaning_of_plant_reply planned.result.reply) outcome planned.result.changes.items _ c.commit-made.result
-    c.deref.ensures.value c.finished.ensures planned.ensures.reads c.commit-made.ensures is_answer_accepted (λ fault. refl) planned.ensures.quiet
+    c.deref.ensures.value c.finished.ensures planned.ensures.reads c.commit-made.ensures.made is_answer_accepted (λ fault. refl) planned.ensures.quiet
     IsPlantAnswer after_plant q (λ H lawful. lawful-after_plant H q lawful (recorded_valid q c.requires)) planned.ensures.plan
     PlantCalls (calls_read q outcome (λ why is. subst (λ q. IsCommandSuchThat IsValidAction (recorded_command q)) is c.requires))
     _ (λ honest content held P stays none. stays)
