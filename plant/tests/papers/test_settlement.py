@@ -215,7 +215,7 @@ def try_office(program: str, folder: pathlib.Path, seed: int) -> int:
     return count
 
 
-@pytest.mark.parametrize("seed", (0, 1, 5))
+@pytest.mark.parametrize("seed", [0, pytest.param(1, marks=pytest.mark.long), 5])
 def test_settlements_are_those_of_queries(program, tmp_path, seed):
     try_office(program, tmp_path, seed)
 

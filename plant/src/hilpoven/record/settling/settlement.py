@@ -298,7 +298,7 @@ class Reader:
         links that say so. The first link of a lot counts."""
         links: dict[LotId, Link] = {}
         for link in self.genealogy.links:
-            if link.lot:
+            if link.lot and link.why in WHYS:
                 links.setdefault(LotId(link.owner, link.lot), link)
         moves = read_moves(self.base, RECEIPTS, (self.owner, first, last))
         corrections = {(each.move.owner, each.move.key): each for each in self.corrections}
