@@ -19,9 +19,21 @@ from ..model.schema import STANDING, Kind
 from ..model.years import chain, earlier
 from ..model.register.file import Notes
 from ..model.register.noted import AFTER, from_json, to_json
-from ..model.notes import GETS, RETURNS, SENDS, Corrects, Link, MovementFacts, Note, Parties, Task, require_party
+from ..model.notes import (
+    GETS,
+    RETURNS,
+    SENDS,
+    Corrects,
+    Link,
+    MovementFacts,
+    Note,
+    Parties,
+    PlantLink,
+    Task,
+    require_party,
+)
 from ..model.register.meant import HAS_BATCH, HAS_LOT, MEANT, RowReader
-from ..model.kinds import Why
+from ..model.kinds import Spread, Why
 from ..model.register.standing import Register, kept, statuses
 from ..model.register.tables import storable, subject_of
 
@@ -98,7 +110,7 @@ class Desk:
             why = (
                 f"a lot of {link.owner} contains lots of {link.owner} and of {HOUSE} alone, and none of {link.of_owner}"
             )
-            raise Failure(why, REFUSED)
+            raise Failure(why, REFUSED, f"`hilpoven link` --why {'|'.join(Spread)} joins lots of two owners")
         if isinstance(link.container, BatchId):
             self.require_batch(link.container)
         elif not is_new:
@@ -109,6 +121,18 @@ class Desk:
         row = self.base.execute(MAKER, link.contained).fetchone()
         if isinstance(link.container, BatchId) and link.of_owner == link.owner and row == link.container[1:]:
             raise Failure(f"lot {link.contained} was made by batch {link.container.name} itself", REFUSED)
+
+    def require_plant_link(self, link: PlantLink) -> None:
+        """Fails unless a link of the plant's joins two things that are there."""
+        for end in (link.container, link.contained):
+            self.require_batch(end) if isinstance(end, BatchId) else self.require_lot(end)
+        is_of_two = link.owner != link.of_owner
+        if link.container == link.contained:
+            raise Failure(f"{link.container} isn't linked to itself", REFUSED)
+        if link.spread in (Spread.TRANSFER, Spread.MISRECORDED) and not is_of_two:
+            raise Failure(f"a {link.spread} link joins two owners, and both ends are {link.owner}'s", REFUSED)
+        if link.tells and (not is_of_two or HOUSE in (link.owner, link.of_owner)):
+            raise Failure("--tell is for the lots of an owner that contain another owner's material", REFUSED)
 
     def material_of(self, lot: LotId) -> tuple[str, str]:
         """Whose the material of a lot is, and its name."""
