@@ -1,5 +1,6 @@
 """What stands on papers, by queries that are written for the tests alone, and read back from what was made."""
 import csv
+import functools
 import html.parser
 import io
 import pathlib
@@ -176,14 +177,26 @@ def text_of_page(file: pathlib.Path) -> str:
     return "".join(parts)
 
 
-def words_of_page(file: pathlib.Path) -> set[str]:
+def words_of_page(file: pathlib.Path) -> frozenset[str]:
     """The words of a page, numbers without their commas."""
-    return Cells(file.read_text()).words
+    return words_within(file.read_text())
+
+
+@functools.lru_cache(20)
+def words_within(page: str) -> frozenset[str]:
+    """The same of its text. Several look at each."""
+    return frozenset(Cells(page).words)
 
 
 def text_of_pdf(file: pathlib.Path) -> str:
     """The text of a PDF."""
-    return subprocess.run(["pdftotext", "-layout", file, "-"], capture_output=True, text=True, check=True).stdout
+    return text_of_bytes(file.read_bytes())
+
+
+@functools.lru_cache(20)
+def text_of_bytes(content: bytes) -> str:
+    """The same of its bytes. Several look at each."""
+    return subprocess.run(["pdftotext", "-layout", "-", "-"], input=content, capture_output=True, check=True).stdout.decode()
 
 
 def words_of_pdf(file: pathlib.Path) -> set[str]:

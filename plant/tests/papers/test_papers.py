@@ -3,7 +3,7 @@ import pytest
 from looks import Papers
 from offices import HOUSE, Filled, WithParties
 
-QUICK, MANY = range(2, 6), range(200)
+QUICK, MANY = (2, 3), range(200)  # the second has batches of many lots
 PAPERS_WITH_PARTIES = 300
 
 
@@ -32,7 +32,7 @@ def test_papers_of_many_offices_tell_what_is_there_and_nothing_of_others(program
     try_office(program, tmp_path / "office", seed, prints=seed % 4 == 0)
 
 
-@pytest.mark.parametrize("seed", (1, 7))
+@pytest.mark.parametrize("seed", [1, pytest.param(7, marks=pytest.mark.long)])
 def test_papers_with_parties_name_no_others(program, tmp_path, seed):
     papers = try_office(program, tmp_path / "office", seed, prints=seed == 1, kind=WithParties)
     assert papers.office.facts and papers.recipients

@@ -14,10 +14,10 @@ import tempfile
 import time
 
 import pytest
-from conftest import HILPOVEN, ROOT, Plant
+from conftest import HILPOVEN, Plant, eventually
 from hilpoven.report.papers import copies, printing
+from killed import kill_at, steps
 
-KILLED = ROOT / "plant" / "tests" / "killed.py"
 RECALL = ("papers", "recall", "HOUSE", "W-101")
 NOBODY = 65534
 PATIENCE = 60  # seconds
@@ -31,13 +31,8 @@ def lines_of(text: str) -> list[str]:
 def left(plant: Plant) -> list[str]:
     """What lies in the office's folder besides its files and what was asked for, once those that clean up have done so. A folder
     with nothing in it is what a kill leaves before anything was copied."""
-    ends = time.monotonic() + 5
-    while time.monotonic() < ends:
-        names = [name for name in os.listdir(plant.folder) if name.startswith("made") or name.startswith(".hilpoven.") and has_files(plant.folder / name)]
-        if not any(name.startswith(".") for name in names):
-            break
-        time.sleep(0.05)
-    return sorted(names)
+    eventually(lambda: not [path for path in plant.folder.glob(".hilpoven.*") if has_files(path)])
+    return sorted(path.name for path in plant.folder.iterdir() if path.name.startswith("made") or path.name.startswith(".hilpoven.") and has_files(path))
 
 
 def has_files(folder: pathlib.Path) -> bool:
@@ -148,28 +143,19 @@ def test_a_lock_that_is_taken_is_told(at_work):
     assert done.status == 3 and "somebody else has the lock" in done.err and len(lines_of(done.err)) == 1 and left(at_work) == []
 
 
-def kill_at(plant: Plant, step: int, words: list[str]) -> int:
-    """Kills the command at a step; how many there were, where it ended by itself, and else 0."""
-    count = plant.folder / "count"
-    count.unlink(missing_ok=True)
-    subprocess.run(["/usr/bin/python3", "-IB", KILLED, str(step), str(count), "--db", plant.db, *words], capture_output=True, cwd=plant.folder,
-                   env={**os.environ, "TOLL": plant.program}, timeout=PATIENCE)
-    return int(count.read_text()) if count.exists() else 0
-
-
 def try_kills(plant: Plant, kills: int, *options: str) -> int:
     """Kills a recall at so many steps: nothing of it is left, or all of it is made; how often it was killed."""
     before = sorted(path.name for path in plant.folder.iterdir())
     whole, done = kill_at(plant, 0, [*RECALL, "whole", *options]), 0
     files = sorted(path.name for path in (plant.folder / "whole").rglob("*"))
     shutil.rmtree(plant.folder / "whole")
-    for step in sorted({1 + at * (whole - 1) // (kills - 1) for at in range(kills)}):
+    for step in steps(whole, kills):
         done += not kill_at(plant, step, [*RECALL, "made", *options])
         assert left(plant) in ([], ["made"]), step
         if (plant.folder / "made").exists():
             assert sorted(path.name for path in (plant.folder / "made").rglob("*")) == files, step
             shutil.rmtree(plant.folder / "made")
-        rest = {path.name for path in plant.folder.iterdir()} - {"count", "office.db.lock", "office.db.journal", *(path.name for path in plant.folder.glob(".hilpoven.*"))}
+        rest = {path.name for path in plant.folder.iterdir()} - {"office.db.lock", "office.db.journal", *(path.name for path in plant.folder.glob(".hilpoven.*"))}
         assert rest <= set(before), (step, rest)
     return done
 

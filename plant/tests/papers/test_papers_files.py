@@ -13,7 +13,9 @@ WORDS = {
 SHIPPED = "ship ACME K9 S-1 BAY1 5 105"
 NOTES = ("party add ACME NORD --name Nord --role customer", "receive ACME K7 BRINE B-2 BAY1 70 105 --of B-1 --why return --document D-1", "ship ACME K8 S-1 BAY1 5 99 --to NORD --yes",
          "describe lot ACME B-1 --made 261101", "describe recipe ACME BRINE-10 --allowance 1", "hold ACME B-1 --reason wet", "link ACME B-1 S-1 --why rework --amount 5", "void ACME K2 --reason wrong",
-         "result ACME B-1 PH 5 105", "use ACME O-1 1 HOUSE W-101 TANK 5 105", "do ACME O-1 1 hold --reason pump")
+         "result ACME B-1 PH 5 105", "use ACME O-1 1 HOUSE W-101 TANK 5 105", "correct ACME K7 --amount 60 --reason typed --day 105", "correct ACME K8 --amount 4 --reason typed --day 105",
+         "link BOLT P-1 B-1 --of-owner ACME --why residue", "clean MIXER --how hot", "do ACME O-1 1 hold --reason pump",
+         "do ACME O-1 1 done", "do ACME O-1 1 restart", "do ACME O-1 1 done", "do ACME O-1 1 done", "close ACME O-1 1", "open ACME O-1 KETTLE --yes")
 
 TWO = """
 material-add ACME PASTE kg

@@ -7,6 +7,7 @@ import pytest
 from conftest import Plant, copied, script
 from hilpoven.core.journal.log import Journal
 from hilpoven.report.papers import printing
+from hilpoven.cli.lines import OVER_ALL
 from hilpoven.model.below import HEADING
 from hilpoven.model.notes import Link, Why
 from hilpoven.model.register.noted import to_json
@@ -112,7 +113,7 @@ def below(plant: Plant, words: tuple) -> list[str]:
     """The lines under what `toll` tells, whose text is first and unchanged."""
     done, toll = plant.run(*words), plant.toll(*words)
     assert done.status == toll.status == 0 and done.out.startswith(toll.out)
-    lines = done.out.removeprefix(toll.out).splitlines()
+    lines = done.out.removeprefix(toll.out).partition(OVER_ALL)[0].splitlines()
     assert not lines or lines[0] == HEADING and "noted by the plant" in HEADING and len(lines) > 1
     assert len({len(line) for line in lines[1:]}) <= 1 and all(line.endswith(" *") for line in lines[1:])
     return [" ".join(line.split()) for line in lines[1:]]

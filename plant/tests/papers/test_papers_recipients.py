@@ -85,7 +85,7 @@ def test_a_text_is_a_text_on_paper_and_in_tables(noted, text):
     assert noted.run("note", "movement", "ACME", "K8", "--document", text).status == 0
     is_read = text != SCRIPT and text.isascii()  # back from a PDF, letter by letter
     for number, words in enumerate((("recall", "HOUSE", "W-101"), ("certificate", "ACME", "B-1", "--shipment", "K8"), ("delivery-note", "ACME", "K8"), ("lot", "ACME", "B-1"))):
-        folder, is_printed = noted.folder / f"made{number}", number == (0 if is_read else 2)
+        folder, is_printed = noted.folder / f"made{number}", number == 2 or number == 0 and text.startswith("=")
         assert noted.run("papers", *words, folder, *(() if is_printed else ("--no-pdf",))).status == 0
         for file in folder.rglob("*.html"):
             assert "<script>alert" not in file.read_text() and " ".join(text.split()) in " ".join(figures.text_of_page(file).split()), file
@@ -93,8 +93,8 @@ def test_a_text_is_a_text_on_paper_and_in_tables(noted, text):
             with open(file, newline="") as rows:
                 cells = [cell for row in csv.reader(rows) for cell in row]
             assert not any(cell[:1] in ("=", "+", "-", "@") and not re.fullmatch(r'="[^"]*(""[^"]*)*"|-?[0-9]+', cell) for cell in cells), (file, cells)
-    if is_read:
-        assert text[:20] in figures.text_of_pdf(noted.folder / "made0" / "plant" / "recall.pdf")
+    for file in noted.folder.glob("made*/**/*.pdf"):
+        assert not is_read or text[:20] in figures.text_of_pdf(file), file
     page = noted.folder / "board.html"
     assert noted.run("board", "--out", page).status == 0 and text not in page.read_text()
 

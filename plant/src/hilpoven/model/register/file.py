@@ -7,6 +7,7 @@ register rebuild` makes it anew.
 """
 import contextlib
 import os
+import re
 import sqlite3
 import stat
 from collections.abc import Callable, Iterator
@@ -22,7 +23,7 @@ from .lines import path_of
 from ..rows import Base
 from .tables import MARK, SCHEMA
 
-# What the register of an earlier version has, which is made anew.
+# What the register of the first version has, which is made anew.
 EARLIER = (
     "CREATE TABLE notes (place INTEGER PRIMARY KEY, name TEXT NOT NULL UNIQUE, noted TEXT NOT NULL) STRICT",
     "CREATE TABLE answers (line TEXT PRIMARY KEY, is_done INTEGER NOT NULL) STRICT",
@@ -30,6 +31,9 @@ EARLIER = (
     "CREATE TABLE folded (start INTEGER NOT NULL, stop INTEGER NOT NULL, hash TEXT NOT NULL, file TEXT NOT NULL) "
     "STRICT",
 )
+CALLED = re.compile(r"CREATE (?:TABLE|INDEX) (\w+)")
+# The tables and indexes that a register of any version has.
+NAMES = {match[1] for sql in (*SCHEMA, *EARLIER) if (match := CALLED.match(sql))}
 REBUILD = "`hilpoven register rebuild` makes it anew from the journal"
 MOVE = "move it elsewhere and keep it, and the next reader makes another one"
 TRIES = 10
@@ -210,13 +214,18 @@ def opened(path: str) -> Base:
 
 def require_tables(base: Base) -> None:
     """Makes the tables where the file has none at all; fails unless they are a register's, if only an earlier one's."""
-    known = [sql for sql, in base.execute("SELECT sql FROM sqlite_master WHERE sql IS NOT NULL")]
+    known = made_by(base)
     ((mark,),) = base.execute("PRAGMA application_id").fetchall()
     if not known and not mark:
         with transaction(base):
             tables.make(base)
-    elif mark != MARK or sorted(known) not in (sorted(SCHEMA), sorted(EARLIER)):
+    elif mark != MARK or not all((match := CALLED.match(sql)) and match[1] in NAMES for sql in known):
         raise Unusable("it is another database", MOVE)
+
+
+def made_by(base: Base) -> list[str]:
+    """What made all that a file has, in order."""
+    return sorted(sql for sql, in base.execute("SELECT sql FROM sqlite_master WHERE sql IS NOT NULL"))
 
 
 @contextlib.contextmanager
@@ -234,11 +243,11 @@ def transaction(base: Base) -> Iterator[None]:
 
 def caught_up(base: Base, journal: Journal, keep: Keep = keep_nothing) -> None:
     """Adds what the journal has behind what the register has. One of an earlier version is made anew."""
-    is_earlier = base.execute("SELECT 1 FROM sqlite_master WHERE name = 'notes'").fetchone() is not None
-    require_continued(base, journal, "notes" if is_earlier else "note")
-    if is_earlier:
+    names = [name for name, in base.execute("SELECT name FROM sqlite_master WHERE type = 'table'")]
+    require_continued(base, journal, "notes" if "notes" in names else "note")
+    if made_by(base) != sorted(SCHEMA):
         with transaction(base):
-            for name in ("notes", "answers", "moved", "folded"):
+            for name in names:
                 base.execute(f"DROP TABLE {name}")
             tables.make(base)
     with transaction(base):

@@ -12,13 +12,14 @@ import json
 import os
 from collections.abc import Callable, Iterator, Sequence
 from dataclasses import dataclass, replace
-from typing import NamedTuple
+from typing import Any, NamedTuple
 
 from ... import HOUSE
 from ...core.grammar import LINES, faults
 from ...core.journal.log import Journal
 from ..measures import value_of
 from ..notes import (
+    Corrected,
     Corrects,
     Held,
     Judgement,
@@ -30,16 +31,18 @@ from ..notes import (
     Note,
     OwnerFacts,
     Party,
+    PlantLink,
     Reason,
     RecipeFacts,
     ResultFacts,
     RowsLost,
     Settled,
     TestFacts,
+    UnitFacts,
     Withdrawal,
 )
-from ..rows import HAS_RESULT, Base
-from ..schema import Disposition
+from ..rows import HAS_RESULT, Base, BatchId, LotId
+from ..schema import IS_ACTUAL, STANDING, Disposition
 from ..years import chain
 from ..years.earlier import CAME_OVER, MOVE, VOIDED, move_of
 from . import tables
@@ -53,7 +56,7 @@ IS_REJECTED = f"SELECT 1 FROM lots WHERE owner = '{HOUSE}' AND lot = ? AND dispo
 IS_CANCELLED = f"SELECT 1 FROM orders WHERE owner = '{HOUSE}' AND ord = ? AND cancelled = 1"
 NUMBERS = {"VALUE", "DAY", "LOW", "HIGH"}
 # Which name nothing that a file has, or what all files of an office have in common.
-OF_ALL_FILES = (Party, Withdrawal, RowsLost, OwnerFacts, MaterialFacts, RecipeFacts, TestFacts, Settled)
+OF_ALL_FILES = (Party, Withdrawal, RowsLost, OwnerFacts, MaterialFacts, RecipeFacts, TestFacts, UnitFacts, Settled)
 NOT_IN_USE = "about a file that isn't in use"
 BY_RESTORE = "its row was lost by a restore"
 
@@ -108,7 +111,7 @@ def fault_of(
 def counts_again(note: Note) -> bool:
     """Whether a note that lost its row in a restore counts once the office has a row with all these values again:
     without a hold a lot would go, and without the link of a lot a recall would miss it."""
-    return isinstance(note, Held) or isinstance(note, Link) and bool(note.lot)
+    return isinstance(note, Held) or isinstance(note, Link | PlantLink) and bool(note.lot)
 
 
 def fault_of_command(noted: Noted, is_done: bool | None, base: Base | None) -> Fault:
@@ -168,7 +171,12 @@ def column_of(name: str, word: str) -> str | int:
     return value_of(word) if name in NUMBERS else word
 
 
-MADE = "SELECT lot FROM lots WHERE owner = ? AND ord = ? AND number = ?"
+MADE = "SELECT owner, lot FROM lots WHERE owner = ? AND ord = ? AND number = ?"
+# The lots that a batch took or made.
+IN_BATCH = f"""
+SELECT DISTINCT m.lot_owner, m.lot FROM moves AS m
+WHERE m.owner = ? AND m.ord = ? AND m.number = ? AND {IS_ACTUAL} AND {STANDING}
+"""
 AGAIN = "SELECT called FROM again WHERE kind = ? AND file = ? AND owner = ? AND name = ?"
 
 # What a thing of one of the files is called where the notes are read; empty if it isn't there.
@@ -227,32 +235,44 @@ class Reader:
         at = self.place(noted, "moves", owner, key)
         return "" if at is None else self.naming("key", at, owner, key)
 
+    def ends(self, noted: Noted, end: LotId | BatchId, lots_of: str) -> list[LotId | BatchId]:
+        """What one end of a link is called: nothing if it isn't there, and of a batch of another file each lot of it
+        that a query gives."""
+        if isinstance(end, LotId):
+            name = self.lot(noted, *end)
+            return [LotId(end.owner, name)] if name else []
+        at = self.place(noted, "batches", *end)
+        if at is None:
+            return []
+        if order := self.naming("order", at, end.owner, end.order):
+            return [end._replace(order=order)]
+        lots = self.files[at].base.execute(lots_of, end).fetchall()
+        return [LotId(owner, name) for owner, lot in lots if (name := self.naming("lot", at, owner, lot))]
+
     def links(self, noted: Noted, link: Link) -> Iterator[Link]:
         """A link as it is read: that of a batch of another file is one of each lot that it made there."""
-        of_lot = self.lot(noted, link.of_owner, link.of_lot)
-        if not of_lot:
-            return
-        link = replace(link, of_lot=of_lot)
-        if link.lot:
-            lot = self.lot(noted, link.owner, link.lot)
-            yield from [replace(link, lot=lot)] if lot else []
-            return
-        at = self.place(noted, "batches", link.owner, link.order, link.batch)
-        if at is None:
-            return
-        order = self.naming("order", at, link.owner, link.order)
-        if order:
-            yield replace(link, order=order)
-            return
-        for (lot,) in self.files[at].base.execute(MADE, (link.owner, link.order, link.batch)).fetchall():
-            if name := self.naming("lot", at, link.owner, lot):
-                yield replace(link, lot=name, order="", batch=0)
+        if of_lot := self.lot(noted, link.of_owner, link.of_lot):
+            for container in self.ends(noted, link.container, MADE):
+                yield replace(link, of_lot=of_lot, **named_as(container))
+
+    def plant_links(self, noted: Noted, link: PlantLink) -> Iterator[PlantLink]:
+        """The same of a link of the plant's. If what is contained isn't there, its owner is still told."""
+        contents = self.ends(noted, link.contained, IN_BATCH)
+        for container in self.ends(noted, link.container, MADE):
+            of_container = replace(link, **named_as(container))
+            for content in contents:
+                of_content = {f"of_{name}": value for name, value in named_as(content).items()}
+                yield replace(of_container, of_owner=content.owner, **of_content)
+            if link.tells and not contents:
+                yield replace(of_container, of_lot="", of_order="", of_batch=0)
 
     def read(self, noted: Noted, note: Note) -> Iterator[Note]:
         """A note that stands, as it is read: nothing if what it is about isn't there, and several links of one."""
         match note:
             case Link():
                 yield from self.links(noted, note)
+            case PlantLink():
+                yield from self.plant_links(noted, note)
             case MovementFacts() | NotLinked():
                 if key := self.key(noted, note.owner, note.key):
                     yield note if key == note.key else replace(note, key=key)
@@ -260,6 +280,10 @@ class Reader:
                 key, of_key = self.key(noted, note.owner, note.key), self.key(noted, note.of_owner, note.of_key)
                 if key and of_key:
                     yield replace(note, key=key, of_key=of_key)
+            case Corrected():
+                if key := self.key(noted, note.owner, note.key):
+                    lots = (self.lot(noted, note.lot_owner, lot) or lot for lot in (note.lot_before, note.lot))
+                    yield replace(note, key=key, **dict(zip(("lot_before", "lot"), lots)))
             case LotFacts() | ResultFacts() | Judgement():
                 if lot := self.lot(noted, note.owner, note.lot):
                     yield note if lot == note.lot else replace(note, lot=lot)
@@ -278,6 +302,13 @@ class Reader:
         at = self.place(noted, "orders", note.owner, note.order)
         order = "" if at is None else self.naming("order", at, note.owner, note.order)
         return replace(note, order=order) if order else None
+
+
+def named_as(end: LotId | BatchId) -> dict[str, Any]:
+    """The members of a link that name one end of it."""
+    if isinstance(end, LotId):
+        return {"lot": end.name, "order": "", "batch": 0}
+    return {"lot": "", "order": end.order, "batch": end.number}
 
 
 # The last row of each table whose rows notes mean, by its values: no file has it that another office's was put in.

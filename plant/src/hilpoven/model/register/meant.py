@@ -9,20 +9,26 @@ from dataclasses import dataclass, field
 from typing import Any, NamedTuple
 
 from ..notes import (
+    CaseStart,
+    Cleaned,
+    Corrected,
+    CorrectionAsked,
     Corrects,
     DrillStart,
     Judgement,
     Link,
     LotFacts,
     MovementFacts,
+    NoResidue,
     NotLinked,
     Note,
+    PlantLink,
     Reason,
     ResultFacts,
     TestFacts,
 )
 from ..schema import MOVE_COLUMNS
-from ..rows import Base
+from ..rows import Base, BatchId, LotId
 
 Names = tuple[str | int, ...]
 Row = tuple[str | int, ...]  # its table, its names, and its other values
@@ -110,9 +116,17 @@ def named_by(note: Note) -> Iterator[tuple[str, Names]]:
         case Corrects():
             yield "moves", (note.owner, note.key)
             yield "moves", (note.of_owner, note.of_key)
-        case Link():
-            yield from named_container(note)
-            yield "lots", tuple(note.contained)
+        case Link() | PlantLink():
+            yield from named_end(note.container)
+            yield from named_end(note.contained)
+        case NoResidue():
+            yield from named_end(BatchId(note.owner, note.order, note.batch))
+        case Cleaned():
+            yield from named_end(note.behind) if note.behind else ()
+        case Corrected() | CorrectionAsked():
+            yield "moves", (note.owner, note.key)
+        case CaseStart():
+            yield from named_end(note.start)
         case Reason():
             yield from named_reason(note)
         case LotFacts() | ResultFacts() | Judgement() | DrillStart():
@@ -121,13 +135,13 @@ def named_by(note: Note) -> Iterator[tuple[str, Names]]:
             yield "tests", (note.owner, note.material, note.test)
 
 
-def named_container(link: Link) -> Iterator[tuple[str, Names]]:
-    """What a link names as what contains some of a lot."""
-    if link.lot:
-        yield "lots", (link.owner, link.lot)
+def named_end(end: LotId | BatchId) -> Iterator[tuple[str, Names]]:
+    """What one end of a link names: a lot, or a batch with its order."""
+    if isinstance(end, LotId):
+        yield "lots", tuple(end)
     else:
-        yield "orders", (link.owner, link.order)
-        yield "batches", (link.owner, link.order, link.batch)
+        yield "orders", (end.owner, end.order)
+        yield "batches", tuple(end)
 
 
 def named_reason(reason: Reason) -> Iterator[tuple[str, Names]]:

@@ -6,13 +6,14 @@ from dataclasses import MISSING, asdict, dataclass, fields
 from typing import Any
 
 from ... import HOUSE
+from ...core import gs1
 from ...core.days import date_of, is_month
 from ...core.forms import AMOUNT, BATCH, COMMAND, DAY, MOST_VALUE, NAME, TEXT
 from ...core.grammar import LINES
 from ...core.journal.query import who
 from ..measures import MOST_DECIMALS
-from ..notes import KINDS, MOST_ALLOWANCE, Link, Note, Reason, Table
-from ..kinds import Bound, Emptied, Role, Why
+from ..notes import KINDS, MOST_ALLOWANCE, CaseStart, Cleaned, Link, Note, PlantLink, Reason, Table, UnitFacts
+from ..kinds import Bound, Emptied, Role, Spread, Why
 from .meant import MEANT, Row, rows_in
 
 LINE = re.compile("[0-9a-f]{16}")  # the name of a line
@@ -70,7 +71,9 @@ def notes_in(entry: dict[str, Any]) -> Iterator[Noted]:
 # The members that a note of each kind may have, and whether it has to have them.
 KNOWN = {kind: {member.name: member.default is MISSING for member in fields(kind)} for kind in KINDS.values()}
 NAME_OF_NOTE = re.compile(r"[0-9a-f]{16}(\.([2-9]|[1-9][0-9]{1,3}))?")
-MAY_BE_ZERO = {"value", "day"}  # members of which 0 says something
+MEANT_AMOUNTS = ("amount_before", "amount_meant")
+MOST_MEANT = 10**12  # of what a movement comes to with its corrections
+MAY_BE_ZERO = {"value", "day", *MEANT_AMOUNTS}  # members of which 0 says something
 
 
 def to_json(note: Note) -> dict[str, Any]:
@@ -87,6 +90,11 @@ def is_name(value: Any) -> bool:
 def is_text(value: Any) -> bool:
     """Whether a value may be a text of a note."""
     return isinstance(value, str) and not TEXT.fault(value)
+
+
+def is_of(fault_of: Callable[[str], str]) -> Callable[[Any], bool]:
+    """Whether a value is a text for which a form has no fault."""
+    return lambda value: isinstance(value, str) and not fault_of(value)
 
 
 def is_number(form: Callable[[str], str]) -> Callable[[Any], bool]:
@@ -107,9 +115,16 @@ def is_date(value: Any) -> bool:
 # What each member may be, by its name; any other is a text.
 MEMBERS: dict[str, Callable[[Any], bool]] = {
     **{name: is_name for name in ("owner", "lot", "order", "of_owner", "of_lot", "party", "key", "of_key")},
-    **{name: is_name for name in ("material", "test", "recipe", "product")},
+    **{name: is_name for name in ("material", "test", "recipe", "product", "of_order")},
+    **{name: is_name for name in ("lot_owner", "lot_before", "party_before", "sublot", "case")},
     **{name: is_date for name in ("made", "expires", "retest")},
-    "batch": is_number(BATCH.fault),
+    **{name: is_between(0, MOST_MEANT) for name in (*MEANT_AMOUNTS, "back", "destroyed", "gone")},
+    "drill": is_between(0, 1),
+    "gln": is_of(gs1.GLN.fault),
+    "gtin": is_of(gs1.GTIN.fault),
+    "unit_code": is_of(gs1.UNIT_CODE.fault),
+    **{name: is_number(BATCH.fault) for name in ("batch", "of_batch")},
+    "tells": lambda value: value is True,
     "amount": is_number(AMOUNT.fault),
     "day": is_number(DAY.fault),
     "command": lambda value: isinstance(value, str) and (value in LINES or value in COMMAND.choices),
@@ -119,8 +134,18 @@ MEMBERS: dict[str, Callable[[Any], bool]] = {
     "allowance": is_between(0, MOST_ALLOWANCE),
     "of": lambda value: isinstance(value, str) and NAME_OF_NOTE.fullmatch(value) is not None,
 }
-WORDS: dict[str, Callable[[Any], Any]] = {"why": Why, "bound": Bound}  # members that are a word of a list
-LISTS: dict[str, Callable[[Any], Any]] = {"roles": Role, "emptied": Emptied}  # members that are several such words
+
+
+def name_of(value: Any) -> str:
+    """A value that is a name of `toll`'s form; fails with ValueError if it is none."""
+    if not is_name(value):
+        raise ValueError("it is no name")
+    return str(value)
+
+
+# Members that are a word of a list, and those that are several such words, or names.
+WORDS: dict[str, Callable[[Any], Any]] = {"why": Why, "spread": Spread, "bound": Bound}
+LISTS: dict[str, Callable[[Any], Any]] = {"roles": Role, "emptied": Emptied, "allergens": name_of}
 # What a member of a link is where it says nothing of it: a batch may stand for its lots.
 OF_LINKS: dict[str, Any] = {"lot": "", "order": "", "batch": 0}
 
@@ -164,14 +189,27 @@ def read_member(name: str, value: Any) -> Any:
 
 
 def is_whole(note: Note) -> bool:
-    """Whether a note says all that its kind has to: a link is of a lot or of a batch, and of no third owner's lot."""
-    if isinstance(note, Reason):
-        return bool(note.lot or note.key or note.order)
-    if not isinstance(note, Link):
-        return True
-    is_of_lot, is_of_batch = note.lot != "", note.order != "" and note.batch > 0
-    is_one = is_of_lot != is_of_batch and not (is_of_lot and (note.order or note.batch))
-    return is_one and note.of_owner in (note.owner, HOUSE) and note.container != note.contained
+    """Whether a note says all that its kind has to: a link is of a lot or of a batch, and only a link of the plant's is
+    of a third owner's lot."""
+    match note:
+        case Reason():
+            return bool(note.lot or note.key or note.order)
+        case UnitFacts() | Cleaned():
+            return is_name(note.unit)
+        case CaseStart():
+            return is_end(note.lot, note.order, note.batch)
+        case Link():
+            is_known = note.of_owner in (note.owner, HOUSE)
+            return is_known and is_end(note.lot, note.order, note.batch) and note.container != note.contained
+        case PlantLink():
+            ends = (note.lot, note.order, note.batch), (note.of_lot, note.of_order, note.of_batch)
+            return all(is_end(*end) for end in ends) and note.container != note.contained
+    return True
+
+
+def is_end(lot: str, order: str, batch: int) -> bool:
+    """Whether these name one end of a link: a lot, or a batch."""
+    return bool(lot) != bool(order and batch) and not (lot and (order or batch))
 
 
 def rows_of(value: Any, is_row: Callable[[list[Any]], bool]) -> tuple[tuple[Any, ...], ...]:

@@ -3,7 +3,7 @@ import contextlib
 from collections.abc import Callable, Iterable, Iterator, Mapping
 from dataclasses import dataclass
 from functools import cached_property, partial
-from typing import Any, Generic, TypeVar, overload
+from typing import Any, Generic, NamedTuple, TypeVar, overload
 
 from ...core.context import Context
 from ...core.journal.log import Journal
@@ -18,15 +18,17 @@ from ..notes import (
     Note,
     OwnerFacts,
     Party,
+    PlantLink,
     Reason,
     RecipeFacts,
     ResultFacts,
     ResultId,
     Settled,
     TestFacts,
+    UnitFacts,
     joined,
 )
-from ..rows import Base, LotId
+from ..rows import Base, BatchId, LotId
 from ..years import chain
 from ..years.history import History
 from . import tables
@@ -116,6 +118,14 @@ class By(Generic[Key, Value]):
 Named = tuple[str, str]  # an owner, and what a thing of it is called
 
 
+class Notice(NamedTuple):
+    """What an owner is told of its lot, or of the lots that its batch makes: that it contains material of another
+    owner, and on which day that was noted."""
+
+    container: LotId | BatchId
+    day: int
+
+
 class Register:
     """The notes of an office's file that stand: those that were withdrawn, or whose command `toll` refused, are left
     out. Each kind is read when it is asked for."""
@@ -129,6 +139,7 @@ class Register:
     facts = By[Named, MovementFacts](MovementFacts, "owner key")
     owners = By[str, OwnerFacts](OwnerFacts, "owner")
     materials = By[Named, MaterialFacts](MaterialFacts, "owner material")
+    units = By[str, UnitFacts](UnitFacts, "unit")
     recipes = By[Named, RecipeFacts](RecipeFacts, "owner recipe")
     tests = By[tuple[str, str, str], TestFacts](TestFacts, "owner material test")
     lots = By[Named, LotFacts](LotFacts, "owner lot")
@@ -144,6 +155,20 @@ class Register:
     def links(self) -> list[Link]:
         """What lots contain, each link once, in the order in which they were noted."""
         return list(dict.fromkeys(self.notes(Link)))
+
+    @cached_property
+    def plant_links(self) -> list[PlantLink]:
+        """What lots contain that may be another owner's, each link once. No owner gets any of it."""
+        if self.owner is not None:
+            return []
+        links: list[PlantLink] = self.notes(PlantLink)
+        return list(dict.fromkeys(link for link in links if link.of_lot or link.of_order))
+
+    @cached_property
+    def notices(self) -> list[Notice]:
+        """What owners are told of their lots that contain material of another one."""
+        links: list[PlantLink] = self.notes(PlantLink)
+        return sorted({Notice(link.container, link.day) for link in links if link.tells}, key=str)
 
     @cached_property
     def reasons(self) -> list[Reason]:

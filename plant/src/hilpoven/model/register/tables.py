@@ -10,7 +10,7 @@ from collections.abc import Iterable, Iterator
 from dataclasses import fields
 from typing import Any
 
-from ..notes import KINDS, Held, Judgement, Note
+from ..notes import KINDS, Held, Judgement, Link, Note, PlantLink
 from .meant import rows_in
 from .noted import LISTS, WORDS, Noted, to_json
 from ..rows import Base
@@ -63,14 +63,17 @@ INDEXES = (
     "CREATE INDEX movement_by_key ON movement_note (owner, mkey)",
     "CREATE INDEX unlinked_by_key ON unlinked_note (owner, mkey)",
     "CREATE INDEX corrects_by_key ON corrects_note (owner, mkey)",
+    "CREATE INDEX corrected_by_key ON corrected_note (owner, mkey)",
     "CREATE INDEX link_by_note ON link_note (note)",
     "CREATE INDEX link_by_container ON link_note (owner, lot, ord, number)",
     "CREATE INDEX link_by_contained ON link_note (of_owner, of_lot)",
+    "CREATE INDEX plant_link_by_owner ON plant_link_note (owner)",
+    "CREATE INDEX unit_by_name ON unit_note (unit)",
     "CREATE INDEX judgement_by_lot ON judgement_note (owner, lot)",
     "CREATE INDEX withdrawal_by_note ON withdrawal_note (of_note)",
     "CREATE INDEX reason_by_owner ON reason_note (owner)",
 )
-TYPES: dict[Any, str] = {int: "INTEGER NOT NULL", int | None: "INTEGER"}
+TYPES: dict[Any, str] = {int: "INTEGER NOT NULL", bool: "INTEGER NOT NULL", int | None: "INTEGER"}
 TEXT = "TEXT NOT NULL"  # the type of all other members
 COLUMNS = {"key": "mkey", "order": "ord", "batch": "number", "of": "of_note"}  # of members that have another name
 NOTED = "name, line, time, who, file, after, words, is_own, value, meant"  # what the journal says of a note
@@ -140,11 +143,12 @@ class Columns:
         typed = [f"{COLUMNS.get(member.name, member.name)} {TYPES.get(member.type, TEXT)}" for member in fields(kind)]
         typed += ["is_held INTEGER NOT NULL", "is_alone INTEGER NOT NULL"] if table == "judgement_note" else []
         # one note of an earlier file's batch is a row for each of its lots that came over
-        key = "note INTEGER NOT NULL" if table == "link_note" else "note INTEGER PRIMARY KEY"
+        key = "note INTEGER NOT NULL" if table in (Link.TABLE, PlantLink.TABLE) else "note INTEGER PRIMARY KEY"
         self.create = f"CREATE TABLE {table} ({', '.join([key, *typed])}) STRICT"
 
 
 COLUMNS_OF = {kind: Columns(table, kind) for kind, table in TABLES.items()}
+# The tables and indexes of a register, by what makes each.
 SCHEMA = (*OF_JOURNAL, *dict.fromkeys(columns.create for columns in COLUMNS_OF.values()), *INDEXES)
 
 

@@ -6,7 +6,7 @@ import os
 import secrets
 import sqlite3
 import subprocess
-from collections.abc import Iterator
+from collections.abc import Iterable, Iterator
 from dataclasses import dataclass, field
 from typing import Any
 
@@ -20,6 +20,8 @@ from ...model import views
 from ...model.rows import BatchId, LotId
 from ...model.register import standing
 from ...model.register.standing import Register
+from ...model.unit_order import UnitOrder, read_if_cleaned
+from ...model import reach
 from ...model.years.chain import Part
 from ...model.years.history import merged, parts_of
 from . import guard
@@ -74,6 +76,7 @@ class Source:
     base: sqlite3.Connection
     files: tuple[Part, ...]
     register: Register = field(default_factory=Register)
+    order: UnitOrder | None = None  # on the units, over all files; `None` if no cleaning is noted
 
     @property
     def is_one(self) -> bool:
@@ -95,17 +98,20 @@ class Source:
 
 
 @contextlib.contextmanager
-def opened(office: Office, journal: Journal) -> Iterator[Source]:
-    """A copy of the office's file at one moment, with what its earlier files hold and the journal's notes. A kill
-    leaves nothing of it."""
+def opened(office: Office, journal: Journal, starts: Iterable[LotId | BatchId] | None = None) -> Iterator[Source]:
+    """A copy of the office's file at one moment, with what its earlier files hold and the journal's notes; of several
+    files all, or what a recall of these lots and batches may come to. A kill leaves nothing of it."""
     with scratch.folder(os.path.dirname(office.file)) as room, guard.over(room), contextlib.ExitStack() as stack:
         try:
             newest = stack.enter_context(keyless(office, room))
             files = parts_of(office.file, newest.base, newest.path, newest.digest)
-            base = newest.base if len(files) == 1 else stack.enter_context(merged(files))
+            base = newest.base
+            if len(files) > 1:
+                base = stack.enter_context(merged(files, names=reach.names_of(journal, files, starts)))
+            order = read_if_cleaned(journal, newest.base)
             register = standing.read(journal, newest.base, None if len(files) == 1 else base)
             register.plants_test = office.plants_test
-            yield Source(newest, views.over(base, register), tuple(files), register)
+            yield Source(newest, views.over(base, register), tuple(files), register, order)
         except sqlite3.Error as error:
             raise Failure(f"a copy of {office.file} can't be read: {error}") from error
 

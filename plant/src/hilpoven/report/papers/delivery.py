@@ -13,6 +13,7 @@ from ...core.office import Office
 from ...core.settings import PlantFacts
 from ...core.journal import log
 from ...core.table import counted
+from ...model.rows import BatchId, LotId
 from . import copies, guard, printing
 from .copies import Source
 from .letterhead import Issue, letterhead_beside, letterhead_of
@@ -38,7 +39,8 @@ def footer_of(source: Source, program: str, login: str, for_plant: bool) -> str:
 @dataclass(frozen=True)
 class Delivery:
     """Papers that are to be made and given: their name, what makes them, what they say of the plant, whether they are
-    printed, and where they go, a folder or, as a tar, a stream."""
+    printed, where they go, a folder or, as a tar, a stream, and with what the recall begins that they are of, if they
+    are of nothing else."""
 
     name: str
     make: Maker
@@ -46,6 +48,7 @@ class Delivery:
     day: datetime.date  # of their issue
     prints: bool
     target: str | IO[bytes]
+    starts: Sequence[LotId | BatchId] | None = None
 
     def issue(self, documents: Sequence[Document], tell: Tell) -> Issue:
         """What those say that leave the plant."""
@@ -77,7 +80,7 @@ def deliver(office: Office, journal: log.Journal, delivery: Delivery, begin: Tel
 def read(office: Office, journal: log.Journal, delivery: Delivery, begin: Tell, tell: Tell) -> Write:
     """Reads what papers say; what writes them into a folder."""
     begin(f"copying {office.file}")
-    with copies.opened(office, journal) as source:
+    with copies.opened(office, journal, delivery.starts) as source:
         begin("reading it, and comparing with what toll says")
         program, papers = copies.version(office), delivery.make(source)
         documents = [

@@ -29,7 +29,7 @@ def share(amount: int, came_in: int) -> str:
     return percent(amount, came_in) if came_in else "-"
 
 
-ACCOUNTED = (" + ".join(PARTS.values()), CAME_IN, share)
+ACCOUNTED = (" + ".join(PARTS.values()), f"{CAME_IN} + corrected", share)
 FOUND = columns(
     "steps:number disposition:word owner lot noted:text@beside material on_hand:number shipped:number "
     "measure=unit:text@beside",
@@ -56,13 +56,12 @@ def documents(source: Source, drill: Drill, journal: Journal) -> list[Document]:
     ended = drill.ended or drill.begun
     entries = between(journal.path, journal.file, drill.begun.line, ended.line)
     start = lot_over_all(drill, journal, source.newest.base, None if source.is_one else source.base)
-    view = View(read_report(source, start))
+    view = View(read_report(source, start, is_plants=True))
     lots = view.select("found", FOUND, f"{LOTS} ORDER BY place", ["on_hand", "shipped"])
     sheets = [lots, masses(view), totals(view), *sheets_of(view), done(entries)]
     if not view.is_noted:
         sheets = [sheet.without("noted") for sheet in sheets]
-    if view.links.rows:
-        sheets.append(view.links)
+    sheets += [sheet for sheet in (view.links, view.plant_links) if sheet.rows]
     values: dict[str, Any] = {"facts": facts(drill, ended, view), "counts": view.counts, "is_noted": view.is_noted}
     values |= {"people": people(entries), "asked": mass_of_asked(view)}
     return [Document("drill", True, f"Recall drill: lot {start}", sheets, values)]

@@ -1,14 +1,15 @@
 """Labels of a lot's sublots: what a person reads, and a QR code of what a command reads."""
 import datetime
 import re
-from collections.abc import Sequence
+from collections.abc import Callable, Sequence
 from dataclasses import dataclass
 
 from ...core.failure import REFUSED, Failure
 from ...model.nearest import nearest
 from ...core.scanned import ScannedSublot
 from ...core.days import day_of, format_day
-from ...model.rows import Lot, LotId, require_lot, sublots_of
+from ...model.corrected import BESIDE, ROOT
+from ...model.rows import Base, Lot, LotId, require_lot, sublots_of
 from ...record import expiry
 from ...model import quality
 from ...model.notes import LotFacts
@@ -87,7 +88,10 @@ def page(source: Source, asked: LotId, names: Sequence[str], stock: Stock, day: 
     lot = require_lot(base, asked)
     check_stock(source, [asked.owner], [asked])
     amounts = chosen(lot, {name: amount for (_, name), amount in sublots_of(base, [asked]).items()}, names)
-    labels = [label(lot, name, amount, stock, at % stock.count) for at, (name, amount) in enumerate(amounts)]
+    piles = piles_of(source.base, lot)
+    labels = [
+        label(lot, name, piles(name, amount), stock, at % stock.count) for at, (name, amount) in enumerate(amounts)
+    ]
     last_day = last_day_text(source.register.lots.get(asked), day_of(day))
     values = {
         "title": f"Labels of lot {asked}",
@@ -141,7 +145,23 @@ def chosen(lot: Lot, amounts: dict[str, int], names: Sequence[str]) -> list[tupl
     return [(name, amounts[name]) for name in held]
 
 
-def label(lot: Lot, sublot: str, amount: int, stock: Stock, at: int) -> Label:
+def piles_of(base: Base, lot: Lot) -> Callable[[str, int], str]:
+    """What a label says of an amount in a sublot: where corrections found some of the lot's pile in another lot, what
+    a person counts there, and which lots have it."""
+    words = {"owner": lot.id.owner, "lot": lot.id.name}
+    in_pile, root = base.execute(BESIDE, words).fetchall(), base.execute(ROOT, words).fetchone()
+
+    def amount_text(sublot: str, amount: int) -> str:
+        """The amount of a sublot."""
+        beside = {name: held for name, place, held in in_pile if place == sublot}
+        lots = "".join(f", {held:,} as {name}" for name, held in beside.items())
+        of_root = f", of {root[0]}" if root else ""
+        return f"{amount + sum(beside.values()):,} {lot.measure}{lots}{of_root}"
+
+    return amount_text
+
+
+def label(lot: Lot, sublot: str, amount: str, stock: Stock, at: int) -> Label:
     """The label of a sublot at a place of a page. Its QR code is as large as there is room for."""
     import segno
 
@@ -152,7 +172,7 @@ def label(lot: Lot, sublot: str, amount: int, stock: Stock, at: int) -> Label:
     width = module * len(matrix)
     wide, high = stock.label
     code_place = dots(wide) - EDGE - width, (dots(high) - width) // 2
-    return Label(text, f"{amount:,} {lot.measure}", svg_of(matrix, module), stock.place(at), code_place, width)
+    return Label(text, amount, svg_of(matrix, module), stock.place(at), code_place, width)
 
 
 def svg_of(matrix: list[bytes], module: int) -> str:

@@ -6,9 +6,10 @@ from .agreement import COUNTED, SUMS, agree, agree_on_all, check_lots, require_c
 from ...model.below import MARK
 from ...model.quality import describe_lot
 from ...model.genealogy import BACK, FORWARD, Genealogy
-from ...model.rows import Lot, LotId, lots_of, require_lot
+from ...model.register.standing import Register
+from ...model.rows import Base, Lot, LotId, lots_of, require_lot
 from ...model.schema import OUTGOING, STANDING, Kind
-from .. import noted, overviews
+from .. import corrections, noted, overviews
 from ..columns import Column, columns
 from ..sheets import Sheet, select
 from . import pictures
@@ -46,12 +47,16 @@ def documents(source: Source, asked: LotId) -> list[Document]:
     """The card of a lot. That of a lot of HOUSE is the plant's own: the batches of all owners may have consumed it."""
     lot = require_lot(source.base, asked)
     require_closed(source.base, [asked])
-    (sums,) = source.base.execute(f"SELECT {SUMS} FROM moves AS m WHERE {OF_MOVES} AND {STANDING}", asked).fetchall()
-    balance = dict(zip([kind.total for kind in COUNTED], sums))
+    recorded, sums = (
+        source.base.execute(f"SELECT {SUMS} FROM {moves} AS m WHERE {OF_MOVES} AND {STANDING}", asked).fetchone()
+        for moves in ("moves", "temp.meant")
+    )
+    totals = [kind.total for kind in COUNTED]
+    balance, shifted = dict(zip(totals, sums)), corrections.shifted(source.base, asked)
     check_lots(source, [asked])
     if source.is_one:
         first = recall_of(source.newest.answer("recall", *asked))[0]
-        shipped = lot.on_hand, balance[Kind.SHIP.total]
+        shipped = lot.on_hand, dict(zip(totals, recorded))[Kind.SHIP.total]
         agree(f"what of {asked} is on hand and was shipped", (first.on_hand, first.shipped), shipped)
     beside = neighbours(source, asked)
     base, register = source.base, source.register.of(asked.owner)
@@ -68,10 +73,12 @@ def documents(source: Source, asked: LotId) -> list[Document]:
         noted.links(base, noted.ABOUT_LOT, {"owner": asked.owner, "lot": asked.name}),
         noted.reasons_of_lot(base, *asked),
         select(base, "noted", NOTED, NOTED_OF_LOT, asked),
+        corrections.of_lot(base, asked, asked.owner != HOUSE),
     ]
     about = {"owner": asked.owner, "material": lot.material, "unit": lot.measure, "comes from": lot.origin}
     disposition = f"{pictures.SIGNS[lot.disposition.word]} {lot.disposition.word}"
-    left = sum(-amount if kind in OUTGOING else amount for kind, amount in zip(COUNTED, sums))
+    left = shifted + sum(-amount if kind in OUTGOING else amount for kind, amount in zip(COUNTED, sums))
+    moved = {corrections.SHIFTED: shifted} if shifted else {}
     quality_text = quality.text_of(source.base, source.register, asked)
     values = {
         "facts": {
@@ -80,14 +87,21 @@ def documents(source: Source, asked: LotId) -> list[Document]:
             **({quality.COLUMN: quality_text} if quality_text else {}),
             "on hand": lot.on_hand,
         },
-        "remarks": overviews.release_of(*asked, lot.disposition.word, tests),
-        "balance": {**balance, "on hand": lot.on_hand, "difference": left - lot.on_hand},
+        "remarks": [*overviews.release_of(*asked, lot.disposition.word, tests), *notices_of(base, register, asked)],
+        "balance": {**balance, **moved, "on hand": lot.on_hand, "difference": left - lot.on_hand},
         "described": describe_lot(source.base, register, lot).texts,
         "measure": lot.measure,
         "picture": picture(source, lot, beside),
     }
     sheets += [sheet for sheet in others if sheet.rows]
     return [Document("lot", asked.owner == HOUSE, f"Lot {asked.name}", sheets, values)]
+
+
+def notices_of(base: Base, register: Register, asked: LotId) -> list[str]:
+    """What the owner is told of a lot that contains material of another one."""
+    genealogy = Genealogy(base)
+    days = {note.day for note in register.notices if asked in genealogy.lots_of(note.container)}
+    return noted.notice_lines((asked.name, day) for day in sorted(days))
 
 
 def beside_sheet(beside: dict[str, Beside]) -> Sheet:

@@ -4,21 +4,22 @@ What was found is in two temporary tables: `recalled` has the lots with their ba
 what is noted of them.
 """
 from collections import Counter, defaultdict
-from collections.abc import Sequence
+from collections.abc import Collection, Sequence
 from dataclasses import dataclass
 from functools import cached_property
 from typing import Any, NamedTuple
 
 from ... import HOUSE
-from ...model import answers
+from ...model import answers, corrected
 from .agreement import SUMS, agree, agree_on_all, check_stock, require_closed
 from ...model.below import MARK, noted_text
 from ...model.genealogy import FORWARD, Genealogy, Trace
-from ...model.notes import Link
+from ...model.notes import Link, PlantLink
 from ...model.answers import RecallLine, recall_lines
+from ...model.register.standing import Register
 from ...model.rows import Base, Batch, BatchId, LotId, batches_of, require_lot, want
 from ...model.schema import ON_HAND, ORIGIN, Disposition, Kind, QualityState
-from .. import noted
+from .. import corrections, noted
 from ..columns import Column
 from ..sheets import Sheet, select
 from .copies import Source
@@ -30,12 +31,14 @@ FIRST = (Disposition.RELEASED, Disposition.QUARANTINED, Disposition.REJECTED)
 WORDS = (*(disposition.word for disposition in FIRST), HELD)  # of what is on hand, each in a column
 MOVED = """
 CREATE TEMP TABLE moved AS SELECT m.rowid AS place, m.*, p.name, p.contact, p.phone, p.address
-FROM movement AS m LEFT JOIN party AS p ON p.owner = m.owner AND p.party = m.party
+FROM meant_movement AS m LEFT JOIN party AS p ON p.owner = m.owner AND p.party = m.party
 WHERE (m.lot_owner, m.lot) IN temp.wanted ORDER BY m.rowid
 """
 RECALLED = f"""
 CREATE TEMP TABLE recalled AS SELECT r.*, l.material, k.measure, l.disposition, {ORIGIN} AS origin,
-  {ON_HAND} AS on_hand, {Disposition.sql('l.disposition')} AS word, q.state IS 'held' AS is_held, q.reason, b.*
+  {ON_HAND} AS on_hand, coalesce((SELECT sum(x.amount) FROM temp.shift AS x
+    WHERE x.owner = r.owner AND x.lot = r.lot), 0) AS corrected,
+  {Disposition.sql('l.disposition')} AS word, q.state IS 'held' AS is_held, q.reason, b.*
 FROM temp.reached AS r JOIN lots AS l USING (owner, lot) JOIN materials AS k USING (owner, material)
 JOIN quality AS q ON q.owner = l.owner AND q.lot = l.lot
 JOIN (SELECT w.owner AS of_owner, w.lot AS of_lot, {SUMS} FROM temp.wanted AS w LEFT JOIN temp.moved AS m
@@ -75,7 +78,7 @@ class Step:
     batch: Batch
     consumed: dict[LotId, int]
     produced: dict[LotId, int]
-    links: list[Link]
+    links: list[Link | PlantLink]
     is_noted: bool
 
     @property
@@ -95,6 +98,8 @@ class Report:
     steps: list[Step]
     text: str
     files: int  # of the office, over which it goes
+    register: Register
+    trace: Trace
 
     @property
     def owners(self) -> list[str]:
@@ -139,6 +144,31 @@ class View:
         where = ":reader IN ('', k.owner) AND (k.of_owner, k.of_lot) IN (SELECT owner, lot FROM temp.reached)"
         return noted.links(self.report.base, where, {"reader": self.owner})
 
+    @property
+    def plant_links(self) -> Sheet:
+        """The plant's links of which some content was found; none for an owner."""
+        genealogy, lots = self.report.genealogy, self.report.lots
+        links = [link for link in genealogy.plant_links if contents_in(genealogy, lots, link)]
+        return noted.plant_links([] if self.owner else links)
+
+    @cached_property
+    def notices(self) -> list[tuple[str, int]]:
+        """Which of an owner's lots contain material of another one, as the plant tells it, and since which day."""
+        if not self.owner:
+            return []
+        genealogy, lots = self.report.genealogy, self.report.lots
+        noticed = {
+            (lot, notice.day)
+            for notice in self.report.register.of(self.owner).notices
+            for lot in genealogy.lots_of(notice.container)
+        }
+        return [(lot.name, day) for lot, day in sorted(noticed) if lot in lots]
+
+    @cached_property
+    def corrections(self) -> Sheet:
+        """What was recorded by mistake of its lots, or meant of them."""
+        return corrections.of_recall(self.report.base, self.owner)
+
     @cached_property
     def is_noted(self) -> bool:
         """Whether links add any of its lots or batches, or shorten the way to a lot."""
@@ -171,28 +201,53 @@ class View:
         return {"owners": len(self.report.owners), "shipments": shipments, **{word: on_hand[word] for word in WORDS}}
 
 
-def read_report(source: Source, start: LotId) -> Report:
-    """The recall of a lot, which is there."""
+def read_report(source: Source, start: LotId, *others: LotId, is_plants: bool = False, is_paper: bool = True) -> Report:
+    """The recall of a lot, which is there, or of several together; that of the plant follows links between owners, too.
+    It is read before another one is made. Of a paper `toll` has to tell the same; what is only looked at or held
+    doesn't wait for that."""
     base = source.base
-    require_lot(base, start)
-    genealogy = Genealogy(base, source.register)
-    trace = genealogy.trace(start, FORWARD)
-    require_closed(base, trace.steps)
+    genealogy = Genealogy(base, source.register, is_plants)
+    traces = []
+    for each in (start, *others):
+        require_lot(base, each)
+        traces.append(genealogy.trace(each, FORWARD))
+        recorded = recall_lines(base, traces[-1].recorded)
+        text = "".join(f"{line}\n" for line in answers.recall_text(recorded))
+        if is_paper:
+            check_lines(source, each, recorded, text)
+    trace = joined_traces(traces)
+    if others:
+        text = "".join(f"{line}\n" for line in answers.recall_text(recall_lines(base, trace.recorded)))
+    if is_paper:
+        require_closed(base, trace.steps)
     lots = read_lots(base, trace)
     steps = steps_of(base, genealogy, trace)
-    recorded = recall_lines(base, trace.recorded)
-    text = "".join(f"{line}\n" for line in answers.recall_text(recorded))
-    check_lines(source, start, recorded, text)
-    check_stock(source, sorted({lot.owner for lot in lots}), lots)
-    check_batches(source, [step.batch for step in steps])
+    if is_paper:
+        check_stock(source, sorted({lot.owner for lot in lots}), lots)
+        check_batches(source, [step.batch for step in steps])
     added = noted_text(answers.recall_text(recall_lines(base, trace.noted))[1:])
-    text += "".join(f"{line}\n" for line in added)
-    return Report(base, start, genealogy, lots, steps, text, len(source.files))
+    text += "".join(f"{line}\n" for line in [*added, *corrected.lines_below(base, trace.steps)])
+    return Report(base, start, genealogy, lots, steps, text, len(source.files), source.register, trace)
+
+
+def joined_traces(traces: Sequence[Trace]) -> Trace:
+    """The lots of several traces, each with the fewest steps from any of their starts."""
+    if len(traces) == 1:
+        return traces[0]
+    joined: list[dict[LotId, int]] = []
+    for all_steps in ([trace.steps for trace in traces], [trace.recorded for trace in traces]):
+        fewest: dict[LotId, int] = {}
+        for steps in all_steps:
+            fewest.update((lot, number) for lot, number in steps.items() if number <= fewest.get(lot, number))
+        joined.append(dict(sorted(fewest.items(), key=lambda entry: (entry[1], entry[0]))))
+    return Trace(*joined)
 
 
 def read_lots(base: Base, trace: Trace) -> dict[LotId, Found]:
     """The lots of a trace, by their steps; `recalled` has them, and `moved` their movements."""
     want(base, trace.steps)
+    for table in ("reached", "moved", "recalled"):
+        base.execute(f"DROP TABLE IF EXISTS temp.{table}")
     base.execute(REACHED)
     marks = ((steps, *lot, MARK if trace.is_noted(lot) else None) for lot, steps in trace.steps.items())
     base.executemany("INSERT INTO temp.reached (steps, owner, lot, mark) VALUES (?, ?, ?, ?)", marks)
@@ -209,14 +264,21 @@ GROUP BY 1, 2, 3, 4, 5, 6
 """
 
 
+def contents_in(genealogy: Genealogy, lots: Collection[LotId], link: Link | PlantLink) -> list[LotId]:
+    """The lots among these of which a link says that they are contained."""
+    contents = [link.contained] if isinstance(link, Link) else genealogy.contents_of(link)
+    return [lot for lot in contents if lot in lots]
+
+
 def steps_of(base: Base, genealogy: Genealogy, trace: Trace) -> list[Step]:
     """The batches that consumed some of the recalled lots, or that contain some by links."""
     amounts = Counter[tuple[BatchId, Kind, LotId]]()
     for owner, order, number, kind, *lot, amount in base.execute(AMOUNTS):
         amounts[BatchId(owner, order, number), Kind(kind), LotId(*lot)] = amount
-    links: dict[BatchId, list[Link]] = defaultdict(list)
-    for link in genealogy.links:
-        if isinstance(link.container, BatchId) and link.contained in trace.steps:
+    links: dict[BatchId, list[Link | PlantLink]] = defaultdict(list)
+    all_links: list[Link | PlantLink] = [*genealogy.links, *genealogy.plant_links]
+    for link in all_links:
+        if isinstance(link.container, BatchId) and contents_in(genealogy, trace.steps, link):
             links[link.container].append(link)
     steps = []
     consumers = {batch for lot in trace.steps for batch in genealogy.consumers(lot)}
@@ -225,7 +287,8 @@ def steps_of(base: Base, genealogy: Genealogy, trace: Trace) -> list[Step]:
         onward = {product for lot in consumed for product in genealogy.products(name, lot)}
         if links[name]:
             onward |= set(genealogy.lots_of(name))
-        nearest = min(trace.steps[lot] for lot in [*consumed, *(link.contained for link in links[name])])
+        by_links = [lot for link in links[name] for lot in contents_in(genealogy, trace.steps, link)]
+        nearest = min(trace.steps[lot] for lot in [*consumed, *by_links])
         is_noted = all(trace.recorded.get(lot) != nearest for lot in consumed)
         taken = {lot: amounts[name, Kind.CONSUMED, lot] for lot in consumed}
         produced = {lot: amounts[name, Kind.PRODUCED, lot] for lot in sorted(onward)}

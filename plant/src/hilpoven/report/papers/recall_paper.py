@@ -1,19 +1,38 @@
 """The papers of a recall: what to do first, where it lies, what left, who has it, where it went, and what of each lot
 came and left."""
 from collections import Counter, defaultdict
+from dataclasses import replace
 from typing import Any
 
 from .agreement import COUNTED
+from ...model import residues
 from ...model.below import MARK
-from ...model.rows import LotId
+from ...model.notes import Link, PlantLink
+from ...model.rows import BatchId, LotId
 from ...model.schema import FOLLOWING, Disposition
 from ..columns import columns
+from ..noted import notice_lines
 from ..sheets import Sheet
 from . import pictures
 from .copies import Source
 from .pictures import Arrow, Box
 from .printing import Document
-from .recall import HELD, LOTS, MOST_NAMES, READ, SHIPMENTS, STATE, STATUS, WORDS, Found, Step, View, read_report
+from .recall import (
+    HELD,
+    LOTS,
+    MOST_NAMES,
+    READ,
+    SHIPMENTS,
+    STATE,
+    STATUS,
+    WORDS,
+    Found,
+    Report,
+    Step,
+    View,
+    contents_in,
+    read_report,
+)
 from .recipients import sheets_of
 
 MOST_BOXES = 60
@@ -21,9 +40,50 @@ RANK = f"CASE {STATE} {' '.join(f'WHEN {word!r} THEN {at}' for at, word in enume
 
 
 def documents(source: Source, start: LotId) -> list[Document]:
-    """The papers of a recall: the plant's with all of it, and one for each owner concerned."""
+    """The papers of a recall: the plant's with all of it, and one for each owner concerned. An owner's has what its own
+    links and the recorded edges give, whatever links between owners say."""
     report = read_report(source, start)
-    return [document(View(report, owner)) for owner in ("", *report.owners)]
+    own = [document(View(report, owner)) for owner in report.owners]
+    if not source.register.plant_links:
+        return [of_plant(source, report), *own]
+    whole = read_report(source, start, is_plants=True)
+    return [of_plant(source, whole), *own, *noticed_documents(source, report, whole)]
+
+
+def of_plant(source: Source, report: Report) -> Document:
+    """The plant's paper, which alone has the batches that may contain residues."""
+    paper = document(View(report))
+    rows = may_contain_in(source, report)
+    if rows:
+        cells = [
+            (row.unit, row.batch.owner, row.batch.name, row.lots_named, str(row.behind), row.decision) for row in rows
+        ]
+        paper.sheets.append(Sheet("may_contain", MAY_CONTAIN, cells))
+        paper.texts["recall.txt"] += "".join(f"{line}\n" for line in residues.lines_of(rows))
+    return paper
+
+
+def may_contain_in(source: Source, report: Report) -> list[residues.MayContain]:
+    """The batches that may contain residues of what a recall found."""
+    is_whole = not source.is_one
+    return residues.may_contain(report.genealogy, report.trace, source.order, is_whole) if source.order else []
+
+
+def noticed_documents(source: Source, own: Report, whole: Report) -> list[Document]:
+    """The papers of owners for lots that contain some of a recalled lot by a link between owners that they are told of:
+    each is the recall of such a lot itself, and has nothing of the other one."""
+    lots = {
+        lot
+        for link in whole.genealogy.plant_links
+        if link.tells and contents_in(whole.genealogy, whole.lots, link)
+        for lot in whole.genealogy.lots_of(link.container)
+        if lot not in own.lots
+    }
+    papers = []
+    for lot in sorted(lots):
+        paper = document(View(read_report(source, lot), lot.owner))
+        papers.append(replace(paper, folder=f"{paper.folder}/{lot.name}"))
+    return papers
 
 
 HOLD_LOT = "hilpoven hold {lot} --reason 'recall of {start}'"  # at once; a rejection is the owner's, and for good
@@ -68,13 +128,14 @@ SHIPPED = columns(
 )
 BALANCES = columns(
     "steps:number owner lot noted:text@beside origin=from disposition:word@beneath material measure=unit:text@beneath "
-    f"{' '.join(f'{kind.total}:number' for kind in COUNTED)} on_hand:number difference:number",
+    f"{' '.join(f'{kind.total}:number' for kind in COUNTED)} corrected:number? on_hand:number difference:number",
     noted="mark",
     disposition=STATUS,
-    difference="received + produced - consumed - shipped - scrapped - on_hand",
+    difference="received + produced - consumed - shipped - scrapped + corrected - on_hand",
 )
 RUNNING = columns("owner batch noted:text@beside unit state:text took:text to_do=do:text")
 BATCHES = columns("step:number owner batch noted:text@beside unit state:text took:text made:text")
+MAY_CONTAIN = columns("unit owner batch lots:text behind:text decided:text")
 FLOWS = columns("step:number batch_owner batch unit use:text lot_owner lot amount:number")
 
 
@@ -98,15 +159,14 @@ def document(view: View) -> Document:
         sheets[4] = sheets[4].without("noted_party", "noted_document")
     if not view.is_noted:
         sheets = [sheet.without("noted") for sheet in sheets]
-    if view.links.rows:
-        sheets.append(view.links)
+    sheets += [sheet for sheet in (view.links, view.plant_links, view.corrections) if sheet.rows]
     sheets += sheets_of(view) if view.has_notes else []
     if owner:
         sheets = [sheet.without("owner") for sheet in sheets]
     title = f"Recall: lots of {owner}" if owner and not is_own else f"Recall of {start.name if owner else start}"
     values: dict[str, Any] = {"owner": owner, "asked": start if view.names_start else None, "is_own": is_own}
     values |= {"counts": view.counts, "picture": picture(view), "files": view.report.files}
-    values |= {"is_noted": view.is_noted, "has_notes": view.has_notes}
+    values |= {"is_noted": view.is_noted, "has_notes": view.has_notes, "notices": notice_lines(view.notices)}
     folder, texts = (f"owners/{owner}", {}) if owner else ("plant", {"recall.txt": view.report.text})
     return Document("recall", not owner, title, [*sheets, flows(view)], values, folder, texts)
 
@@ -170,13 +230,17 @@ def amounts_in(view: View, amounts: dict[LotId, int]) -> str:
 
 def taken_in(view: View, step: Step) -> str:
     """What a batch consumed of the recalled lots, and what else of them it contains by links; of many their number."""
-    links = [
-        name_in(view, link.contained) if link.amount is None else amounts_in(view, {link.contained: link.amount})
-        for link in step.links
-    ]
+    links = [taken_by_link(view, link) for link in step.links]
     if len(links) > MOST_NAMES:
         links = [f"{len(links):,} links"]
     return ", ".join([*filter(None, [amounts_in(view, step.consumed)]), *(f"{text} {MARK}" for text in links)])
+
+
+def taken_by_link(view: View, link: Link | PlantLink) -> str:
+    """What a batch contains by a link, with its amount if that is known."""
+    if isinstance(link.contained, BatchId):
+        return f"{link.contained}" if link.amount is None else f"{link.contained}: {link.amount:,}"
+    return name_in(view, link.contained) if link.amount is None else amounts_in(view, {link.contained: link.amount})
 
 
 def picture(view: View) -> list[str]:

@@ -5,6 +5,7 @@ from itertools import groupby
 from operator import itemgetter
 from typing import Any
 
+from ...core.days import LAST_DAY
 from ...model.kinds import Why
 from ...model.rows import LotId
 from ...model.schema import Kind
@@ -81,6 +82,7 @@ class Received:
     shipments: int
     amount: int
     returned: int = 0
+    returned_since: int = 0  # a day that is asked for
 
     @property
     def row(self) -> tuple[Any, ...]:
@@ -124,8 +126,8 @@ def received_of(view: View) -> Recipients:
     return received
 
 
-def returns_of(view: View, received: Recipients) -> Sheet:
-    """What came back, and from whose amounts that is subtracted, which this does."""
+def returns_of(view: View, received: Recipients, since: int = LAST_DAY) -> Sheet:
+    """What came back, and from whose amounts that is subtracted, which this does; and how much of it since a day."""
     rows, parties = [], defaultdict[LotId, set[str]](set)
     for owner, lot, party in view.report.base.execute(
         f"SELECT r.owner, r.lot, m.party {SHIPMENTS}", {"reader": view.owner}
@@ -142,6 +144,7 @@ def returns_of(view: View, received: Recipients) -> Sheet:
             sender, why = "", "it has another unit"
         if sender:
             received[owner, sender, of_lot].returned += amount
+            received[owner, sender, of_lot].returned_since += amount if day >= since else 0
         otherwise = why or to_note(
             view.owner, owner, key, "--from PARTY", "nobody noted who sent it", "tell the plant who sent it"
         )

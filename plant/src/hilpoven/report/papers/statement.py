@@ -5,6 +5,7 @@ from ... import HOUSE
 from ...core.days import format_day
 from ...model.rows import Base, LotId, require_owner, want
 from ...model.schema import CHANGE, ON_HAND, STANDING, Disposition, Kind
+from .. import corrections
 from ..columns import Column, columns
 from ..noted import LINKS, MADE, links
 from ..sheets import Sheet, select
@@ -13,11 +14,21 @@ from .copies import Source
 from .printing import Document
 
 COUNTED = (Kind.RECEIVE, Kind.PRODUCED, Kind.CONSUMED, Kind.SCRAP, Kind.SHIP)  # in the order of a statement's columns
-AMOUNTS = ("opening", *(kind.total for kind in COUNTED), "closing", "unexplained")
+SHIFT = 9  # in the place of the kind of a movement: a correction moved something between two lots of one pile
+AMOUNTS = ("opening", *(kind.total for kind in COUNTED), corrections.SHIFTED, "closing", "unexplained")
 BETWEEN = "m.day BETWEEN :first AND :last"
-# The movements of the owner's lots that stand.
-FLOWS = f"SELECT m.*, m.rowid AS place, {CHANGE} AS change FROM moves AS m WHERE m.lot_owner = :owner AND {STANDING}"
-SUMS = ", ".join(f"sum(iif(m.kind = {kind:d} AND {BETWEEN}, m.amount, 0)) AS {kind.total}" for kind in COUNTED)
+# The movements of the owner's lots that stand, as they were meant.
+FLOWS = f"""
+SELECT m.mkey, m.kind, m.lot, m.amount, m.day, m.rowid AS place, {CHANGE} AS change FROM temp.meant AS m
+WHERE m.lot_owner = :owner AND {STANDING}
+UNION ALL SELECT '', {SHIFT}, lot, abs(amount), day, 0, amount FROM temp.shift WHERE owner = :owner
+"""
+SUMS = ", ".join(
+    [
+        *(f"sum(iif(m.kind = {kind:d} AND {BETWEEN}, m.amount, 0)) AS {kind.total}" for kind in COUNTED),
+        f"sum(iif(m.kind = {SHIFT} AND {BETWEEN}, m.change, 0)) AS {corrections.SHIFTED}",
+    ]
+)
 # The amounts of each lot; unexplained is what all movements leave, less what is on hand.
 ACCOUNTS = f"""
 CREATE TEMP TABLE account AS
@@ -47,9 +58,9 @@ FROM (WITH step AS (
 JOIN temp.account AS a USING (lot) ORDER BY a.material, a.lot
 """
 CONSUMED_OF_HOUSE = f"""
-FROM moves AS m JOIN lots AS l ON l.owner = m.lot_owner AND l.lot = m.lot
+FROM temp.meant AS m JOIN lots AS l ON l.owner = m.lot_owner AND l.lot = m.lot
 JOIN materials AS k ON k.owner = l.owner AND k.material = l.material
-WHERE m.owner = :owner AND m.lot_owner <> m.owner AND m.ord <> '' AND {BETWEEN} AND {STANDING}
+WHERE m.owner = :owner AND m.lot_owner <> m.owner AND m.ord <> '' AND m.amount > 0 AND {BETWEEN} AND {STANDING}
 GROUP BY m.lot_owner, m.lot, m.ord, m.number ORDER BY l.material, k.measure, m.lot_owner, m.lot, m.ord, m.number
 """
 MATERIAL = columns("material measure=unit:text@beneath")
@@ -67,7 +78,7 @@ OVERDRAFTS = columns(
     "d.lot d.day:day key kind:text d.amount:number left=leaves:number a.measure=unit:text@beside "
     "d.next_day=comes_next:day d.next_key=by_key",
     key="d.mkey",
-    kind=Kind.sql("d.kind"),
+    kind=f"iif(d.kind = {SHIFT}, 'correction', {Kind.sql('d.kind')})",
     left="d.rest",
 )
 OF_HOUSE = columns(
@@ -90,14 +101,17 @@ class Statement:
 
 
 def read_statement(base: Base, owner: str, first: int, last: int) -> Statement:
-    """The statement of an owner from a day to a day."""
+    """The statement of an owner from a day to a day, of tables that have the views."""
     words = {"owner": owner, "first": first, "last": last}
     base.execute("DROP TABLE IF EXISTS temp.account")
     base.execute(ACCOUNTS, words)
     ((unexplained,),) = base.execute("SELECT coalesce(-sum(unexplained), 0) FROM temp.account").fetchall()
+    lots = select(base, "lots", LOTS, f"{MOVED} ORDER BY material, lot", (), AMOUNTS)
+    sums = select(base, "sums", [*MATERIAL, *BY_MATERIAL], f"{MOVED} GROUP BY material, measure ORDER BY material")
+    unshifted = [] if lots.has(corrections.SHIFTED) else [corrections.SHIFTED]
     return Statement(
-        select(base, "lots", LOTS, f"{MOVED} ORDER BY material, lot", (), AMOUNTS),
-        select(base, "sums", [*MATERIAL, *BY_MATERIAL], f"{MOVED} GROUP BY material, measure ORDER BY material"),
+        lots.without(*unshifted),
+        sums.without(*unshifted),
         select(base, "plants_material", OF_HOUSE, CONSUMED_OF_HOUSE, words),
         select(base, "overdrafts", OVERDRAFTS, DRAFTS, words),
         unexplained,
@@ -124,7 +138,7 @@ def documents(source: Source, owner: str, first: int, last: int) -> list[Documen
     read = read_statement(base, owner, first, last)
     between = "FROM movement AS m WHERE lot_owner = ? AND day BETWEEN ? AND ? ORDER BY day, m.rowid"
     movements = select(base, "movements", MOVEMENTS, between, (owner, first, last), ["amount"])
-    others = read.overdrafts, links_in(base, owner, read)
+    others = read.overdrafts, links_in(base, owner, read), corrections.of_owner(base, owner, owner != HOUSE)
     sheets = [read.sums, read.lots, read.of_house, movements, *(sheet for sheet in others if sheet.rows)]
     title = f"Statement of {owner}, {format_day(first)} to {format_day(last)}"
     return [Document("statement", owner == HOUSE, title, sheets, {"owner": owner})]
