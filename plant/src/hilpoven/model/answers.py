@@ -9,7 +9,8 @@ from .schema import ON_HAND, STANDING, Disposition, Kind
 LINES = f"""
 SELECT l.owner, l.lot, {Disposition.sql('l.disposition')}, {ON_HAND}, coalesce(s.shipped, 0) FROM lots AS l
 LEFT JOIN (SELECT m.lot_owner AS owner, m.lot, sum(m.amount) AS shipped FROM moves AS m
-  WHERE m.kind = {Kind.SHIP:d} AND (m.lot_owner, m.lot) IN temp.wanted AND {STANDING} GROUP BY 1, 2) AS s
+  WHERE m.owner IN (SELECT w.owner FROM temp.wanted AS w) AND m.owner = m.lot_owner AND m.kind = {Kind.SHIP:d}
+  AND (m.lot_owner, m.lot) IN temp.wanted AND {STANDING} GROUP BY 1, 2) AS s
   USING (owner, lot)
 WHERE (l.owner, l.lot) IN temp.wanted
 """

@@ -9,7 +9,7 @@ from operator import itemgetter
 
 from .. import HOUSE
 from . import views
-from .notes import Link, Why
+from .notes import Link, PlantLink, Why
 from .register.standing import Register
 from .rows import Base, BatchId, LotId, owners_of
 from .schema import IS_ACTUAL, STANDING, Kind, Role
@@ -38,6 +38,21 @@ def links_of(base: Base, register: Register) -> list[Link]:
     ]
 
 
+HAS_END = {
+    LotId: "SELECT 1 FROM lots WHERE owner = ? AND lot = ?",
+    BatchId: "SELECT 1 FROM batches WHERE owner = ? AND ord = ? AND number = ?",
+}
+
+
+def plant_links_of(base: Base, register: Register) -> list[PlantLink]:
+    """The plant's links whose ends are there, in the order in which they were noted."""
+
+    def is_there(end: LotId | BatchId) -> bool:
+        return base.execute(HAS_END[type(end)], end).fetchone() is not None
+
+    return [link for link in register.plant_links if is_there(link.container) and is_there(link.contained)]
+
+
 @dataclass(frozen=True)
 class Trace:
     """The lots that end a chain of recorded edges and links from a lot, and those that end one of recorded edges alone,
@@ -61,11 +76,13 @@ class Genealogy:
     are there. An owner's batches are read when a trace reaches it.
 
     A lot went into another if a batch consumed it in a segment that isn't after the last one that produced the other,
-    or if a link says so of the other, or of a batch that produced it.
+    or if a link says so of the other, or of a batch that produced it. Links of the plant's, which may join lots of two
+    owners, are followed for the plant alone; what they say of a batch's material is of each lot that it took or made.
     """
 
-    def __init__(self, base: Base, register: Register | None = None) -> None:
+    def __init__(self, base: Base, register: Register | None = None, is_plants: bool = False) -> None:
         self.base, self.links = base, links_of(base, register) if register else []
+        self.plant_links = plant_links_of(base, register) if register and is_plants else []
         self.consumed: dict[BatchId, Segments] = defaultdict(dict)  # with the first segment
         self.produced: dict[BatchId, Segments] = defaultdict(dict)  # with the last segment
         self._consumers: dict[LotId, list[BatchId]] = defaultdict(list)
@@ -77,6 +94,11 @@ class Genealogy:
         for link in self.links:
             self._links_of[link.contained].append(link)
             self._links_in[link.container].append(link)
+        self._plant_links_of: dict[LotId | BatchId, list[PlantLink]] = defaultdict(list)
+        self._plant_links_in: dict[LotId | BatchId, list[PlantLink]] = defaultdict(list)
+        for spread in self.plant_links:
+            self._plant_links_of[spread.contained].append(spread)
+            self._plant_links_in[spread.container].append(spread)
 
     @cached_property
     def everybody(self) -> list[str]:
@@ -156,13 +178,39 @@ class Genealogy:
         """The lots that a lot was made of in one step, by recorded actuals."""
         return {source for batch in self.producers(lot) for source in self.sources(batch, lot)}
 
+    def contents_of(self, link: PlantLink) -> list[LotId]:
+        """The lots of which a link of the plant's says that they are contained: one, or all that a batch took or
+        made."""
+        if isinstance(link.contained, LotId):
+            return [link.contained]
+        self.read_batches(link.contained.owner)
+        consumed, produced = self.consumed.get(link.contained, {}), self.produced.get(link.contained, {})
+        return list(dict.fromkeys([*consumed, *produced]))
+
+    def spread_onward(self, lot: LotId) -> set[LotId]:
+        """The lots that contain some of a lot by a link of the plant's."""
+        if not self.plant_links:
+            return set()
+        ends: list[LotId | BatchId] = [lot, *self.consumers(lot), *self.producers(lot)]
+        links = (link for end in ends for link in self._plant_links_of.get(end, []))
+        return {container for link in links for container in self.lots_of(link.container)} - {lot}
+
+    def spread_backward(self, lot: LotId) -> set[LotId]:
+        """The lots of which a lot contains some by a link of the plant's."""
+        if not self.plant_links:
+            return set()
+        ends: list[LotId | BatchId] = [lot, *self.producers(lot)]
+        links = (link for end in ends for link in self._plant_links_in.get(end, []))
+        return {content for link in links for content in self.contents_of(link)} - {lot}
+
     def linked_onward(self, lot: LotId) -> set[LotId]:
         """The lots that contain a lot by a link."""
-        return {container for link in self.links_of(lot) for container in self.lots_of(link.container)}
+        by_links = {container for link in self.links_of(lot) for container in self.lots_of(link.container)}
+        return by_links | self.spread_onward(lot)
 
     def linked_backward(self, lot: LotId) -> set[LotId]:
         """The lots that a lot contains by a link."""
-        return {link.contained for link in self.links_in(lot)}
+        return {link.contained for link in self.links_in(lot)} | self.spread_backward(lot)
 
     def onward(self, lot: LotId) -> list[LotId]:
         """The lots that a lot went into in one step, by recorded actuals and links."""
@@ -179,7 +227,8 @@ class Genealogy:
             BACK: (self.backward, self.recorded_backward),
         }[way]
         by_actuals = fewest_steps(start, recorded)
-        return Trace(fewest_steps(start, all_edges) if self.links else by_actuals, by_actuals)
+        has_links = self.links or self.plant_links
+        return Trace(fewest_steps(start, all_edges) if has_links else by_actuals, by_actuals)
 
 
 def fewest_steps(start: LotId, neighbours: Callable[[LotId], Iterable[LotId]]) -> dict[LotId, int]:
@@ -225,7 +274,7 @@ def suspects(base: Base, register: Register) -> list[Suspect]:
     stock came over from an earlier file are none."""
     carried = set(base.execute(CARRIED)) if chain.came_from(base) else set()
     settled = register.not_linked | carried
-    passed = {link.container for link in register.links}
+    passed = {link.container for link in register.links} | {link.container for link in register.plant_links}
     first: dict[LotId, Suspect] = {}
     for row in base.execute(RECEIPTS):
         suspect = Suspect(*row)

@@ -11,6 +11,19 @@ class Why(StrEnum):
     RETURN = "return"
     USE = "use"
     CORRECTION = "correction"
+    MISRECORDED = "misrecorded"
+
+
+class Spread(StrEnum):
+    """Why a lot contains some of another one that may be another owner's; the plant alone sees such links."""
+
+    RESIDUE = "residue"
+    RECOVERED = "recovered"
+    TRANSFER = "transfer"
+    MISRECORDED = "misrecorded"
+
+
+LINKING = (*Why, *Spread)  # what `link` takes
 
 
 class Role(StrEnum):

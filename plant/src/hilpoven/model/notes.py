@@ -7,11 +7,13 @@ from collections.abc import Mapping
 from dataclasses import dataclass, fields, replace
 from typing import ClassVar, TypeVar
 
+from .. import HOUSE
 from ..core.days import format_day, format_month
 from ..core.failure import REFUSED, Failure
 from ..core.forms import listed
 from .kinds import Bound
 from .kinds import Role as Role
+from .kinds import Spread
 from .kinds import Why as Why
 from .measures import as_measured
 from .nearest import nearest
@@ -80,34 +82,41 @@ class MovementFacts(Note):
 
 @dataclass(frozen=True)
 class OwnerFacts(Note):
-    """The full name of an owner, and its address."""
+    """The full name of an owner, its address, and its Global Location Number."""
 
     KIND = "owner"
     TABLE = "owner_note"
     SUBJECT = ("owner",)
     name: str = ""
     address: str = ""
+    gln: str = ""
 
     @property
     def sentence(self) -> str:
         """Which owner, and what is known of it."""
-        return f"owner {self.owner}: {in_words({'name': self.name, 'address': self.address})}"
+        facts = {"name": self.name, "address": self.address, "GLN": self.gln}
+        return f"owner {self.owner}: {in_words(facts)}"
 
 
 @dataclass(frozen=True)
 class MaterialFacts(Note):
-    """The full name of a material."""
+    """The full name of a material, its Global Trade Item Number, the code of its unit, and its allergens."""
 
     KIND = "material"
     TABLE = "material_note"
     SUBJECT = ("owner", "material")
     material: str
     name: str = ""
+    gtin: str = ""
+    unit_code: str = ""
+    allergens: tuple[str, ...] = ()
 
     @property
     def sentence(self) -> str:
-        """Which material, and its full name."""
-        return f"material {self.material} of {self.owner}: {in_words({'name': self.name})}"
+        """Which material, and what is known of it."""
+        facts = {"name": self.name, "GTIN": self.gtin, "unit code": self.unit_code}
+        facts |= {"allergens": ", ".join(self.allergens)}
+        return f"material {self.material} of {self.owner}: {in_words(facts)}"
 
 
 @dataclass(frozen=True)
@@ -261,6 +270,106 @@ class Link(Note):
 
 
 @dataclass(frozen=True)
+class PlantLink(Note):
+    """A lot of an owner, or each lot that a batch of it makes, contains some of a lot of any owner, or of what a batch
+    took and made. The plant alone sees both ends."""
+
+    KIND = "plant-link"
+    TABLE = "plant_link_note"
+    of_owner: str
+    spread: Spread
+    day: int  # on which it was noted
+    lot: str = ""  # empty where a batch stands for its lots
+    order: str = ""
+    batch: int = 0
+    of_lot: str = ""  # empty where a batch stands for what it took and made
+    of_order: str = ""
+    of_batch: int = 0
+    amount: int | None = None  # in the measure of the lot that is contained; `None` if it isn't known
+    reason: str = ""
+    tells: bool = False  # whether the owner sees that its lot contains material of another one, and the day
+
+    @property
+    def container(self) -> LotId | BatchId:
+        """What contains it: a lot, or a batch that stands for its lots."""
+        return LotId(self.owner, self.lot) if self.lot else BatchId(self.owner, self.order, self.batch)
+
+    @property
+    def contained(self) -> LotId | BatchId:
+        """What is contained: some of a lot, or of what a batch took and made."""
+        return (
+            LotId(self.of_owner, self.of_lot) if self.of_lot else BatchId(self.of_owner, self.of_order, self.of_batch)
+        )
+
+    @property
+    def sentence(self) -> str:
+        """What contains some of what, why, and whether its owner is told."""
+        kinds = ["lot" if isinstance(end, LotId) else "batch" for end in (self.container, self.contained)]
+        amount = "some" if self.amount is None else f"{self.amount:,}"
+        why = f"{self.spread}{because(self.reason)}"
+        telling = f", {self.owner} is told" if self.tells else ""
+        return f"{kinds[0]} {self.container} contains {amount} of {kinds[1]} {self.contained} ({why}){telling}"
+
+
+@dataclass(frozen=True)
+class UnitFacts(Note):
+    """The full name of a unit. Notes of units are the plant's, HOUSE's."""
+
+    KIND = "unit"
+    TABLE = "unit_note"
+    SUBJECT = ("unit",)
+    unit: str
+    name: str = ""
+
+    @property
+    def sentence(self) -> str:
+        """Which unit, and its full name."""
+        return f"unit {self.unit}: {in_words({'name': self.name})}"
+
+
+@dataclass(frozen=True)
+class Cleaned(Note):
+    """A unit was cleaned, behind the last batch that had held it: its owner, order and number in the file of the note;
+    an empty order where that file had none yet."""
+
+    KIND = "cleaned"
+    unit: str
+    how: str
+    checked: str = ""
+    of_owner: str = HOUSE
+    order: str = ""
+    batch: int = 0
+
+    @property
+    def behind(self) -> BatchId | None:
+        """The last batch that had held the unit; `None` if the file of the note had none."""
+        return BatchId(self.of_owner, self.order, self.batch) if self.order else None
+
+    @property
+    def sentence(self) -> str:
+        """Which unit, and how."""
+        checked = f", checked: {self.checked}" if self.checked else ""
+        return f"unit {self.unit} was cleaned: {self.how}{checked}"
+
+
+@dataclass(frozen=True)
+class NoResidue(Note):
+    """A batch contains nothing of what its unit held before, as a person decided."""
+
+    KIND = "no-residue"
+    SUBJECT = ("owner", "order", "batch")
+    order: str
+    batch: int
+    reason: str
+
+    @property
+    def sentence(self) -> str:
+        """Which batch, and why."""
+        batch = BatchId(self.owner, self.order, self.batch)
+        return f"batch {batch} contains nothing of what its unit held before{because(self.reason)}"
+
+
+@dataclass(frozen=True)
 class Party(Note):
     """A customer, a supplier or a carrier of an owner. The last note of a name counts, member by member; it may empty
     some."""
@@ -275,11 +384,13 @@ class Party(Note):
     phone: str = ""
     roles: tuple[Role, ...] = ()
     emptied: tuple[str, ...] = ()  # members that are empty from now on
+    gln: str = ""
 
     @property
     def sentence(self) -> str:
         """Who it is, and how it is reached."""
         facts = [self.name, *self.roles, self.address, self.contact, self.phone]
+        facts += [f"GLN {self.gln}"] if self.gln else []
         facts += [f"no {name}" for name in self.emptied]
         return f"party {self.party} of {self.owner}: {', '.join(filter(None, facts))}"
 
@@ -317,6 +428,72 @@ class Corrects(Note):
     def sentence(self) -> str:
         """Which one corrects which."""
         return f"{self.key} of {self.owner} corrects {self.of_key} of {self.of_owner}"
+
+
+@dataclass(frozen=True)
+class CorrectionAsked(Note):
+    """A movement was typed wrongly, by whoever notes it: how much of which lot was meant, and which party. It holds
+    once another person signs it."""
+
+    KIND = "correction"
+    key: str
+    lot: str
+    amount_meant: int
+    day: int
+    reason: str
+    party: str = ""
+    sublot: str = ""
+
+    @property
+    def sentence(self) -> str:
+        """What was meant by which movement."""
+        meant = meant_in_words(self.amount_meant, self.lot, self.party)
+        return f"correction of {self.key} of {self.owner} to {meant}, not signed by itself{because(self.reason)}"
+
+
+@dataclass(frozen=True)
+class Corrected(Note):
+    """A movement was typed wrongly: how much of which lot it recorded, what was meant, who corrected that on which day,
+    and who signed it. Other movements set the stock right, of which `Corrects` says so."""
+
+    KIND = "corrected"
+    TABLE = "corrected_note"
+    key: str
+    lot_owner: str
+    lot_before: str
+    amount_before: int
+    lot: str
+    amount_meant: int
+    day: int
+    corrector: str
+    reason: str
+    party_before: str = ""
+    party: str = ""
+    signer: str = ""
+    of: str = ""  # the note by which it was asked for, if another person signed it
+
+    @property
+    def sentence(self) -> str:
+        """Which movement recorded what by mistake, and what was meant."""
+        before = meant_in_words(self.amount_before, self.lot_before, self.party_before)
+        meant = meant_in_words(self.amount_meant, self.lot, self.party)
+        return f"{self.key} of {self.owner} recorded {before} for {meant}, {self.by}{because(self.reason)}"
+
+    @property
+    def by(self) -> str:
+        """When it was corrected, by whom, and who signed that."""
+        return mistake_text(self.day, self.corrector, self.signer)
+
+
+def meant_in_words(amount: int, lot: str, party: str) -> str:
+    """How much of which lot was meant, and which party."""
+    return f"{amount:,} of {lot}{f' to {party}' if party else ''}"
+
+
+def mistake_text(day: int, corrector: str = "", signer: str = "") -> str:
+    """What is said of a line that was recorded by mistake: when it was corrected, and to the plant by whom."""
+    by = f" by {corrector}" if corrector else ""
+    return f"recorded by mistake, corrected on {format_day(day)}{by}{f', signed by {signer}' if signer else ''}"
 
 
 @dataclass(frozen=True)
@@ -373,6 +550,83 @@ class DrillEnd(Note):
     def sentence(self) -> str:
         """Which drill."""
         return f"the drill {self.of} ends"
+
+
+@dataclass(frozen=True)
+class CaseOpened(Note):
+    """A recall case begins, by its number: from what, on which day, and why. A drill is one that says so."""
+
+    KIND = "case-open"
+    case: str
+    origin: str
+    day: int
+    reason: str
+    drill: int = 0  # 1 if it is a drill
+
+    @property
+    def sentence(self) -> str:
+        """Which one, and from what it begins."""
+        kind = "drill" if self.drill else "case"
+        return f"recall {kind} {self.case} begins, from {self.origin}{because(self.reason)}"
+
+
+@dataclass(frozen=True)
+class CaseStart(Note):
+    """A recall case begins with a lot, or with what a batch makes."""
+
+    KIND = "case-start"
+    case: str
+    lot: str = ""
+    order: str = ""
+    batch: int = 0
+
+    @property
+    def start(self) -> LotId | BatchId:
+        """With what it begins: a lot, or a batch that stands for its lots."""
+        return LotId(self.owner, self.lot) if self.lot else BatchId(self.owner, self.order, self.batch)
+
+    @property
+    def sentence(self) -> str:
+        """Which one, and with what."""
+        return f"recall case {self.case} begins with {'lot' if self.lot else 'batch'} {self.start}"
+
+
+@dataclass(frozen=True)
+class CaseReply(Note):
+    """A customer answered in a recall case: how much of a lot it sent or brought back, destroyed, and can't find. The
+    last answer about a lot counts; one about no lot says only that it answered."""
+
+    KIND = "case-reply"
+    SUBJECT = ("owner", "case", "party", "lot")
+    case: str
+    party: str
+    lot: str = ""
+    back: int = 0
+    destroyed: int = 0
+    gone: int = 0
+    reason: str = ""
+
+    @property
+    def sentence(self) -> str:
+        """Who answered, and what."""
+        amounts = {"back": self.back, "destroyed": self.destroyed, "not to be found": self.gone}
+        text = ", ".join(f"{amount:,} {name}" for name, amount in amounts.items() if amount) or "nothing of it yet"
+        of_lot = f" of lot {self.lot}: {text}" if self.lot else ""
+        return f"{self.party} of {self.owner} answered in recall case {self.case}{of_lot}{because(self.reason)}"
+
+
+@dataclass(frozen=True)
+class CaseClosed(Note):
+    """A recall case ends."""
+
+    KIND = "case-close"
+    case: str
+    reason: str = ""
+
+    @property
+    def sentence(self) -> str:
+        """Which one, and why."""
+        return f"recall case {self.case} ends{because(self.reason)}"
 
 
 @dataclass(frozen=True)

@@ -3,6 +3,7 @@
 Of a lot whose material has the test of the plant's own, quality's word is its latest result, which `toll` enforces; of
 another one, a note alone.
 """
+import json
 from dataclasses import dataclass
 from typing import NamedTuple
 
@@ -17,6 +18,7 @@ from .views import LIMIT as LIMIT
 
 COLUMN = "quality"  # of a list, and the name of a fact
 IS_PLANTS = f"t.test = :test AND t.low = {LIMIT} AND t.high = {LIMIT}"
+THESE = "SELECT value ->> 0, value ->> 1 FROM json_each(?)"  # lots, of JSON
 HAS_TEST = f"SELECT 1 FROM tests AS t WHERE t.owner = :owner AND t.material = :material AND {IS_PLANTS}"
 
 
@@ -35,10 +37,11 @@ class Status:
         return quality_text(self.state.name.lower(), self.day, self.reason) or ""
 
 
-def statuses(base: Base, register: Register, lot: LotId | None = None) -> dict[LotId, Status]:
-    """What the plant's quality says of each lot of which it says anything, or of one lot."""
-    where, words = ("AND owner = ? AND lot = ?", tuple(lot)) if lot else ("", ())
+def statuses(base: Base, register: Register, *lots: LotId) -> dict[LotId, Status]:
+    """What the plant's quality says of each lot of which it says anything, or of these lots."""
+    where = f"AND (owner, lot) IN ({THESE})" if lots else ""
     sql = f"SELECT owner, lot, state, day, reason, is_alone FROM quality WHERE state IS NOT NULL {where}"
+    words = (json.dumps(lots),) if lots else ()
     return {
         LotId(owner, name): Status(QualityState[state.upper()], day, reason, bool(is_alone))
         for owner, name, state, day, reason, is_alone in views.over(base, register).execute(sql, words).fetchall()

@@ -7,6 +7,7 @@ register. Numbers stay numbers: how a day or 7.02 of 702 is written is the affai
 Of several notes of a thing the last one that says something counts, member by member.
 """
 
+from . import corrected
 from .register.file import Opened, memory
 from .register.standing import Register
 from .schema import LATEST, ON_HAND, STANDING, Kind
@@ -48,6 +49,13 @@ SIGN = """
 (SELECT CASE x.bound WHEN 'below' THEN '<' ELSE '>' END FROM register.result_note AS x WHERE x.owner = r.owner
   AND x.lot = r.lot AND x.test = r.test AND x.value = r.value AND x.day = r.day ORDER BY x.note DESC LIMIT 1)
 """
+# Movements with the material and the measure of their lot, their party, the supplier's lot and their document.
+MOVEMENT = f"""
+SELECT m.rowid AS rowid, m.*, l.material AS of_material, k.measure, NOT {STANDING} AS is_void,
+  {last_of('party', 'movement_note', OF_MOVEMENT)},
+  {last_of('supplier_lot', 'movement_note', OF_MOVEMENT)}, {last_of('document', 'movement_note', OF_MOVEMENT)}
+FROM {{}} AS m LEFT JOIN lots AS l ON l.owner = m.lot_owner AND l.lot = m.lot
+LEFT JOIN materials AS k ON k.owner = l.owner AND k.material = l.material"""
 VIEWS = {
     # The plant and the owners, with their full names.
     "owner": f"""
@@ -93,13 +101,11 @@ LEFT JOIN register.judgement_note AS j ON p.test IS NULL AND j.note = (SELECT x.
     "lot": f"""
 SELECT l.*, m.measure, {ON_HAND} AS on_hand, {day('made')}, {day('expires')}, {day('retest')}
 FROM lots AS l LEFT JOIN materials AS m USING (owner, material)""",
-    # Movements with the material and the measure of their lot, their party, the supplier's lot and their document.
-    "movement": f"""
-SELECT m.rowid AS rowid, m.*, l.material AS of_material, k.measure, NOT {STANDING} AS is_void,
-  {last_of('party', 'movement_note', OF_MOVEMENT)},
-  {last_of('supplier_lot', 'movement_note', OF_MOVEMENT)}, {last_of('document', 'movement_note', OF_MOVEMENT)}
-FROM moves AS m LEFT JOIN lots AS l ON l.owner = m.lot_owner AND l.lot = m.lot
-LEFT JOIN materials AS k ON k.owner = l.owner AND k.material = l.material""",
+    # Movements as they were recorded, and as they were meant.
+    "movement": MOVEMENT.format("moves"),
+    "meant_movement": MOVEMENT.format("temp.meant"),
+    # What was typed wrongly, and what was meant.
+    "corrected": corrected.CORRECTED,
     # Batches with their recipe.
     "batch": "SELECT b.rowid AS rowid, b.*, o.recipe FROM batches AS b JOIN orders AS o USING (owner, ord)",
     # Links from an owner's own lots or from HOUSE's, between lots that are there: a restored backup may be older than a
@@ -121,11 +127,11 @@ GROUP BY owner, command, reason, lot, mkey, ord, number""",
 SELECT p.owner, p.party, {last_of('name', 'party_note', OF_PARTY)}, {last_of('roles', 'party_note', OF_PARTY)},
   {', '.join(map(reached, ('address', 'contact', 'phone')))}
 FROM (SELECT DISTINCT owner, party FROM register.party_note) AS p""",
-    # Shipments with who got each.
+    # Shipments as they were meant, with who got each.
     "shipment": f"""
 SELECT m.*, {', '.join(f"coalesce(p.{member}, '') AS {member}" for member in ('name', 'contact', 'phone', 'address'))}
-FROM temp.movement AS m LEFT JOIN temp.party AS p ON p.owner = m.owner AND p.party = m.party
-WHERE m.kind = {Kind.SHIP:d}""",
+FROM temp.meant_movement AS m LEFT JOIN temp.party AS p ON p.owner = m.owner AND p.party = m.party
+WHERE m.kind = {Kind.SHIP:d} AND m.amount > 0""",
 }
 
 
@@ -136,6 +142,7 @@ def over(base: Base, register: Register) -> Base:
         (register.opened or Opened(memory())).attach(base)
         base.execute("CREATE TEMP TABLE setting (plants_test TEXT NOT NULL)")
         base.execute("INSERT INTO setting VALUES ('')")
+        corrected.make(base)
         for name, sql in VIEWS.items():
             base.execute(f"CREATE TEMP VIEW {name} AS {sql}")
     base.execute("UPDATE setting SET plants_test = ?", (register.plants_test,))

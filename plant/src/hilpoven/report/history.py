@@ -159,7 +159,7 @@ def of_owners(paths: list[str], with_questions: bool) -> list[JournalEntry]:
             request.address,
             request.action,
             str(request.status),
-            (request.owner,),
+            request.names,
             words_in(request.action),
         )
         for path in paths

@@ -4,9 +4,9 @@ from typing import Any
 
 from ..core.days import format_day
 from ..model.genealogy import Genealogy
-from ..model.notes import Link
+from ..model.notes import Link, PlantLink
 from ..model.register.standing import Register
-from ..model.rows import Base
+from ..model.rows import Base, BatchId, LotId
 from ..model.schema import IS_ACTUAL, STANDING, Kind
 from .columns import Column, columns
 from .sheets import Sheet, select
@@ -27,6 +27,10 @@ SHOWN = columns(  # as `hilpoven show` has them
     batch=BATCH,
     contains="k.amount",
 )
+PLANT_LINKS = columns(
+    "owner lot batch contains:number of_owner=of of_lot=lot of_batch=batch why:text noted_reason=reason:text "
+    "told=owner_told:text"
+)
 # Which links say what a lot or a batch contains, and which of them are about a lot.
 MADE = f"SELECT {{}} FROM moves AS m WHERE m.owner = k.owner AND m.kind = {Kind.PRODUCED:d} AND {STANDING} AND"
 IN_LOT = f"""
@@ -43,6 +47,33 @@ k.owner = :owner AND (k.lot = '' AND k.ord = :order AND k.number = :batch
 def links(base: Base, where: str, words: Any = (), name: str = "links", shown: list[Column] = LINKS) -> Sheet:
     """The links for which a condition on `k` holds, of tables that have the views."""
     return select(base, name, shown, f"FROM link AS k WHERE {where} ORDER BY k.note, k.place", words)
+
+
+def plant_links(links: Iterable[PlantLink]) -> Sheet:
+    """Links that the plant alone sees."""
+
+    def names(end: LotId | BatchId) -> tuple[str | None, str | None]:
+        return (end.name, None) if isinstance(end, LotId) else (None, end.name)
+
+    rows = [
+        (
+            link.owner,
+            *names(link.container),
+            link.amount,
+            link.of_owner,
+            *names(link.contained),
+            link.spread.value,
+            link.reason or None,
+            "yes" if link.tells else None,
+        )
+        for link in links
+    ]
+    return Sheet("plant_links", PLANT_LINKS, rows)
+
+
+def notice_lines(notices: Iterable[tuple[str, int]]) -> list[str]:
+    """What an owner reads of its lots that contain material of another one."""
+    return [f"{lot} contains material of another owner, noted on {format_day(day)}." for lot, day in notices]
 
 
 def links_among(base: Base, register: Register, chosen: Collection[Link]) -> Sheet:

@@ -2,6 +2,7 @@
 from collections import Counter
 from collections.abc import Iterator
 from contextlib import contextmanager
+from functools import partial
 from typing import NamedTuple
 
 from ..core.context import Context
@@ -10,12 +11,14 @@ from ..core.failure import Failure, printable
 from ..core.office import Office
 from ..core.table import Row, Value
 from ..model.answers import RecallLine, recall_lines, recall_of
-from ..model.below import MARK
+from ..model.below import MARK, has_plant_links
 from ..model.genealogy import FORWARD, Genealogy, Trace
-from ..model import views
+from ..model import reach, residues, views
+from ..model.register.file import Notes
 from ..model.register.standing import Register, standing_over_all
 from ..model.rows import LotId, require_owner
-from ..model.years import history
+from ..model.unit_order import has_cleanings, read_if_cleaned
+from ..model.years import chain, history
 from ..model.years.history import History
 from . import noted, overviews
 from .papers.statement import AMOUNTS, Statement, links_in, read_statement
@@ -27,13 +30,14 @@ OF_HOUSE = "HOUSE's material that its batches used"
 
 
 class Shown(NamedTuple):
-    """A table, its title, what its marks mean, and which files and namesakes it is of."""
+    """A table, its title, what its marks mean, which files and namesakes it is of, and what stands below it."""
 
     columns: list[str]
     rows: list[Row]
     title: str = ""
     marks: str = ""
     sources: tuple[str, ...] = ()
+    below: tuple[str, ...] = ()  # what is told apart, below the table
 
 
 @contextmanager
@@ -41,6 +45,12 @@ def read(context: Context, owner: str, *words: str) -> Iterator[History]:
     """All files as one, which the journal notes."""
     with history.opened(context.office_to_export("years", *words), owner) as whole:
         yield whole
+
+
+def concerned(context: Context, owner: str) -> str:
+    """Whose rows a trace of an owner's lot needs: empty for all, if it may come to other owners' lots or batches."""
+    notes = Notes(context.journal())
+    return "" if has_plant_links(notes) or has_cleanings(notes) else owner
 
 
 def sources_of(whole: History, lot: LotId | None = None) -> tuple[str, ...]:
@@ -64,10 +74,14 @@ def files(context: Context) -> Shown:
 
 def recall(context: Context, owner: str, lot: str, file: str) -> Shown:
     """The lots that a lot went into, with the amounts on hand and shipped."""
-    office = context.office_to_export("years", "recall", owner, lot)
-    with history.opened(office, owner) as whole:
+    office, journal = context.office_to_export("years", "recall", owner, lot), context.journal()
+    reaching = partial(reach.names_of, journal, starts=reach.starts_of(journal, owner, lot))
+    with history.opened(office, reaching=reaching) as whole:
         start = whole.lot(owner, lot, file)
-        traced = Genealogy(whole.base, register_of(context, whole)).trace(start, FORWARD)
+        with chain.reading(whole.copy) as newest:
+            order = read_if_cleaned(journal, newest)
+        genealogy = Genealogy(whole.base, register_of(context, whole), is_plants=True)
+        traced = genealogy.trace(start, FORWARD)
         lines = recall_lines(whole.base, traced.steps)
         check_newest(office, whole, lines, start)
         rows: list[Row] = [
@@ -83,14 +97,16 @@ def recall(context: Context, owner: str, lot: str, file: str) -> Shown:
             for line in lines
         ]
         columns = ["steps", "owner", "lot", "disposition", "on hand", "shipped", "came in"]
-        return marked(columns, rows, traced)._replace(sources=sources_of(whole, start))
+        unclean = residues.may_contain(genealogy, traced, order, is_whole=True) if order else []
+        below = tuple(residues.lines_of(unclean))
+        return marked(columns, rows, traced)._replace(sources=sources_of(whole, start), below=below)
 
 
 def trace(context: Context, owner: str, lot: str, way: str, file: str) -> Shown:
     """The lots that a lot was made of, or went into."""
-    with read(context, owner, "trace", owner, lot, way) as whole:
+    with read(context, concerned(context, owner), "trace", owner, lot, way) as whole:
         start = whole.lot(owner, lot, file)
-        traced = Genealogy(whole.base, register_of(context, whole)).trace(start, way)
+        traced = Genealogy(whole.base, register_of(context, whole), is_plants=True).trace(start, way)
         rows: list[Row] = [(steps, *name) for name, steps in traced.steps.items()]
         return marked(["steps", "owner", "lot"], rows, traced)._replace(sources=sources_of(whole, start))
 
@@ -141,8 +157,10 @@ def statement(context: Context, owner: str, first: int, last: int) -> StatementS
     """The receipts, uses, shipments and stock of each of an owner's lots between two days."""
     with read(context, owner, "statement", owner, str(first), str(last)) as whole:
         require_owner(whole.base, owner)
-        account = read_statement(whole.base, owner, first, last)
-        links = links_in(views.over(whole.base, register_of(context, whole)), owner, account, noted.SHOWN)
+        base = views.over(whole.base, register_of(context, whole))
+        account = read_statement(base, owner, first, last)
+        links = links_in(base, owner, account, noted.SHOWN)
+        amounts_of = [name for name in AMOUNTS[:-1] if name in account.lots.names]
         lots: list[Row] = [
             (material, lot, measure, *amounts[:-1]) for material, measure, lot, _, *amounts in account.lots.rows
         ]
@@ -150,7 +168,7 @@ def statement(context: Context, owner: str, first: int, last: int) -> StatementS
         for material, lot, _, amount, measure in account.of_house.rows:
             used[material, lot, measure] += int(amount or 0)
         return StatementShown(
-            Shown(["material", "lot", "measure", *AMOUNTS[:-1]], lots, sources=sources_of(whole)),
+            Shown(["material", "lot", "measure", *amounts_of], lots, sources=sources_of(whole)),
             [(material, "(all)", measure, *amounts[:-1]) for material, measure, *amounts in account.sums.rows],
             Shown(["material", "lot", "measure", "used"], [(*lot, amount) for lot, amount in used.items()], OF_HOUSE),
             Shown([name.replace("_", " ") for name in links.names], [*links.rows], overviews.NOTED),

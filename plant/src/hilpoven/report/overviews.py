@@ -1,6 +1,6 @@
 """One thing with all about it, as `hilpoven show` prints it."""
 import json
-from collections.abc import Sequence
+from collections.abc import Mapping, Sequence
 from dataclasses import dataclass, field
 from itertools import groupby
 from operator import itemgetter
@@ -33,6 +33,7 @@ from ..model.schema import (
     Role,
     State,
 )
+from ..model.unit_order import Cleaning, Place, Turn, UnitOrder
 from .columns import Column, columns, measured
 from .lists import LISTINGS
 from .noted import ABOUT_LOT, IN_BATCH, IN_LOT, SHOWN, documents_named, links
@@ -240,8 +241,32 @@ RUN_BY_UNIT = columns(
 )
 
 
-def unit(base: Base, name: str) -> Overview:
-    """A unit: the batch that it runs, and those that it ran."""
+TURNS = ["file", "time", "owner", "order", "batch", "state", "cleaned", "checked", "who"]
+
+
+def turn_row(turn: Turn, opened: Mapping[Place, str]) -> Row:
+    """The row of a batch or a cleaning in the order on a unit."""
+    if isinstance(turn, Cleaning):
+        cleaned, noted = turn.cleaned, turn.noted
+        return "", noted.time[:19].replace("T", " "), "", "", None, "", cleaned.how, cleaned.checked, noted.who
+    state = turn.state.word if not turn.is_closed else "closed"
+    return turn.file, opened.get(turn.place, ""), *turn.batch, state, "", "", ""
+
+
+def unit(base: Base, name: str, register: Register = NOTHING_NOTED, order: UnitOrder | None = None) -> Overview:
+    """A unit: the batch that it runs, and those that it ran; and the order over all files with the cleanings between,
+    the newest first, where there are any, or earlier files."""
+    overview = unit_of_file(base, name)
+    if name in register.units:
+        overview.facts["name"] = register.units[name].name
+    turns = order.turns.get(name, []) if order else []
+    if order and (order.files > 1 or any(isinstance(turn, Cleaning) for turn in turns)):
+        overview.tables["order over all files"] = TURNS, [turn_row(turn, order.opened) for turn in reversed(turns)]
+    return overview
+
+
+def unit_of_file(base: Base, name: str) -> Overview:
+    """A unit: the batch that it runs, and those that it ran, in a file alone."""
     row_of(base, "SELECT unit FROM units WHERE unit = ?", (name,), "unit", "SELECT unit FROM units")
     overview = Overview(f"unit {name}")
     behind = "FROM batches AS b WHERE unit = ? ORDER BY b.closed DESC, rowid DESC"

@@ -140,9 +140,9 @@ def maker_of(files: Sequence[EarlierFile], owner: str, lot: str) -> str:
 
 def hint(office: Office, line: Line, words: Sequence[str], refusal: str) -> str:
     """What earlier files add to an answer: that it is of the newest file alone, or where an unknown lot is."""
-    values, is_search = dict(zip(line.values, words)), line.name in ("trace", "recall")
-    if not is_search and refusal != "UnknownLot":
-        return ""
+    values, is_search = dict(zip(line.values, words)), line.name == "trace"
+    if line.name == "recall" or not is_search and refusal != "UnknownLot":
+        return ""  # a recall says itself what all files have
     files = files_of(office)
     if not files:
         return ""

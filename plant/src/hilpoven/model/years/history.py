@@ -7,7 +7,7 @@ the name, and the older one is called `S-1 (office-1.db)`.
 import contextlib
 import os
 import sqlite3
-from collections.abc import Iterator, Sequence
+from collections.abc import Callable, Iterator, Sequence
 from dataclasses import dataclass
 
 from ...core import files, snapshot
@@ -18,13 +18,15 @@ from ..rows import Base, BatchId, LotId
 from . import chain
 from .chain import NOT_CARRIED, Part, address_of
 
-
+Names = set[tuple[str, str, str]]  # of lots, orders and movements: the kind, the owner and the name
+Reaching = Callable[[Sequence[Part]], Names | None]  # to which names what is asked may come; `None` to any
 FILES = """
 CREATE TABLE files (number INTEGER PRIMARY KEY, name TEXT, hash TEXT, at TEXT);
 CREATE INDEX moves_by_batch ON moves (owner, ord, number, kind);
 CREATE INDEX moves_by_lot ON moves (lot_owner, lot, kind);
 CREATE TABLE again (kind TEXT, file INTEGER, owner TEXT, name TEXT, called TEXT, PRIMARY KEY (kind, file, owner, name));
 CREATE TEMP TABLE asked (owner TEXT PRIMARY KEY) WITHOUT ROWID;
+CREATE TEMP TABLE named (kind TEXT, owner TEXT, name TEXT, PRIMARY KEY (kind, owner, name)) WITHOUT ROWID;
 CREATE TEMP TABLE seen (kind TEXT, owner TEXT, name TEXT, PRIMARY KEY (kind, owner, name)) WITHOUT ROWID;
 CREATE TEMP TABLE over (file INTEGER, owner TEXT, lot TEXT, PRIMARY KEY (file, owner, lot)) WITHOUT ROWID;
 CREATE TEMP TABLE no_moves (owner TEXT, mkey TEXT);
@@ -36,18 +38,26 @@ ASKED = """
 INSERT OR IGNORE INTO asked SELECT owner FROM f.owners WHERE owner = :owner OR :owner IN ('', 'HOUSE')
 UNION SELECT 'HOUSE'
 """
+# The rows of the file that are read: of the owners asked for, and where things are named, those of what has the names.
+READ = "CREATE TEMP VIEW read_{table} AS SELECT rowid AS place, * FROM f.{table} WHERE owner IN temp.asked"
+NAMED = " AND (owner, {column}) IN (SELECT owner, name FROM temp.named WHERE kind = '{kind}')"
+TABLES = {
+    "lot": ("lot", ("lots", "sublots", "results")),
+    "order": ("ord", ("orders", "batches")),
+    "key": ("mkey", ("moves", "voids")),
+}
 PLAIN = NOT_CARRIED.replace("carried_moves", "f.carried_moves")
 # What each kind of name is, in a file, and whether it went on into the next file as what it was.
 NAMES = {
     "lot": (
-        "SELECT owner, lot AS name FROM f.lots WHERE owner IN temp.asked",
+        "SELECT owner, lot AS name FROM read_lots",
         "EXISTS (SELECT 1 FROM over AS c WHERE c.file = :file + 1 AND c.owner = n.owner AND c.lot = n.name)",
     ),
     "order": (
-        "SELECT owner, ord AS name FROM f.orders WHERE owner IN temp.asked",
+        "SELECT owner, ord AS name FROM read_orders",
         "EXISTS (SELECT 1 FROM unbegun AS u WHERE u.file = :file AND u.owner = n.owner AND u.ord = n.name)",
     ),
-    "key": (f"SELECT owner, mkey AS name FROM f.moves AS m WHERE owner IN temp.asked AND {PLAIN}", "0"),
+    "key": (f"SELECT owner, mkey AS name FROM read_moves AS m WHERE {PLAIN}", "0"),
 }
 
 
@@ -67,12 +77,12 @@ WHERE CASE WHEN {went_on} THEN a.called IS NOT NULL
 """
 SEEN = "INSERT OR IGNORE INTO seen SELECT '{kind}', owner, name FROM ({names}) AS n"
 OVER = """
-INSERT OR IGNORE INTO over SELECT :file, m.owner, m.lot FROM f.carried_moves AS c JOIN f.moves AS m USING (owner, mkey)
-WHERE c.owner IN temp.asked
+INSERT OR IGNORE INTO over SELECT :file, m.owner, m.lot FROM read_moves AS m
+JOIN f.carried_moves AS c USING (owner, mkey)
 """
 UNBEGUN = """
-INSERT INTO unbegun SELECT :file, o.owner, o.ord FROM f.orders AS o
-WHERE o.owner IN temp.asked AND NOT EXISTS (SELECT 1 FROM f.batches AS b WHERE b.owner = o.owner AND b.ord = o.ord)
+INSERT INTO unbegun SELECT :file, o.owner, o.ord FROM read_orders AS o
+WHERE NOT EXISTS (SELECT 1 FROM f.batches AS b WHERE b.owner = o.owner AND b.ord = o.ord)
 """
 
 LOT, OF_LOT = called("lot", "l.owner", "l.lot"), called("lot", "m.lot_owner", "m.lot")
@@ -87,22 +97,22 @@ BEFORE = f"""
 # What each file adds, the oldest first.
 ADDED = f"""
 INSERT INTO orders SELECT o.owner, {ORDER}, o.recipe, o.batches, o.cancelled, :file
-  FROM f.orders AS o WHERE o.owner IN temp.asked ORDER BY o.rowid
+  FROM read_orders AS o ORDER BY o.place
   ON CONFLICT (owner, ord) DO UPDATE SET cancelled = excluded.cancelled;
 INSERT INTO batches SELECT o.owner, {ORDER}, o.number, o.unit, o.state, o.closed, :file
-  FROM f.batches AS o WHERE o.owner IN temp.asked ORDER BY o.rowid;
+  FROM read_batches AS o ORDER BY o.place;
 INSERT INTO lots SELECT l.owner, {LOT}, l.material, {MADE_BY}, l.number, l.disposition, :file
-  FROM f.lots AS l WHERE l.owner IN temp.asked ORDER BY l.rowid
+  FROM read_lots AS l ORDER BY l.place
   ON CONFLICT (owner, lot) DO UPDATE SET disposition = excluded.disposition;
 INSERT INTO sublots SELECT l.owner, {LOT}, l.sublot, l.amount
-  FROM f.sublots AS l WHERE l.owner IN temp.asked ORDER BY l.rowid
+  FROM read_sublots AS l ORDER BY l.place
   ON CONFLICT (owner, lot, sublot) DO UPDATE SET amount = excluded.amount;
 INSERT INTO moves SELECT m.owner, {KEY}, m.kind, m.lot_owner, {OF_LOT}, m.sublot, m.target, m.material, {OF_BATCH},
   m.number, m.segment, m.amount, m.day, :file
-  FROM f.moves AS m WHERE m.owner IN temp.asked AND {PLAIN} ORDER BY m.rowid;
-INSERT INTO voids SELECT m.owner, {KEY} FROM f.voids AS m WHERE m.owner IN temp.asked ORDER BY m.rowid;
+  FROM read_moves AS m WHERE {PLAIN} ORDER BY m.place;
+INSERT INTO voids SELECT m.owner, {KEY} FROM read_voids AS m ORDER BY m.place;
 CREATE TEMP TABLE added AS SELECT l.owner, {LOT} AS lot, l.test, l.number, {BEFORE} AS before, {COPIED} AS copied,
-  l.value, l.day FROM f.results AS l WHERE l.owner IN temp.asked ORDER BY l.rowid;
+  l.value, l.day FROM read_results AS l ORDER BY l.place;
 INSERT INTO results SELECT owner, lot, test, before + number - (copied AND before > 0), value, day, :file FROM added
   WHERE NOT (copied AND before > 0 AND number = 1) ORDER BY rowid;
 DROP TABLE added"""
@@ -115,9 +125,9 @@ OWNERS = "INSERT OR IGNORE INTO owners SELECT owner, '' FROM f.owners ORDER BY r
 NUMBERED = ("orders", "batches", "lots", "moves", "results")  # tables that say in which file a row came
 
 
-def merge(base: Base, parts: Sequence[Part], owner: str = "") -> None:
+def merge(base: Base, parts: Sequence[Part], owner: str = "", names: Names | None = None) -> None:
     """Makes the tables of one office of those of its files, the oldest of which is the first. What is asked about one
-    owner other than HOUSE needs only its rows and HOUSE's."""
+    owner other than HOUSE needs only its rows and HOUSE's, and a recall those of the names that it may come to."""
     with file_as_f(base, parts[-1]):
         tables = dict(base.execute("SELECT name, sql FROM f.sqlite_master WHERE type = 'table'").fetchall())
     for name in ("owners", *KEPT, *OF_OWNERS, *NUMBERED, "sublots", "voids"):
@@ -125,15 +135,19 @@ def merge(base: Base, parts: Sequence[Part], owner: str = "") -> None:
     for name in NUMBERED:
         base.execute(f"ALTER TABLE {name} ADD COLUMN file INTEGER")
     base.executescript(FILES)
+    base.executemany("INSERT INTO temp.named VALUES (?, ?, ?)", names or ())
+    for kind, (column, tables_of_kind) in TABLES.items():
+        for name in tables_of_kind:
+            base.execute(READ.format(table=name) + ("" if names is None else NAMED.format(column=column, kind=kind)))
     for part in parts:
         run_over(base, part, [ASKED], owner)
     for part in reversed(parts):
-        names = [
+        later = [
             sql.format(kind=kind, names=rows, went_on=went_on)
             for kind, (rows, went_on) in NAMES.items()
             for sql in (AGAIN, SEEN)
         ]
-        run_over(base, part, [OVER, UNBEGUN, *names])
+        run_over(base, part, [OVER, UNBEGUN, *later])
     for part in parts:
         base.execute("INSERT INTO files VALUES (?, ?, ?, ?)", (part.number, part.name, part.hash, part.at))
         run_over(base, part, ADDED.split(";\n"))
@@ -237,24 +251,24 @@ def places_of(base: sqlite3.Connection, owner: str, is_one: bool) -> dict[BatchI
 
 
 @contextlib.contextmanager
-def merged(parts: list[Part], owner: str = "") -> Iterator[sqlite3.Connection]:
-    """The tables of one office made of those of its files, for what is asked about one owner, or about all. They are in
-    no file that has a name."""
+def merged(parts: list[Part], owner: str = "", names: Names | None = None) -> Iterator[sqlite3.Connection]:
+    """The tables of one office made of those of its files, for what is asked about one owner, or about all, or of what
+    has these names. They are in no file that has a name."""
     with contextlib.closing(sqlite3.connect("", uri=True)) as base:
         try:
-            merge(base, parts, owner)
+            merge(base, parts, owner, names)
         except sqlite3.Error as error:
             raise Failure(f"the files of {parts[-1].name} can't be read together: {error}") from error
         yield base
 
 
 @contextlib.contextmanager
-def opened(office: Office, owner: str = "") -> Iterator[History]:
-    """Reads all files of an office, for what is asked about one owner, or about all."""
+def opened(office: Office, owner: str = "", reaching: Reaching | None = None) -> Iterator[History]:
+    """Reads all files of an office, for what is asked about one owner, about all, or about what may be reached."""
     with snapshot.copied(office) as copy:
         snapshot.settle(copy)
         with chain.reading(copy) as newest:
             snapshot.require_office(newest, office.file)
             parts = parts_of(office.file, newest, copy, files.hash_of(copy))
-        with merged(parts, owner) as base:
+        with merged(parts, owner, reaching(parts) if reaching else None) as base:
             yield History(base, parts, copy)

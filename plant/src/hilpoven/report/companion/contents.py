@@ -1,7 +1,7 @@
 """What the companion of one owner says: all of it is the owner's own, and of HOUSE what papers tell."""
 import sqlite3
-from collections import defaultdict
-from collections.abc import Collection, Iterator
+from collections import Counter, defaultdict
+from collections.abc import Iterator, Mapping
 from dataclasses import dataclass
 from operator import itemgetter
 from typing import Any
@@ -10,20 +10,23 @@ from ... import HOUSE
 from ...core.settings import PlantFacts
 from ...model import views
 from ...model.gauge import OF_OWNER
+from ...model.genealogy import Genealogy
 from ...model.register.standing import Register
 from ...model.rows import Base, owners_of
 from ...model.schema import IS_ACTUAL, STANDING, Disposition, Kind, Role, State
+from .days import OwnDays
 
 Value = dict[str, Any]
 
 
 @dataclass(frozen=True)
 class Subject:
-    """An owner, the views over a copy, and its own notes."""
+    """An owner, the views over a copy, its own notes, and the days of its own orders."""
 
     owner: str
     base: Base
     register: Register
+    days: OwnDays
 
     def rows(self, sql: str) -> sqlite3.Cursor:
         """The rows of a query whose only value is the owner."""
@@ -41,12 +44,12 @@ def filled(**members: Any) -> Value:
     return {name: value for name, value in members.items() if value not in (None, "", [])}
 
 
-def subjects(base: Base, register: Register, owners: Collection[str]) -> Iterator[Subject]:
-    """Some owners, each with what is its own of the notes."""
+def subjects(base: Base, register: Register, owners: Mapping[str, OwnDays]) -> Iterator[Subject]:
+    """Some owners, given with their days, each with what is its own of the notes."""
     views.over(base, register)
     for owner in owners_of(base):
         if owner in owners:
-            yield Subject(owner, base, register.of(owner))
+            yield Subject(owner, base, register.of(owner), owners[owner])
 
 
 OWN = "SELECT material, measure, name FROM material WHERE owner = :owner ORDER BY material"
@@ -138,21 +141,24 @@ WHERE m.owner = :owner AND m.kind = {Kind.PRODUCED:d} AND {STANDING} ORDER BY m.
 
 
 def orders(subject: Subject) -> list[Value]:
-    """Its orders, as `toll` replies them."""
-    return [*subject.members(ORDERS)]
+    """Its orders, as `toll` replies them, with the days on which they were placed."""
+    return [order | filled(placedOn=subject.days.placed(order["order"])) for order in subject.members(ORDERS)]
 
 
 def batches(subject: Subject) -> list[Value]:
-    """Its batches, each with what its recipe requires, what was recorded, and the lots that it made."""
+    """Its batches, each with its days, what its recipe requires, what was recorded, and the lots that it made."""
     recorded = {tuple(actual): amount for *actual, amount in subject.rows(ACTUALS)}
     produced: defaultdict[tuple[str, int], list[str]] = defaultdict(list)
     for order, number, lot in subject.rows(MADE):
         produced[order, number].append(lot)
     required, values = lines_of(subject, "required"), []
-    for order, number, recipe, unit, state, is_closed in subject.rows(BATCHES):
+    rows = subject.rows(BATCHES).fetchall()
+    counts = Counter(order for order, *_ in rows)
+    for order, number, recipe, unit, state, is_closed in rows:
         batch = {"order": order, "batch": number, "unit": unit, "state": State(state).word}
+        batch |= filled(openedOn=subject.days.opened(order, number, counts[order]))
         if is_closed:
-            batch["closed"] = True
+            batch |= filled(closed=True, closedOn=subject.days.closed(order, number))
         batch["lines"] = [
             {**line, "actual": recorded.get((order, number, *PLACE(line)), 0)} for line in required[recipe]
         ]
@@ -181,8 +187,21 @@ GROUP BY lot, test, value, day ORDER BY lot, test, value, day
 DISPOSITIONS = {int(code): code.word for code in Disposition}
 
 
+def foreign_material(subject: Subject) -> dict[str, list[Value]]:
+    """Its lots that contain material of another owner, as far as the plant tells it, each with the days on which that
+    was noted."""
+    notices = subject.register.notices
+    genealogy, days = Genealogy(subject.base), defaultdict[str, list[Value]](list)
+    for notice in notices:
+        for lot in genealogy.lots_of(notice.container):
+            if (day := {"day": notice.day}) not in days[lot.name]:
+                days[lot.name].append(day)
+    return days
+
+
 def lots(subject: Subject) -> list[Value]:
     """Its lots, by name."""
+    foreign = foreign_material(subject)
     faults, bounds, values = defaultdict[str, list[Value]](list), defaultdict[str, list[Value]](list), list[Value]()
     for lot, *test in subject.rows(OPEN_TESTS):
         faults[lot].append(fault_of(*test))
@@ -201,7 +220,7 @@ def lots(subject: Subject) -> list[Value]:
         if code == Disposition.QUARANTINED:
             why = faults.get(lot)
             member["release"] = {"possible": False, "why": why} if why else {"possible": True}
-        values.append(member | filled(bounds=bounds.get(lot)))
+        values.append(member | filled(bounds=bounds.get(lot), foreign=foreign.get(lot)))
     return values
 
 

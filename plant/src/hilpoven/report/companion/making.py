@@ -6,11 +6,12 @@ import json
 import os
 import time
 from collections.abc import Callable, Iterator
-from dataclasses import dataclass
+from dataclasses import asdict, dataclass
 from typing import Any
 
 from ... import VERSION
 from ...care.health import Age
+from ...core import settings as site
 from ...core import snapshot
 from ...core.context import Context
 from ...core.office import Office
@@ -18,7 +19,9 @@ from ...model.register.keeping import has_rows, last_rows
 from ...model.register.standing import Register, register_of
 from ...model.register.tables import TABLES
 from ...model.rows import Base, owners_of
+from ...model.years.chain import came_from
 from ..papers import copies
+from . import days
 from .contents import contents_of, subjects
 from .folder import MARK, READABLE, Folder, name_of, opened
 
@@ -62,11 +65,13 @@ def last_of_owners(base: Base, table: str, known: dict[str, int]) -> dict[str, i
     return known | dict(base.execute(sql, (max(known.values(), default=0),)).fetchall())
 
 
-def stamps_of(base: Base, register: Register, rows: Rows, made_of: Any) -> dict[str, str]:
-    """The stamp of each owner: of its rows and its notes, and of what all companions are made of. A file that replaces
-    the office's has another number, which is to be in that."""
+def stamps_of(
+    base: Base, register: Register, rows: Rows, days_of: dict[str, days.OwnDays], made_of: Any
+) -> dict[str, str]:
+    """The stamp of each owner: of its rows, its notes and its days, and of what all companions are made of. A file that
+    replaces the office's has another number, which is to be in that."""
     begun = repr((made_of, register.plants_test)).encode()
-    digests = {owner: hashlib.sha256(begun) for owner in owners_of(base)}
+    digests = {owner: hashlib.sha256(begun + repr(own).encode()) for owner, own in days_of.items()}
     notes = register.opened.rows if register.opened else None
     changing = *((sql, base.execute(sql)) for sql in CHANGING), *((sql, notes(sql)) for sql in NOTES if notes)
     for subject, values in (*changing, *((table, last.items()) for table, last in rows.of_owners.items())):
@@ -95,7 +100,8 @@ def sources(context: Context) -> dict[str, Any]:
     and what the settings and this version of the command add."""
     file, settings = context.file, context.settings
     stamps = [snapshot.stamp_of(path) for path in (file, f"{file}-wal", context.journal().path)]
-    by = [VERSION, settings.plant.name, settings.plant.address, settings.plant.contact, settings.quality.test]
+    plant = settings.plant
+    by = [VERSION, plant.name, plant.address, plant.contact, settings.quality.test, settings.time_zone]
     return {"stamps": [list(stamp if snapshot.is_settled(stamp) else UNSETTLED) for stamp in stamps], "by": by}
 
 
@@ -150,15 +156,24 @@ def uncollected() -> Iterator[None]:
 def write(context: Context, folder: Folder, office: Office, made_of: dict[str, Any]) -> tuple[Counts, dict[str, Any]]:
     """Writes the companions of the owners of whom something changed, and removes those of owners that aren't there. One
     that says the same is left as it is: otherwise its owner would see when others work. Gives how far tables were read
-    too, and of each owner of what its companion is made, and which file it is."""
+    too, of each owner of what its companion is made, and which file it is, and what is known of days."""
     written, mark = 0, folder.mark()
     before = mark.get("own", {})
     made_at = time.strftime("%Y-%m-%dT%H:%M:%SZ", time.gmtime())
     with copies.tables(office) as base:
         register = register_of(context, base)
         rows = read_on(base, Rows(mark.get("last", []), mark.get("rows", {})))
-        stamps = stamps_of(base, register, rows, [made_of["by"], os.stat(office.file).st_ino])
-        changed = {owner for owner, stamp in stamps.items() if before.get(owner) != [stamp, *folder.state_of(owner)]}
+        known = days_read_on(context, base, mark.get("days", {}))
+        days_of = {
+            owner: days.OwnDays(known.of(owner, context.file), context.settings.time_zone, begun_at(base))
+            for owner in owners_of(base)
+        }
+        stamps = stamps_of(base, register, rows, days_of, [made_of["by"], os.stat(office.file).st_ino])
+        changed = {
+            owner: days_of[owner]
+            for owner, stamp in stamps.items()
+            if before.get(owner) != [stamp, *folder.state_of(owner)]
+        }
         for subject in subjects(base, register, changed):
             content = encoded(contents_of(subject, context.settings.plant), made_at)
             if folder.read(name_of(subject.owner))[FRONT_BYTES:] != content[FRONT_BYTES:]:
@@ -168,7 +183,24 @@ def write(context: Context, folder: Folder, office: Office, made_of: dict[str, A
     for owner in gone:
         folder.remove(owner)
     own = {owner: [stamp, *folder.state_of(owner)] for owner, stamp in stamps.items()}
-    return Counts(written, len(stamps) - written, len(gone)), {"last": rows.last, "rows": rows.of_owners, "own": own}
+    read = {"last": rows.last, "rows": rows.of_owners, "own": own, "days": asdict(known)}
+    return Counts(written, len(stamps) - written, len(gone)), read
+
+
+def days_read_on(context: Context, base: Base, before: Any) -> days.Days:
+    """What is known of the days of orders and batches, of an office of whose file this is a copy, with what the journal
+    and the site's log have since an earlier run."""
+    known = days.days_in(before)
+    known.read_journal(context.journal().path)
+    orders = base.execute("SELECT owner, ord FROM orders")
+    known.read_site(site.site_logs_of(context.settings, context.file), orders, begun_at(base))
+    return known
+
+
+def begun_at(base: Base) -> str:
+    """When a file came from an earlier one; empty if it is the first."""
+    came = came_from(base)
+    return came.at if came else ""
 
 
 def encoded(contents: dict[str, Any], made_at: str) -> bytes:
