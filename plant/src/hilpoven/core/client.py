@@ -179,10 +179,11 @@ def asker(office: Office, count: int) -> Iterator[Callable[[list[str]], Answer]]
 
 @contextlib.contextmanager
 def server(office: Office, plant: PlantSocket) -> Iterator[int]:
-    """A server of the office for this process alone, by its port; fails if it doesn't begin."""
+    """A server of the office for this process alone, by its port; fails if it doesn't begin. It is waited for while
+    it reads the file: a process for each line would read as long each time."""
     process: "subprocess.Popen[bytes] | None" = None
     try:
-        process, port = begin_server(office.program, plant, BEGINS)
+        process, port = begin_server(office.program, plant)
         yield port
     finally:
         if process:

@@ -127,6 +127,13 @@ def text_fault(word: str) -> str:
     return f"has {listed(strange)}; a text is one line that can be printed"
 
 
+def whole_words(text: str) -> re.Pattern[str]:
+    """What finds the words of a text in others, whatever stands beside them, and capitals as small letters: `TR-77` in
+    `TR-77,` and `(tr-77)`, and not in `TR-778`, `TR-77-B` or `X-TR-77`, which are other names."""
+    words = r"\s+".join(map(re.escape, text.split()))
+    return re.compile(rf"(?<!\w)(?<!\w-){words}(?!-?\w)", re.IGNORECASE)
+
+
 def choice_fault(*words: str) -> Callable[[str], str]:
     """What is wrong with a word that is to be one of these."""
 

@@ -18,7 +18,8 @@ COMPANIONS = "/var/cache/toll-companion"
 CHECKOUT = os.path.abspath(f"{__file__}/../../../../..")
 
 Table = TypeVar("Table")
-WARN, REFUSE = "warn", "refuse"
+WARN, ASK, REFUSE = "warn", "ask", "refuse"
+ANY_UNIT = "*"  # in place of the names of units
 MUCH = 1_000_000
 MOST_PREFIX = 8  # letters before the number of a key, which has 16 with it
 TEXTS = (list[str], list[str] | None)
@@ -48,6 +49,11 @@ def setting(
 def expiry_fault(word: str) -> str:
     """What is wrong with what becomes of lots past their day."""
     return "" if word in (WARN, REFUSE) else f'is to be "{WARN}" or "{REFUSE}"'
+
+
+def open_fault(word: str) -> str:
+    """What is wrong with what becomes of `open` on a unit that isn't clean."""
+    return "" if word in (ASK, REFUSE) else f'is to be "{ASK}" or "{REFUSE}"'
 
 
 def prefix_fault(prefix: str) -> str:
@@ -80,6 +86,17 @@ class Expiry:
 
 
 @dataclass(frozen=True)
+class Clean:
+    """Which units have to be clean before a batch is opened, `*` for all, and what `open` does if one isn't."""
+
+    always: list[str] = setting([], "units to be clean before each batch")
+    owners: list[str] = setting([], "units to be clean between batches of two owners")
+    materials: list[str] = setting([], "units to be clean between batches that make other materials")
+    allergens: list[str] = setting([], "units to be clean of allergens that the next batch hasn't")
+    open: str = setting(ASK, "what `open` does on a unit that isn't clean", fault=open_fault)
+
+
+@dataclass(frozen=True)
 class PlantFacts:
     """What papers say of the plant."""
 
@@ -99,11 +116,18 @@ class Quality:
 
 
 @dataclass(frozen=True)
+class Corrections:
+    """How what was typed wrongly is corrected."""
+
+    persons: int = setting(1, "needed: with 2 each correction waits for another person's signature", least=1, most=2)
+
+
+@dataclass(frozen=True)
 class Roles:
     """Which groups of the machine may give the commands of each role under sudo. `None` is a role that isn't told,
     whose commands every member may give."""
 
-    record: list[str] | None = setting(None, "what happens in the plant: movements, batches, results")
+    record: list[str] | None = setting(None, "what happens in the plant: movements, batches, results, holds")
     quality: list[str] | None = setting(None, "what is judged: releases, rejections, signatures, holds")
     master_data: list[str] | None = setting(None, "units, materials, tests, recipes, parties")
     settlement: list[str] | None = setting(None, "closed settlements of owners")
@@ -120,6 +144,15 @@ class Follow:
     behind: int = setting(60, "seconds; a standby that is behind by more is told by `status`", least=1)
     reserve: int = setting(500, "megabytes of the disk that pieces leave to the office", least=0)
     rsh: str = setting("ssh -o BatchMode=yes -o ConnectTimeout=5", "by which rsync reaches HOST")
+
+
+@dataclass(frozen=True)
+class Mail:
+    """How mail reaches the people of owners."""
+
+    sender: str = setting("", "the address from which it comes", fault=TEXT.fault)
+    page: str = setting("", "the address of the owners' page, which it names", fault=TEXT.fault)
+    sendmail: str = setting("/usr/sbin/sendmail", "the program that takes it", fault=TEXT.fault)
 
 
 @dataclass(frozen=True)
@@ -142,9 +175,12 @@ class Settings:
     require: Require = Require()
     plant: PlantFacts = PlantFacts()
     expiry: Expiry = Expiry()
+    clean: Clean = Clean()
     quality: Quality = Quality()
+    corrections: Corrections = Corrections()
     roles: Roles = Roles()
     follow: Follow = Follow()
+    mail: Mail = Mail()
 
 
 def of_environment(name: str) -> str:

@@ -11,7 +11,7 @@ from ..failure import Failure
 
 LINE = re.compile(
     r'(?P<address>\S+) "(?P<owner>[^"]*)" \[(?P<time>[^\]]+)\] "(?P<request>[^"]*)" (?P<status>\d{3})\b'
-    r"(?: \d+ [\d.]+ (?P<order>[A-Z0-9-]+))?"
+    r"(?: \d+ [\d.]+ (?P<order>[A-Z0-9-]+)(?: (?P<person>[a-z0-9][a-z0-9._@-]*)$)?)?"
 )
 
 CHECKED = (200, 304, 404, 405, 409)  # the statuses of replies before which the owner's key was compared
@@ -30,6 +30,7 @@ class Request:
     request: str
     status: int
     order: str = ""  # that it places, which its body alone names; empty where the line doesn't have it
+    person: str = ""  # of the owner's, who was logged in by name; empty where the owner's key was sent
     is_of_owners: bool = True  # whether its log has what a key was found right for, as far as the log's name says
 
     @property
@@ -49,8 +50,13 @@ class Request:
 
     @property
     def who(self) -> str:
-        """Who asked, or only claimed to."""
-        return f"{self.owner or '-'}{'' if self.is_checked else ' (claimed)'}"
+        """Who asked, or only claimed to: the person, where one was logged in, and the owner."""
+        return f"{self.person and f'{self.person} of '}{self.owner or '-'}{'' if self.is_checked else ' (claimed)'}"
+
+    @property
+    def names(self) -> tuple[str, ...]:
+        """The names by which who asked is found."""
+        return (self.owner, self.person) if self.person else (self.owner,)
 
 
 def files_of(path: str) -> list[str]:
@@ -66,8 +72,9 @@ def files_of(path: str) -> list[str]:
     return sorted(logs, key=os.path.getmtime)
 
 
-def requests(path: str, since: datetime | None = None) -> Iterator[Request]:
-    """The requests of a log; lines of another form are passed over, and files that end before a time."""
+def requests(path: str, since: datetime | None = None, having: str = "") -> Iterator[Request]:
+    """The requests of a log, or of its lines that have a text; lines of another form are passed over, and files that
+    end before a time."""
     is_of_owners = not os.path.basename(path).startswith(UNPROVED)
     for file in files_of(path):
         if since and os.path.getmtime(file) < since.timestamp():
@@ -76,12 +83,21 @@ def requests(path: str, since: datetime | None = None) -> Iterator[Request]:
             with gzip.open(file, "rt", errors="replace") if file.endswith(".gz") else open(
                 file, errors="replace"
             ) as lines:
-                yield from (request for line in lines if (request := request_of(line, is_of_owners)))
+                wanted = (line for line in lines if having in line)
+                yield from (request for line in wanted if (request := request_of(line, is_of_owners)))
         except (OSError, EOFError, zlib.error) as error:
             why = getattr(error, "strerror", None) or error
             raise Failure(
                 f"{file} can't be read: {why}", advice="the journal without it is told by --no-site"
             ) from error
+
+
+def orders_placed(path: str, since: datetime | None = None) -> Iterator[Request]:
+    """The requests of a log by which owners placed orders, as far as the log names these; files that end before a time
+    are passed over."""
+    for request in requests(path, since, '"POST /orders'):
+        if request.order and request.status == 200 and request.is_checked:
+            yield request
 
 
 def request_of(line: str, is_of_owners: bool) -> Request | None:
@@ -94,4 +110,5 @@ def request_of(line: str, is_of_owners: bool) -> Request | None:
     except ValueError:
         return None
     request, order = match["request"].removesuffix(" HTTP/1.1"), (match["order"] or "").removeprefix("-")
-    return Request(time, match["address"], match["owner"], request, int(match["status"]), order, is_of_owners)
+    owner, person, status = match["owner"], match["person"] or "", int(match["status"])
+    return Request(time, match["address"], owner, request, status, order, person, is_of_owners)
