@@ -1,16 +1,12 @@
 """Kills of the command at each step: the file is as `toll` left it, and the journal verifies."""
-import fcntl
-import os
 import pathlib
 import shutil
-import subprocess
-import time
 
 import pytest
 from conftest import Plant
 from hilpoven.core.journal.query import check
+from killed import kill_at, steps
 
-KILLED = pathlib.Path(__file__).with_name("killed.py")
 SHEET = """key,owner,order,batch,segment,use,material,lot_owner,lot,sublot,amount,day
 K20,ACME,O-1,1,1,consumed,SALT,ACME,S-1,BAY1,1,102
 K21,ACME,O-1,1,1,consumed,SALT,ACME,S-1,BAY1,2,102
@@ -41,33 +37,6 @@ def put(laid: Plant, folder: pathlib.Path) -> Plant:
     return Plant(laid.program, folder)
 
 
-def kill_at(plant: Plant, step: int, words: list[str], stdin: str) -> int:
-    """Kills the command at a step; how many there were, where it ended by itself, and else 0."""
-    count = plant.folder / "count"
-    count.unlink(missing_ok=True)
-    subprocess.run(["/usr/bin/python3", "-IB", KILLED, str(step), str(count), "--db", str(plant.db), *words], input=stdin, text=True,
-                   capture_output=True, cwd=plant.folder, env={**os.environ, "TOLL": plant.program}, timeout=60)
-    wait_for_lock(plant.db)
-    return int(count.read_text()) if count.exists() else 0
-
-
-def wait_for_lock(db: pathlib.Path) -> None:
-    """Waits until what a killed command began has ended."""
-    with open(f"{db}.lock", "a") as lock:
-        for _ in range(200):
-            try:
-                fcntl.flock(lock, fcntl.LOCK_EX | fcntl.LOCK_NB)
-                return
-            except BlockingIOError:
-                time.sleep(0.05)
-    raise AssertionError("the lock is never given back")
-
-
-def steps(whole: int, kills: int) -> list[int]:
-    """So many steps of all, from the first to the last."""
-    return sorted({1 + at * (whole - 1) // (kills - 1) for at in range(kills)})
-
-
 def fronts(laid: Plant, folder: pathlib.Path, words: list[str]) -> list[dict]:
     """The rows that a command may leave: those from before, those after, and of receipts those between."""
     plant = put(laid, folder)
@@ -82,6 +51,7 @@ def try_command(laid: Plant, folder: pathlib.Path, name: str, kills: int) -> int
     """Kills a command at so many steps, and looks at what is left; how often it was killed."""
     words, stdin = COMMANDS[name][0].split(), COMMANDS[name][1]
     allowed = fronts(laid, folder, words)
+    put(laid, folder).run(*[str(folder / word) if word.endswith((".csv", ".db")) else word for word in words], stdin=stdin)
     plant, done = put(laid, folder), 0
     whole = kill_at(plant, 0, words, stdin)
     after = plant.content()
@@ -136,6 +106,7 @@ def try_restore(laid: Plant, folder: pathlib.Path, kills: int) -> int:
     saved, kept = plant.content(), folder.with_name("kept.db")
     for end in ("", ".journal"):
         shutil.copyfile(f"{backup}{end}", f"{kept}{end}")
+    assert plant.run("restore", kept).status == 0
     whole, done = 0, 0
     for step in [0, *range(kills)]:
         plant = put(laid, folder)

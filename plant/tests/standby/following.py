@@ -4,6 +4,7 @@ import pathlib
 import sqlite3
 import tempfile
 
+from conftest import Plant
 from hilpoven.care.standby import chain
 from hilpoven.care.standby.book import Book
 from hilpoven.care.standby.follower import Follower
@@ -41,5 +42,20 @@ def rows_of(db: str | pathlib.Path) -> dict[str, list[tuple]]:
     """All rows of all tables of a file that nobody writes."""
     with contextlib.closing(sqlite3.connect(db)) as base:
         assert base.execute("PRAGMA integrity_check").fetchall() == [("ok",)]
-        names = [name for name, in base.execute("SELECT name FROM sqlite_master WHERE type = 'table' ORDER BY name")]
-        return {name: sorted(base.execute(f"SELECT * FROM {name}")) for name in names}
+        return rows_in(base)
+
+
+def rows_in(base: sqlite3.Connection) -> dict[str, list[tuple]]:
+    """All rows of all tables."""
+    names = [name for name, in base.execute("SELECT name FROM sqlite_master WHERE type = 'table' ORDER BY name")]
+    return {name: sorted(base.execute(f"SELECT * FROM {name}")) for name in names}
+
+
+def has_all_of(plant: Plant, folder: pathlib.Path) -> bool:
+    """Whether the pieces of a folder give all rows of an office that nobody writes now, and all lines of its journal: what a follower
+    at work comes to, whatever it is in the midst of."""
+    if not chain.chains_in(str(folder)) or chain.Report(chain.newest_in(str(folder)), str(folder)).look().wrong:
+        return False
+    journal = plant.journal.read_bytes() if plant.journal.exists() else b""
+    with built(folder) as office, plant.reading() as base:
+        return rows_of(office.file) == rows_in(base) and pathlib.Path(office.journal).read_bytes() == journal

@@ -2,43 +2,32 @@
 import os
 import pathlib
 import shutil
-import subprocess
+import sys
 
 import pytest
-from conftest import ROOT, Plant
+from conftest import Plant
 from following import follower_of, look
+from hilpoven.cli import main
 from hilpoven.core.journal.query import check
 from hilpoven.care.standby import chain
-
-KILLED = ROOT / "plant" / "tests" / "killed.py"
-FOLLOW = """
-import sys
-from hilpoven.care.standby import follower
-from hilpoven.cli import main
-looks = []
-def step(self, real=follower.Follower.step):
-    real(self)
-    self.written = 0.0
-    looks.append(1)
-    if len(looks) == 3:
-        sys.exit(0)
-follower.Follower.step = step
-"""
+from hilpoven.care.standby.follower import Follower
+from killed import kill_at, steps
 
 
-def kill_at(step: int, count: pathlib.Path, program: str, *words: object, imports: str = "") -> int:
-    """Kills the command at a step; how many there were, where it ended by itself, and else 0."""
-    count.unlink(missing_ok=True)
-    text = KILLED.read_text().replace("from hilpoven.cli import main  # noqa: E402", imports or "from hilpoven.cli import main")
-    script = count.with_name("killed.py")
-    script.write_text(text.replace("pathlib.Path(__file__).resolve().parent.parent", f"pathlib.Path({str(ROOT / 'plant')!r})"))
-    subprocess.run(["/usr/bin/python3", "-IB", script, str(step), count, *map(str, words)], capture_output=True, env={**os.environ, "TOLL": program}, timeout=60)
-    return int(count.read_text()) if count.exists() else 0
 
+def follow_for_three_looks() -> None:
+    """The command, of which the follower ends by itself behind three looks, each with a piece."""
+    looks, real = [], Follower.step
 
-def steps(whole: int, kills: int) -> list[int]:
-    """So many steps of all, from the first to the last."""
-    return sorted({1 + at * (whole - 1) // (kills - 1) for at in range(kills)})
+    def step(self: Follower) -> None:
+        real(self)
+        self.written = 0.0
+        looks.append(1)
+        if len(looks) == 3:
+            sys.exit(0)
+
+    Follower.step = step
+    main()
 
 
 def try_promotions(at_work: Plant, room: pathlib.Path, kills: int) -> int:
@@ -56,7 +45,7 @@ def try_promotions(at_work: Plant, room: pathlib.Path, kills: int) -> int:
             mark.unlink()
         standby = Plant(at_work.program, folder)
         at = steps(whole, kills)[step] if whole and step < len(steps(whole, kills)) else 0
-        ended = kill_at(at, room / "count", at_work.program, "--db", standby.db, "promote", pieces)
+        ended = kill_at(standby, at, ["promote", pieces])
         whole, done = whole or ended, done + (not ended)
         assert not standby.db.exists() or standby.content() == at_work.content(), at
         # whoever could have served it finds the folder marked
@@ -76,7 +65,7 @@ def try_followers(at_work: Plant, room: pathlib.Path, kills: int) -> int:
         pieces.mkdir(mode=0o700)
         at = steps(whole, kills)[step] if whole and step < len(steps(whole, kills)) else 0
         for number in range(2):
-            ended = kill_at(at, room / "count", at_work.program, "--db", at_work.db, "follow", "--to", pieces, imports=FOLLOW)
+            ended = kill_at(at_work, at, ["follow", "--to", pieces], begin=follow_for_three_looks)
             whole, done = whole or ended, done + (not ended)
             assert at_work.run("unit-add", f"U-{at}-{number}").status in (0, 1)
         assert all(path.name.endswith((".piece", ".snapshot", ".json", ".made")) or path.name.startswith(".hilpoven.") for path in pieces.iterdir()), at

@@ -8,7 +8,7 @@ import struct
 
 import pytest
 from following import built, follower_of, look, rows_of
-from hypothesis import given, settings
+from hypothesis import given
 from hypothesis.strategies import binary, booleans
 from hilpoven.care.standby import capture, wal
 
@@ -153,7 +153,6 @@ def test_checksums_are_those_of_sqlite_in_both_orders(tmp_path, page_size, monke
     assert read(tmp_path, log) == own and read(tmp_path, in_big_order(log, page_size)) == other
 
 
-@settings(deadline=None)
 @given(content=binary(min_size=8, max_size=400).map(lambda content: content[: len(content) // 8 * 8]), is_big=booleans())
 def test_a_checksum_is_that_of_its_words(content, is_big):
     assert wal.sums_behind(content, [(0, 0)], is_big) == [sums_by_words(content, ">" if is_big else "<")]

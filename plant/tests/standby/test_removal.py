@@ -10,7 +10,7 @@ import time
 from dataclasses import asdict
 
 import pytest
-from conftest import HILPOVEN, Plant, environment, eventually
+from conftest import HILPOVEN, PATIENCE, Plant, environment, eventually
 from following import follower_of, look
 from hilpoven.care.standby import book, chain, piece, state
 from hilpoven.care.standby.remote import ListedFile, Remote, files_in
@@ -106,19 +106,21 @@ class Following:
 @needs_rsync
 def test_twenty_thousand_old_pieces_go_while_new_ones_come(at_work, standby, monkeypatch, tmp_path):
     here, remote_folder = at_work.folder / "follow", standby.folder / "follow"
-    rsh, silences, number, ends = rsh_into(remote_folder, tmp_path / "rsh"), [0.0], 0, time.monotonic() + 90
+    rsh, silences, number = rsh_into(remote_folder, tmp_path / "rsh"), [0.0], 0
     with at_work.serve():
         lay_old(at_work, monkeypatch, 20_000, here, remote_folder)
         assert len(old_in(here)) == len(old_in(remote_folder)) == 20_001
         with Following(at_work, rsh) as follower:
-            assert eventually(lambda: (here / state.NAME).exists(), 40)
+            assert eventually(lambda: (here / state.NAME).exists())
+            ends = time.monotonic() + 2 * PATIENCE
             while (old_in(here) or old_in(remote_folder)) and time.monotonic() < ends:
+                began = time.time()  # a machine with much to do holds up this turn as it does the follower
                 assert at_work.toll("unit-add", f"U-{number}").status == 0
                 number += 1
                 time.sleep(0.3)
-                silences.append(time.time() - state.load(str(here)).looked)
+                silences.append(began - state.load(str(here)).looked)
             assert not old_in(here) and not old_in(remote_folder) and max(silences) < 8, max(silences)
-            assert eventually(lambda: chain.newest_in(str(remote_folder)).last == chain.newest_in(str(here)).last > 20_000, 40)
+            assert eventually(lambda: chain.newest_in(str(remote_folder)).last == chain.newest_in(str(here)).last > 20_000)
             time.sleep(2)
             assert follower.process.poll() is None
     removals = [line for line in pathlib.Path(f"{rsh}.log").read_text().splitlines() if "--delete" in line]
@@ -167,7 +169,7 @@ def test_what_can_t_be_removed_is_told_once_and_goes_later(at_work, tmp_path, mo
         follower.tend(saved)
         return not stuck.exists()
 
-    assert eventually(is_removed, 40) and follower.messages[-1] == f"old pieces of {here} are removed again"
+    assert eventually(is_removed) and follower.messages[-1] == f"old pieces of {here} are removed again"
     follower.tend(saved)
     assert follower.state.fault == "" and chain.Report(chain.newest_in(str(here)), str(here)).look().wrong == []
 
@@ -180,16 +182,16 @@ def test_a_network_that_fails_in_the_midst_of_a_removal_is_met_once(at_work, sta
     cut.touch()
     rsh = rsh_into(remote_folder, tmp_path / "rsh", f'case "$*" in *--delete*) [ ! -e {cut} ] || {{ echo "Broken pipe" >&2; exit 255; }} ;; esac')
     with Following(at_work, rsh) as follower:
-        assert eventually(lambda: not old_in(here) and follower.count_of("Broken pipe"), 60)
+        assert eventually(lambda: not old_in(here) and follower.count_of("Broken pipe"))
         assert len(old_in(remote_folder)) == 201
         at_work.toll("unit-add", "PRESS")
-        assert eventually(lambda: chain.newest_in(str(remote_folder)).last == chain.newest_in(str(here)).last > 200, 40)
-        assert eventually(lambda: "Broken pipe" in at_work.run("follow", "status", here).out, 20)
+        assert eventually(lambda: chain.newest_in(str(remote_folder)).last == chain.newest_in(str(here)).last > 200)
+        assert eventually(lambda: "Broken pipe" in at_work.run("follow", "status", here).out)
         time.sleep(4)
         assert follower.count_of("Broken pipe") == 1 and follower.count_of("gets pieces again") == 0
         cut.unlink()
-        assert eventually(lambda: not old_in(remote_folder), 60)
-        assert eventually(lambda: follower.count_of("are removed again") == 1, 20) and follower.count_of("Broken pipe") == 1
+        assert eventually(lambda: not old_in(remote_folder))
+        assert eventually(lambda: follower.count_of("are removed again") == 1) and follower.count_of("Broken pipe") == 1
     assert standby.run("promote").status == 0 and standby.content() == at_work.content()
 
 
@@ -204,15 +206,15 @@ def test_what_a_killed_follower_left_there_goes_when_it_is_back(at_work, standby
     cut.touch()
     rsh = rsh_into(remote_folder, tmp_path / "rsh", f'case "$*" in *--delete*) [ ! -e {cut} ] || exit 255 ;; esac')
     with Following(at_work, rsh) as follower:
-        assert eventually(lambda: not old_in(here), 60)
+        assert eventually(lambda: not old_in(here))
         at_work.toll("unit-add", "PRESS")
-        assert eventually(lambda: chain.newest_in(str(remote_folder)).last == chain.newest_in(str(here)).last > 100, 40)
+        assert eventually(lambda: chain.newest_in(str(remote_folder)).last == chain.newest_in(str(here)).last > 100)
         follower.process.kill()
         follower.process.wait()
         assert len(old_in(remote_folder)) == 102
         cut.unlink()
         follower.begin()
-        assert eventually(lambda: not old_in(remote_folder), 60) and follower.process.poll() is None
+        assert eventually(lambda: not old_in(remote_folder)) and follower.process.poll() is None
     assert standby.run("promote").status == 0 and standby.content() == at_work.content()
 
 

@@ -43,12 +43,12 @@ def test_pieces_and_snapshots_come_through_at_once(at_work, standby, pieces, rsh
     with open(at_work.folder / "log", "w+") as log:
         process = subprocess.Popen([HILPOVEN, "follow"], stderr=log, env=environment(HILPOVEN_SETTINGS=settings))
         try:
-            assert eventually(lambda: bool(chain.chains_in(str(pieces))), 40)
+            assert eventually(lambda: bool(chain.chains_in(str(pieces))))
             for number in range(4):
                 assert at_work.run("unit-add", f"U-{number}").out == "accepted\n"
             wanted = at_work.content()
-            assert eventually(lambda: at_work.run("follow", "status", at_work.folder / "follow").out.startswith("0.0 seconds behind"), 40)
-            assert eventually(lambda: chain.newest_in(str(pieces)).last == chain.newest_in(str(at_work.folder / "follow")).last >= 1 and list(pieces.glob("*.snapshot")), 40)
+            assert eventually(lambda: at_work.run("follow", "status", at_work.folder / "follow").out.startswith("0.0 seconds behind"))
+            assert eventually(lambda: chain.newest_in(str(pieces)).last == chain.newest_in(str(at_work.folder / "follow")).last >= 1 and list(pieces.glob("*.snapshot")))
         finally:
             process.kill()
             process.wait()

@@ -9,8 +9,8 @@ from datetime import datetime
 from zoneinfo import ZoneInfo
 
 import pytest
-from conftest import HILPOVEN, ROOT, Plant, change_log_at_rest, environment, eventually, script
-from following import follower_of, look
+from conftest import HILPOVEN, PATIENCE, ROOT, Plant, change_log_at_rest, environment, eventually, script
+from following import follower_of, has_all_of, look
 from hilpoven.core import settings as site
 from hilpoven.core.failure import Failure
 from hilpoven.core.journal.query import check
@@ -158,6 +158,7 @@ def test_verify_finds_what_pieces_have_and_a_changed_log_lost(at_work):
         server.process.kill()
     assert at_work.run("verify").status == 0
     change_log_at_rest(at_work)
+    pathlib.Path(f"{at_work.db}.lock").unlink()  # its mark would tell the loss, and nothing would be given
     for name in ("PRESS", "OVEN"):
         assert at_work.run("unit-add", name).status == 0
         look(follower)
@@ -173,8 +174,8 @@ def test_a_served_office_is_followed_within_seconds(at_work, standby):
         for number in range(30):
             assert at_work.toll("receive", "ACME", f"K{100 + number}", "SALT", "S-9", "BAY1", 5, 102).out == "accepted\n"
         assert server.ask("ACME", "POST", "/orders", '{"order":"O-9","recipe":"BRINE-10","batches":1}')[0] == 200
-        time.sleep(3)
-        assert at_work.run("follow", "status", folder).out.startswith("0.0 seconds behind: 0 commands")
+        assert eventually(lambda: has_all_of(at_work, folder))
+        assert eventually(lambda: at_work.run("follow", "status", folder).out.startswith("0.0 seconds behind: 0 commands"))
         errors = server.end()
     assert "opened anew" not in errors and "fault" not in errors
     assert standby.run("promote", folder).status == 0 and standby.content() == at_work.content()
@@ -186,7 +187,7 @@ def test_commands_without_a_server_are_followed(at_work, standby):
         assert eventually(lambda: number_in(folder) >= 0)
         for number in range(8):
             assert at_work.run("unit-add", f"U-{number}").out == "accepted\n"
-        time.sleep(3)
+        assert eventually(lambda: has_all_of(at_work, folder))
     assert standby.run("promote", folder).status == 0 and standby.content() == at_work.content()
     assert [line for line in at_work.lines() if line not in standby.lines()] == []
 
@@ -239,7 +240,7 @@ def test_two_followers_into_two_folders_go_on_side_by_side(at_work, standby):
     with following(at_work, str(one)), following(at_work, str(two)):
         assert eventually(lambda: min(number_in(one), number_in(two)) >= 0)
         assert at_work.run("unit-add", "OVEN").status == 0
-        time.sleep(3)
+        assert eventually(lambda: has_all_of(at_work, one) and has_all_of(at_work, two))
     for folder in (one, two):
         assert standby.run("promote", folder).status == 0 and standby.content() == at_work.content()
 
@@ -329,17 +330,23 @@ def test_pieces_go_to_another_machine_and_wait_for_the_network(at_work, standby,
         assert eventually(lambda: number_in(target) >= 1)
         (tmp_path / "down").touch()
         sent = number_in(target)
-        for number in range(3):
+        for number in range(3):  # a piece of each
+            pieces = number_in(at_work.folder / "follow")
             assert at_work.run("unit-add", f"U-{number}").out == "accepted\n"
-            time.sleep(1.2)
+            assert eventually(lambda: number_in(at_work.folder / "follow") > pieces)
         assert eventually(lambda: "No route to host" in (at_work.folder / "follower.log").read_text())
         assert number_in(target) == sent
         assert eventually(lambda: "still to be sent" in at_work.run("follow", "status").out)
         (tmp_path / "down").unlink()
-        assert eventually(lambda: number_in(target) == number_in(at_work.folder / "follow") > sent, 40)
+        assert eventually(lambda: number_in(target) == number_in(at_work.folder / "follow") > sent and has_all_of(at_work, target))
         assert eventually(lambda: "gets pieces again" in (at_work.folder / "follower.log").read_text())
     assert standby.run("follow", "verify").status == 0
     assert standby.run("promote").status == 0 and standby.content() == at_work.content()
+
+
+def is_behind(status: str, why: str) -> bool:
+    """Whether a standby is some time behind for this reason."""
+    return why in status and not status.startswith("0.0 seconds behind")
 
 
 def test_a_snapshot_that_isn_t_there_is_told(at_work, standby, rsh, tmp_path):
@@ -348,11 +355,9 @@ def test_a_snapshot_that_isn_t_there_is_told(at_work, standby, rsh, tmp_path):
     (tmp_path / "down").touch()
     with remote(at_work, target, rsh):
         assert eventually(lambda: number_in(at_work.folder / "follow") >= 0)
-        time.sleep(2)
-        status = at_work.run("follow", "status").out
-        assert "1 piece still to be sent" in status and "0.0 seconds behind" not in status
+        assert eventually(lambda: is_behind(at_work.run("follow", "status").out, "1 piece still to be sent"))
         (tmp_path / "down").unlink()
-        assert eventually(lambda: at_work.run("follow", "status").out.startswith("0.0 seconds behind"), 40)
+        assert eventually(lambda: at_work.run("follow", "status").out.startswith("0.0 seconds behind"))
     assert standby.run("promote").status == 0
 
 
@@ -361,11 +366,11 @@ def test_a_follower_learns_that_the_other_machine_was_promoted(at_work, standby,
     with remote(at_work, target, rsh) as process:
         assert eventually(lambda: number_in(target) >= 0)
         assert standby.run("promote").status == 0
-        assert process.wait(40) == 1
+        assert process.wait(PATIENCE) == 1
     assert "timeline 2 has begun" in (at_work.folder / "follower.log").read_text()
     assert at_work.run("unit-add", "LATE").status == 1
     with remote(at_work, target, rsh) as process:
-        assert process.wait(20) == 1
+        assert process.wait(PATIENCE) == 1
 
 
 def test_another_machine_s_folder_has_one_follower(at_work, standby, rsh):
@@ -374,7 +379,7 @@ def test_another_machine_s_folder_has_one_follower(at_work, standby, rsh):
         assert eventually(lambda: number_in(target) >= 0)
     shutil.rmtree(at_work.folder / "follow")
     with remote(at_work, target, rsh) as process:
-        assert process.wait(20) == 1
+        assert process.wait(PATIENCE) == 1
     assert "has pieces of another follower" in (at_work.folder / "follower.log").read_text()
 
 

@@ -96,7 +96,7 @@ def test_a_machine_is_lost_and_refused_when_it_is_back(machines, laid, tmp_path)
     stack.callback(lambda: (follower.kill(), follower.wait()))
     times: dict[str, float] = {}
     with first.plant.serve() as server:
-        assert eventually(lambda: bool(chain.chains_in(str(target))), 60), log.seek(0) or log.read()
+        assert eventually(lambda: bool(chain.chains_in(str(target)))), log.seek(0) or log.read()
         for number in range(60):
             assert first.plant.toll("receive", "ACME", f"N{number}", "SALT", "S-77", "BAY1", 5, 102).out == "accepted\n"
         time.sleep(3)

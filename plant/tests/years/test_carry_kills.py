@@ -4,7 +4,7 @@ import shutil
 
 import pytest
 from conftest import Plant
-from test_kills import kill_at, steps
+from killed import kill_at, steps
 
 WORDS = ["carry-over", "next.db", "--day", "261127"]
 TOOLS = ("carried", "carried_moves")

@@ -324,10 +324,11 @@ def test_a_lot_of_a_batch_from_before_takes_no_receipt(behind):
     assert done.status == 1 and "lot B-1 of ACME was made by batch O-1/1 (office-1.db)" in done.err
 
 
-def test_a_recall_says_that_it_is_of_the_newest_file_alone(behind):
+def test_a_recall_is_over_all_files_and_a_trace_says_that_it_is_of_the_newest_alone(behind):
     done = behind.run("recall", "ACME", "S-1")
-    assert done.out == behind.toll("recall", "ACME", "S-1").out
-    assert done.err.splitlines()[-2:] == ["  ATTENTION: this is of office.db alone, which came from office-1.db: what stayed there isn't in it.", "  Over all files: hilpoven years recall ACME S-1"]
+    assert done.out == f"{behind.toll('recall', 'ACME', 'S-1').out}over all files of the office:\n{behind.run('years', 'recall', 'ACME', 'S-1').out}" and "ATTENTION" not in done.err
+    done = behind.run("trace", "ACME", "S-1", "forward")
+    assert done.err.splitlines()[-2:] == ["  ATTENTION: this is of office.db alone, which came from office-1.db: what stayed there isn't in it.", "  Over all files: hilpoven years trace ACME S-1 forward"]
     done = behind.run("years", "recall", "ACME", "S-1", "--csv")
     assert done.out.splitlines() == ["steps,owner,lot,disposition,on_hand,shipped,came_in", "0,ACME,S-1,released,4700,0,office-1.db", "1,ACME,B-1,quarantined,980,0,office-1.db"]
     assert f"read office-1.db, sha256 {hash_of(str(behind.folder / 'office-1.db'))}, carried over " in done.err and "read office.db, sha256 " in done.err

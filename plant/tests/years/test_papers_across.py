@@ -49,7 +49,7 @@ def try_papers(program: str, seed: int, each: int) -> None:
         test_histories.try_history(Plant(program, pathlib.Path(folder)), Random(seed), 120, 2 + seed % 2)
 
 
-@pytest.mark.parametrize("seed", range(2))
+@pytest.mark.parametrize("seed", [pytest.param(0, marks=pytest.mark.long), 1])
 def test_papers_of_a_cut_history(program, seed):
     try_papers(program, seed, 3)
 

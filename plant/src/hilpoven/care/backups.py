@@ -11,7 +11,7 @@ from ..core.journal import log as journals, query
 from ..core.journal.log import IN_PLACE, Journal
 from ..model.schema import IS_INCOMING, STANDING, Kind
 from ..core import files, lock, paths, scratch, server, snapshot
-from . import keys
+from . import keys, persons
 from ..core.failure import FAULT, REFUSED, WRONG_USE, Failure
 from ..core.office import Answer, Office
 from ..core.server import Place
@@ -21,6 +21,7 @@ STAMP = r"[0-9]{8}-[0-9]{6}"
 MARK = r"[0-9a-f]{8}"  # of an office, before the stamp; earlier versions wrote none
 ANY_MARK = f"(?:{MARK}-)?"
 JOURNAL = ".journal"  # the end of the name of the journal's lines that lie beside a backup
+BESIDE = (JOURNAL, persons.END)  # what lies beside a backup
 TOLERANCE = 300  # seconds by which clocks may differ
 REGISTER = (".register", ".register-journal")  # of which no backup is made: the journal's lines give it
 BELONGING = ("", "-wal", "-shm")  # what a file consists of; its lock and its socket hold nothing
@@ -113,6 +114,7 @@ def make(office: Office, folder: str, keep: int, days: int, journal: Journal) ->
                 with journal.locked():
                     files.copy(journal.path, f"{copy}.journal")
                 files.put_in_place(f"{copy}.journal", f"{target}.journal")
+                persons.take_along(office.file, target + persons.END)
                 files.put_in_place(copy, target)
                 note.answer = Answer(0, f"{name}, sha256 {digest}\n", "")
             prune(office, folder, keep, days, journal, target)
@@ -125,7 +127,7 @@ def free_name(file: str, folder: str, mark: str) -> str:
     while True:
         stamp = time.strftime("%Y%m%d-%H%M%S", time.gmtime(moment))
         target = os.path.join(folder, f"{name_of(file)}-{mark}-{stamp}.db")
-        if not any(os.path.lexists(target + end) for end in ("", JOURNAL)):
+        if not any(os.path.lexists(target + end) for end in ("", *BESIDE)):
             return target
         moment += 1
 
@@ -133,9 +135,10 @@ def free_name(file: str, folder: str, mark: str) -> str:
 def prune(office: Office, folder: str, keep: int, days: int, journal: Journal, new: str) -> None:
     """Removes all backups of an office but the new one, the newest, and the last ones of the newest days, with what
     belongs to them."""
-    for name in filter(own_form(office.file, journal, JOURNAL).fullmatch, os.listdir(folder)):
-        if not os.path.lexists(os.path.join(folder, name.removesuffix(JOURNAL))):
-            os.unlink(os.path.join(folder, name))  # of a backup that was killed before it had its name
+    for end in BESIDE:
+        for name in filter(own_form(office.file, journal, end).fullmatch, os.listdir(folder)):
+            if not os.path.lexists(os.path.join(folder, name.removesuffix(end))):
+                os.unlink(os.path.join(folder, name))  # of a backup that was killed before it had its name
     backups = all_of(office.file, folder, journal)
     own, hashes = own_form(office.file, journal), recorded(journal)
     old = [
@@ -147,7 +150,7 @@ def prune(office: Office, folder: str, keep: int, days: int, journal: Journal, n
         return
     with journal.noted(office.file, ["prune", *(os.path.basename(path) for path in old)]) as note:
         for path in old:
-            files.remove(path, *BELONGING, ".lock", JOURNAL, *REGISTER)
+            files.remove(path, *BELONGING, ".lock", *BESIDE, *REGISTER)
         note.answer = Answer(0, "removed\n", "")
 
 
@@ -184,7 +187,7 @@ def require_sound(office: Office, copy: str) -> None:
 
 class Replaced(NamedTuple):
     """A file that another one has the place of: the folder where it is now, empty if there was none, and what is told
-    of its owners' keys."""
+    of its owners' keys and persons."""
 
     aside: str
     notes: list[str]
@@ -218,7 +221,7 @@ def restore(office: Office, backup: str, place: Place, journal: Journal, is_fore
                 "root and the office's user restore it with --foreign, and answer for what is in it",
             )
         words = ["restore", *(["--foreign"] if is_foreign else []), backup]
-        return replace(office, copy, place, journal, words, digest, backup + JOURNAL)
+        return replace(office, copy, place, journal, words, digest, backup + JOURNAL, backup + persons.END)
 
 
 def require_own(file: str, backup: str, journal: Journal) -> None:
@@ -233,10 +236,18 @@ def require_own(file: str, backup: str, journal: Journal) -> None:
 
 
 def replace(
-    office: Office, copy: str, place: Place, journal: Journal, words: list[str], digest: str, lines_then: str
+    office: Office,
+    copy: str,
+    place: Place,
+    journal: Journal,
+    words: list[str],
+    digest: str,
+    lines_then: str,
+    persons_then: str,
 ) -> Replaced:
     """Puts a copy that was looked at in the place of the file, which the journal notes. Keys that were changed since
-    stay: those behind the lines that the journal had then, by a file of them."""
+    stay: those behind the lines that the journal had then, by a file of them. So do persons, by theirs, if none are
+    there."""
     with journal.noted(office.file, words, sha256=digest) as note:
         with lock.held(office.file, office.wait):
             stop_on_server(office.file, place)
@@ -245,9 +256,10 @@ def replace(
             files.put_in_place(copy, office.file)
             note.members[IN_PLACE] = True
         require_opening(office, aside)
+        notes = [*kept.lines, *persons.put_back(office.file, journal, persons_then)]
         moved = [f"what was there is in {aside}"] if aside else []
-        note.answer = Answer(0, "; ".join(["restored", *moved, *kept.lines]) + "\n", "")
-    return Replaced(aside, kept.lines)
+        note.answer = Answer(0, "; ".join(["restored", *moved, *notes]) + "\n", "")
+    return Replaced(aside, notes)
 
 
 def require_opening(office: Office, aside: str) -> None:

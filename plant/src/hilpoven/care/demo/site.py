@@ -51,6 +51,7 @@ PATIENCE = 60  # seconds for a reply of the office
 SILENCE = 10  # seconds within which a client sends its request
 OWNERS = ("toll-owner", "toll-key")  # the fields of an owner
 KNOWN = "if-none-match"  # the field with the tag of what a client has
+OF_PERSONS = ("cookie", "toll-token", "origin", "sec-fetch-site", "host")  # the fields of owners' people
 
 
 class Reply(NamedTuple):
@@ -95,6 +96,8 @@ class Site:
     files: dict[str, str] = field(default_factory=page_files)
     # what else an owner gets whose key is right: by its name, and the tag of what it has
     owner_replies: dict[str, Callable[[str, str], Reply]] = field(default_factory=dict)
+    # what owners' people get, where a package has them: by the method, the path, fields and the body
+    persons: Callable[[str, str, dict[str, list[str]], bytes], Reply] | None = None
 
     def reply(self, method: str, target: str, fields: dict[str, list[str]], body: bytes) -> Reply:
         """The reply to a request."""
@@ -102,9 +105,12 @@ class Site:
         if path in ("/", "/owner"):
             return redirect(302 if path == "/" else 301)
         if path == "/owner/settings.json":
-            return Reply(200, JSON, b'{"idle_minutes":0}')
+            parts = {"persons": True} if self.persons else {}
+            return Reply(200, JSON, json.dumps({"idle_minutes": 0} | parts).encode())
         if path.startswith("/owner/"):
             return self.file_at(path) if method in ("GET", "HEAD") else failure(405, "MethodNotAllowed")
+        if self.persons and path.startswith("/person/"):
+            return self.persons(method, target, fields, body)
         if path in self.owner_replies:
             return self.of_owner(method, path, fields)
         return self.of_office(method, target, fields, body)
@@ -181,7 +187,7 @@ class Handler(BaseHTTPRequestHandler):
             return failure(413, "TooLarge")
         body = self.rfile.read(int(length))
         self.close_connection = len(body) < int(length) or self.headers.get("Connection", "").lower() == "close"
-        fields: dict[str, list[str]] = {name: self.headers.get_all(name, []) for name in (*OWNERS, KNOWN)}
+        fields: dict[str, list[str]] = {name: self.headers.get_all(name, []) for name in (*OWNERS, KNOWN, *OF_PERSONS)}
         return self.server.site.reply(self.command, self.path, fields, body)
 
     def version_string(self) -> str:

@@ -1,6 +1,8 @@
 """The machine on which an office is set up: where its files are, how its programs run, and what answers on it."""
 import contextlib
+import grp
 import os
+import pwd
 import re
 import shutil
 import socket
@@ -11,7 +13,7 @@ from collections.abc import Callable, Iterator
 from dataclasses import dataclass
 from typing import NamedTuple
 
-from ...core import client, lock, settings as site
+from ...core import client, files, lock, settings as site
 from ...core.failure import WRONG_USE, Failure
 
 PORTS = range(801, 1024)  # which no other account may take; nginx has 800 for wrong keys
@@ -19,10 +21,12 @@ PORT = re.compile(r"^PORT=[\"']?([0-9]{1,5})\b", re.M)
 ANSWERS = 60.0  # seconds within which a server that is started answers
 PAUSE = 0.2
 OK = 200
+NGINX_USER, LOGS_GROUP, LOG_MODE = "www-data", "adm", 0o640  # of nginx's logs, as packaging/etc/logrotate.d has them
 FORBIDDEN = 403  # what a server answers to a request without a key
 NGINX_FILES = (("conf.d", ".conf"), ("sites-enabled", ""))
 TEMPLATES = (f"{site.CHECKOUT}/packaging/nginx.conf", f"{site.CHECKOUT}/toll/nginx.conf", "/usr/share/toll/nginx.conf")
 DESK_TEMPLATES = (f"{site.CHECKOUT}/packaging/desk/nginx.conf", "/usr/share/hilpoven-desk/nginx.conf")
+PERSONS_TEMPLATES = (f"{site.CHECKOUT}/packaging/persons/nginx.conf", "/usr/share/hilpoven-persons/nginx.conf")
 PAGES = ("/usr/share/toll/page", f"{site.CHECKOUT}/toll/page")
 RUNNING = "/run/systemd/system"  # which is there where systemd runs
 UNITS = ("/usr/lib/systemd/system", "/usr/local/lib/systemd/system", "/etc/systemd/system")
@@ -47,6 +51,7 @@ class Machine:
     lock: str = "/run/hilpoven-setup.lock"  # which no other account can hold
     command: str = "hilpoven"  # this program, by which commands over the office are given
     login: str = ""  # who sets up, as journals name it
+    logs: str = "/var/log/nginx"
 
     @contextlib.contextmanager
     def held(self) -> Iterator[None]:
@@ -110,6 +115,10 @@ class Machine:
         """The same of the plant's screens."""
         return first_of(DESK_TEMPLATES)
 
+    def persons_template(self) -> str:
+        """The same of the persons of owners."""
+        return first_of(PERSONS_TEMPLATES)
+
     def page(self) -> str:
         """The folder of the owner's page."""
         return next((folder for folder in PAGES if os.path.isfile(f"{folder}/index.html")), PAGES[0])
@@ -125,6 +134,17 @@ class Machine:
                         with open(path, errors="replace") as file:
                             texts[path] = file.read()
         return texts
+
+    def begin_log(self, name: str) -> None:
+        """Makes a log of nginx as its rotation does. nginx's own test would make one that root alone reads, and neither
+        administrators nor companions."""
+        try:
+            user, group = pwd.getpwnam(NGINX_USER).pw_uid, grp.getgrnam(LOGS_GROUP).gr_gid
+            with open(os.open(f"{self.logs}/{name}", files.NEW, LOG_MODE), "wb") as log:
+                os.fchown(log.fileno(), user, group)
+                os.fchmod(log.fileno(), LOG_MODE)
+        except (FileExistsError, FileNotFoundError, KeyError):
+            pass  # it is there already, or another nginx has other ways
 
     def ports(self) -> dict[str, int]:
         """The ports of the offices that are there, by their names."""

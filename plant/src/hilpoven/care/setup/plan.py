@@ -17,7 +17,7 @@ EVERYBODY = 0o004  # may read it
 @dataclass(frozen=True)
 class Plan:
     """An office by its name, the host name of its site, the files of its certificate, an owner, and the host name of
-    the plant's screens; empty if none is asked for."""
+    the plant's screens; empty if none is asked for. The site may have persons of owners, too."""
 
     name: str
     host: str
@@ -25,6 +25,7 @@ class Plan:
     key: str
     owner: str = ""
     desk: str = ""
+    has_persons: bool = False
 
     def require_forms(self) -> None:
         """Fails where a value isn't of its form."""

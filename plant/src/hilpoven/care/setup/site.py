@@ -73,7 +73,8 @@ def filled(text: str, plan: Plan, port: int, log: str) -> str:
         ("http://127.0.0.1:801", f"http://127.0.0.1:{port}"),
         ("toll.log ", f"toll-{log}.log " if log else "toll.log "),
     )
-    return own.replace("/toll-companion/NAME/", f"/toll-companion/{plan.name}/")
+    named = own.replace("/toll-companion/NAME/", f"/toll-companion/{plan.name}/")
+    return named.replace("/toll-NAME/", f"/toll-{plan.name}/")
 
 
 def of_certificate(shipped: str, host: str, plan: Plan) -> tuple[tuple[str, str], ...]:
@@ -92,6 +93,19 @@ def with_own(text: str, *values: tuple[str, str]) -> str:
             raise Failure(f"the site's file has no `{shipped}`, which this version knows")
         text = text.replace(shipped, own)
     return text
+
+
+def persons_of(machine: Machine, plan: Plan, port: int, log: str) -> list[Written]:
+    """The files of the persons of an office's owners: what a machine needs once, and a part of the office's site."""
+    _, once, office = parts_of(machine, machine.persons_template())
+    own = with_own(
+        office,
+        ("http://127.0.0.1:801", f"http://127.0.0.1:{port}"),
+        ("/NAME/", f"/{plan.name}/"),
+        ("toll.log ", f"{os.path.basename(log)} "),
+    )
+    path = f"{machine.nginx}/toll-{plan.name}/persons.conf"
+    return [Written(f"{machine.nginx}/conf.d/00-toll-persons.conf", once), Written(path, own)]
 
 
 def screens_of(machine: Machine, plan: Plan) -> list[Written]:

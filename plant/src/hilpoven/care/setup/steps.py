@@ -15,12 +15,13 @@ from ...core.office import has_bytes
 from . import files
 from .machine import Machine
 from .plan import Plan
-from .site import screens_of, site_of
+from .site import persons_of, screens_of, site_of
 
 ABOUT_HILPOVEN = (
     '# The settings of hilpoven. What can stand here: /usr/share/doc/toll/docs/administration.md, "Settings".\n'
 )
 ABOUT_SETTINGS = '# What else can stand here: /usr/share/doc/toll/docs/operations.md, "As a service".\n'
+LOGS = re.compile(r"^\s*access_log /var/log/nginx/([\w.-]+)", re.M)
 DESK_HOST = re.compile(r"^DESK_HOST=(.*)$", re.M)
 IS = ("is-enabled", "is-active")
 OPTIONAL = ("toll-companion@{name}.timer",)  # units of later packages
@@ -152,11 +153,13 @@ def site_for_owners(setup: Setup) -> Done:
 
 
 def replaced(machine: Machine, wanted: list[files.Written]) -> bool:
-    """Writes files of nginx, as far as they aren't right; whether any was written. Fails where nginx doesn't take them,
-    and puts back what was there."""
+    """Writes files of nginx, as far as they aren't right, and begins their logs; whether any was written. Fails where
+    nginx doesn't take them, and puts back what was there."""
     before: dict[str, str] = {}
     try:
         for file in wanted:
+            for log in sorted(set(LOGS.findall(file.lines))):
+                machine.begin_log(log)
             if (text := file.put()) is not None:
                 before[file.path] = text
         done = machine.run(["nginx", "-t"])
@@ -168,6 +171,29 @@ def replaced(machine: Machine, wanted: list[files.Written]) -> bool:
             files.take_back(path, text)
         raise
     return bool(before)
+
+
+def persons(setup: Setup) -> Done | None:
+    """The persons of owners, by their unit and a part of the site."""
+    machine, plan, port = setup.machine, setup.plan, setup.settings.port
+    if not plan.has_persons:
+        return None
+    if not machine.has_unit("toll-persons@.service"):
+        raise Failure("the package hilpoven-persons isn't here, which has persons of owners", WRONG_USE)
+    site = site_of(machine, plan, port)
+    with open(site.office.path) as file:
+        if not re.search(rf"^\s*include \S+/toll-{plan.name}/\*\.conf;", file.read(), re.M):
+            line = f"include {machine.nginx}/toll-{plan.name}/*.conf;"
+            raise Failure(
+                f"{site.office.path} was changed by hand, and doesn't read parts", WRONG_USE, f"it needs {line}"
+            )
+    names = [f"toll-persons@{plan.name}.service"]
+    if not (was_right := are_active(machine, names)):
+        machine.must(["systemctl", "enable", "--now", *names])
+    os.makedirs(f"{machine.nginx}/toll-{plan.name}", 0o755, exist_ok=True)
+    if is_new := replaced(machine, persons_of(machine, plan, port, site.log)):
+        machine.must(["systemctl", "reload", "nginx"])
+    return Done(not was_right or is_new, f"{', '.join(names)}: persons of owners at {plan.host}")
 
 
 def screens(setup: Setup) -> Done | None:
@@ -221,6 +247,7 @@ STEPS: tuple[Callable[[Setup], Done | None], ...] = (
     units,
     backup,
     site_for_owners,
+    persons,
     screens,
     owner,
 )

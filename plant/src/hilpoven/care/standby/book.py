@@ -6,11 +6,13 @@ from collections.abc import Callable
 from contextlib import AbstractContextManager
 from dataclasses import dataclass, field
 
-from ...core import files
+from ...core import files, snapshot
 from ...core.failure import Failure
 from ...core.files import PART
 from ...core.journal.log import now
 from ...core.office import earlier_files
+from ...core.snapshot import Stamp
+from .. import persons
 from . import chain, piece
 from .capture import Digests, Place, opened
 from .chain import Chain
@@ -107,6 +109,7 @@ class Book:
     taken: Taken = Taken()
     named: dict[str, str] = field(default_factory=dict)  # the earlier files that the chain names last
     earlier: dict[str, str] = field(default_factory=dict)  # those that there are
+    persons_stamp: Stamp | None = None  # of the office's persons of which the folder has a copy
 
     def go_on(self, of: Chain) -> None:
         """Goes on behind the last piece of a chain."""
@@ -178,6 +181,15 @@ class Book:
         if of is None or not of.snapshots:
             return Digests()
         return chain.digests(chain.pieces_of(of, max(of.snapshots), of.last))
+
+    def collect_persons(self) -> bool:
+        """Copies the office's persons into the folder if they changed; whether they did."""
+        stamp = snapshot.stamp_of(persons.path_of(self.file))
+        if stamp == self.persons_stamp:
+            return False
+        persons.take_along(self.file, os.path.join(self.folder, persons.COPY))
+        self.persons_stamp = stamp
+        return True
 
     def collect_earlier(self) -> None:
         """Copies the office's earlier files into the folder, each once, by its SHA-256."""

@@ -70,6 +70,8 @@ class Follower:
 
     def step(self) -> None:
         """One look, with what is to be written behind it."""
+        if self.book.collect_persons() and self.sender:
+            self.sender.is_state_new = True
         if self.book.last is None:
             self.make_snapshot()
         try:

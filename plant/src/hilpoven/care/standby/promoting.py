@@ -10,7 +10,7 @@ from ...core.journal import query
 from ...core.journal.log import MADE_AT, Journal
 from ...core.office import number_of, Answer, Office
 from ...core.server import Place
-from .. import backups, keys
+from .. import backups, keys, persons
 from . import chain, piece
 from .chain import Built, Chain, Report
 from .piece import Header
@@ -30,7 +30,7 @@ class Choice:
 @dataclass(frozen=True)
 class Made:
     """What was put in place: the last piece, its timeline, the folder where what was there is now, and what is told of
-    the journal and of keys."""
+    the journal, of keys and of persons."""
 
     last: Header
     timeline: int
@@ -106,12 +106,14 @@ def put(
     origin = {"chain": choice.chain.name, "piece": choice.end, "at": built.last.at, "sha256": files.hash_of(built.file)}
     notes = [*beside.lines, *kept.lines]
     aside = go_on(journal, beside)
+    copies = os.path.join(folder, persons.COPY), os.path.join(aside, os.path.basename(persons.path_of(office.file)))
     words = ["promote", *(["--until", str(until)] if until is not None else []), built.last.name]
     members = {"sha256": origin["sha256"], "timeline": number, MADE_AT: built.last.at}
     with journal.noted(office.file, words, **members) as note:
         timeline.mark(folder, number, origin)
         timeline.begin(office.file, number, origin)
         files.put_in_place(built.file, office.file)
+        notes += persons.put_back(office.file, journal, *copies, without=beside.changed_persons)
         note.answer = Answer(0, "; ".join([f"timeline {number}", *notes]) + "\n", "")
     return Made(built.last, number, aside, notes)
 
@@ -146,7 +148,8 @@ def restore_at(office: Office, folder: str, place: Place, journal: Journal, mome
         if not os.path.lexists(journal.path):
             files.copy_in_place(newest_lines(choice, built, room), journal.path)
         words, digest = ["restore", "--at", built.last.at, built.last.name], files.hash_of(built.file)
-        replaced = backups.replace(office, built.file, place, journal, words, digest, built.journal)
+        then = built.journal, os.path.join(folder, persons.COPY)
+        replaced = backups.replace(office, built.file, place, journal, words, digest, *then)
     return Made(built.last, number, *replaced)
 
 
@@ -202,6 +205,7 @@ class Beside:
     pieces: str  # the file with the lines of pieces
     point: int  # bytes of them up to the office
     changed_keys: frozenset[str] = frozenset()  # whose keys only lines say that are moved aside
+    changed_persons: frozenset[str] = frozenset()  # persons of owners of whom they say something
 
     @property
     def is_newer(self) -> bool:
@@ -229,7 +233,7 @@ class Beside:
 
 def compared(path: str, pieces: str, of_office: str) -> Beside:
     """A journal that is in place, beside the lines of pieces and those of them that an office has."""
-    point, size, changed = os.path.getsize(of_office), files.size_of(path), frozenset[str]()
+    point, size, changed = os.path.getsize(of_office), files.size_of(path), (frozenset[str](), frozenset[str]())
     same = query.common(path, pieces)
     if not os.path.lexists(path):
         relation = Relation.NONE
@@ -238,8 +242,9 @@ def compared(path: str, pieces: str, of_office: str) -> Beside:
     elif same == size or is_cut(path, pieces, same):
         relation = Relation.OLDER
     else:
-        relation, changed = Relation.ANOTHER, frozenset(keys.changed(path, same) - keys.changed(pieces, same))
-    return Beside(relation, path, size, pieces, point, changed)
+        of_keys = frozenset(keys.changed(path, same) - keys.changed(pieces, same))
+        relation, changed = Relation.ANOTHER, (of_keys, persons.changed(path, same))
+    return Beside(relation, path, size, pieces, point, *changed)
 
 
 def is_cut(path: str, longer: str, at: int) -> bool:
@@ -256,7 +261,8 @@ def go_on(journal: Journal, beside: Beside) -> str:
     folder where it is now. A journal that was written meanwhile fails before that. Behind a kill, the same goes on."""
     if beside.relation is Relation.OLDER:
         add_lines(journal, beside)
-    aside = backups.move_aside(journal.file, *([journal.path] if beside.is_another else []))
+    older = [] if beside.is_newer else [persons.path_of(journal.file)]  # it may have who was removed since
+    aside = backups.move_aside(journal.file, *older, *([journal.path] if beside.is_another else []))
     if beside.relation in (Relation.NONE, Relation.ANOTHER):
         files.put_in_place(beside.pieces, journal.path)
     journal.move(journal.file)

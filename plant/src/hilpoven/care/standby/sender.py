@@ -7,6 +7,7 @@ from functools import cached_property
 from itertools import islice
 
 from ...core.failure import FAULT, REFUSED, Failure
+from .. import persons
 from . import chain, piece, state
 from .remote import Job, ListedFile, Purpose, Remote, files_in
 from .removal import Trouble
@@ -36,7 +37,7 @@ class Sender:
     bulk_job: Job | None = None
     begun: set[str] = field(default_factory=set)  # the chains of which a snapshot is there
     is_known: bool = False  # whether it is known what is there
-    is_state_new: bool = False  # whether the follower's state is to be sent
+    is_state_new: bool = False  # whether the follower's state or the office's persons are to be sent
     looked: float = 0.0
     state_sent: float = 0.0
 
@@ -122,7 +123,8 @@ class Sender:
         if self.unsent or self.is_state_new and time.monotonic() - self.state_sent >= STATE:
             self.is_state_new, self.state_sent = False, time.monotonic()
             pieces = self.present(list(islice(self.unsent, MOST_NAMES)))
-            return self.remote.send(self.folder, [*pieces, state.NAME])
+            has_persons = os.path.lexists(os.path.join(self.folder, persons.COPY))
+            return self.remote.send(self.folder, [*pieces, state.NAME, *([persons.COPY] if has_persons else [])])
         return None
 
     def next_bulk_job(self) -> Job | None:
