@@ -39,7 +39,7 @@ def demo(context: Context, port: int) -> None:
     program = program_of(context.settings)
     try:
         with temporary() as folder, week_in(folder, program) as week, listening(week, port) as listener:
-            with samples(os.path.join(folder, SETTINGS)) as lines:
+            with samples(os.path.join(folder, SETTINGS), listener.site) as lines:
                 show(week, listener.port, program, lines)
                 listener.serve_forever()
     except SystemExit:  # by a signal

@@ -6,13 +6,15 @@ import click
 
 from ..core import scanned
 from ..core.context import Context
-from ..core.failure import WRONG_USE, Failure
+from ..core.failure import REFUSED, WRONG_USE, Failure
 from ..core.grammar import LINES, MOVEMENTS, NEXT, OWNER_ADD, TO, Line, in_capitals, in_days
+from ..core.office import earlier_files
 from ..record import asking, giving
 from .output import pass_on, tell, tell_all
 from .table import ENTRIES, Entry
 from .words import at_terminal, quoted
 
+OVER_ALL = "over all files of the office:"
 TODAY, YES = "today", "yes"  # the flags that stand for DAY, and that say that it is meant
 YES_ABOUT = "Takes a day that looks wrong: no date, in the future, or before the lot's first."
 ENTRIES_OF_LINES = {entry.name: entry for entry in ENTRIES if not entry.group and entry.name in LINES}
@@ -123,8 +125,30 @@ def report(context: Context, line: Line, given: asking.Given) -> int:
     pass_on(given.answer)
     for text in asking.below(context, line, given):
         click.echo(text)
+    is_found = line.name == "recall" and is_found_over_all(context, given)
+    if is_found:
+        return 0
     tell_all(asking.remarks(context, line, given))
     return given.answer.status
+
+
+def is_found_over_all(context: Context, given: asking.Given) -> bool:
+    """Prints what a recall comes to over all files of the office, if it has several; whether it found the lot there,
+    which `toll` may not have in the newest file."""
+    if given.wrong or given.answer.status not in (0, REFUSED) or not earlier_files(context.file):
+        return False
+    from ..report import over_years
+    from .years import show
+
+    try:
+        over_all = over_years.recall(context, given.words[0], given.words[1], "")
+    except Failure as failure:
+        if given.answer.status:
+            return False
+        raise failure
+    click.echo(OVER_ALL)
+    show(over_all, is_csv=False)
+    return True
 
 
 def parameter(value: str) -> str:

@@ -12,11 +12,11 @@ from ..core.failure import WRONG_USE, Failure
 from ..core.forms import BATCH
 from ..core.grammar import LINES
 from ..core.table import counted
-from ..model.kinds import Emptied, Role, Why
-from ..model.notes import Corrects, Link, Party, facts_of
+from ..model.kinds import Emptied, Role, Spread, Why
+from ..model.notes import Corrects, Link, Party, PlantLink, facts_of
 from ..model.register import file, lines
 from ..model.rows import BatchId, LotId
-from ..record import noting
+from ..record import cleaning, noting
 from ..record.noting import Described
 from ..record.using import use as use_of_batch
 from ..report.overviews import Overview
@@ -39,19 +39,38 @@ def link(
     owner: str,
     typed: tuple[str, ...],
     batch: tuple[str, str] | None,
+    of_batch: tuple[str, str] | None,
     of_owner: str | None,
     why: str,
+    tells: bool | None,
     amount: int | None,
     reason: str,
 ) -> None:
-    """`hilpoven link`."""
+    """`hilpoven link`. The plant alone sees a link by a reason of `Spread`."""
     owner, *lots = scanned.unfolded("link", ["OWNER"] if batch else ["OWNER", "LOT"], [owner, *typed])
-    if len(lots) != (1 if batch else 2):
-        wanted = "OF-LOT alone stands behind OWNER with --batch" if batch else "LOT and OF-LOT stand behind OWNER"
+    options = [option for option, given in (("--batch", batch), ("--of-batch", of_batch)) if given]
+    if len(lots) != 2 - len(options):
+        alone = f"{'LOT' if of_batch else 'OF-LOT'} alone stands" if len(options) == 1 else "no lot stands"
+        wanted = (
+            f"{alone} behind OWNER with {' and '.join(options)}" if options else "LOT and OF-LOT stand behind OWNER"
+        )
         raise Failure(f"link: {wanted}", WRONG_USE, "such as: hilpoven link ACME B-2 B-1 --why rework")
     order, number = (batch[0], batch_number(batch[1])) if batch else ("", 0)
-    lot_owner, of_lot = scanned.named_lot("link", of_owner, lots[-1], ("OF-OWNER", "OF-LOT"))
+    of_order, of_number = (of_batch[0], batch_number(of_batch[1])) if of_batch else ("", 0)
+    lot_owner, of_lot = of_owner, ""
+    if not of_batch:
+        lot_owner, of_lot = scanned.named_lot("link", of_owner, lots[-1], ("OF-OWNER", "OF-LOT"))
     lot = "" if batch else lots[0]
+    if why in list(Spread):
+        ends: dict[str, Any] = {"lot": lot, "order": order, "batch": number}
+        ends |= {"of_lot": of_lot, "of_order": of_order, "of_batch": of_number}
+        facts: dict[str, Any] = {"amount": amount, "reason": reason, "tells": bool(tells)}
+        of_plant = PlantLink(owner, lot_owner or owner, Spread(why), context.day(), **ends, **facts)
+        click.echo(noting.plant_link(context, of_plant))
+        return
+    if of_batch or tells:
+        option = "--of-batch" if of_batch else "--tell"
+        raise Failure(f"link: {option} goes with --why {'|'.join(Spread)} alone", WRONG_USE)
     note = Link(owner, lot, order, number, lot_owner or owner, of_lot, Why(why), amount, reason)
     click.echo(noting.link(context, note))
 
@@ -105,6 +124,16 @@ def movement(context: Context, owner: str, key: str, **given: str | None) -> Non
     click.echo(noting.movement(context, facts, is_to, is_from))
 
 
+def no_residue(context: Context, owner: str, order: str, batch: str, reason: str) -> None:
+    """`hilpoven note no-residue`."""
+    click.echo(cleaning.no_residue(context, BatchId(owner, order, batch_number(batch)), reason))
+
+
+def clean(context: Context, unit: str, how: str, checked: str) -> None:
+    """`hilpoven clean`."""
+    click.echo(cleaning.clean(context, unit, how, checked))
+
+
 def list_command(context: Context, owner: str | None, form: str | None) -> None:
     """`hilpoven note list`."""
     rows = noting.notes_of(context, owner)
@@ -148,6 +177,6 @@ def describe(kind: str, context: Context, **given: Any) -> None:
     tell(described.remark)
 
 
-owner, material, recipe, test, lot = (
-    partial(describe, kind) for kind in ("owner", "material", "recipe", "test", "lot")
+owner, material, recipe, test, lot, unit = (
+    partial(describe, kind) for kind in ("owner", "material", "recipe", "test", "lot", "unit")
 )

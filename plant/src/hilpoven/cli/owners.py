@@ -14,29 +14,39 @@ from .output import pass_on, tell
 MOST_READ = 4_096  # letters of standard input, of which a key is at most the first 32
 
 
-def typed_key() -> list[str]:
-    """What is typed at a terminal without being shown, twice; nothing where Enter alone is pressed."""
+def typed_line(subject: str, default: str) -> list[str]:
+    """What is typed at a terminal without being shown, twice; nothing where Enter alone is pressed, which makes one."""
     first = click.prompt(
-        f"key (Enter makes one of {KEY_LETTERS} letters)", default="", show_default=False, hide_input=True, err=True
+        f"{subject} (Enter makes {default})", default="", show_default=False, hide_input=True, err=True
     )
     if first and click.prompt("the same again", hide_input=True, err=True) != first:
-        raise Failure("the two keys differ", WRONG_USE)
+        raise Failure(f"the two {subject}s differ", WRONG_USE)
     return [first] if first else []
 
 
+def line_given(subject: str, default: str, is_random: bool) -> str | None:
+    """A key or a password, which stands on no command line: the line of standard input, or what is typed at a terminal;
+    `None` where that is empty, or one is to be made."""
+    if is_random:
+        return None
+    lines = typed_line(subject, default) if sys.stdin.isatty() else sys.stdin.read(MOST_READ).splitlines()
+    if len(lines) > 1:
+        raise Failure(
+            f"the {subject} is one line on standard input", WRONG_USE, "nothing there, or --random, makes one"
+        )
+    return lines[0] if lines else None
+
+
 def key_given(is_random: bool) -> Key:
-    """The key: the line of standard input, or what is typed at a terminal; a random one where that is empty or asked
-    for."""
-    lines = [] if is_random else typed_key() if sys.stdin.isatty() else sys.stdin.read(MOST_READ).splitlines()
-    if not lines:
+    """The owner's key; a random one where none is given."""
+    line = line_given("key", f"one of {KEY_LETTERS} letters", is_random)
+    if line is None:
         return random_key()
-    if len(lines) != 1:
-        raise Failure("the key is one line on standard input", WRONG_USE, "nothing there, or --random, makes one")
-    if fault := secret_fault(lines[0]):
+    if fault := secret_fault(line):
         raise Failure(
             f"the key {fault}", WRONG_USE, "it is 8 to 32 letters or digits; nothing there, or --random, makes one"
         )
-    return Key(lines[0])
+    return Key(line)
 
 
 def show(key: Key) -> None:

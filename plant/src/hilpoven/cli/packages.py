@@ -8,13 +8,16 @@ import contextlib
 from collections.abc import Iterator
 from importlib import import_module
 from importlib.util import find_spec
-from typing import NoReturn
+from typing import TYPE_CHECKING, NoReturn
 
 import click
 
 from ..core.failure import WRONG_USE, Failure
 from .building import UNREAD, command_of
 from .table import PACKAGED, read
+
+if TYPE_CHECKING:
+    from ..care.demo.site import Site  # with HTTP, which no other command needs
 
 
 def packaged(word: str, package: str) -> click.Command:
@@ -42,11 +45,12 @@ def is_installed(package: str) -> bool:
 
 
 @contextlib.contextmanager
-def samples(settings: str) -> Iterator[list[str]]:
-    """Has packages show the sample week of these settings, too, until the end of the block; what is told of that."""
+def samples(settings: str, site: "Site") -> Iterator[list[str]]:
+    """Has packages show the sample week of these settings, too, by themselves or at its site, until the end of the
+    block; what is told of that."""
     with contextlib.ExitStack() as stack:
         lines: list[str] = []
         for package in dict.fromkeys(package for package, _ in PACKAGED.values()):
             if is_installed(package) and find_spec(f"{package}.sample"):
-                lines += stack.enter_context(import_module(f"{package}.sample").shown(settings))
+                lines += stack.enter_context(import_module(f"{package}.sample").shown(settings, site))
         yield lines

@@ -4,7 +4,7 @@ import contextlib
 import os
 import re
 import sys
-from collections.abc import Callable, Iterator
+from collections.abc import Callable, Iterator, Sequence
 from functools import partial
 from typing import TYPE_CHECKING, Any, TypeAlias
 
@@ -44,15 +44,23 @@ def require_place(folder: str | None, tar: bool) -> None:
         raise Failure("--tar is for a pipe or a file, and standard output is a terminal", WRONG_USE)
 
 
-def give(context: Context, name: str, make: Make, folder: str | None, tar: bool, no_pdf: bool) -> None:
-    """Makes papers, and gives them, which the journal notes."""
+def give(
+    context: Context,
+    name: str,
+    make: Make,
+    folder: str | None,
+    tar: bool,
+    no_pdf: bool,
+    starts: Sequence[LotId | BatchId] | None = None,
+) -> None:
+    """Makes papers, and gives them, which the journal notes; those of a recall alone with what it begins."""
     from ..report.papers import delivery
 
     require_place(folder, tar)
     office = context.office_to_export("papers", name)
     target = folder or sys.stdout.buffer
     day = context.today
-    task = delivery.Delivery(name, make, context.settings.plant, day, not no_pdf, target)
+    task = delivery.Delivery(name, make, context.settings.plant, day, not no_pdf, target, starts)
     with steps() as begin:
         written = delivery.deliver(office, context.journal(), task, begin, tell)
     say_done(written)
@@ -60,10 +68,13 @@ def give(context: Context, name: str, make: Make, folder: str | None, tar: bool,
 
 def recall(context: Context, owner: str, lot: str, **where: Any) -> None:
     """`hilpoven papers recall`."""
+    from ..model import reach
     from ..report.papers import recall_paper
 
     check(owner=owner, lot=lot)
-    give(context, f"recall-{owner}-{lot}", lambda source: recall_paper.documents(source, LotId(owner, lot)), **where)
+    make = partial(recall_paper.documents, start=LotId(owner, lot))
+    starts = reach.starts_of(context.journal(), owner, lot)
+    give(context, f"recall-{owner}-{lot}", make, starts=starts, **where)
 
 
 def batch(context: Context, owner: str, order: str, number: str, **where: Any) -> None:

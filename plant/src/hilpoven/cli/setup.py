@@ -19,12 +19,12 @@ from .caller import person
 MAY_BE_ROOT = {"sudo", "wheel", "admin"}  # groups whose members may become root by sudo
 
 
-def setup(_: Context, name: str, host: str, cert: str, key: str, owner: str, desk: str) -> None:
+def setup(_: Context, name: str, host: str, cert: str, key: str, owner: str, desk: str, has_persons: bool) -> None:
     """`hilpoven setup`."""
     become_root()
     if owner == HOUSE:
         raise Failure("HOUSE is the plant itself", WRONG_USE)
-    plan = Plan(name, host.lower(), os.path.abspath(cert), os.path.abspath(key), owner, desk.lower())
+    plan = Plan(name, host.lower(), os.path.abspath(cert), os.path.abspath(key), owner, desk.lower(), has_persons)
     owner_key, changes = "", 0
     machine = Machine(command=os.path.abspath(sys.argv[0]), login=person().login)
     for done in take(Setup(plan, machine)):
@@ -35,6 +35,8 @@ def setup(_: Context, name: str, host: str, cert: str, key: str, owner: str, des
     click.echo(f"https://{plan.host}/owner/")
     if plan.desk:
         tell_line(f"https://{plan.desk}/ has the plant's screens; `adduser NAME hilpoven` lets a person log in")
+    if has_persons:
+        tell_line("`hilpoven person add OWNER NAME --role ROLE` lets a person of an owner log in")
     if owner_key:
         click.echo(f"{owner} {owner_key}")
     tell_line(f"next: {next_step(plan)}")

@@ -10,6 +10,7 @@ from ..core.failure import printable
 from ..core.table import formatted
 from ..report import overviews
 from .output import print_table
+from ..model import unit_order
 from ..model.register.standing import register_of
 
 
@@ -38,7 +39,15 @@ def show(
     click.echo(overview.as_json()) if as_json else print_overview(overview)
 
 
+def unit(context: Context, as_json: bool, unit: str) -> None:
+    """Shows a unit, with the order of batches and cleanings on it over all files."""
+    with snapshot.opened(context.office_to_read()) as base:
+        order = unit_order.read_with_times(context.journal(), base)
+        overview = overviews.unit(base, unit, register_of(context, base), order)
+    click.echo(overview.as_json()) if as_json else print_overview(overview)
+
+
 lot, batch, key = (partial(show, make, True) for make in (overviews.lot, overviews.batch, overviews.movement))
-order, unit = (partial(show, make, False) for make in (overviews.order, overviews.unit))
+order = partial(show, overviews.order, False)
 owner = partial(show, overviews.owner, True)
 recipe, material = (partial(show, make, False) for make in (overviews.recipe, overviews.material))

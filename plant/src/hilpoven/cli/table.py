@@ -27,6 +27,8 @@ KINDS = {
         " PARTY",
         "day": "DAY",
         "filled": "TEXT",
+        "gln": "GLN",
+        "gtin": "GTIN",
         "month": "MONTH",
         "path": "FOLDER FILE NEW CSV FILE.pdf FILE.html",
         "percent": "PERCENT",
@@ -37,6 +39,8 @@ KINDS = {
 # The packages that have subcommands of their own (`packages.py`), by these, with what lists say of each.
 PACKAGED = {
     "desk": ("hilpoven_desk", "serves the plant's screens, for people who don't type commands"),
+    "notify": ("hilpoven_persons", "mails an owner's people what waits for them"),
+    "person": ("hilpoven_persons", "names and passwords of an owner's people at the site"),
     "publish": ("hilpoven_group", "sends the office's rows to the database of a group of plants"),
     "group": ("hilpoven_group", "one recall across the offices of a group"),
 }
@@ -66,6 +70,8 @@ SHARED_LINES = """
   --in FILE =file :plain ~  Choose the lot in this file, if several lots have the name; the newest by default.
 .csv
   --csv =is_csv  As CSV, for a spreadsheet.
+.case
+  --case NUMBER =number :name  Which case; the only one that is open by default.
 """
 TABLE = """
 [Record]
@@ -88,6 +94,10 @@ ship
 scrap
   +why
   > scrap HOUSE K3 W-102 TANK 50 261127 --reason 'tank was rinsed'
+
+open
+  --yes =takes_unclean  Opens it on a unit that isn't clean, although the settings ask about that.
+  > open ACME O-1 KETTLE
 
 void
   +why
@@ -126,10 +136,13 @@ for OWNER order|cancel|release|reject=name:order|cancel|release|reject VALUE..=v
   alone. toll can't tell it from the owner, so the journal records it with TEXT.
   > for ACME release B-1 --by 'Jane Doe, mail of 27 November'
 
-link OWNER [LOT]_OF-LOT=typed! : noting
+link OWNER [[LOT]_OF-LOT]..=typed : noting
   --batch ORDER N :word,word  All lots of this batch, in place of LOT.
-  --of-owner OWNER  Whose OF-LOT is: OWNER, as by default, or HOUSE.
-  --why :model.kinds.Why !  Why the one contains some of the other.
+  --of-batch ORDER N :word,word  Some of all that this batch took and made, in place of OF-LOT.
+  --of-owner OWNER  Whose OF-LOT or --of-batch is: OWNER, as by default, or HOUSE; with one of the last four reasons
+      anybody.
+  --why :model.kinds.LINKING !  Why the one contains some of the other.
+  --tell =tells  Tells OWNER that its lot contains material of another owner, and nothing of whose and which.
   --amount N :1..1000000000  How much of OF-LOT, if it is known.
   --reason TEXT :text ~  What else there is to say.
   Notes that LOT contains some of OF-LOT, where no actual says so: after rework, a return, an addition that the recipe
@@ -137,7 +150,10 @@ link OWNER [LOT]_OF-LOT=typed! : noting
 
   LOT is OWNER's, and OF-LOT is OWNER's or HOUSE's. --batch ORDER N stands for all that the batch made and will make.
   `note withdraw` takes it back.
+
+  residue, recovered, transfer and misrecorded join lots or batches of any two owners. The plant alone sees such links.
   > link ACME B-2 B-1 --why rework
+  > link BOLT P-9 --of-batch O-1 1 --of-owner ACME --why residue
 
 use OWNER ORDER BATCH OF-OWNER OF-LOT SUBLOT AMOUNT DAY : noting
   --key KEY  The key of the scrap, instead of one that is made of the values.
@@ -170,6 +186,22 @@ note not-linked OWNER KEY_..=keys : noting
   which it came.
   > note not-linked ACME K2 K3
 
+note no-residue OWNER ORDER BATCH : noting
+  --reason TEXT !  Why it contains none.
+  Notes that a batch contains nothing of what its unit held before, so that a recall no longer asks about it.
+
+  If it does contain some, `link` says so, with --why residue.
+  > note no-residue BOLT O-7 1 --reason 'rinse water was clear'
+
+clean UNIT : noting
+  --how TEXT !  How it was cleaned.
+  --checked TEXT :text ~  How that was checked.
+  Notes that a unit was cleaned, behind the last batch on it, which is closed.
+
+  `open` asks for it, or refuses, where the settings say that the unit has to be clean. `show unit` has the order of
+  batches and cleanings. A recall lists the batches that held a unit next, until it was cleaned, as `may contain some`.
+  > clean KETTLE --how 'hot caustic, rinsed' --checked 'pH of the rinse water 7'
+
 note corrects OWNER KEY OF-KEY : noting
   --of-owner OWNER  Whose OF-KEY is: OWNER's, as by default, or another's.
   Notes that a receipt or a scrap is a correction, and of which movement: of the amount that OF-KEY recorded, which
@@ -177,6 +209,25 @@ note corrects OWNER KEY OF-KEY : noting
 
   Of a correction of which nothing is noted it follows from what became of its lot, if it can mean only one thing.
   > note corrects ACME K20 K12
+
+correct OWNER KEY : correcting
+  --amount N :0..1000000000  How much it was; 0 if nothing was.
+  --lot LOT  Of which lot it was, of the same material.
+  --to PARTY =party :name  Which customer got the shipment.
+  --sublot SUBLOT  Where it lies, if not in the movement's own sublot.
+  --reason TEXT  Why, which has to be given.
+  --day DAY  The day of the movements that set the stock right; today, as YYMMDD, by default.
+  --sign NOTE =name  Signs what another person asked for, by its note.
+  Corrects what was typed wrongly: the amount or the lot of a movement, or who got a shipment, also of a closed batch.
+
+  An actual of an open batch is voided and recorded again. All else is set right by scraps and receipts, where a person
+  counts it: what was there all along goes into the lot, or if that takes nothing any more, into a new one, LOT-C, that
+  is linked to it. toll says over a copy first whether all of it can be done.
+
+  Statements, balances, settlements, labels and who has what go by what was meant, and say so. No recall loses a line:
+  what was recorded by mistake stays, marked. With `persons = 2` below [corrections] in the settings it waits for
+  another person's signature, who has the role quality, too.
+  > correct ACME K7 --amount 48 --reason 'typed 480'
 
 note movement OWNER KEY : noting
   --to PARTY =recipient  The customer that got a shipment.
@@ -202,6 +253,7 @@ party add OWNER PARTY:name : noting.party_add
   --address TEXT  Where it is, in one line.
   --contact TEXT  Who is told of a recall.
   --phone TEXT  At which number, at any hour.
+  --gln GLN  Its Global Location Number, for exports.
   --role =roles :model.kinds.Role *  What it is to the owner, which a new one has to have; may be given several
       times: all of its roles.
   --empty =emptied :address|contact|phone *  What is known of it no longer; may be given several times.
@@ -225,13 +277,23 @@ describe
 describe owner OWNER : noting
   --name TEXT  Its full name.
   --address TEXT  Where it is, in one line.
-  Notes the full name and the address of an owner. HOUSE is the plant.
+  --gln GLN  Its Global Location Number, for exports.
+  Notes the full name, the address and the GLN of an owner. HOUSE is the plant.
   > describe owner ACME --name 'Acme Foods Ltd' --address '1 Dock Road, Hull'
 
 describe material OWNER MATERIAL : noting
   --name TEXT  Its full name.
-  Notes the full name of a material.
+  --gtin GTIN  Its Global Trade Item Number, for exports.
+  --unit-code CODE :unit-code  The code of its measure in UN/ECE Recommendation 20, such as KGM, for exports.
+  --allergen NAME =allergens :name *  An allergen that it has; may be given several times: all of them.
+  Notes the full name of a material, its GTIN, the code of its measure, and its allergens, by which `open` asks about a
+  unit that isn't clean.
   > describe material ACME BRINE --name 'Brine, 10 %'
+
+describe unit UNIT : noting
+  --name TEXT  Its full name.
+  Notes the full name of a unit.
+  > describe unit KETTLE --name 'Kettle 2, hall 1'
 
 describe recipe OWNER RECIPE : noting
   --allowance PERCENT  How much may be lost: 0.1 to 100, such as 1.5.
@@ -414,7 +476,75 @@ show material OWNER MATERIAL : showing
   Shows a material: its tests with limits, the recipes that use it, and its lots that are on hand.
   > show material ACME BRINE
 
+find TEXT : finding
+  +form
+  Finds a text in names of lots, orders and keys, and in what the plant noted: suppliers' lots, documents, parties,
+  reasons, cleanings; over all files of the office.
+
+  Whole words are found, whatever stands beside them, in capitals or small letters: TR-77 in `TR-77,` and in `(tr-77)`.
+  > find TR-77
+
 [Look after the office]
+
+case
+  = recalls over all files: opens a case, holds, writes letters, notes answers
+  A recall from what begins it to its last answer, over all files of the office.
+  > case open --supplier-lot TR-77 --reason 'metal, says the supplier'
+
+case open [OWNER]_[LOT]_..=names : cases.open_command
+  --lot OWNER LOT =lots :word,word *  Another lot with which it begins.
+  --supplier-lot TEXT =supplier_lots :filled *  Our lots, of any owner, that came with this as the supplier's lot.
+  --document TEXT =documents :filled *  The lots that came or went with this document.
+  --party OWNER PARTY =parties :word,word *  The lots that this party sent or got.
+  --unit UNIT  What the batches on this unit made; with --since and --until.
+  --since TIME  From this day or time on, such as 2026-11-27T14:30, in the time zone of the settings.
+  --until TIME  Until this day or time.
+  --drill =is_drill  It is a drill: case hold stops nothing, and letters say so.
+  --reason TEXT :filled !  Why.
+  Opens a recall case, which gets a number, and lists with what it begins. Its clock is the journal's.
+
+  A batch counts as on its unit from the first line of the journal about it to its closing.
+  > case open ACME S-1 --reason 'metal in bag 3'
+
+case hold : cases
+  +case
+  Holds all of a case that is on hand, and its batches that aren't closed, in one step; says what it could not.
+
+  Give it again when something came meanwhile. `sign` ends the hold of a lot.
+  > case hold
+
+case reply OWNER PARTY [LOT] : cases
+  --back N :0..1000000000  How much it sent or brought back, if that isn't received with `--why return`.
+  --destroyed N :0..1000000000  How much it destroyed.
+  --gone N :0..1000000000  How much can't be found.
+  --reason TEXT  Who said so, and what else.
+  +case
+  Notes what a customer answered. Its last answer about a lot counts. LOT may be left out if it got one lot alone.
+  > case reply ACME NORD B-1 --back 400 --destroyed 80
+
+case status : cases
+  +case
+  +form
+  Shows how far a case is: who answered, what was recovered of what customers had, in percent, and the clock.
+  > case status
+
+case paper [FOLDER] : cases
+  +case
+  +paper
+  Makes the papers of a case: the plant's, a letter for each customer with its lots, amounts, and documents, less what
+  came back, and the customers' contacts as CSV.
+  > case paper case
+
+case close : cases
+  --reason TEXT  Why it ends, if not all is accounted for.
+  +case
+  Ends a case, and stops its clock.
+  > case close
+
+case list : cases.list_command
+  +form
+  Lists all cases.
+  > case list
 
 drill
   Practises a recall against the clock, and makes the paper of it.
@@ -767,6 +897,7 @@ setup NAME:plain : setup
   --key FILE !  The certificate's private key, as PEM.
   --owner OWNER :plain ~  An owner to begin with, whose key is made and shown once.
   --desk HOST ~  The host name of the plant's screens, such as desk.example.com, which the certificate has, too.
+  --persons =has_persons  Has people of owners log in by names of their own, by the package hilpoven-persons.
   Sets up an office with its site for owners: its settings in /etc/toll, with a free port, its folder, its file, its
   units, and nginx's site with TLS.
 

@@ -11,7 +11,7 @@ from typing import TYPE_CHECKING, Any
 
 import click
 
-from ..core import scanned
+from ..core import gs1, scanned
 from ..core.context import Context
 from ..core.failure import printable
 from ..core.forms import DAY as DAY_FORM, MOST_TOLD, TEXT as TEXT_FORM, name_fault
@@ -213,12 +213,18 @@ WORD = Word()
 TEXT, FILLED_TEXT = Reading("text", read_text), Reading("text", partial(read_text, may_be_empty=False))
 NAME = Reading("name", partial(read_text, fault_of=name_fault))
 DATE, DAY, MONTH = Reading("date", read_date), Reading("day", read_day), Reading("month", read_month)
+GLN, GTIN, UNIT_CODE = (
+    Reading(name, partial(read_text, fault_of=form.fault))
+    for name, form in (("GLN", gs1.GLN), ("GTIN", gs1.GTIN), ("unit code", gs1.UNIT_CODE))
+)
 PERCENT, MOMENT = Reading("percent", read_percent), Reading("moment", read_moment)
 
 TYPES: dict[str, click.ParamType] = {
     "date": DATE,
     "day": DAY,
     "filled": FILLED_TEXT,
+    "gln": GLN,
+    "gtin": GTIN,
     "moment": MOMENT,
     "month": MONTH,
     "name": NAME,
@@ -228,6 +234,7 @@ TYPES: dict[str, click.ParamType] = {
     RAW: click.UNPROCESSED,
     "sheet": SHEET,
     "text": TEXT,
+    "unit-code": UNIT_CODE,
     "word": WORD,
 }
 

@@ -2,7 +2,7 @@
 import click
 
 from ..core.context import Context
-from ..core.failure import REFUSED, Failure
+from ..core.failure import REFUSED, Failure, printable
 from ..core.table import Row
 from ..report import over_years
 from ..report.over_years import Shown
@@ -14,6 +14,8 @@ def show(shown: Shown, is_csv: bool) -> None:
     """Prints a table, or CSV, and tells which files it is of."""
     tell(shown.marks)
     give_rows(shown.columns, shown.rows, is_csv)
+    for line in shown.below:
+        click.echo(printable(line), err=is_csv)
     tell_all(shown.sources)
 
 

@@ -15,6 +15,9 @@ TRACES = ("recall", "trace")  # the questions to which links add lots
 TAKES = ("ship", "actual")  # the commands by which a lot leaves, or is consumed
 
 
+Ask = Callable[[list[str]], Answer]  # another way of asking `toll` than a process for each line
+
+
 class Beside(NamedTuple):
     """What stands in the journal beside a line that is asked, what is told once it is accepted, and whether it is a
     scrap of what a batch uses, which a hold stops."""

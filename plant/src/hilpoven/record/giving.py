@@ -9,6 +9,7 @@ from typing import Any
 from ..core.context import Context
 from ..core.failure import WRONG_USE, Failure
 from ..core.grammar import MOVEMENTS, NEXT, Line, faults, written
+from ..core.settings import Clean
 from ..model.kinds import Why, may_look_alike
 from . import asking
 from .asking import Beside, Given
@@ -26,6 +27,8 @@ def give(context: Context, line: Line, typed: list[str], noted: Noted | None = N
     """Gives a line to `toll`, with what is given to be noted beside it; `is_meant` says that its day is, whatever it
     is."""
     words, noted = typed, noted or {}
+    if line.name == "open":
+        require_clean(context, line, typed, bool(noted.pop("takes_unclean", False)))
     if line.name in MEASURED:
         from . import beside
 
@@ -47,6 +50,15 @@ def give(context: Context, line: Line, typed: list[str], noted: Noted | None = N
             break
         context.tell(f"KEY: {key} was taken meanwhile")
     return given
+
+
+def require_clean(context: Context, line: Line, typed: list[str], takes_unclean: bool) -> None:
+    """Fails if the unit of a batch has to be clean before, and isn't. Words that can't be read are told by others."""
+    words = written(line, typed)[0]
+    if context.settings.clean != Clean() and not faults(line, words):
+        from . import cleaning
+
+        cleaning.require_clean(context, dict(zip(line.values, words)), takes_unclean)
 
 
 def is_next_key(line: Line, words: list[str]) -> bool:

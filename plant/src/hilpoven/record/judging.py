@@ -88,17 +88,22 @@ def require_another_person(context: Context, desk: Desk, lot: LotId) -> None:
         raise Failure(f"{who} recorded results or movements of lot {lot}", REFUSED, advice)
 
 
-def record(context: Context, desk: Desk, lot: Lot, note: Judgement) -> Judged:
+def is_alone(context: Context, desk: Desk, lot: Lot) -> bool:
+    """Whether a note alone says what quality says of a lot: its material hasn't the plant's own test."""
+    names = {"test": context.settings.quality.test, "owner": lot.id.owner, "material": lot.material}
+    return desk.base.execute(quality.HAS_TEST, names).fetchone() is None
+
+
+def record(context: Context, desk: Desk, lot: Lot, note: Judgement, ask: asking.Ask | None = None) -> Judged:
     """Records what quality says of a lot: as the result of the plant's own test, if the lot's material has it, and
     otherwise as a note alone."""
-    test = context.settings.quality.test
-    names = {"test": test, "owner": lot.id.owner, "material": lot.material}
-    if desk.base.execute(quality.HAS_TEST, names).fetchone() is None:
+    if is_alone(context, desk, lot):
         reason = ["--reason", note.reason] if note.reason else []
         name = desk.record([WORDS[type(note)], *lot.id, *reason, "--day", str(note.day)], note)
         return Judged(text=f"noted {name}", remark=ALONE)
-    words = [*lot.id, test, str(RESULTS[type(note)]), str(note.day)]
-    answer = asking.given(context, desk.office, LINES["result"], words, **desk.all_members([note]))
+    words = [*lot.id, context.settings.quality.test, str(RESULTS[type(note)]), str(note.day)]
+    members = desk.all_members([note])
+    answer = asking.given(context, desk.office, LINES["result"], words, desk.journal, ask, **members)
     return Judged(asking.Given(words, [], "", answer))
 
 

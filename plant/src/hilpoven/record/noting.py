@@ -1,8 +1,10 @@
 """What the plant notes beside what `toll` records: links, facts, corrections, parties and descriptions, and how a note
 is withdrawn. Each is looked at, and is a line of the journal unless it stands already."""
 from collections.abc import Sequence
+from dataclasses import replace
 from typing import Any, NamedTuple
 
+from .. import HOUSE
 from ..core import roles
 from ..core.context import Context
 from ..core.failure import REFUSED, WRONG_USE, Failure
@@ -13,6 +15,7 @@ from ..model.quality import facts_of_test
 from ..model.measures import limits_text
 from ..model.nearest import nearest
 from ..model.notes import (
+    Corrected,
     Corrects,
     Judgement,
     Link,
@@ -23,11 +26,13 @@ from ..model.notes import (
     Note,
     OwnerFacts,
     Party,
+    PlantLink,
     Reason,
     RecipeFacts,
     RowsLost,
     Settled,
     TestFacts,
+    UnitFacts,
     Withdrawal,
     joined,
     percent_of,
@@ -35,7 +40,7 @@ from ..model.notes import (
 from ..model.register.standing import closings_in, statuses
 from ..model.genealogy import suspects
 from ..model.register.tables import storable, subject_of
-from ..model.rows import LotId, require_owner
+from ..model.rows import BatchId, LotId, require_owner, row_of
 from . import describing, making
 from .making import Desk
 
@@ -43,11 +48,15 @@ OF_A_LINE = 1_000  # notes that a line of the journal gets
 COLUMNS = ["note", "time", "who", "owner", "what", "stands"]
 PARTY_COLUMNS = ["owner", "party", "name", "roles", "contact", "phone", "address"]
 NOTED_BY = {  # by which command the notes of a kind are made, where it isn't of the role of `note withdraw`
-    **{kind: f"describe {kind}" for kind in ("owner", "material", "recipe", "test", "lot")},
+    **{kind: f"describe {kind}" for kind in ("owner", "material", "recipe", "test", "lot", "unit")},
     "party": "party add",
     "drill-start": "drill start",
     "drill-end": "drill end",
     "settlement": "settle",
+    "case-open": "case open",
+    "case-start": "case open",
+    "case-reply": "case reply",
+    "case-close": "case close",
 }
 
 
@@ -79,6 +88,26 @@ def link(context: Context, note: Link) -> Recorded:
         return record(desk, ["link", *words], note)
 
 
+def plant_link(context: Context, note: PlantLink) -> Recorded:
+    """Notes a link that the plant alone sees, unless one stands that says the same of another day."""
+    words = ["link", note.owner, *words_of_end(note.container, ""), *words_of_end(note.contained, "of-")]
+    words += ["--of-owner", note.of_owner, "--why", note.spread.value, *(["--tell"] if note.tells else [])]
+    words += [] if note.amount is None else ["--amount", str(note.amount)]
+    words += ["--reason", note.reason] if note.reason else []
+    with making.desk(context) as desk:
+        desk.require_plant_link(note)
+        for status in statuses(desk.notes, PlantLink, owner=note.owner, fault=""):
+            known = status.note
+            if isinstance(known, PlantLink) and replace(known, day=note.day) == note:
+                note = known
+        return record(desk, words, note)
+
+
+def words_of_end(end: LotId | BatchId, which: str) -> list[str]:
+    """The words that name one end of a link: those of a batch stand behind an option."""
+    return [end.name] if isinstance(end, LotId) else [f"--{which}batch", end.order, str(end.number)]
+
+
 def withdraw(context: Context, name: str, reason: str) -> Recorded:
     """Notes that a note doesn't hold, and others that say the same."""
     if not reason.strip():
@@ -96,6 +125,9 @@ def withdraw(context: Context, name: str, reason: str) -> Recorded:
         if isinstance(changed, Judgement):
             advice = "`hilpoven sign` or `hilpoven hold` says what holds now"
             raise Failure(f"note {name} is a signature or a hold, which nobody withdraws", REFUSED, advice)
+        if isinstance(changed, Corrected):
+            advice = "`hilpoven correct` says what was meant then"
+            raise Failure(f"note {name} is a correction, which nobody withdraws", REFUSED, advice)
         if isinstance(status.note, RowsLost):
             raise Failure(f"note {name} is what a restore noted, which nobody withdraws", REFUSED)
         require_last_closing(desk, status.note, changed)
@@ -246,9 +278,21 @@ def described(
     desk: Desk, words: Sequence[str], note: Note, given: dict[str, Any], title: str, **facts: Value
 ) -> Described:
     """Notes what is given of a thing, if anything is."""
-    options = [word for name, value in given.items() if value is not None for word in (f"--{name}", str(value))]
+    options = [
+        word
+        for name, value in given.items()
+        if value is not None
+        for word in (
+            words_of_each(name, value) if isinstance(value, tuple) else (f"--{name.replace('_', '-')}", str(value))
+        )
+    ]
     recorded = record(desk, ["describe", *words, *options], note) if options else None
     return Described(title, {name: value for name, value in facts.items() if value}, recorded)
+
+
+def words_of_each(name: str, values: Sequence[str]) -> list[str]:
+    """The words of an option that is given several times."""
+    return [word for value in values for word in (f"--{name.removesuffix('s')}", value)]
 
 
 def members_of(given: dict[str, Any]) -> dict[str, Any]:
@@ -257,21 +301,34 @@ def members_of(given: dict[str, Any]) -> dict[str, Any]:
 
 
 def describe_owner(context: Context, owner: str, **given: str | None) -> Described:
-    """Notes the full name and the address of an owner."""
+    """Notes the full name, the address and the Global Location Number of an owner."""
     with making.desk(context) as desk:
         require_owner(desk.base, owner)
         facts, note = desk.register.owners.get(owner) or OwnerFacts(owner), OwnerFacts(owner, **members_of(given))
-        known = {"name": facts.name, "address": facts.address}
+        known = {"name": facts.name, "address": facts.address, "GLN": facts.gln}
         return described(desk, ["owner", owner], note, given, f"owner {owner}", **known)
 
 
-def describe_material(context: Context, owner: str, material: str, **given: str | None) -> Described:
-    """Notes the full name of a material."""
+def describe_material(context: Context, owner: str, material: str, **given: Any) -> Described:
+    """Notes the full name of a material, its Global Trade Item Number, the code of its unit, and its allergens."""
+    given["allergens"] = tuple(sorted(set(given["allergens"]))) or None
     with making.desk(context) as desk:
         describing.require_material(desk.base, owner, material)
         facts = desk.register.materials.get((owner, material)) or MaterialFacts(owner, material)
         note, title = MaterialFacts(owner, material, **members_of(given)), f"material {material} of {owner}"
-        return described(desk, ["material", owner, material], note, given, title, name=facts.name)
+        known: dict[str, Value] = {"name": facts.name, "GTIN": facts.gtin, "unit code": facts.unit_code}
+        known |= {"allergens": ", ".join(facts.allergens)}
+        return described(desk, ["material", owner, material], note, given, title, **known)
+
+
+def describe_unit(context: Context, unit: str, **given: str | None) -> Described:
+    """Notes the full name of a unit."""
+    with making.desk(context) as desk:
+        row_of(desk.base, "SELECT unit FROM units WHERE unit = ?", (unit,), "unit", "SELECT unit FROM units")
+        facts, note = desk.register.units.get(unit) or UnitFacts(HOUSE, unit), UnitFacts(
+            HOUSE, unit, **members_of(given)
+        )
+        return described(desk, ["unit", unit], note, given, f"unit {unit}", name=facts.name)
 
 
 def describe_recipe(context: Context, owner: str, recipe: str, **given: Any) -> Described:

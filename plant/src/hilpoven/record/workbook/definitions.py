@@ -37,7 +37,9 @@ def plan_materials(planner: Planner) -> None:
     for part, record in planner.rows(MATERIALS):
         owner, material, measure = record.values.values()
         planner.recorded(part, record, "material-add", "measure", [(OWNERS.title, owner)])
-        known, note = planner.register.materials.get((owner, material)), MaterialFacts(owner, material, **record.noted)
+        known, note = planner.register.materials.get((owner, material)), MaterialFacts(
+            owner, material, record.noted.get("name", "")
+        )
         planner.note(part, record, planner.unsaid(part, record, known, note))
         plants = owner, material, planner.plants_test
         is_used = (owner, material) in planner.standing.used
