@@ -16,6 +16,7 @@ import traceback
 from collections.abc import Callable, Iterator
 from typing import NamedTuple
 
+import hypothesis
 import pytest
 from click.testing import CliRunner
 
@@ -33,6 +34,11 @@ sys.path.insert(0, str(ROOT / "plant" / "src"))
 from hilpoven.core import client, settings as site  # noqa: E402
 from hilpoven.core.office import Office  # noqa: E402
 from hilpoven.cli import caller, hilpoven, main  # noqa: E402
+
+# Generated examples are the same ones in each run, and none fails since the machine has much to do.
+SUPPRESSED = [hypothesis.HealthCheck.too_slow, hypothesis.HealthCheck.function_scoped_fixture]
+hypothesis.settings.register_profile("gate", deadline=None, database=None, derandomize=True, suppress_health_check=SUPPRESSED)
+hypothesis.settings.load_profile("gate")
 
 
 class Told(NamedTuple):
@@ -241,7 +247,7 @@ def command(*words: object, **options: object) -> subprocess.CompletedProcess:
     return subprocess.run([HILPOVEN, *map(str, words)], **{"capture_output": True, "text": True, "timeout": PATIENCE, **options})
 
 
-def forked(*words: object, **variables: str) -> Callable[[], None]:
+def forked(*words: object, begin: Callable[[], None] = main, **variables: str) -> Callable[[], None]:
     """What gives a child of `Popen` the plant's command in place of its program, as `preexec_fn`: this process has imported it
     already, which takes a program most of its time. Its standard streams are a terminal's or files of `Popen`."""
     def run() -> None:
@@ -251,7 +257,7 @@ def forked(*words: object, **variables: str) -> Callable[[], None]:
         sys.stdin, sys.stdout, sys.stderr = open(0, closefd=False), open(1, "w", closefd=False), open(2, "w", 1, closefd=False)
         status: object = 1
         try:
-            main()
+            begin()
         except SystemExit as end:
             status = end.code
         except BaseException:
@@ -277,7 +283,7 @@ def script(path: pathlib.Path, text: str) -> pathlib.Path:
     return path
 
 
-def eventually(holds: Callable[[], bool], seconds: float = 20) -> bool:
+def eventually(holds: Callable[[], bool], seconds: float = PATIENCE) -> bool:
     """Whether it comes to hold within so many seconds."""
     end = time.monotonic() + seconds
     while not holds():

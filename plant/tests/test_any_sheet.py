@@ -13,7 +13,7 @@ from hilpoven.record.sheets.sheet import Asked, Sheet, likeness, text_of
 from hilpoven.record.sheets.values import ACTUALS, TRAPS, of_days, of_numbers
 
 COLUMNS, NUMBERS = list(ACTUALS.columns), ACTUALS.of(of_numbers, of_days)
-FEW = hypothesis.settings(max_examples=60, deadline=None, database=None, suppress_health_check=[hypothesis.HealthCheck.function_scoped_fixture])
+FEW = hypothesis.settings(max_examples=60)
 NAME = any_of.text(string.ascii_uppercase + string.digits + "-", min_size=1, max_size=16).filter(lambda name: not name.startswith("-"))
 NUMBER = any_of.integers(0, 9_999_999_999)
 ROWS = any_of.lists(any_of.fixed_dictionaries({

@@ -13,7 +13,7 @@ from conftest import HILPOVEN, Plant, environment
 from hilpoven.report.companion import folder as folders
 from hilpoven.report.companion import making
 from hilpoven.core import settings as site
-from test_kills import kill_at
+from killed import kill_at
 
 NOTES = (
     ("party", "add", "ACME", "NORD", "--name", "Nord Foods Ltd", "--role", "customer", "--phone", "+44 20"),

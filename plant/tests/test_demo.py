@@ -162,6 +162,7 @@ def test_nothing_is_left_where_it_ends_while_the_week_is_made(program, tmp_path)
 
 
 OF_SCREENS = 5  # lines of the plant's screens: what they are, where, and three persons
+OF_PERSONS = 4  # lines of an owner's persons: what they are, and three
 
 
 def test_the_address_and_the_keys_stand_last_and_the_end_is_told(program, tmp_path):
@@ -170,6 +171,8 @@ def test_the_address_and_the_keys_stand_last_and_the_end_is_told(program, tmp_pa
         lines = [process.stdout.readline() for _ in range(11)]
         if any("screens" in line for line in lines):  # where their package is installed
             lines += [process.stdout.readline() for _ in range(OF_SCREENS)]
+        if any("persons of ACME" in line for line in lines):  # where theirs is
+            lines += [process.stdout.readline() for _ in range(OF_PERSONS)]
         process.send_signal(signal.SIGINT)
         left = process.communicate(timeout=PATIENCE)[0]
     assert [line.split("/")[0].split()[0] for line in lines[-4:]] == ["http:", "ACME", "BOLT", "CERES"], lines

@@ -4,7 +4,7 @@ import shutil
 import pytest
 from conftest import Plant
 from hilpoven.core.grammar import LINES
-from hypothesis import HealthCheck, given, settings, strategies
+from hypothesis import given, settings, strategies
 from hypothesis.strategies import SearchStrategy
 
 OWNERS = ["ACME", "BOLT", "HOUSE", "NOBODY"]
@@ -53,17 +53,14 @@ def run_day(laid: Plant, folder, day: list[list[str]]) -> None:
     assert mine.rows("SELECT * FROM owners") == theirs.rows("SELECT * FROM owners")
 
 
-SUPPRESSED = [HealthCheck.function_scoped_fixture, HealthCheck.too_slow]
-
-
-@settings(max_examples=25, deadline=None, suppress_health_check=SUPPRESSED)
+@settings(max_examples=25)
 @given(day=DAYS)
 def test_a_day_comes_to_the_same(laid, tmp_path_factory, day):
     run_day(laid, tmp_path_factory.mktemp("day"), day)
 
 
 @pytest.mark.long
-@settings(max_examples=300, deadline=None, suppress_health_check=SUPPRESSED)
+@settings(max_examples=300)
 @given(day=DAYS)
 def test_three_hundred_days_come_to_the_same(laid, tmp_path_factory, day):
     run_day(laid, tmp_path_factory.mktemp("day"), day)

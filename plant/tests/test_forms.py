@@ -1,7 +1,7 @@
 """What is told of a word is what `toll` thinks of it."""
 import pytest
 from hilpoven.core import forms
-from hypothesis import HealthCheck, given, settings, strategies
+from hypothesis import given, settings, strategies
 
 WORDS = strategies.one_of(
     strategies.text("ABZ019-az_. ,M\u00e9", min_size=1, max_size=18), strategies.text("0123456789", min_size=1, max_size=12),
@@ -19,7 +19,7 @@ LINES = {
 
 
 @pytest.mark.parametrize("name", LINES)
-@settings(max_examples=20, deadline=None, suppress_health_check=[HealthCheck.function_scoped_fixture])
+@settings(max_examples=20)
 @given(word=WORDS)
 def test_a_word_is_a_value_where_toll_reads_it(laid, tmp_path_factory, name, word):
     form, line = LINES[name]
@@ -43,3 +43,17 @@ def test_bounds_are_told():
     assert forms.VALUE.fault("M1000000001") == "is above 1,000,000,000; `M5` is -5"
 
 
+
+
+@pytest.mark.parametrize("text", ["TR-77", "tr-77", "TR-77,", "(TR-77)", "drum 3 of TR-77.", "TR-77/3", "- TR-77 -", "-TR-77-", "TR-77; TR-771", "lot:TR-77"])
+def test_a_name_is_found_whatever_stands_beside_it(text):
+    assert forms.whole_words("TR-77").search(text)
+
+
+@pytest.mark.parametrize("text", ["TR-771", "TR-77-B", "X-TR-77", "XTR-77", "TR-77_2", "TR 77", "TR-7", ""])
+def test_another_name_that_has_it_is_another(text):
+    assert not forms.whole_words("TR-77").search(text)
+
+
+def test_several_words_are_found_with_any_spaces_between_them():
+    assert forms.whole_words("drum  3").search("a (drum 3)") and not forms.whole_words("drum 3").search("drum 33")

@@ -15,8 +15,7 @@ from hypothesis import strategies as any_of
 STATUSES = {0, 1, 2, 3}
 UNPRINTABLE = re.compile(r"[\x00-\x09\x0b-\x1f\x7f-\x9f\u061c\u200e\u200f\u2028\u2029\u202a-\u202e\u2066-\u2069\ud800-\udfff]")
 LEFT_OUT = {"board", "labels", "papers", "carry-over", "years"}  # which take minutes, and have tests of their own
-SOME = hypothesis.settings(max_examples=400, deadline=None, database=None, derandomize=True,
-                           suppress_health_check=[hypothesis.HealthCheck.function_scoped_fixture, hypothesis.HealthCheck.too_slow])
+SOME = hypothesis.settings(max_examples=400)
 
 # Words of this office, and those that a hand, a clipboard or somebody else's file may bring.
 KNOWN = ["ACME", "BOLT", "HOUSE", "O-1", "1", "B-1", "S-1", "K1", "KETTLE", "TOTE1", "ACME/B-1/TOTE1", "HOUSE/W-101/TANK", "5", "101", "back", "consumed", "start", "DENSITY", "SALT", "sheet.csv"]

@@ -62,7 +62,7 @@ def test_no_journal_is_whole_too(tmp_path):
     assert check(str(tmp_path / "none")).lines == 0
 
 
-@settings(max_examples=60, deadline=None)
+@settings(max_examples=60)
 @given(at=strategies.integers(0, 8), how=strategies.sampled_from(["removed", "changed", "twice", "swapped", "cut", "empty", "other"]), where=strategies.integers(1, 400))
 def test_what_is_done_to_a_line_is_found(tmp_path_factory, at, how, where):
     path = str(tmp_path_factory.mktemp("journal") / "j")

@@ -11,7 +11,7 @@ PACKAGE = ROOT / "plant" / "src" / "hilpoven"
 MODULES = {".".join(path.relative_to(PACKAGE).with_suffix("").parts): path for path in PACKAGE.rglob("*.py") if path.parent != PACKAGE}
 # What is imported where it is needed, other than by cli/: what reads no table starts without SQLite.
 LATE = {("record.asking", late) for late in ("model.below", "model.register.lines", "model.years.earlier", "record.hints", "record.stops")}
-LATE |= {("record.giving", late) for late in ("record.beside", "record.doubts")}
+LATE |= {("record.giving", late) for late in ("record.beside", "record.cleaning", "record.doubts")}
 
 
 def imports_of(module: str, tree: ast.AST) -> Iterator[str]:

@@ -6,7 +6,7 @@ import threading
 import time
 
 import pytest
-from conftest import command, environment
+from conftest import PATIENCE, command, environment
 from hilpoven.core import files, lock
 
 
@@ -77,8 +77,8 @@ def test_what_others_write_during_a_copy_is_in_it(at_work, monkeypatch):
 def test_a_lock_that_cannot_be_opened_is_told_at_once(at_work):
     os.mkdir(f"{at_work.db}.lock")
     begun = time.monotonic()
-    done = at_work.run("stock", "ACME", options=("--wait", "30"))
-    assert done.status == 3 and "office.db.lock can't be opened" in done.err and time.monotonic() - begun < 10
+    done = at_work.run("stock", "ACME", options=("--wait", "3600"))
+    assert done.status == 3 and "office.db.lock can't be opened" in done.err and time.monotonic() - begun < PATIENCE
 
 
 @pytest.mark.skipif(os.geteuid() != 0, reason="only root can be another user")

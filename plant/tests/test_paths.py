@@ -41,6 +41,7 @@ labels ACME S-1 --force --out -
 carry-over {folder}/next.db
 papers recall HOUSE W-101 {folder}/made --no-pdf
 papers recall HOUSE W-101 - --no-pdf
+case paper {folder}/made --no-pdf
 journal --site-log {folder}/sheet.csv
 journal --site-log ''
 restore --foreign office-20260101-000000.db
@@ -67,7 +68,7 @@ def test_each_word_that_names_a_path_is_an_operators():
     papers = {f"papers {paper} folder" for paper in ("recall", "batch", "certificate", "delivery-note", "lot", "statement", "settlement", "takeout")}
     assert named == {"db", "new file", "backup folder", "backup keep", "backup days", "to-csv source", "to-csv target", "board target", "companion out", "labels target",
                      "carry-over new", "import path", "count import counted_sheet", "follow to", "follow status folder", "follow verify folder", "promote folder",
-                     "journal site_logs", "drill end folder", "drill paper folder", "settle folder", "export workbook target", *papers}
+                     "journal site_logs", "drill end folder", "drill paper folder", "settle folder", "export workbook target", "case paper folder", *papers}
 
 
 def test_a_shell_completes_paths():

@@ -16,17 +16,19 @@ from hilpoven.core.journal import log
 
 # Users and groups that each Debian has: daemon, 1, is in the group daemon, and man, 6, in the group man.
 DAEMON, MAN = 1, 6
-QUESTIONS = {"orders", "stock", "batch", "trace", "recall", "status", "verify", "labels", "board", "companion", "to-csv", "count sheet", "complete", "note list", "party list", "drill paper", "journal verify",
-             "journal head", "follow status", "follow verify", "years files", "years recall", "years trace", "years lot", "years statement"}
+QUESTIONS = {"orders", "stock", "batch", "trace", "recall", "status", "verify", "labels", "board", "companion", "to-csv", "count sheet", "complete", "find", "note list", "party list", "drill paper", "journal verify",
+             "journal head", "follow status", "follow verify", "case status", "case paper", "case list", "years files", "years recall", "years trace", "years lot", "years statement"}
 GROUPS_OF_QUESTIONS = {"list", "show", "papers", "export"}  # of which no subcommand records anything
 OF_EACH_ROLE = {
     "record": ["ship ACME K9 S-1 BAY1 5 103", "count import -", "use ACME O-1 1 HOUSE W-101 TANK 5 103", "import -", "note not-linked ACME K1", "note corrects ACME K1 K2", "link ACME B-1 S-1 --why use", "do ACME O-1 1 hold",
+               "correct ACME K1 --amount 5 --reason x", "case open ACME S-1 --reason x", "case hold", "case reply ACME N B-1 --back 1", "case close",
+               "clean KETTLE --how hot", "note no-residue ACME O-1 1 --reason rinsed", "link BOLT P-1 S-1 --of-owner ACME --why residue --tell",
                "for ACME order O-9 BRINE-10 1 --by mail"],
-    "quality": ["reject W-101", "release W-101", "sign ACME S-1", "hold ACME S-1 --reason wet", "describe lot ACME S-1 --expires 271127", "drill start S-1",
+    "quality": ["reject W-101", "release W-101", "sign ACME S-1", "describe lot ACME S-1 --expires 271127", "drill start S-1",
                 "for ACME release S-1 --by mail", "for ACME reject S-1 --by mail"],
     "master_data": ["unit-add PRESS", "material new ACME GLUE kg", "material-add ACME GLUE kg", "require ACME BRINE-10 1 consumed ACME SALT 3", "party add ACME N --name N --role customer",
                     "describe owner ACME --name Acme", "describe material ACME BRINE --name Brine", "describe test ACME BRINE PH --decimals 2",
-                    "describe recipe ACME BRINE-10 --allowance 1.5"],
+                    "describe recipe ACME BRINE-10 --allowance 1.5", "describe unit KETTLE --name K", "describe material ACME BRINE --allergen MILK"],
     "settlement": ["settle ACME 2501 --tar --no-pdf", "settle HOUSE 2501"],
     "keys": ["owner key ACME", "owner add NEW", "owner-add NEW NEWKEY12"],
     "restore": ["restore office.db", "restore --at 2026-11-27", "promote", "backup", "carry-over", "new", "register rebuild"],
@@ -61,7 +63,8 @@ def words_of(group, before=()):
 
 def test_each_subcommand_has_a_role_or_changes_nothing():
     names = set(words_of(hilpoven)) - {"demo", "setup", *PACKAGED}  # which no member gives
-    assert set(roles.ROLES) <= names and set(roles.ROLES.values()) == {field.name for field in dataclasses.fields(site.Roles)}
+    own = {name for name in roles.ROLES if name.split()[0] not in PACKAGED}  # those of packages are tried with them
+    assert own <= names and set(roles.ROLES.values()) == {field.name for field in dataclasses.fields(site.Roles)}
     assert set(on_behalf.PATHS) <= set(roles.ROLES)  # whose roles `for` asks for
     assert {name for name in names - set(roles.ROLES) - {"for"} if name.split()[0] not in GROUPS_OF_QUESTIONS} == QUESTIONS
 
@@ -86,8 +89,23 @@ def test_a_member_of_the_group_may_and_so_may_root(at_work):
         assert by(at_work, DAEMON, *words).status == 0
 
 
-WITHDRAWN = {"master_data": ["describe test ACME BRINE PH --decimals 2", "describe recipe ACME BRINE-10 --allowance 1.5", "describe owner ACME --name Acme", "party add ACME N --name N --role customer"],
-             "quality": ["describe lot ACME S-1 --expires 271127", "drill start S-1"], "record": ["link ACME B-1 S-1 --why rework", "note not-linked ACME K1"],
+def test_whoever_records_holds_a_lot_and_quality_alone_lets_it_go(at_work):
+    """DAEMON judges and MAN records; a member with neither role does nothing."""
+    settle(at_work, quality=["daemon"], record=["man"])
+    for user in (MAN, DAEMON):
+        assert by(at_work, user, "hold", "ACME", "S-1", "--reason", "wet").out.startswith("noted ")
+    assert "is for the members of daemon alone, by the role quality of the settings" in by(at_work, MAN, "sign", "ACME", "S-1").err
+    settle(at_work, quality=["daemon"], record=["mail"])
+    done, lines = by(at_work, MAN, "hold", "ACME", "S-1", "--reason", "wet"), at_work.lines()
+    assert done.status == 2 and "hold is for the members of daemon or mail alone, by the role quality or record of the settings" in done.err, done
+    settle(at_work, quality=["daemon"])  # every member records
+    assert by(at_work, MAN, "hold", "ACME", "S-1", "--reason", "wet").status == 0 and len(at_work.lines()) == len(lines) + 1
+    settle(at_work, quality=[], record=[])
+    assert "hold is for root and the office's user alone" in by(at_work, MAN, "hold", "ACME", "S-1", "--reason", "wet").err
+
+
+WITHDRAWN = {"master_data": ["describe test ACME BRINE PH --decimals 2", "describe recipe ACME BRINE-10 --allowance 1.5", "describe owner ACME --name Acme", "party add ACME N --name N --role customer", "describe unit KETTLE --name K"],
+             "quality": ["describe lot ACME S-1 --expires 271127", "drill start S-1"], "record": ["link ACME B-1 S-1 --why rework", "note not-linked ACME K1", "link BOLT P-1 S-1 --of-owner ACME --why residue", "clean MIXER --how hot", "note no-residue ACME O-1 1 --reason clear", "case open ACME S-1 --reason x"],
              "settlement": ["settle ACME 2501 --tar --no-pdf"]}
 
 
@@ -192,3 +210,15 @@ def test_a_role_that_isn_t_told_lets_no_member_promote(at_work):
     settle(at_work, restore=["man"])
     assert "no snapshot and no piece" in by(at_work, MAN, "promote").err or "is no folder" in by(at_work, MAN, "promote").err
     assert "is for the members of man alone" in by(at_work, DAEMON, "promote").err
+
+
+def test_who_signs_a_correction_has_the_role_of_quality(at_work):
+    """MAN records and asks for it; DAEMON records, and isn't of quality."""
+    settle(at_work, record=["man", "daemon"], quality=["man"])
+    path = site.load.__defaults__[0]
+    path.write_text(path.read_text() + "[corrections]\npersons = 2\n")
+    done = by(at_work, MAN, "correct", "ACME", "K1", "--amount", "4990", "--reason", "typed wrongly")
+    assert done.status == 0, done
+    before = at_work.content()
+    signed = by(at_work, DAEMON, "correct", "ACME", "K1", "--sign", done.out.split()[-1])
+    assert signed.status == 2 and "correct --sign is for the members of man alone, by the role quality of the settings" in signed.err and at_work.content() == before

@@ -53,6 +53,8 @@ REFUSED = [
     ("use ACME O-1 1 ACME HOUSE/W-101/TANK 1 102", ["OF-OWNER is ACME", "HOUSE/W-101/TANK it is HOUSE"]),
     ("hold BOLT ACME/S-1/BAY1 --reason wet", ["OWNER is BOLT", "ACME/S-1/BAY1 it is ACME"]),
     ("sign BOLT ACME/S-1/BAY1", ["OWNER is BOLT", "ACME/S-1/BAY1 it is ACME"]),
+    ("case open BOLT ACME/S-1/BAY1 --reason wet", ["OWNER is BOLT", "ACME/S-1/BAY1 it is ACME"]),
+    ("case reply BOLT NORD ACME/S-1/BAY1 --back 1", ["OWNER is BOLT", "ACME/S-1/BAY1 it is ACME"]),
     ("drill start BOLT ACME/S-1/BAY1", ["OWNER is BOLT", "ACME/S-1/BAY1 it is ACME"]),
     ("describe lot BOLT ACME/S-1/BAY1 --expires 271127", ["OWNER is BOLT", "ACME/S-1/BAY1 it is ACME"]),
     ("for BOLT release ACME/S-1/BAY1 --by mail", ["OWNER is BOLT", "ACME/S-1/BAY1 it is ACME"]),

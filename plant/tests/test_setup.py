@@ -9,6 +9,7 @@ import shlex
 import shutil
 import socket
 import subprocess
+import types
 
 import pytest
 from click.testing import CliRunner
@@ -95,7 +96,7 @@ def machine(tmp_path, monkeypatch, program):
         (tmp_path / folder).mkdir(parents=True)
     monkeypatch.setattr(site, "OFFICES", str(tmp_path / "toll"))
     monkeypatch.setattr(site, "DATA", str(tmp_path / "data"))
-    trial = Trial(str(tmp_path / "etc-hilpoven.toml"), site.OFFICES, site.DATA, str(tmp_path / "nginx"), getpass.getuser(), str(tmp_path / "lock")).use(program)
+    trial = Trial(str(tmp_path / "etc-hilpoven.toml"), site.OFFICES, site.DATA, str(tmp_path / "nginx"), getpass.getuser(), str(tmp_path / "lock"), logs=str(tmp_path / "logs")).use(program)
     trial.__dict__["certificate"] = certificate_in(tmp_path)
     return trial
 
@@ -408,7 +409,56 @@ def test_the_plants_screens_have_a_host_of_their_own(machine, tmp_path):
         with_desk(machine, "other.north.example")
 
 
+def with_persons(machine):
+    return list(steps.take(steps.Setup(Plan("north", HOST, *machine.certificate, has_persons=True), machine)))
+
+
+def test_persons_of_owners_are_a_part_of_the_site(machine, tmp_path):
+    with pytest.raises(Failure, match="hilpoven-persons isn't here"):
+        with_persons(machine)
+    machine.__dict__["more_units"] = ("toll-persons@.service",)
+    done = with_persons(machine)
+    assert "toll-persons@north.service" in done[-1].text and done[-1].is_new and "toll-persons@north.service" in machine.active
+    part, port = (tmp_path / "nginx" / "toll-north" / "persons.conf").read_text(), site.of_office(site.Settings(), "north").port
+    assert f"http://127.0.0.1:{port}$toll_person_path" in part and "unix:/run/toll-persons/north/socket:" in part and "NAME" not in part
+    office = tmp_path / "nginx" / "conf.d" / "toll_north.conf"
+    assert "include /etc/nginx/toll-north/*.conf;" in office.read_text()
+    assert "log_format toll_person" in (tmp_path / "nginx" / "conf.d" / "00-toll-persons.conf").read_text()
+    assert not any(each.is_new for each in with_persons(machine))
+    office.write_text(office.read_text().replace("include ", "# "))
+    with pytest.raises(Failure, match="doesn't read parts"):
+        with_persons(machine)
+
+
 @pytest.mark.parametrize("host", [HOST, "a b", "x;y", "../x", "desk.example.com\nX=1", "-x"])
 def test_the_host_of_screens_is_a_host_name(machine, host):
     with pytest.raises(Failure, match="--desk"):
         with_desk(machine, host)
+
+
+def test_logs_of_the_site_begin_as_their_rotation_makes_them(machine, monkeypatch):
+    (folder := pathlib.Path(machine.logs)).mkdir()
+    user, group = os.getuid(), os.getgid()
+    monkeypatch.setattr(machines, "pwd", types.SimpleNamespace(getpwnam=lambda name: types.SimpleNamespace(pw_uid={"www-data": user}[name])))
+    monkeypatch.setattr(machines, "grp", types.SimpleNamespace(getgrnam=lambda name: types.SimpleNamespace(gr_gid={"adm": group}[name])))
+    (folder / "unauthenticated-toll.log").write_text("what was there\n")
+    (folder / "kept").write_text("")
+    given(machine)
+    assert {path.name: (oct(path.stat().st_mode & 0o777), path.read_text()) for path in folder.iterdir()} == {
+        "toll.log": ("0o640", ""), "unauthenticated-toll.log": (oct((folder / "unauthenticated-toll.log").stat().st_mode & 0o777), "what was there\n"),
+        "kept": (oct((folder / "kept").stat().st_mode & 0o777), "")}
+    (folder / "toll.log").unlink()
+    (folder / "toll.log").symlink_to(folder / "kept")
+    machine.begin_log("toll.log")
+    assert (folder / "toll.log").is_symlink()
+
+
+def test_a_machine_with_another_nginx_s_user_begins_no_log(machine, monkeypatch):
+    pathlib.Path(machine.logs).mkdir()
+
+    def absent(name):
+        raise KeyError(name)
+
+    monkeypatch.setattr(machines, "pwd", types.SimpleNamespace(getpwnam=absent))
+    given(machine)
+    assert not os.listdir(machine.logs)

@@ -9,7 +9,7 @@ HEAVY = {"bz2", "csv", "difflib", "email", "gzip", "html", "http", "http.client"
          "rich", "secrets", "shutil", "sqlite3", "ssl", "tempfile", "tomllib", "urllib.parse", "weasyprint", "xml", "zipfile", "zlib"}
 LOADED = "import sys, atexit; atexit.register(lambda: print('\\n', *sys.modules, file=sys.stderr)); sys.argv[0] = 'hilpoven'; from hilpoven.cli import main; main()"
 OWN = {"hilpoven", "hilpoven.cli", "hilpoven.cli.caller", "hilpoven.cli.building", "hilpoven.cli.output", "hilpoven.cli.table", "hilpoven.cli.words", "hilpoven.core", "hilpoven.core.context", "hilpoven.core.days", "hilpoven.core.failure",
-       "hilpoven.core.files", "hilpoven.core.forms", "hilpoven.core.grammar", "hilpoven.core.journal", "hilpoven.core.journal.log", "hilpoven.core.lock", "hilpoven.core.office", "hilpoven.core.paths",
+       "hilpoven.core.files", "hilpoven.core.forms", "hilpoven.core.grammar", "hilpoven.core.gs1", "hilpoven.core.journal", "hilpoven.core.journal.log", "hilpoven.core.lock", "hilpoven.core.office", "hilpoven.core.paths",
        "hilpoven.core.rights", "hilpoven.core.roles", "hilpoven.core.scanned", "hilpoven.core.scratch", "hilpoven.core.settings", "hilpoven.core.table", "hilpoven.core.timeline"}
 QUESTION = OWN | {"hilpoven.cli.lines", "hilpoven.record", "hilpoven.record.asking", "hilpoven.record.giving", "hilpoven.core.meanings", "hilpoven.core.office",
                   "hilpoven.model", "hilpoven.model.kinds"}

@@ -5,6 +5,7 @@ import fcntl
 import hashlib
 import json
 import os
+import pathlib
 import re
 import shutil
 import signal
@@ -14,7 +15,7 @@ import subprocess
 import time
 
 import pytest
-from conftest import ROOT, Plant, change_log_at_rest, command, copied, environment
+from conftest import PATIENCE, ROOT, Plant, change_log_at_rest, command, copied, environment, eventually
 from hilpoven.care import backups
 from hilpoven.core import settings as site
 from hilpoven.core.grammar import LINES
@@ -97,12 +98,9 @@ def test_a_signal_leaves_nothing(at_work, number):
     slow.chmod(0o700)
     at_work.program = str(slow)
     process = at_work.begun("backup", folder)
-    for _ in range(200):
-        if (at_work.folder / "looking").exists():
-            break
-        time.sleep(0.05)
+    assert eventually((at_work.folder / "looking").exists)
     process.send_signal(number)
-    process.communicate(timeout=20)
+    process.communicate(timeout=PATIENCE)
     assert process.returncode == 128 + number and os.listdir(folder) == []
 
 
@@ -146,11 +144,15 @@ def test_restore_stops_on_a_server(at_work):
         assert server.ask("ACME", "GET", "/stock")[0] == 200
         done = at_work.run("restore", backup)
         assert done.status == 3 and "a server serves" in done.err
-        while os.path.exists(f"{at_work.db}.sock"):
-            os.unlink(f"{at_work.db}.sock")
-            time.sleep(0.5)  # the server makes it anew when it notices who has gone
-        done = at_work.run("restore", backup)
-        assert done.status == 3 and "is open in process" in done.err
+
+        def is_known_by_its_process() -> bool:
+            """The server makes its socket anew when it notices who has gone, which may be between these two."""
+            pathlib.Path(f"{at_work.db}.sock").unlink(missing_ok=True)
+            done = at_work.run("restore", backup)
+            assert done.status == 3
+            return "is open in process" in done.err
+
+        assert eventually(is_known_by_its_process)
     assert at_work.content() == before
 
 
@@ -293,6 +295,9 @@ def test_verify_finds_orders_that_were_answered_and_went_with_a_changed_log(at_w
     done = at_work.run("verify")
     assert done.status == 0 and "owners: 5 requests that the site's log has as done are compared" in done.out
     change_log_at_rest(at_work)
+    refused = at_work.run("unit-add", "PRESS")
+    assert refused.status == 3 and refused.err.startswith("fault Damaged\n"), refused
+    (at_work.folder / f"{at_work.db.name}.lock").unlink()  # as the page of operations says, to go on with what is left
     assert at_work.run("unit-add", "PRESS").status == 0 and ("P-4",) not in at_work.rows("SELECT ord FROM orders")
     done = at_work.run("verify")
     assert done.status == 3 and "what owners did by 1 of 5 requests that the site's log has as done is missing: POST /orders P-4 of ACME at 20" in done.out

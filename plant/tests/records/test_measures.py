@@ -18,7 +18,7 @@ def test_a_value_and_its_text(value, decimals, text):
     assert measures.as_measured(value, decimals) == text and measures.whole_of(text, decimals) == value
 
 
-@settings(max_examples=300, deadline=None)
+@settings(max_examples=300)
 @given(VALUES, DECIMALS)
 def test_every_value_comes_back_and_is_the_number_that_it_says(value, decimals):
     text = measures.as_measured(value, decimals)

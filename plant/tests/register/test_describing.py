@@ -8,6 +8,7 @@ import openpyxl
 import pytest
 from conftest import copied
 from hilpoven.core import settings as site
+from hilpoven.model.register.noted import from_json
 from test_parties import HOSTILE, rows_of
 
 PH = ("describe", "test", "ACME", "BRINE", "PH")
@@ -54,10 +55,29 @@ def test_what_is_described_is_shown(settled):
     assert [row["noted_expires"] for row in listed["lots"] if row["lot"] == "B-1"] == ["271101"]
 
 
+def test_numbers_of_gs1_and_unit_codes_are_shown(settled):
+    assert settled.run("describe", "owner", "ACME", "--gln", "4012345000009").out.startswith("noted ")
+    assert settled.run("describe", "material", "ACME", "BRINE", "--gtin", "4012345678901", "--unit-code", "KGM").out.startswith("noted ")
+    assert notes(settled) == [{"kind": "material", "owner": "ACME", "material": "BRINE", "gtin": "4012345678901", "unit_code": "KGM"}]
+    assert settled.run("describe", "material", "ACME", "BRINE", "--gtin", "04012345678901").status == 0  # the last note of each member counts
+    assert settled.run("describe", "owner", "ACME").out == "owner ACME\n  GLN: 4012345000009\n"
+    assert settled.run("describe", "material", "ACME", "BRINE").out == "material BRINE of ACME\n  GTIN: 04012345678901\n  unit code: KGM\n"
+    assert "material BRINE of ACME: GTIN 4012345678901, unit code KGM" in settled.run("note", "list").out
+
+
+@pytest.mark.parametrize("member, value", [("gtin", "4012345678902"), ("gtin", 4012345678901), ("gln", "4012345000009"), ("unit_code", "kg"), ("unit_code", ["KGM"])])
+def test_no_note_of_a_journal_has_another_number(member, value):
+    assert from_json({"kind": "material", "owner": "ACME", "material": "BRINE", member: value}) is None
+    assert from_json({"kind": "material", "owner": "ACME", "material": "BRINE", "gtin": "96385074", "unit_code": "H87"}) is not None
+
+
 @pytest.mark.parametrize("words, status, why", [
     (("owner", "ACM", "--name", "A"), 1, "there is no owner ACM\n  Nearest of the owners: ACME"), (("owner", "ACME", "--name", " "), 2, "is empty"),
     (("material", "ACME", "BRIN", "--name", "A"), 1, "there is no material ACME BRIN\n  Nearest of the materials: BRINE"), (("material", "ACM", "BRINE"), 1, "there is no owner ACM"),
     (("test", "ACME", "BRINE", "PHH", "--unit", "A"), 1, "there is no test ACME BRINE PHH\n  Nearest of the tests: PH"), (("test", "ACME", "SUGAR", "PH"), 1, "there is no material ACME SUGAR"),
+    *((("owner", "ACME", "--gln", gln), 2, why) for gln, why in (("4012345000001", "behind 401234500000 its check digit is 9"), ("401234500000", "is no GLN, which has 13 digits"), ("", "is no GLN"), ("٤٠١٢٣٤٥٠٠٠٠٠٩", "is no GLN"))),
+    *((("material", "ACME", "BRINE", "--gtin", gtin), 2, "is no GTIN") for gtin in ("4012345678902", "12345", "040123456789012", "0x12345678901")),
+    *((("material", "ACME", "BRINE", "--unit-code", code), 2, "is no unit code") for code in ("kg", "K", "KGMX", "KG\n", "K-1", "")),
     *((("test", "ACME", "BRINE", "PH", "--decimals", decimals), 2, "--decimals") for decimals in ("0", "10", "-1", "2.0", "x")),
     (("recipe", "ACME", "BRINE-1", "--allowance", "2"), 1, "there is no recipe ACME BRINE-1\n  Nearest of the recipes: BRINE-10"),
     *((("recipe", "ACME", "BRINE-10", "--allowance", percent), 2, "is no percentage from 0.1 to 100, such as 1.5") for percent in ("0", "0.0", "100.1", "1.55", "-1", "1,5", "²", "1%")),

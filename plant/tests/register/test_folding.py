@@ -54,13 +54,13 @@ def is_same(one, other):
     return all(one.rows(sql) == other.rows(sql) for queries in file.OF_JOURNAL.values() for sql in queries)
 
 
-@settings(max_examples=200, deadline=None)
+@settings(max_examples=200)
 @given(NOTES)
 def test_a_note_is_read_as_it_was_written(note):
     assert from_json(json.loads(json.dumps(to_json(note)))) == note
 
 
-@settings(max_examples=300, deadline=None)
+@settings(max_examples=300)
 @given(NOTES.map(to_json), any_of.sampled_from(["owner", "lot", "order", "batch", "of_owner", "of_lot", "why", "amount", "reason", "party", "roles", "key", "of", "kind", "more", "material", "test", "decimals", "expires", "value", "day", "bound"]),
        any_of.one_of(any_of.none(), any_of.integers(-2, 10**12), any_of.text(max_size=3), any_of.sampled_from(["", "a\nb", "\x1b[2J", "\ud800", "X" * 201, "wh_2", "-A"]),
                      any_of.lists(any_of.text(max_size=2), max_size=2), any_of.booleans(), any_of.dictionaries(any_of.text(max_size=2), any_of.none(), max_size=1)))
@@ -100,7 +100,7 @@ def add(journal, step, count, note, asked):
         journal.answered(journal.asked(journal.file, ["unit-add", "PRESS"]), Answer(0, "accepted\n", ""))
 
 
-@settings(max_examples=40, deadline=None)
+@settings(max_examples=40)
 @given(STEPS)
 @example([("command", 0, NotLinked("ACME", "K1")), ("elsewhere", 1, NotLinked("ACME", "K1")), ("accepted", 0, NotLinked("ACME", "K1"))])
 def test_the_register_is_what_a_fold_from_the_first_line_gives_at_each_step(tmp_path_factory, steps):

@@ -1,8 +1,10 @@
 """What has the register's name and is none, and notes that nobody made by the command: notes are read from the journal, nothing is
 written over, and verify tells."""
+import contextlib
 import fcntl
 import json
 import os
+import re
 import sqlite3
 
 import pytest
@@ -175,6 +177,19 @@ def test_a_register_of_which_a_part_can_t_be_read_leaves_all_notes_to_the_journa
     for words, before, behind in zip(READERS, whole, damaged, strict=True):
         assert behind[:2] == before[:2], words
         assert "notes are read from the journal" in behind[2], words
+
+
+def test_a_register_without_columns_for_codes_is_made_anew_by_the_next_reader(linked):
+    path = file.path_of(str(linked.db))
+    with contextlib.closing(sqlite3.connect(path)) as base:
+        for table, column in (("material_note", "gtin"), ("material_note", "unit_code"), ("owner_note", "gln"), ("party_note", "gln")):
+            base.execute(f"ALTER TABLE {table} DROP COLUMN {column}")
+        base.execute("DELETE FROM link_note")
+        base.commit()
+        assert not re.search("gln|gtin|unit_code", " ".join(sql for sql, in base.execute("SELECT sql FROM sqlite_master WHERE sql IS NOT NULL")))
+    assert links(linked) == ONE and linked.run("note", "list").err == ""
+    with contextlib.closing(sqlite3.connect(path)) as base:
+        assert base.execute("SELECT gtin, unit_code FROM material_note").fetchall() == []
 
 
 def test_a_register_of_an_earlier_version_is_made_anew_by_the_next_reader(linked):

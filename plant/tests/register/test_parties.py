@@ -62,6 +62,8 @@ def test_what_is_not_named_of_a_party_stays_and_what_is_emptied_goes(at_work):
     assert at_work.run(*nord, "--name", "Nord", "--address", "1 Dock Road", "--contact", "Jane Doe", "--phone", "1", "--role", "customer").status == 0
     assert at_work.run(*nord, "--phone", "2").status == 0
     assert parties(at_work) == [{"owner": "ACME", "party": "NORD", "name": "Nord", "roles": "customer", "contact": "Jane Doe", "phone": "2", "address": "1 Dock Road"}]
+    assert at_work.run(*nord, "--gln", "4012345000009").status == 0 and at_work.run(*nord, "--gln", "4012345000008").status == 2
+    assert "party NORD of ACME: GLN 4012345000009" in at_work.run("note", "list").out
     assert at_work.run(*nord, "--empty", "contact", "--empty", "phone", "--role", "supplier").status == 0
     assert parties(at_work) == [{"owner": "ACME", "party": "NORD", "name": "Nord", "roles": "supplier", "contact": "", "phone": "", "address": "1 Dock Road"}]
     for words, why in (((), "nothing is given"), (("--phone", "3", "--empty", "phone"), "--phone is given"), (("--empty", "name"), "address")):

@@ -8,8 +8,9 @@ from conftest import Plant
 from hilpoven.core.journal.log import Journal
 from hilpoven.core.journal.query import check
 from hilpoven.model.register import file
+from killed import kill_at, steps
 from notes import links, noted
-from test_kills import kill_at, put, steps
+from test_kills import put
 
 # What is killed, and the link that stands once it is done; none where it takes back the one that stood before.
 COMMANDS = {

@@ -5,6 +5,7 @@ import pathlib
 
 import pytest
 from conftest import Plant
+from hilpoven.cli.lines import OVER_ALL
 from hilpoven.model.below import HEADING
 from week import PREPARED, WEEK, lived
 
@@ -35,7 +36,7 @@ def recalled(plant: Plant, lot: tuple[str, str]) -> dict[str, tuple]:
     """What a recall has below what `toll` tells, whose text stands first and unchanged."""
     done, toll = plant.run("recall", *lot), plant.toll("recall", *lot)
     assert done.status == toll.status == 0 and done.out.startswith(toll.out), (done, toll)
-    head, *lines = done.out.removeprefix(toll.out).splitlines()
+    head, *lines = done.out.removeprefix(toll.out).partition(f"{OVER_ALL}\n")[0].splitlines()
     assert head == HEADING and all(line.endswith(" *") for line in lines)
     rows = [line.split() for line in lines]
     return {name: (int(steps), disposition, int(on_hand), int(shipped)) for steps, _, name, disposition, on_hand, shipped, _ in rows}
@@ -119,7 +120,7 @@ def test_over_a_carry_over_recalls_reach_the_same(carried, lot, tmp_path):
 def test_in_the_next_file_the_plants_command_finds_what_came_over(carried):
     assert recalled(carried, ("HOUSE", "AF-1")) == {name: (*line[:3], 0) for name, line in REACHED["HOUSE", "AF-1"].items()}
     done = carried.run("recall", "ACME", "BU-0002")
-    assert done.status == 1 and "years" in done.err
+    assert done.status == 0 and done.out == f"{carried.toll('recall', 'ACME', 'BU-0002').out}{OVER_ALL}\n{carried.run('years', 'recall', 'ACME', 'BU-0002').out}"
 
 
 CORRECTED = {  # the lines of "I recorded it wrongly" at which a trace would end: what is typed, the lot that is recalled, and what its recall has to have

@@ -44,7 +44,8 @@ def test_the_workbook_of_a_workbook_is_itself(plant, monkeypatch):
     assert plant.run("import", "--what", "workbook", plant.folder / "book.ods").out == "".join(f"{title}: 0 accepted, {len(rows) - 1} there already\n" for title, rows in DAY_ONE.items())
 
 
-OFFICES = ["at-work", "week", *(f"filled-{seed}" for seed in range(4)), *(f"known-{seed}" for seed in range(4))]
+KINDS = ("filled", "known")
+OFFICES = ["at-work", "week", *(f"{kind}-{seed}" for kind in KINDS for seed in range(2)), *(pytest.param(f"{kind}-{seed}", marks=pytest.mark.long) for kind in KINDS for seed in (2, 3))]
 
 
 def generated(name: str, program: str, folder: pathlib.Path) -> Plant:

@@ -1,10 +1,7 @@
 """A workbook makes the office that a plant types by hand, once: given again, or behind a stop, it goes on."""
 import json
-import os
-import pathlib
 import shlex
 import signal
-import subprocess
 
 import pytest
 from books import DAY_ONE, TYPED, cell_of, copy_of, given, ods, state, xlsx
@@ -12,6 +9,7 @@ from conftest import Plant, called, copied
 from hilpoven.core import settings as site
 from hilpoven.core.journal.query import check
 from hilpoven.record.workbook import giving
+from killed import kill_at
 
 COUNTS = """Owners: 3 accepted, 0 there already
 Units: 2 accepted, 0 there already
@@ -129,24 +127,16 @@ def test_behind_a_stop_it_goes_on(empty, typed, at, monkeypatch):
     assert given(empty, DAY_ONE).out == AGAIN
 
 
-def killed(plant: Plant, step: int, path: pathlib.Path) -> int:
-    """Kills the import of a workbook at a step; how many there were, where it ended by itself, and else 0."""
-    count = plant.folder / "count"
-    words = ["/usr/bin/python3", "-IB", pathlib.Path(__file__).parent.parent / "killed.py", str(step), str(count), "--db", str(plant.db), "import", "--what", "workbook", str(path)]
-    subprocess.run(words, capture_output=True, env={**os.environ, "TOLL": plant.program}, timeout=600)
-    return int(count.read_text()) if count.exists() else 0
-
-
 @pytest.mark.parametrize("parts", [4, pytest.param(40, marks=pytest.mark.long)])
 def test_behind_a_kill_it_goes_on(bare, empty, typed, parts, tmp_path):
-    path = xlsx(tmp_path / "book.xlsx", DAY_ONE)
+    words = ["import", "--what", "workbook", xlsx(tmp_path / "book.xlsx", DAY_ONE)]
     (tmp_path / "whole").mkdir()
-    steps = killed(copied(bare, Plant(empty.program, tmp_path / "whole")), 10**9, path)
+    steps = kill_at(copied(bare, Plant(empty.program, tmp_path / "whole")), 0, words)
     assert steps
     for part in range(1, parts):
         (tmp_path / str(part)).mkdir()
         plant = copied(bare, Plant(empty.program, tmp_path / str(part)))
-        assert killed(plant, steps * part // parts, path) == 0
+        assert kill_at(plant, steps * part // parts, words) == 0
         assert given(plant, DAY_ONE).status == 0
         assert_same(plant, typed)
         assert given(plant, DAY_ONE).out == AGAIN and check(str(plant.journal)).wrong == []
