@@ -1,5 +1,6 @@
 /** What is asked of the office: a few requests at a time, and again where it is busy or away. */
 
+import { wayOf } from "./person.js";
 import { meaning } from "./refusals.js";
 import { isReply } from "./replies.js";
 import { parse } from "./values.js";
@@ -9,6 +10,14 @@ export class Refused extends Error {
   constructor(status, code, word, repeated) {
     super(meaning(code, word));
     Object.assign(this, { status, code, word, repeated });
+  }
+}
+
+/** A person's role doesn't allow it; nothing was asked of the office. */
+export class NotAllowed extends Refused {
+  constructor() {
+    super(403, 0, "NotAllowed", false);
+    this.message = "Your role doesn't allow this. Ask who looks after your people's names at the plant.";
   }
 }
 
@@ -151,13 +160,14 @@ export class Office {
   /** The reply, or null where there is none. */
   async #send(who, method, path, body, signal, headers = {}) {
     const limit = AbortSignal.timeout(LONGEST_REQUEST);
+    const way = wayOf(who, path);
     try {
-      const reply = await this.#fetch(path, {
+      const reply = await this.#fetch(way.path, {
         method,
-        headers: { "toll-owner": who.owner, "toll-key": who.key, ...headers },
+        headers: { ...way.headers, ...headers },
         body: body && JSON.stringify(body),
         signal: signal ? AbortSignal.any([signal, limit]) : limit,
-        cache: "no-store", credentials: "omit", redirect: "error", referrerPolicy: "no-referrer",
+        cache: "no-store", credentials: way.credentials, redirect: "error", referrerPolicy: "no-referrer",
       });
       // a reply that breaks off is none
       const field = name => reply.headers.get(name);
@@ -180,6 +190,8 @@ function valueOf(reply, repeated, isWanted) {
   const value = jsonOf(reply);
   if (reply.status === 200 && isWanted(value)) return value;
   if (reply.status === 403 && value?.error === "Forbidden") throw new Forbidden("The name or the key is wrong.");
+  if (reply.status === 401 && value?.error === "LogIn") throw new Forbidden("The session is over.");
+  if (reply.status === 403 && value?.error === "NotAllowed") throw new NotAllowed();
   const refuses = [404, 409].includes(reply.status) && Number.isInteger(value?.code) && typeof value.error === "string";
   if (refuses) throw new Refused(reply.status, value.code, value.error, repeated);
   throw new Strange(`What came isn't the office's answer (${reply.status}). It may be that something between here and the office is wrong.`);

@@ -39,14 +39,16 @@ const isForm = has({
     }),
   }),
   recipes: list({ recipe: isName, segments: isNumber, lines: list({ ...line, amount: isNumber }) }),
+  orders: list({ order: isName, placedOn: optional(isNumber) }),
   batches: list({
-    order: isName, batch: isNumber, unit: isName, state: isState, closed: optional(isFlag),
+    order: isName, batch: isNumber, unit: isName, state: isState, closed: optional(isFlag), openedOn: optional(isNumber), closedOn: optional(isNumber),
     lines: list({ ...line, required: isNumber, actual: isNumber }), lots: optional(isList(isName)),
   }),
   lots: list({
     lot: isName, order: optional(isName), batch: optional(isNumber), made: optional(isNumber), expires: optional(isNumber), retest: optional(isNumber),
     release: optional(release), signed: judged, held: judged,
     bounds: list({ test: isName, value: isNumber, day: isNumber, bound: isOneOf("below", "above") }),
+    foreign: list({ day: isNumber }),
   }),
   movements: list({
     key: isText, kind: isText, day: isNumber, lot: isName, lotOwner: isName, sublot: isName, amount: isNumber, material: optional(isText),

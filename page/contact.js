@@ -1,6 +1,7 @@
 /** The plant's name and how it is reached: as the companion of this session says, else as the site's settings say. */
 
 import { html } from "./dom.js";
+import { t } from "./text.js";
 
 const MEMBERS = ["name", "address", "contact"];
 
@@ -21,7 +22,7 @@ const plant = () => ({ ...fromSite, ...plantOf(companion?.last?.plant) });
 /** What stands below each view: the plant's name, address and contact. */
 export function drawContact(place) {
   const { name, address, contact } = plant();
-  const parts = [name && html("strong", {}, name), address, contact && `Contact: ${contact}`].filter(Boolean);
+  const parts = [name && html("strong", {}, name), address, contact && t`Contact: ${contact}`].filter(Boolean);
   place.replaceChildren(...parts.flatMap((part, i) => (i > 0 ? [" · ", part] : [part])));
 }
 
@@ -29,5 +30,5 @@ export function drawContact(place) {
 export function whomToAsk() {
   const { name, contact } = plant();
   if (!contact) return "";
-  return `If it stays so, ask ${name ?? "the plant"}: ${contact}.`;
+  return name ? t`If it stays so, ask ${name}: ${contact}.` : t`If it stays so, ask the plant: ${contact}.`;
 }

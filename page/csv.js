@@ -4,6 +4,7 @@
  */
 
 import { html, unseen } from "./dom.js";
+import { t } from "./text.js";
 
 // what a spreadsheet holds exactly
 const MOST_DIGITS = 15;
@@ -37,7 +38,7 @@ function save(name, text) {
   setTimeout(() => URL.revokeObjectURL(address), 10_000);
 }
 
-/** A button that gives the rows as a file, which is called by `file`; `noun` says what they are. `rows` is asked when it is clicked. */
-export const downloadButton = (page, { file, noun }, columns, rows) => html("button", {
+/** A button that gives the rows as a file, which is called by `file`; `title` says what they are. `rows` is asked when it is clicked. */
+export const downloadButton = (page, { file, title }, columns, rows) => html("button", {
   type: "button", class: "quiet", "data-key": `csv-${file}`, click: () => save(nameOf(page.who.owner, file), csvOf(columns, rows())),
-}, "Download CSV", unseen(` of the ${noun}`));
+}, t`Download CSV`, unseen(`: ${title}`));

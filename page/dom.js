@@ -19,12 +19,18 @@ export const unseen = (...inner) => html("span", { class: "unseen" }, ...inner);
 
 const isThere = child => child !== null && child !== undefined && child !== false;
 
+/** Puts a child into an element, or each of a list. What is no element becomes a text node. */
+export function put(element, child) {
+  if (Array.isArray(child)) for (const each of child) put(element, each);
+  else if (isThere(child)) element.append(child instanceof Node ? child : String(child));
+}
+
 function fill(element, given, inner) {
-  for (const [name, value] of Object.entries(given)) {
+  for (const name in given) {
+    const value = given[name];
     if (typeof value === "function") element.addEventListener(name, value);
     else if (isThere(value)) element.setAttribute(name, value === true ? "" : value);
   }
-  // what is no element becomes a text node
-  element.append(...inner.flat(Infinity).filter(isThere).map(child => (child instanceof Node ? child : String(child))));
+  for (const child of inner) put(element, child);
   return element;
 }

@@ -1,11 +1,15 @@
 /** Lists: tables that are searched, filtered, sorted and drawn in parts. */
 
 import { downloadButton } from "./csv.js";
-import { html } from "./dom.js";
-import { count, number } from "./values.js";
+import { html, put } from "./dom.js";
+import { t, word } from "./text.js";
+import { number } from "./values.js";
 
-const FIRST_PART = 60;
-const PART = 150;
+/** How many rows a part has. Parts out of sight are in the document, and cost neither style nor layout: style.css. */
+const PART = 50;
+
+/** How many rows are drawn before the page may answer in between. */
+const AT_ONCE = 600;
 
 /** The most rows of a table that is printed although it is folded on the screen: some four sheets. */
 export const MOST_PRINTED = 100;
@@ -16,41 +20,80 @@ const ALL = "all";
 /** How long a search rests before it is asked elsewhere, in milliseconds. */
 const TYPING = 400;
 
-const nextFrame = () => new Promise(done => setTimeout(done, 0));
+const nextTask = () => new Promise(done => setTimeout(done, 0));
 
 /**
- * Draws items into a place, the first ones at once and the others part by part, so that the page answers
- * in between. Ends where all are drawn, or the signal ends it.
+ * The rows of a table, which all stand in the document, so that they are found, printed, read out and reached by keys: the
+ * first ones at once, the others while the page answers in between. `lineOf(row)` draws a row, or gives that it drew before.
  */
-export async function inParts(place, items, draw, signal) {
-  place.replaceChildren(...items.slice(0, FIRST_PART).map(draw));
-  for (let at = FIRST_PART; at < items.length; at += PART) {
-    await nextFrame();
-    if (signal?.aborted) return;
-    place.append(...items.slice(at, at + PART).map(draw));
+class Rows {
+  #table;
+  #lineOf;
+  #waiting = [];
+  #turn = null;
+
+  constructor(tableElement, lineOf) {
+    [this.#table, this.#lineOf] = [tableElement, lineOf];
+  }
+
+  /** Shows these rows in place of those before. Ends where all stand there, or others are to be shown. */
+  async show(rows, signal) {
+    const turn = this.#turn = {};
+    [...this.#table.tBodies].forEach(part => part.remove());
+    this.#waiting = rows;
+    this.#drawNow(2 * PART);
+    const drawAll = () => this.#drawNow(Infinity);
+    addEventListener("beforeprint", drawAll);
+    while (this.#waiting.length > 0 && !signal?.aborted && turn === this.#turn) {
+      await nextTask();
+      if (turn === this.#turn) this.#drawNow(AT_ONCE);
+    }
+    removeEventListener("beforeprint", drawAll);
+  }
+
+  #drawNow(count) {
+    const rows = this.#waiting.slice(0, count);
+    this.#waiting = this.#waiting.slice(count);
+    for (let at = 0; at < rows.length; at += PART) {
+      const lines = rows.slice(at, at + PART).map(this.#lineOf);
+      const part = html("tbody", { role: "rowgroup" }, lines);
+      part.style.setProperty("--rows", lines.length);
+      this.#table.append(part);
+    }
   }
 }
 
 /** A table. Columns have a title and a cell of a row; numbers stand to the right. */
 export function table({ caption, columns, rows, signal }) {
-  const body = html("tbody", { role: "rowgroup" });
-  inParts(body, rows, row => line(columns, row), signal);
-  return frame(caption, columns.map(column => head(column, column.title)), body);
+  const place = frame(caption, columns.map(column => head(column, column.title)));
+  const empty = emptyLine(columns);
+  new Rows(place.firstChild, row => line(empty, columns, row)).show(rows, signal);
+  return place;
 }
 
-const classOf = column => (column.number ? "number" : column.acts && "acts");
+const classOf = column => (column.number ? "number" : column.acts ? "acts" : column.picks && "picks");
 
 const head = (column, ...inner) => html("th", { scope: "col", role: "columnheader", class: classOf(column) }, ...inner);
 
-const frame = (caption, heads, body) => html("div", { class: "table" }, html("table", { role: "table" },
+const frame = (caption, heads) => html("div", { class: "table" }, html("table", { role: "table" },
   html("caption", { class: "unseen" }, caption),
-  html("thead", { role: "rowgroup" }, html("tr", { role: "row" }, heads)), body));
+  html("thead", { role: "rowgroup" }, html("tr", { role: "row" }, heads))));
 
-/** A row, whose first cell is its head. Where cells stand in blocks, each begins with its column's title. */
-const line = (columns, row, className) => html("tr", { role: "row", class: className }, columns.map((column, i) => {
-  const given = { class: classOf(column), "data-title": typeof column.title === "string" && column.title };
-  return i === 0 ? html("th", { role: "rowheader", scope: "row", ...given }, column.cell(row)) : html("td", { role: "cell", ...given }, column.cell(row));
-}));
+const givenOf = column => ({ class: classOf(column), "data-title": typeof column.title === "string" && column.title });
+
+/** A row without what is in its cells. Its head is the first cell that names it. Where cells stand in blocks, each begins with its column's title. */
+function emptyLine(columns) {
+  const named = columns.findIndex(column => !column.picks);
+  return html("tr", { role: "row" }, columns.map((column, i) => (i === named ? html("th", { role: "rowheader", scope: "row", ...givenOf(column) }) : html("td", { role: "cell", ...givenOf(column) }))));
+}
+
+/** A row: a copy of the empty one, which is drawn once for a list, with what is in its cells. */
+function line(empty, columns, row, className) {
+  const copy = empty.cloneNode(true);
+  if (className) copy.className = className;
+  for (let at = 0, cell = copy.firstChild; cell; at++, cell = cell.nextSibling) put(cell, columns[at].cell(row));
+  return copy;
+}
 
 /**
  * A list of many rows with a field to search, choices, and heads that sort. What is searched, chosen and
@@ -58,37 +101,50 @@ const line = (columns, row, className) => html("tr", { role: "row", class: class
  *
  * `columns`: name, title, cell(row), compare(a, b) where it sorts, and `values` where it stands in the file
  * (csv.js), which has the rows that are found. `search(row)`: the text that is searched. `choices`: name,
- * title, options, of(row), and `usual`, the option that is chosen where the address has none, with the words of
- * what it hides. `nouns`: one and many of the rows. `file`: what the file is called by. `classOf(row)`: the class of
- * a row. `elsewhere(text)`: what there is of a searched text where no row is found, or null.
+ * title, options, of(row), and `usual`, the option that is chosen where the address has none, with what is said of the
+ * rows that it hides (`hides(n)`). `words`: what is said of the rows: `find` and `search` of the form, `count(n)`,
+ * `none` where there are none, `nothing` where none fits, `all(n)` on the button that shows all then, and `title` of the
+ * file, which is called by `file`. `classOf(row)`: the class of a row. `elsewhere(text)`: what there is of a searched text
+ * where no row is found, or null. `usualSort`: the column that sorts where the address has none. `above`: what stands
+ * between the form and the rows. `changed()` is called where other rows are found.
  */
 export class Finder {
   #page;
   #given;
-  #body = html("tbody", { role: "rowgroup" });
   #count = html("p", { class: "count", role: "status" });
   #beyond = html("div", { class: "beyond-list", role: "status" });
   #heads = new Map();
   #table;
-  #drawing = null;
+  #lines = new Map();
+  #empty;
+  #rows;
   #asking = null;
   #query;
+  #texts;
+  #orders = new Map();
+  #found = [];
 
   constructor(page, given) {
     this.#page = page;
     this.#given = given;
     this.#query = Object.fromEntries(page.route.query);
-    const download = downloadButton(page, { file: given.file, noun: given.nouns[1] }, given.columns, () => this.#rows());
+    this.#texts = new Map(given.rows.map(row => [row, given.search(row).toUpperCase()]));
+    const download = given.file && downloadButton(page, { file: given.file, title: given.words.title }, given.columns, () => this.#found);
     this.#table = this.#drawTable();
-    this.element = html("div", { class: "finder" }, this.#fields(), html("div", { class: "line" }, this.#count, download), this.#beyond, this.#table);
+    this.#empty = emptyLine(given.columns);
+    this.#rows = new Rows(this.#table.firstChild, row => this.#lineOf(row));
+    this.element = html("div", { class: "finder" }, this.#fields(), given.above, html("div", { class: "line" }, this.#count, download), this.#beyond, this.#table);
     this.#draw();
   }
 
   /** Ends where all rows are drawn. */
   drawn = Promise.resolve();
 
+  /** The rows that are found, as they are sorted. */
+  get found() { return this.#found; }
+
   #fields() {
-    const { nouns, choices = [] } = this.#given;
+    const { words, choices = [] } = this.#given;
     const search = html("input", {
       type: "search", name: "search", value: this.#query.search, autocomplete: "off", "data-key": "search",
       input: event => this.#set("search", event.target.value.trim()),
@@ -96,9 +152,9 @@ export class Finder {
     // on a phone the choices are folded
     const unfold = html("button", { type: "button", class: "small unfold", "aria-expanded": "false", click: () => {
       unfold.setAttribute("aria-expanded", String(form.classList.toggle("unfolded")));
-    } }, "Filter and sort");
-    const form = html("form", { class: "fields", role: "search", "aria-label": `Find ${nouns[1]}`, submit: event => event.preventDefault() },
-      html("label", {}, `Search ${nouns[1]}`, search), unfold,
+    } }, t`Filter and sort`);
+    const form = html("form", { class: "fields", role: "search", "aria-label": words.find, submit: event => event.preventDefault() },
+      html("label", {}, words.search, search), unfold,
       choices.map(choice => html("label", { class: "choice" }, choice.title, this.#choice(choice))),
       this.#sorting());
     return form;
@@ -109,7 +165,7 @@ export class Finder {
     const isOther = chosen && chosen !== ALL && !options.includes(chosen);
     const option = (value, text) => html("option", { value, selected: value === chosen }, text);
     return html("select", { name, "data-key": name, change: event => this.#set(name, event.target.value) },
-      option(usual ? ALL : "", ALL), (isOther ? [...options, chosen] : options).map(word => option(word, word)));
+      option(usual ? ALL : "", t`all`), (isOther ? [...options, chosen] : options).map(each => option(each, word(each))));
   }
 
   /** What sorts where the heads of columns aren't seen. */
@@ -117,7 +173,7 @@ export class Finder {
     const by = this.#sorted();
     const option = (column, down) => {
       const isChosen = column.name === by.name && Boolean(this.#query.down) === down;
-      return html("option", { value: `${column.name} ${down ? "yes" : ""}`, selected: isChosen }, down ? `${column.title}, descending` : column.title);
+      return html("option", { value: `${column.name} ${down ? "yes" : ""}`, selected: isChosen }, down ? t`${column.title}, descending` : column.title);
     };
     const options = this.#given.columns.filter(column => column.compare).flatMap(column => [option(column, false), option(column, true)]);
     const change = event => {
@@ -125,7 +181,7 @@ export class Finder {
       this.#query.down = down;
       this.#set("sort", name);
     };
-    return html("label", { class: "choice sort-by" }, "Sort by", html("select", { name: "sort", "data-key": "sort", change }, options));
+    return html("label", { class: "choice sort-by" }, t`Sort by`, html("select", { name: "sort", "data-key": "sort", change }, options));
   }
 
   #drawTable() {
@@ -133,7 +189,7 @@ export class Finder {
       const sorts = column.compare && html("button", { type: "button", class: "sort", click: () => this.#sortBy(column.name) }, column.title);
       this.#heads.set(column.name, head(column, sorts ?? column.title));
     }
-    return frame(this.#given.caption, [...this.#heads.values()], this.#body);
+    return frame(this.#given.caption, [...this.#heads.values()]);
   }
 
   #set(name, value) {
@@ -150,7 +206,8 @@ export class Finder {
 
   #sorted() {
     const sorting = this.#given.columns.filter(column => column.compare);
-    return sorting.find(column => column.name === this.#query.sort) ?? sorting[0];
+    const wanted = name => sorting.find(column => column.name === name);
+    return wanted(this.#query.sort) ?? wanted(this.#given.usualSort) ?? sorting[0];
   }
 
   /** The option of a choice that holds now; undefined where all do. */
@@ -159,32 +216,33 @@ export class Finder {
     return option === ALL ? undefined : option;
   }
 
-  /** The rows that are found by the search and by these choices. */
-  #matching(choices = this.#given.choices ?? []) {
+  /** Of these rows, those that are found by the search and by these choices. */
+  #matching(rows, choices = this.#given.choices ?? []) {
     const wanted = (this.#query.search ?? "").toUpperCase();
     const chosen = choices.map(choice => [choice, this.#option(choice)]).filter(([, option]) => option);
-    return this.#given.rows.filter(row => this.#given.search(row).toUpperCase().includes(wanted) && chosen.every(([choice, option]) => choice.of(row) === option));
+    return rows.filter(row => this.#texts.get(row).includes(wanted) && chosen.every(([choice, option]) => choice.of(row) === option));
   }
 
   /** What the usual option hides, or that nothing fits, with a button that shows it; and what there is elsewhere where nothing is found. */
   #tellBeyond(rows) {
+    const all = this.#given.rows;
     const hiding = (this.#given.choices ?? []).find(choice => choice.usual && !this.#query[choice.name]);
-    const hidden = hiding ? this.#matching(this.#given.choices.filter(choice => choice !== hiding)).length - rows.length : 0;
+    const hidden = hiding ? this.#matching(all, this.#given.choices.filter(choice => choice !== hiding)).length - rows.length : 0;
     const show = () => {
       this.element.querySelector(`select[name="${hiding.name}"]`).value = ALL;
       this.#set(hiding.name, ALL);
     };
-    const isNone = rows.length + hidden === 0 && this.#given.rows.length > 0;
-    const more = () => html("p", { class: "soft" }, `${number(hidden)} more: ${hiding.usual.hides}. `, html("button", { type: "button", class: "small", "data-key": "beyond", click: show }, "Show them"));
+    const isNone = rows.length + hidden === 0 && all.length > 0;
+    const more = () => html("p", { class: "soft" }, hiding.usual.hides(hidden), " ", html("button", { type: "button", class: "small", "data-key": "beyond", click: show }, t`Show them`));
     this.#beyond.replaceChildren(...(hidden > 0 ? [more()] : isNone ? [this.#nothing()] : []));
     this.#askElsewhere(isNone && (this.#query.search ?? "").toUpperCase());
   }
 
   /** That no row fits, with a button that shows all. */
   #nothing() {
-    const { nouns, rows } = this.#given;
-    return html("p", {}, `No ${nouns[0]} fits what you searched and chose. `,
-      html("button", { type: "button", class: "small", "data-key": "all-rows", click: () => this.#showAll() }, rows.length === 1 ? `Show the ${nouns[0]}` : `Show all ${count(rows.length, ...nouns)}`));
+    const { words, rows } = this.#given;
+    return html("p", {}, words.nothing, " ",
+      html("button", { type: "button", class: "small", "data-key": "all-rows", click: () => this.#showAll() }, words.all(rows.length)));
   }
 
   /** Takes the search and all choices back. */
@@ -208,26 +266,31 @@ export class Finder {
     }), TYPING);
   }
 
-  /** The rows that are found, as they are sorted. */
-  #rows() {
+  /** All rows as they are sorted now: each order is made once. */
+  #inOrder() {
     const by = this.#sorted();
-    return this.#matching().sort((a, b) => (this.#query.down ? by.compare(b, a) : by.compare(a, b)));
+    if (!this.#orders.has(by.name)) this.#orders.set(by.name, [...this.#given.rows].sort(by.compare));
+    return this.#query.down ? this.#orders.get(by.name).toReversed() : this.#orders.get(by.name);
+  }
+
+  #lineOf(row) {
+    if (!this.#lines.has(row)) this.#lines.set(row, line(this.#empty, this.#given.columns, row, this.#given.classOf?.(row)));
+    return this.#lines.get(row);
   }
 
   #draw() {
-    this.#drawing?.abort();
-    this.#drawing = new AbortController();
     const by = this.#sorted();
-    const rows = this.#rows();
-    for (const [name, head] of this.#heads) {
-      if (name === by.name) head.setAttribute("aria-sort", this.#query.down ? "descending" : "ascending");
-      else head.removeAttribute("aria-sort");
+    const rows = this.#found = this.#matching(this.#inOrder());
+    for (const [name, columnHead] of this.#heads) {
+      if (name === by.name) columnHead.setAttribute("aria-sort", this.#query.down ? "descending" : "ascending");
+      else columnHead.removeAttribute("aria-sort");
     }
     const all = this.#given.rows.length;
-    const whole = all === 0 ? `No ${this.#given.nouns[1]} yet.` : count(all, ...this.#given.nouns);
-    this.#count.textContent = rows.length === all ? whole : `${number(rows.length)} of ${whole}`;
+    const whole = all === 0 ? this.#given.words.none : this.#given.words.count(all);
+    this.#count.textContent = rows.length === all ? whole : t`${number(rows.length)} of ${whole}`;
     this.#table.hidden = rows.length === 0;
     this.#tellBeyond(rows);
-    this.drawn = inParts(this.#body, rows, row => line(this.#given.columns, row, this.#given.classOf?.(row)), AbortSignal.any([this.#drawing.signal, this.#page.signal]));
+    this.drawn = this.#rows.show(rows, this.#page.signal);
+    this.#given.changed?.();
   }
 }

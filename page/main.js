@@ -8,10 +8,12 @@ import { IdleWatch } from "./idle.js";
 import { MOST_PRINTED } from "./list.js";
 import { failed, tell, waits, warnIdle } from "./notices.js";
 import { isActing, Page } from "./page.js";
-import { read, toHome, toOrders, toStock } from "./router.js";
+import { isPerson, loginOf, logOut, mayRelease, nameOf } from "./person.js";
+import { read, toHome, toOrders, toRelease, toStock } from "./router.js";
 import { goBackTo, leaving, stoodAt } from "./scrolling.js";
 import { forget, giveUp, keep, see, seenAt, whoAsks } from "./session.js";
 import { readSettings } from "./settings.js";
+import { inline, language, momentText, t } from "./text.js";
 import { time } from "./values.js";
 import { home } from "./views/home.js";
 import { logIn } from "./views/log-in.js";
@@ -19,18 +21,27 @@ import { lot } from "./views/lot.js";
 import { nowhere } from "./views/nowhere.js";
 import { order } from "./views/order.js";
 import { orders } from "./views/orders.js";
+import { offerPapers } from "./views/papers.js";
 import { plant } from "./views/plant.js";
+import { release } from "./views/releasing.js";
 import { stock } from "./views/stock.js";
 
-const VIEWS = { home, orders, order, stock, lot, plant, nowhere };
+const VIEWS = { home, orders, order, stock, lot, plant, release, nowhere };
+/** The pages of the menu: the title, the address, and the views that belong to each. */
 const PARTS = [
-  ["home", "Home", toHome(), ["home"]], ["orders", "Orders", toOrders(), ["orders", "order"]], ["stock", "Stock", toStock(), ["stock", "lot", "plant"]],
+  [t`Home`, toHome(), ["home"]], [t`Orders`, toOrders(), ["orders", "order"]], [t`Stock`, toStock(), ["stock", "lot", "plant"]],
+  [t`Release`, toRelease(), ["release"]],
 ];
-const TITLES = { home: "Home", orders: "Orders", order: "Order", stock: "Stock", lot: "Lot", plant: "Lot" };
+const TITLES = { home: t`Home`, orders: t`Orders`, order: t`Order`, stock: t`Stock`, lot: t`Lot`, plant: t`Lot`, release: t`Release` };
 
-const UNKNOWN = "Whether the last thing was done isn't known.";
+const UNKNOWN = t`Whether the last thing was done isn't known.`;
 
 const at = id => document.getElementById(id);
+
+document.documentElement.lang = language();
+at("skip").textContent = t`To the content`;
+at("nav").setAttribute("aria-label", t`Pages`);
+at("programs").replaceChildren(...inline`For programs, the same interface: ${html("a", { href: "openapi.yaml" }, "openapi.yaml")}, and in words ${html("a", { href: "http.md" }, "http.md")}`);
 
 const office = new Office({ waits });
 const companion = new Companion(office, { late: drawAnew });
@@ -40,16 +51,17 @@ let current = null;
 
 const settings = await readSettings();
 introduce(settings, companion);
+offerPapers(settings);
 
 // Logging in and off
 
-/** The owner who was logged off by the office or for doing nothing. */
+/** The owner, or its person, who was logged off by the office or for doing nothing. */
 let sentAway = null;
 
 async function logInAs(who, signal) {
   await app.office.ask(who, "GET", "/orders", { signal });
   keep(who);
-  const back = sentAway === who.owner;
+  const back = sentAway === loginOf(who);
   sentAway = null;
   if (!back && !["", "#/", toHome()].includes(location.hash)) history.replaceState(null, "", toHome());
   await show();
@@ -57,11 +69,12 @@ async function logInAs(who, signal) {
 
 function logOff() {
   const unanswered = isActing();
+  logOut(whoAsks());
   forget();
   sentAway = null;
   history.replaceState(null, "", "#/");
   show();
-  if (unanswered) tell(`You logged off before the office had answered. ${UNKNOWN}`, "bad");
+  if (unanswered) tell(`${t`You logged off before the office had answered.`} ${UNKNOWN}`, "bad");
 }
 
 /** The owner is logged off by somebody else, logs in again, and comes back to where it was. */
@@ -69,7 +82,8 @@ function logOffAnd(text) {
   // several requests may be told so
   if (!whoAsks()) return;
   const unanswered = isActing();
-  sentAway = whoAsks().owner;
+  sentAway = loginOf(whoAsks());
+  logOut(whoAsks());
   forget();
   show();
   tell(unanswered ? `${text} ${UNKNOWN}` : text, "bad");
@@ -77,14 +91,14 @@ function logOffAnd(text) {
 
 /** The key isn't taken any more. */
 function sendAway() {
-  logOffAnd("The office doesn't take this name and key any more. Log in again.");
+  logOffAnd(isPerson(whoAsks()) ? t`Your session is over. Log in again.` : t`The office doesn't take this name and key any more. Log in again.`);
 }
 
 const watch = new IdleWatch({
   minutes: settings.idleMinutes,
   session: { isOn: () => whoAsks() !== null, seenAt, see },
   warn: warnIdle,
-  end: () => logOffAnd(`You were logged off after ${time(settings.idleMinutes)} without a key or a click.`),
+  end: () => logOffAnd(t`You were logged off after ${time(settings.idleMinutes)} without a key or a click.`),
 });
 
 // Showing a view
@@ -96,7 +110,7 @@ async function show({ anew = false } = {}) {
   if (!anew) tell("");
   drawBar(page);
   at("content").setAttribute("aria-busy", "true");
-  const late = setTimeout(() => { if (!anew && page === current) at("view").replaceChildren(html("h1", { class: "reading" }, "Reading…")); }, 300);
+  const late = setTimeout(() => { if (!anew && page === current) at("view").replaceChildren(html("h1", { class: "reading" }, t`Reading…`)); }, 300);
   const view = await viewOf(page);
   clearTimeout(late);
   if (page !== current || !view) return;
@@ -107,7 +121,7 @@ async function show({ anew = false } = {}) {
 
 async function viewOf(page) {
   try {
-    return page.who ? await VIEWS[page.route.view](page) : logIn({ logInAs, tell, owner: sentAway, idleMinutes: settings.idleMinutes, signal: page.signal });
+    return page.who ? await VIEWS[page.route.view](page) : logIn({ logInAs, tell, login: sentAway, settings, signal: page.signal });
   } catch (error) {
     if (page.signal.aborted) return null;
     if (error instanceof Forbidden) return sendAway();
@@ -129,10 +143,10 @@ function draw(page, view, anew) {
 
 /** Whose view it is and when it was read, or couldn't be, which stands on paper too. */
 function readAt({ owner }, { isUnread = false }) {
-  const now = new Date();
-  return html("p", { class: "read" }, `${owner}, ${isUnread ? "not read: tried" : "read"} on ${now.toLocaleDateString("sv")} at ${now.toLocaleTimeString("sv")}`,
+  const now = momentText(new Date());
+  return html("p", { class: "read" }, isUnread ? t`${owner}, not read: tried on ${now}` : t`${owner}, read on ${now}`,
     html("span", { id: "newer", role: "status" }),
-    html("button", { type: "button", class: "quiet", "data-key": "again", click: readAgain }, "Read again"));
+    html("button", { type: "button", class: "quiet", "data-key": "again", click: readAgain }, t`Read again`));
 }
 
 function readAgain() {
@@ -142,9 +156,10 @@ function readAgain() {
 }
 
 function drawBar({ who, route }) {
-  const parts = PARTS.map(([, title, address, views]) => html("a", { href: address, "aria-current": views.includes(route.view) && "page" }, title));
+  const shown = PARTS.filter(([,, views]) => !views.includes("release") || mayRelease(who));
+  const parts = shown.map(([title, address, views]) => html("a", { href: address, "aria-current": views.includes(route.view) && "page" }, title));
   at("nav").replaceChildren(...(who ? parts : []));
-  at("who").replaceChildren(...(who ? [html("span", { class: "owner" }, who.owner), html("button", { type: "button", click: logOff }, "Log off")] : []));
+  at("who").replaceChildren(...(who ? [html("span", { class: "owner" }, nameOf(who)), html("button", { type: "button", click: logOff }, t`Log off`)] : []));
 }
 
 // The companion, each minute while the window is seen
@@ -162,7 +177,7 @@ async function readCompanion() {
   if (document.hidden || !who || !await companion.read(who)) return;
   drawContact(at("plant"));
   if (current?.route.view === "home") drawAnew();
-  else at("newer")?.replaceChildren("The plant has recorded more since.");
+  else at("newer")?.replaceChildren(t`The plant has recorded more since.`);
 }
 
 setInterval(readCompanion, EACH);

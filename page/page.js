@@ -4,8 +4,7 @@ import { Forbidden, Refused } from "./api.js";
 import { failed, tell, wordsOf } from "./notices.js";
 import { toHome } from "./router.js";
 import { untilEnd, whoAsks } from "./session.js";
-
-const UNKNOWN = "Whether this was done isn't known: look before you do it again.";
+import { t } from "./text.js";
 
 /** What was read before something was to be changed. Where that fails, nothing was changed, and the error says so. */
 const asBefore = reading => reading?.catch(error => { throw Object.assign(error, { isBefore: true }); });
@@ -72,6 +71,32 @@ export class Page {
     }
   }
 
+  /**
+   * Asks for a change, of which nothing is told or drawn, and gives what came of it: `isDone`, or the `error`, of which
+   * `isKnown` says whether it is known that nothing was done.
+   */
+  async change(path, { stands }) {
+    const get = target => this.#app.office.ask(this.who, "GET", target, { signal: this.#over });
+    acting += 1;
+    try {
+      await this.#app.office.carry(this.who, path, { signal: this.#over, stands: () => stands(get) });
+      return { isDone: true };
+    } catch (error) {
+      if (error instanceof Forbidden && !this.#over.aborted) this.#app.sendAway();
+      return { isDone: false, error, isKnown: error instanceof Refused };
+    } finally {
+      acting -= 1;
+    }
+  }
+
+  /** Whether the session of who asks is over. */
+  get isOver() { return this.#over.aborted; }
+
+  /** Reads and draws the view anew, if it is still shown. */
+  showAnew() {
+    return this.#showAnew();
+  }
+
   async #done({ text, tone = "good" }, refused) {
     const isRefused = tone === "bad" && refused;
     if (!isRefused) await this.#showAnew();
@@ -84,7 +109,7 @@ export class Page {
     if (error instanceof Forbidden) return this.#app.sendAway();
     if (error instanceof Refused && !refused) await this.#showAnew();
     const isKnown = error instanceof Refused || error.isBefore;
-    this.#tell(isKnown ? wordsOf(error) : `${error.message} ${UNKNOWN}`, "bad");
+    this.#tell(isKnown ? wordsOf(error) : [wordsOf(error), " ", t`Whether this was done isn't known: look before you do it again.`], "bad");
     refused?.(error);
   }
 

@@ -26,6 +26,8 @@ export class Records {
   #value;
   #lots;
   #batches;
+  #orders;
+  #batchesOf;
   #materials;
   #parties;
   #movements = null;
@@ -35,6 +37,8 @@ export class Records {
     this.#value = value;
     this.#lots = byKey(value.lots ?? [], row => row.lot);
     this.#batches = byKey(value.batches ?? [], batchName);
+    this.#orders = byKey(value.orders ?? [], row => row.order);
+    this.#batchesOf = grouped(value.batches ?? [], row => row.order);
     this.#parties = byKey(value.parties ?? [], row => row.party);
     this.#materials = byKey(value.materials ?? [], row => `${row.owner}/${row.material}`);
   }
@@ -56,6 +60,8 @@ export class Records {
   }
 
   lot(name) { return this.#lots.get(name); }
+  order(name) { return this.#orders.get(name); }
+  batchesOf(order) { return this.#batchesOf.get(order) ?? []; }
   batch(order, n) { return this.#batches.get(batchName({ order, batch: n })); }
   material(owner, name) { return this.#materials.get(`${owner}/${name}`); }
 

@@ -12,7 +12,7 @@ export function read(hash) {
   if (rest.length > 0) return route;
   if (name === undefined) {
     if (first === "") route.view = "home";
-    else if (["home", "orders", "stock"].includes(first)) route.view = first;
+    else if (["home", "orders", "stock", "release"].includes(first)) route.view = first;
   } else if (NAMED.has(first) && isName(name)) {
     route.view = NAMED.get(first);
     route.name = name;
@@ -29,6 +29,7 @@ const behind = query => {
 export const toHome = (query = {}) => `#/home${behind(query)}`;
 export const toOrders = (query = {}) => `#/orders${behind(query)}`;
 export const toStock = (query = {}) => `#/stock${behind(query)}`;
+export const toRelease = (query = {}) => `#/release${behind(query)}`;
 export const toOrder = name => `#/orders/${name}`;
 export const toLot = name => `#/lots/${name}`;
 export const toPlantLot = name => `#/plant/${name}`;

@@ -1,4 +1,6 @@
-/** Who asks. The name and the key stay in the window's sessionStorage, until the owner logs off. */
+/** Who asks. The name and the key, or a person's token, stay in the window's sessionStorage, until the owner logs off. */
+
+import { isWho } from "./person.js";
 
 const PLACE = "hilpoven";
 
@@ -8,7 +10,7 @@ let ends = new AbortController();
 function kept() {
   try {
     const session = JSON.parse(sessionStorage.getItem(PLACE));
-    return typeof session?.owner === "string" && typeof session?.key === "string" ? session : null;
+    return isWho(session) ? session : null;
   } catch {
     return null;
   }
@@ -16,10 +18,10 @@ function kept() {
 
 const put = session => sessionStorage.setItem(PLACE, JSON.stringify(session));
 
-/** The owner and its key, or null. */
+/** The owner with its key, or with its person; or null. */
 export function whoAsks() {
-  const session = kept();
-  return session && { owner: session.owner, key: session.key };
+  const { seen, ...who } = kept() ?? {};
+  return seen === undefined ? null : who;
 }
 
 /** When this session did something last, in milliseconds; a browser that brings a window back brings this back too. */
@@ -40,9 +42,9 @@ export function giveUp() {
   ends = new AbortController();
 }
 
-export function keep({ owner, key }, now = Date.now()) {
+export function keep(who, now = Date.now()) {
   giveUp();
-  put({ owner, key, seen: now });
+  put({ ...who, seen: now });
 }
 
 export function forget() {

@@ -7,6 +7,9 @@ const LONGEST_REQUEST = 5000;
 /** What holds where the site sets nothing. */
 export const DEFAULTS = Object.freeze({ idleMinutes: 15 });
 
+/** What a site may have besides: persons with names of their own, and papers to take. */
+const PARTS = ["persons", "papers"];
+
 /** What these settings say. Whatever is no setting is as in DEFAULTS. */
 export function settingsOf(value) {
   const minutes = value?.idle_minutes;
@@ -14,6 +17,7 @@ export function settingsOf(value) {
   return {
     idleMinutes: Number.isFinite(minutes) && minutes >= 0 ? minutes : DEFAULTS.idleMinutes,
     ...(Object.keys(plant).length > 0 && { plant }),
+    ...Object.fromEntries(PARTS.filter(part => value?.[part] === true).map(part => [part, true])),
   };
 }
 

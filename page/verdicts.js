@@ -1,12 +1,13 @@
 /** Results of tests beside their limits, and why a lot can't be released. Pure. */
 
+import { key, t, word as textOf } from "./text.js";
 import { day, decimal } from "./values.js";
 
 /** The words of a test's latest result. */
-export const PASSES = "passes";
-export const BELOW = "below its limit";
-export const ABOVE = "above its limit";
-export const MISSING = "no result yet";
+export const PASSES = key`passes`;
+export const BELOW = key`below its limit`;
+export const ABOVE = key`above its limit`;
+export const MISSING = key`no result yet`;
 
 const isLess = (a, b) => BigInt(a) < BigInt(b);
 
@@ -21,7 +22,7 @@ export function verdict({ low, high }, value) {
 export const measured = ({ decimals, unit }, value) => `${decimal(value, decimals)}${unit ? ` ${unit}` : ""}`;
 
 /** The limits of a test as measured. */
-export const limits = test => `${decimal(test.low, test.decimals)} to ${measured(test, test.high)}`;
+export const limits = test => t`${decimal(test.low, test.decimals)} to ${measured(test, test.high)}`;
 
 /** The latest value of each test; a lot's results are in the order recorded. */
 const latestOf = results => new Map(results.map(row => [row.test, row.value]));
@@ -34,19 +35,19 @@ export function verdictsOf(tests, results) {
 
 /** Why a test keeps its lot from being released, as a sentence. */
 export function failure(row) {
-  if (row.word === MISSING) return `${row.test} has no result yet.`;
+  if (row.word === MISSING) return t`${row.test} has no result yet.`;
   const limit = row.word === BELOW ? row.low : row.high;
-  return `${row.test} is ${measured(row, row.value)}, ${row.word} of ${measured(row, limit)}.`;
+  return t`${row.test} is ${measured(row, row.value)}, ${textOf(row.word)} of ${measured(row, limit)}.`;
 }
 
 /** What the plant's quality says of a lot that it holds, unless that stands among the reasons already; empty if it doesn't hold it. */
 export function heldBy(lot) {
   const isReason = lot?.release?.why?.some(row => row.reason === HOLD);
-  return lot?.held && !isReason ? `The plant holds it since ${day(lot.held.day)}${noted(lot.held.text)}.` : "";
+  return lot?.held && !isReason ? t`The plant holds it since ${day(lot.held.day)}${noted(lot.held.text)}.` : "";
 }
 
 /** The words of the plant's own test, by which its quality holds (0) and signs (1) a lot. */
-const JUDGEMENTS = new Map([[0, "held by the plant"], [1, "signed by the plant"]]);
+const JUDGEMENTS = new Map([[0, key`held by the plant`], [1, key`signed by the plant`]]);
 
 /**
  * What the plant's quality says by a result of its own test; undefined of other results. The companion leaves this test out
@@ -65,11 +66,16 @@ export const noted = text => (text ? `: ${text.replace(/\.$/, "")}` : "");
 
 /** A reason of the plant's, as a sentence. */
 function reasonOf({ reason, test, value, limit, text }) {
-  if (reason === "missing") return `${test ?? "A test"} has no result yet.`;
-  if (reason in OF_TESTS) return `${test ?? "A test"} is ${value === undefined ? "" : `${decimal(value)}, `}${OF_TESTS[reason]}${limit === undefined ? "" : ` of ${decimal(limit)}`}.`;
-  if (reason === HOLD) return `The plant holds it${noted(text)}.`;
-  if (reason === "unsigned") return "The plant's quality hasn't signed it yet.";
-  return `The plant gives another reason: ${reason}.`;
+  const name = test ?? t`A test`;
+  if (reason === "missing") return t`${name} has no result yet.`;
+  if (reason in OF_TESTS) {
+    const verdictText = textOf(OF_TESTS[reason]);
+    if (value === undefined || limit === undefined) return t`${name}: ${verdictText}.`;
+    return t`${name} is ${decimal(value)}, ${verdictText} of ${decimal(limit)}.`;
+  }
+  if (reason === HOLD) return t`The plant holds it${noted(text)}.`;
+  if (reason === "unsigned") return t`The plant's quality hasn't signed it yet.`;
+  return t`The plant gives another reason: ${reason}.`;
 }
 
 /**

@@ -2,6 +2,7 @@
 
 import { shape, toneOf } from "../chips.js";
 import { svg } from "../dom.js";
+import { t } from "../text.js";
 import { SIZES } from "./layout.js";
 
 const TIP = 7;
@@ -56,7 +57,7 @@ const tip = ([x, y], long, axis) => (axis === 0 ? `M${x} ${y}l${-long} -4v8z` : 
 
 function box(content, at) {
   const kind = content.fold ? "fold" : `${content.open ? "group " : ""}${toneOf(content.word)}${content.plant ? " plant" : ""}${content.asked ? " asked" : ""}`;
-  const name = [content.title, ...content.lines, !content.plant && content.word, content.asked && "the lot that was asked for", content.open && "shows its lots"].filter(Boolean).join(", ");
+  const name = [content.title, ...content.lines, !content.plant && content.word, content.asked && t`the lot that was asked for`, content.open && t`shows its lots`].filter(Boolean).join(", ");
   const inner = [outline(content, at), content.fold ? folded(content, at) : written(content, at)];
   const given = { class: `box ${kind}`, "aria-label": name, "data-id": content.id, "data-key": content.id };
   const act = content.fold ?? content.open;
@@ -101,7 +102,7 @@ function lastLine({ word, lines: [, amount] }) {
 
 const flag = (x, y) => svg("g", { class: "flag", "aria-hidden": "true" },
   svg("rect", { x: x + SIZES.width - 66, y: y - 10, width: 58, height: 18, rx: 9 }),
-  svg("text", { x: x + SIZES.width - 37, y: y + 3, "text-anchor": "middle" }, "this lot"));
+  svg("text", { x: x + SIZES.width - 37, y: y + 3, "text-anchor": "middle" }, t`this lot`));
 
 const folded = (content, { x, y }) => [
   svg("text", { class: "title", x: x + SIZES.width / 2, y: y + 30, "text-anchor": "middle" }, content.title),

@@ -1,6 +1,7 @@
 /** The place of a picture: as wide as there is room, and scrolled where the picture would be too small to read. */
 
 import { html } from "../dom.js";
+import { t } from "../text.js";
 import { SIZES } from "./layout.js";
 import { beginning } from "./sight.js";
 
@@ -8,7 +9,7 @@ import { beginning } from "./sight.js";
 const SMALLEST = 0.64;
 
 export class Frame {
-  element = html("div", { class: "picture", tabindex: 0, role: "region", "aria-label": "Picture of the genealogy" });
+  element = html("div", { class: "picture", tabindex: 0, role: "region", "aria-label": t`Picture of the genealogy` });
   #picture = null;
   #layout = null;
   #asked = null;

@@ -1,9 +1,10 @@
 /** A lot's genealogy: the picture, what unfolds it, and the same lots as a table. */
 
 import { html } from "../dom.js";
-import { chip } from "../chips.js";
+import { chip, PLANTS } from "../chips.js";
 import { toLot, toPlantLot } from "../router.js";
-import { amount, count, number, PLANT } from "../values.js";
+import { key, plural, t, word } from "../text.js";
+import { amount, lotCount, number, PLANT } from "../values.js";
 import { Boxes } from "./boxes.js";
 import { picture } from "./draw.js";
 import { Frame } from "./frame.js";
@@ -13,9 +14,9 @@ import { notedIn } from "./links.js";
 import { foldOf, idOf, MOST, waysAsked } from "./lots.js";
 import { Words } from "./words.js";
 
-const WAYS = [["back", "further back"], ["forward", "further on"]];
+const WAYS = [["back", key`further back`], ["forward", key`further on`]];
 const addressOf = lot => (lot.owner === PLANT ? toPlantLot(lot.lot) : toLot(lot.lot));
-const LEGEND = ["released", "quarantined", "rejected", "the plant's"];
+const LEGEND = ["released", "quarantined", "rejected", PLANTS];
 
 /** Names in the order of their numbers: B-2 before B-10. */
 const IN_ORDER = new Intl.Collator("en", { numeric: true }).compare;
@@ -49,9 +50,9 @@ export class Genealogy {
     this.#boxes.know(traces.back[0].id, "forward", nextTo(traces.forward));
     this.#words = new Words(page, { traces, stock, records, addressOf });
     const legend = html("p", { class: "legend" }, LEGEND.map(word => chip(word)),
-      records?.links.length > 0 && html("span", { class: "soft" }, "Dashed arrows are noted by the plant, and aren't recorded consumption."));
+      records?.links.length > 0 && html("span", { class: "soft" }, t`Dashed arrows are noted by the plant, and aren't recorded consumption.`));
     this.element = html("section", { class: "card genealogy-card" },
-      html("h2", {}, "Where it comes from and where it went"),
+      html("h2", {}, t`Where it comes from and where it went`),
       this.#words.direct, html("p", { class: "soft" }, this.#words.summary), this.#tools, this.#sign, this.#frame.element, legend, this.#words.table, this.#words.unprinted);
     this.#narrow.addEventListener("change", () => { this.drawn = this.#redraw(); }, { signal: page.signal });
     this.drawn = this.#redraw();
@@ -80,19 +81,19 @@ export class Genealogy {
     const boxes = this.#boxes;
     const { shown, first, most } = boxes;
     const { hidden } = boxes.placed;
-    const does = (key, title, click) => html("button", { type: "button", class: "small", "data-key": key, click }, title);
-    const button = (key, title, then) => does(key, title, () => this.#unfold(then));
+    const does = (name, title, click) => html("button", { type: "button", class: "small", "data-key": name, click }, title);
+    const button = (name, title, then) => does(name, title, () => this.#unfold(then));
     const further = WAYS.map(([way, words]) => [way, words, boxes.shownAfter(way)]).filter(([way, , then]) => then[way] > shown[way])
-      .map(([way, words, then]) => button(`more-${way}`, `${number(then[way] - shown[way])} more ${words}`, then));
+      .map(([way, words, then]) => button(`more-${way}`, t`${number(then[way] - shown[way])} more ${word(words)}`, then));
     const whole = hidden.size === most.back + most.forward - shown.back - shown.forward;
-    const all = further.length > 0 && button("all", whole ? `All ${number(hidden.size)} more` : `As many as ${MOST}`, most);
-    const fewer = (shown.back > first.back || shown.forward > first.forward) && !boxes.isOpened && button("fewer", "Fewer", first);
-    const folded = boxes.isOpened && does("refold", "Fold the lots again", () => {
+    const all = further.length > 0 && button("all", whole ? t`All ${number(hidden.size)} more` : t`As many as ${MOST}`, most);
+    const fewer = (shown.back > first.back || shown.forward > first.forward) && !boxes.isOpened && button("fewer", t`Fewer`, first);
+    const folded = boxes.isOpened && does("refold", t`Fold the lots again`, () => {
       boxes.fold();
       this.drawn = this.#redraw();
     });
-    const asked = this.#frame.isLarge && does("asked", `Show ${this.#words.name}`, () => this.#frame.show());
-    const scrolls = this.#frame.isLarge && html("p", { class: "soft scrolls" }, "The picture is larger than its place: scroll it to see the rest.");
+    const asked = this.#frame.isLarge && does("asked", t`Show ${this.#words.name}`, () => this.#frame.show());
+    const scrolls = this.#frame.isLarge && html("p", { class: "soft scrolls" }, t`The picture is larger than its place: scroll it to see the rest.`);
     this.#tools.replaceChildren(...[further, all, fewer, folded, asked, scrolls].flat().filter(Boolean));
   }
 
@@ -129,7 +130,7 @@ export class Genealogy {
     const isKnown = (lot, way) => boxes.isKnown(lot.id, way) || (lot.owner === PLANT && way === "back");
     const asks = shown.flatMap(lot => waysAsked(hidden).filter(way => !isKnown(lot, way)).map(way => [lot, way]));
     let read = 0;
-    const showProgress = () => { this.#sign.textContent = read < asks.length ? `Reading the steps between the lots: ${read} of ${asks.length}` : ""; };
+    const showProgress = () => { this.#sign.textContent = read < asks.length ? t`Reading the steps between the lots: ${read} of ${asks.length}` : ""; };
     showProgress();
     await Promise.all(asks.map(async ([lot, way]) => {
       if (signal.aborted) return;
@@ -150,7 +151,7 @@ export class Genealogy {
     const layout = (isUpright ? upright : layered)(ids, [...drawn.edges, ...noted.edges], { beside: asked });
     const boxes = new Map(ids.map(id => [id, this.#boxOf(id, drawn)]));
     const isNoted = ({ from, to }) => noted.edges.some(([a, b]) => a === from && b === to);
-    const name = `Genealogy of ${this.#words.name}: ${count(boxes.size, "box", "boxes")}`;
+    const name = plural(boxes.size, "Genealogy of {1}: {0} box", "Genealogy of {1}: {0} boxes", this.#words.name);
     this.#frame.draw(picture(layout, boxes, name, { isUpright, isNoted }), layout, asked);
   }
 
@@ -158,10 +159,10 @@ export class Genealogy {
     const group = drawn.groups.get(id);
     if (group) return this.#groupBox(group);
     const fold = WAYS.find(([way]) => foldOf(way) === id);
-    if (fold) return { id, title: `${number(drawn.countOf(fold[0]))} more`, lines: [fold[1]], word: "", fold: () => this.#openFold(fold[0]) };
+    if (fold) return { id, title: t`${number(drawn.countOf(fold[0]))} more`, lines: [word(fold[1])], word: "", fold: () => this.#openFold(fold[0]) };
     const [owner, lot] = id.split("/");
     const common = { id, title: lot, asked: id === this.#boxes.asked, address: addressOf({ owner, lot }) };
-    if (owner === PLANT) return { ...common, lines: ["a lot of the plant"], word: "the plant's", plant: true };
+    if (owner === PLANT) return { ...common, lines: [t`a lot of the plant`], word: PLANTS, plant: true };
     // a lot that was made after the stock was read has no line in it
     const line = this.#stock.get(lot);
     return { ...common, lines: line ? [line.material, amount(line.amount, line.measure)] : [""], word: line?.disposition ?? "" };
@@ -171,11 +172,11 @@ export class Genealogy {
     const [owner, first] = group.lots[0].split("/");
     const open = () => this.#openGroup(group);
     const common = { id: group.id, open };
-    if (owner === PLANT) return { ...common, title: `${number(group.lots.length)} lots`, lines: ["lots of the plant"], word: "the plant's", plant: true };
+    if (owner === PLANT) return { ...common, title: lotCount(group.lots.length), lines: [t`lots of the plant`], word: PLANTS, plant: true };
     const lines = group.lots.map(id => this.#stock.get(id.split("/")[1]));
     const { material, measure, disposition } = lines[0];
     const whole = lines.reduce((sum, line) => sum + BigInt(line.amount), 0n);
-    return { ...common, title: `${number(lines.length)} ${material}`, lines: [this.#records?.makerOf(first) ?? "lots", amount(whole, measure)], word: disposition };
+    return { ...common, title: `${number(lines.length)} ${material}`, lines: [this.#records?.makerOf(first) ?? t`lots`, amount(whole, measure)], word: disposition };
   }
 
   /** What lots of a group share; null of a lot that isn't known. */

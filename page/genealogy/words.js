@@ -1,10 +1,11 @@
 /** A genealogy in words: the neighbours of the lot that is asked for, what the plant noted, and all lots as a table. */
 
-import { chip } from "../chips.js";
+import { chip, PLANTS } from "../chips.js";
 import { downloadButton } from "../csv.js";
 import { html, link } from "../dom.js";
 import { MOST_PRINTED, table } from "../list.js";
-import { amount, count, number, PLANT } from "../values.js";
+import { inline, plural, t } from "../text.js";
+import { amount, lotCount, number, PLANT } from "../values.js";
 import { linksOf } from "./links.js";
 import { directOf, lotsOf } from "./lots.js";
 
@@ -29,14 +30,14 @@ export class Words {
 
   get summary() {
     const { back, forward } = this.#traces;
-    const sum = trace => (trace.length > 1 ? `${count(trace.length - 1, "lot")} over ${count(trace.at(-1).steps, "step")}` : "none");
-    const sources = back[0].owner === PLANT ? "" : `Made of: ${sum(back)}. `;
-    return `${sources}Went into: ${sum(forward)}. Arrows lead from a lot to what it went into.`;
+    const sum = trace => (trace.length > 1 ? plural(trace.at(-1).steps, "{1} over {0} step", "{1} over {0} steps", lotCount(trace.length - 1)) : t`none`);
+    const sources = back[0].owner === PLANT ? [] : [t`Made of: ${sum(back)}.`];
+    return [...sources, t`Went into: ${sum(forward)}.`, t`Arrows lead from a lot to what it went into.`].join(" ");
   }
 
   /** What stands on paper in place of a folded table that is too long to be printed unasked. */
   get unprinted() {
-    return this.table.dataset.rows > MOST_PRINTED && html("p", { class: "on-paper" }, "The table of the lots isn't printed. Unfold it before you print, to have it on paper.");
+    return this.table.dataset.rows > MOST_PRINTED && html("p", { class: "on-paper" }, t`The table of the lots isn't printed. Unfold it before you print, to have it on paper.`);
   }
 
   showTable() {
@@ -50,45 +51,47 @@ export class Words {
     const part = (title, ...inner) => html("div", {}, html("dt", {}, title), html("dd", {}, ...inner));
     const noted = this.#noted();
     return html("dl", { class: "direct" },
-      back[0].owner !== PLANT && part("Directly made of", this.#named(directOf(back))), part("Directly went into", this.#named(directOf(forward))),
-      noted.length > 0 && part("Noted by the plant", noted.flatMap((line, i) => [i > 0 && "; ", line])));
+      back[0].owner !== PLANT && part(t`Directly made of`, this.#named(directOf(back))), part(t`Directly went into`, this.#named(directOf(forward))),
+      noted.length > 0 && part(t`Noted by the plant`, noted.flatMap((line, i) => [i > 0 && "; ", line])));
   }
 
   #link(row) {
-    return [link(this.#addressOf(row), row.lot), row.owner === PLANT && " (the plant's)"];
+    const name = link(this.#addressOf(row), row.lot);
+    return row.owner === PLANT ? inline`${name} (the plant's)` : name;
   }
 
   #named(lots) {
-    if (lots.length === 0) return "nothing";
+    if (lots.length === 0) return t`nothing`;
     const names = lots.slice(0, NAMED).flatMap((row, i) => [i > 0 && ", ", this.#link(row)]);
     const rest = lots.length - NAMED;
-    return [names, rest > 0 && [" and ", html("button", { type: "button", class: "quiet", click: () => this.showTable() }, `${number(rest)} more`)]];
+    const more = () => html("button", { type: "button", class: "quiet", click: () => this.showTable() }, t`${number(rest)} more`);
+    return rest > 0 ? inline`${names} and ${more()}` : names;
   }
 
   #noted() {
     const { from, into } = linksOf(this.#records?.links ?? [], this.#traces.back[0].id);
     const why = row => row.text && ` (${row.text})`;
-    return [...from.map(row => [`${row.why} of `, this.#link(row.from), why(row)]), ...into.map(row => [`${row.why} into `, this.#link(row.to), why(row)])];
+    return [...from.map(row => [inline`${row.why} of ${this.#link(row.from)}`, why(row)]), ...into.map(row => [inline`${row.why} into ${this.#link(row.to)}`, why(row)])];
   }
 
   #table() {
     const { back, forward } = this.#traces;
     const lineOf = row => (row.owner === PLANT ? undefined : this.#stock.get(row.lot));
     const amountOf = line => line && amount(line.amount, line.measure);
-    const word = row => (row.owner === PLANT ? "the plant's" : lineOf(row)?.disposition);
+    const word = row => (row.owner === PLANT ? PLANTS : lineOf(row)?.disposition);
     const batchOf = row => (row.owner === PLANT ? undefined : this.#records?.makerOf(row.lot));
     const rows = lotsOf(back, forward);
     const columns = [
-      { title: "Lot", cell: row => link(this.#addressOf(row), row.lot), values: { Lot: row => row.lot, Owner: row => row.owner } },
-      { title: "Steps back", number: true, cell: row => row.back !== null && number(row.back), values: { "Steps back": row => row.back } },
-      { title: "Steps forward", number: true, cell: row => row.forward !== null && number(row.forward), values: { "Steps forward": row => row.forward } },
-      { title: "Material", cell: row => lineOf(row)?.material, values: { Material: row => lineOf(row)?.material } },
-      { title: "On hand", number: true, cell: row => amountOf(lineOf(row)), values: { "On hand": row => lineOf(row)?.amount, Measure: row => lineOf(row)?.measure } },
-      { title: "Disposition", cell: row => word(row) && chip(word(row)), values: { Disposition: row => lineOf(row)?.disposition } },
-      ...(this.#records ? [{ title: "Made by", cell: batchOf, values: { Batch: batchOf } }] : []),
+      { title: t`Lot`, cell: row => link(this.#addressOf(row), row.lot), values: { Lot: row => row.lot, Owner: row => row.owner } },
+      { title: t`Steps back`, number: true, cell: row => row.back !== null && number(row.back), values: { "Steps back": row => row.back } },
+      { title: t`Steps forward`, number: true, cell: row => row.forward !== null && number(row.forward), values: { "Steps forward": row => row.forward } },
+      { title: t`Material`, cell: row => lineOf(row)?.material, values: { Material: row => lineOf(row)?.material } },
+      { title: t`On hand`, number: true, cell: row => amountOf(lineOf(row)), values: { "On hand": row => lineOf(row)?.amount, Measure: row => lineOf(row)?.measure } },
+      { title: t`Disposition`, cell: row => word(row) && chip(word(row)), values: { Disposition: row => lineOf(row)?.disposition } },
+      ...(this.#records ? [{ title: t`Made by`, cell: batchOf, values: { Batch: batchOf } }] : []),
     ];
-    return html("details", { "data-rows": rows.length }, html("summary", {}, "The same as a table"),
-      html("div", { class: "buttons" }, downloadButton(this.#page, { file: `${this.name}-genealogy`, noun: "genealogy" }, columns, () => rows)),
-      table({ caption: "The lots of the genealogy, with their fewest steps", signal: this.#page.signal, rows, columns }));
+    return html("details", { "data-rows": rows.length }, html("summary", {}, t`The same as a table`),
+      html("div", { class: "buttons" }, downloadButton(this.#page, { file: `${this.name}-genealogy`, title: t`genealogy of ${this.name}` }, columns, () => rows)),
+      table({ caption: t`The lots of the genealogy, with their fewest steps`, signal: this.#page.signal, rows, columns }));
   }
 }

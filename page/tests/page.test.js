@@ -6,7 +6,7 @@ import { known, meaning } from "../refusals.js";
 import { isReply } from "../replies.js";
 import { read, toHome, toLot, toOrder, toOrders, toPlantLot, toStock } from "../router.js";
 import { forget, giveUp, keep, see, seenAt, untilEnd, whoAsks } from "../session.js";
-import { compareNumbers, count, day, decimal, isName, number, parse, share, time } from "../values.js";
+import { compareNumbers, day, dayCount, decimal, isName, lotCount, number, parse, share, time } from "../values.js";
 
 const PAGE = new URL("..", import.meta.url);
 const WHO = { owner: "ACME", key: "ACMEKEY1" };
@@ -226,7 +226,7 @@ test("numbers that a Number can't hold are kept", () => {
 });
 
 test("numbers and names in words", () => {
-  assert.deepEqual([number(1000), number(-5), count(1, "lot"), count(2000, "lot")], ["1,000", "-5", "1 lot", "2,000 lots"]);
+  assert.deepEqual([number(1000), number(-5), lotCount(1), lotCount(2000), dayCount(7)], ["1,000", "-5", "1 lot", "2,000 lots", "7 days"]);
   assert.deepEqual([time(15), time(1), time(0.1)], ["15 minutes", "1 minute", "6 seconds"]);
   assert.deepEqual([share(980, 1000), share(9999, 10000), share(1002, 1000), share(0, 7), share("20000000000000000", 1)], ["98 %", "99.9 %", "100.2 %", "0 %", "2,000,000,000,000,000,000 %"]);
   assert.deepEqual([261128, "261128", 100101, 260229, 261301, 101, 20261128].map(day), ["2026-11-28", "2026-11-28", "2010-01-01", "260229", "261301", "101", "20261128"]);

@@ -4,6 +4,7 @@ import { Refused } from "../api.js";
 import { html, unseen } from "../dom.js";
 import { ask } from "../question.js";
 import { untilEnd } from "../session.js";
+import { t } from "../text.js";
 
 const UNKNOWN_BATCH = 22;
 
@@ -28,14 +29,14 @@ export function cancelButton(page, name) {
   return html("button", {
     type: "button", class: "small", "data-key": `cancel-${name}`,
     click: async ({ currentTarget: button }) => {
-      const text = "A cancelled order stays cancelled. The plant opens no batch of it.";
-      if (!await ask(page.signal, { title: `Cancel order ${name}?`, text, yes: "Cancel the order" })) return;
+      const text = t`A cancelled order stays cancelled. The plant opens no batch of it.`;
+      if (!await ask(page.signal, { title: t`Cancel order ${name}?`, text, yes: t`Cancel the order` })) return;
       await page.act(button, `/orders/${name}/cancel`, {
-        notice: () => ({ text: `Order ${name} is cancelled.` }),
+        notice: () => ({ text: t`Order ${name} is cancelled.` }),
         stands: async get => (await get(`/orders/${name}`)).status === "cancelled",
       });
     },
-  }, "Cancel", unseen(` order ${name}`));
+  }, t`Cancel`, unseen(` ${name}`));
 }
 
 /** Of each session, whether orders were started, as far as it was told: that an order was started stays so. */
@@ -71,7 +72,7 @@ export class CancelButtons {
   }
 
   #shown(name) {
-    return this.#isStarted.get(name) ? html("span", { class: "soft" }, "started") : cancelButton(this.#page, name);
+    return this.#isStarted.get(name) ? html("span", { class: "soft" }, t`started`) : cancelButton(this.#page, name);
   }
 
   #seen({ target, isIntersecting }) {

@@ -2,8 +2,9 @@
 
 import { html, link } from "../dom.js";
 import { toOrders, toStock } from "../router.js";
+import { inline, t } from "../text.js";
 
 export const nowhere = () => ({
-  title: "There is no such page",
-  body: html("section", { class: "card" }, html("p", {}, "Go on with your ", link(toOrders(), "orders"), " or your ", link(toStock(), "stock"), ".")),
+  title: t`There is no such page`,
+  body: html("section", { class: "card" }, html("p", {}, inline`Go on with your ${link(toOrders(), t`orders`)} or your ${link(toStock(), t`stock`)}.`)),
 });

@@ -1,9 +1,10 @@
 /** A lot of the plant that the owner's batches consumed: where it went. */
 
-import { chip } from "../chips.js";
+import { chip, PLANTS } from "../chips.js";
 import { html, link } from "../dom.js";
 import { Genealogy } from "../genealogy/view.js";
 import { toStock } from "../router.js";
+import { t } from "../text.js";
 import { PLANT } from "../values.js";
 
 export async function plant(page) {
@@ -16,13 +17,12 @@ export async function plant(page) {
     records,
   });
   return {
-    upward: link(toStock(), "Stock"),
-    title: `Lot ${name} of the plant`,
-    mark: chip("the plant's"),
+    upward: link(toStock(), t`Stock`),
+    title: t`Lot ${name} of the plant`,
+    mark: chip(PLANTS),
     drawn: genealogy.drawn,
     body: [
-      html("section", { class: "card facts" }, html("p", {}, "The plant's own lot, which your batches consumed. You see which of your lots it went into. ",
-        "What it is made of and how much there is, is the plant's own.")),
+      html("section", { class: "card facts" }, html("p", {}, t`The plant's own lot, which your batches consumed. You see which of your lots it went into. What it is made of and how much there is, is the plant's own.`)),
       genealogy.element,
     ],
   };

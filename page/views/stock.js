@@ -3,12 +3,14 @@
 import { chip } from "../chips.js";
 import { html, link } from "../dom.js";
 import { Finder } from "../list.js";
-import { toLot, toStock } from "../router.js";
-import { amount, compareNames, compareNumbers, isName, number } from "../values.js";
+import { mayRelease } from "../person.js";
+import { toLot, toRelease, toStock } from "../router.js";
+import { key, plural, t } from "../text.js";
+import { amount, compareNames, compareNumbers, isName, lotCount, number } from "../values.js";
 import { plantsLotNamed } from "./tracing.js";
 
-const ON_HAND = "on hand";
-const EMPTY = "empty";
+const ON_HAND = key`on hand`;
+const EMPTY = key`empty`;
 const fillingOf = row => (BigInt(row.amount) > 0n ? ON_HAND : EMPTY);
 const DISPOSITIONS = ["quarantined", "released", "rejected"];
 
@@ -18,11 +20,13 @@ export async function stock(page) {
   const finder = byMaterial ? materialsOf(page, lots) : lotsOf(page, lots);
   const way = (title, address, here) => html("a", { href: address, "aria-current": here && "page" }, title);
   return {
-    title: "Stock",
+    title: t`Stock`,
     drawn: finder.drawn,
     body: html("section", { class: "card" },
-      html("nav", { class: "ways", "aria-label": "How stock is shown" },
-        way("By lot", toStock(), !byMaterial), way("By material", toStock({ by: "material" }), byMaterial)),
+      html("div", { class: "line" },
+        html("nav", { class: "ways", "aria-label": t`How stock is shown` },
+          way(t`By lot`, toStock(), !byMaterial), way(t`By material`, toStock({ by: "material" }), byMaterial)),
+        mayRelease(page.who) && lots.some(row => row.disposition === "quarantined") && link(toRelease(), t`Release many lots`)),
       finder.element),
   };
 }
@@ -34,23 +38,26 @@ const byDisposition = (a, b) => compareNames(a.disposition, b.disposition) || by
 function lotsOf(page, rows) {
   const materials = [...new Set(rows.map(lot => lot.material))].sort(compareNames);
   return new Finder(page, {
-    caption: "Lots in stock",
-    nouns: ["lot", "lots"],
+    caption: t`Lots in stock`,
+    words: {
+      find: t`Find lots`, search: t`Search lots`, title: t`lots`, none: t`No lots yet.`, nothing: t`No lot fits what you searched and chose.`,
+      count: lotCount, all: n => plural(n, "Show the lot", "Show all {0} lots"),
+    },
     file: "stock",
     rows,
     search: lot => `${lot.lot} ${lot.material}`,
     choices: [
-      { name: "material", title: "Material", options: materials, of: lot => lot.material },
-      { name: "disposition", title: "Disposition", options: DISPOSITIONS, of: lot => lot.disposition },
-      { name: "show", title: "Show", options: [ON_HAND, EMPTY], of: fillingOf, usual: { option: ON_HAND, hides: "empty lots" } },
+      { name: "material", title: t`Material`, options: materials, of: lot => lot.material },
+      { name: "disposition", title: t`Disposition`, options: DISPOSITIONS, of: lot => lot.disposition },
+      { name: "show", title: t`Show`, options: [ON_HAND, EMPTY], of: fillingOf, usual: { option: ON_HAND, hides: n => plural(n, "{0} more: an empty lot.", "{0} more: empty lots.") } },
     ],
     classOf: row => (fillingOf(row) === EMPTY ? "emptied" : null),
     elsewhere: text => (isName(text) ? plantsLotNamed(page, text) : null),
     columns: [
-      { name: "lot", title: "Lot", cell: lot => link(toLot(lot.lot), lot.lot), compare: byLot, values: { Lot: lot => lot.lot } },
-      { name: "material", title: "Material", cell: lot => lot.material, compare: (a, b) => compareNames(a.material, b.material) || byLot(a, b), values: { Material: lot => lot.material } },
-      { name: "amount", title: "On hand", number: true, cell: lot => amount(lot.amount, lot.measure), compare: byAmount, values: { "On hand": lot => lot.amount, Measure: lot => lot.measure } },
-      { name: "disposition", title: "Disposition", cell: lot => chip(lot.disposition), compare: byDisposition, values: { Disposition: lot => lot.disposition } },
+      { name: "lot", title: t`Lot`, cell: lot => link(toLot(lot.lot), lot.lot), compare: byLot, values: { Lot: lot => lot.lot } },
+      { name: "material", title: t`Material`, cell: lot => lot.material, compare: (a, b) => compareNames(a.material, b.material) || byLot(a, b), values: { Material: lot => lot.material } },
+      { name: "amount", title: t`On hand`, number: true, cell: lot => amount(lot.amount, lot.measure), compare: byAmount, values: { "On hand": lot => lot.amount, Measure: lot => lot.measure } },
+      { name: "disposition", title: t`Disposition`, cell: lot => chip(lot.disposition), compare: byDisposition, values: { Disposition: lot => lot.disposition } },
     ],
   });
 }
@@ -70,20 +77,23 @@ export function sums(lots) {
 
 function materialsOf(page, lots) {
   const byMaterial = (a, b) => compareNames(a.material, b.material);
-  const sum = (name, title) => ({
+  const sum = (name, title, file) => ({
     name, title, number: true, cell: total => amount(total[name], total.measure), compare: (a, b) => compareNumbers(a[name], b[name]) || byMaterial(a, b),
-    values: { [title]: total => total[name] },
+    values: { [file]: total => total[name] },
   });
   return new Finder(page, {
-    caption: "Stock by material",
-    nouns: ["material", "materials"],
+    caption: t`Stock by material`,
+    words: {
+      find: t`Find materials`, search: t`Search materials`, title: t`materials`, none: t`No materials yet.`, nothing: t`No material fits what you searched and chose.`,
+      count: n => plural(n, "{0} material", "{0} materials"), all: n => plural(n, "Show the material", "Show all {0} materials"),
+    },
     file: "stock-by-material",
     rows: sums(lots),
     search: total => total.material,
     columns: [
-      { name: "material", title: "Material", cell: total => link(toStock({ material: total.material }), total.material), compare: byMaterial, values: { Material: total => total.material, Measure: total => total.measure } },
-      { name: "lots", title: "Lots", number: true, cell: total => number(total.lots), compare: (a, b) => a.lots - b.lots || byMaterial(a, b), values: { Lots: total => total.lots } },
-      sum("released", "Released"), sum("quarantined", "Quarantined"), sum("rejected", "Rejected"), sum("all", "On hand"),
+      { name: "material", title: t`Material`, cell: total => link(toStock({ material: total.material }), total.material), compare: byMaterial, values: { Material: total => total.material, Measure: total => total.measure } },
+      { name: "lots", title: t`Lots`, number: true, cell: total => number(total.lots), compare: (a, b) => a.lots - b.lots || byMaterial(a, b), values: { Lots: total => total.lots } },
+      sum("released", t`Released`, "Released"), sum("quarantined", t`Quarantined`, "Quarantined"), sum("rejected", t`Rejected`, "Rejected"), sum("all", t`On hand`, "On hand"),
     ],
   });
 }

@@ -4,7 +4,8 @@ import { Refused } from "../api.js";
 import { html, link } from "../dom.js";
 import { tell } from "../notices.js";
 import { toLot, toPlantLot } from "../router.js";
-import { count, isName, NAME_TYPED } from "../values.js";
+import { inline, plural, t } from "../text.js";
+import { isName, NAME_TYPED } from "../values.js";
 
 const UNKNOWN_LOT = 27;
 
@@ -25,26 +26,26 @@ export async function lotsNamed(page, name) {
 }
 
 /** What the plant's lot went into, in words. */
-const wentInto = trace => `It went into ${count(trace.lots.length - 1, "lot")} of yours.`;
+const wentInto = trace => plural(trace.lots.length - 1, "It went into {0} lot of yours.", "It went into {0} lots of yours.");
 
 /** The plant's lot of this name as a sentence with a link, or null where the owner's batches consumed none. */
 export async function plantsLotNamed(page, name) {
   const plants = await orNull(page, `/trace/house/${name}`);
-  return plants && html("p", {}, link(toPlantLot(name), name), " is a lot of the plant. ", wentInto(plants));
+  return plants && html("p", {}, inline`${link(toPlantLot(name), name)} is a lot of the plant.`, " ", wentInto(plants));
 }
 
 /** What is said where both, or neither, have the name. */
 const choice = ({ name, own, plants }) => (own
-  ? html("p", {}, link(toLot(name), `Your lot ${name}`), " and ", link(toPlantLot(name), `the plant's lot ${name}`), " have this name. ", wentInto(plants))
-  : html("p", {}, `You have no lot ${name}, and none of your batches consumed a lot ${name} of the plant's.`));
+  ? html("p", {}, inline`${link(toLot(name), t`Your lot ${name}`)} and ${link(toPlantLot(name), t`the plant's lot ${name}`)} have this name.`, " ", wentInto(plants))
+  : html("p", {}, t`You have no lot ${name}, and none of your batches consumed a lot ${name} of the plant's.`));
 
 /** The field with its button. A lot that is alone of its name is gone to; otherwise what there is stands below. */
 export function traceField(page) {
   const name = html("input", {
-    name: "trace", required: true, pattern: NAME_TYPED, title: "1 to 16 letters, digits and -", class: "name",
+    name: "trace", required: true, pattern: NAME_TYPED, title: t`1 to 16 letters, digits and -`, class: "name",
     autocomplete: "off", autocapitalize: "characters", spellcheck: "false", "data-key": "trace", invalid: () => tell(""),
   });
-  const button = html("button", {}, "Trace");
+  const button = html("button", {}, t`Trace`);
   const answer = html("div", { role: "status" });
 
   async function submit(event) {
@@ -63,7 +64,7 @@ export function traceField(page) {
   }
 
   return html("div", { class: "tracing" },
-    html("form", { class: "fields", "aria-label": "Trace a lot", submit },
-      html("label", {}, "Trace a lot: yours or the plant's", name), button),
+    html("form", { class: "fields", "aria-label": t`Trace a lot`, submit },
+      html("label", {}, t`Trace a lot: yours or the plant's`, name), button),
     answer);
 }
