@@ -151,17 +151,30 @@ def progress(t: Trial) -> None:
 
 def finished(t: Trial) -> None:
     """An order all of whose batches are closed stands apart, and its own view needs no companion for that."""
-    with companion_offered(t) as b:
+
+    def with_days(value: dict[str, Any]) -> None:
+        value["orders"] = [{"order": "O-1", "placedOn": 261102}, {"order": "O-2", "placedOn": 261103}]
+        for row in value["batches"]:
+            row["openedOn"] = 261104
+            row |= {"closedOn": 261105} if row.get("closed") else {}
+
+    with companion_offered(t, with_days) as b:
         b.wait("Finished orders")
         t.follow(".facts a[href='#/orders?status=finished']", None, "Orders")
         t.now("[cells(0), cells(3)]", [["O-2"], ["finished"]])
+        t.now("[4, 5, 6].map(at => cells(at)[0])", ["2026-11-03", "2026-11-04", "2026-11-05"])
         t.shot("58-finished")
         b.choose("select[name=status]", "open")
         b.becomes("cells(0).length > 0 && !cells(0).includes('O-2')")
         records, _ = t.downloaded("csv-orders")
         t.same({record["Status"] for record in records}, {'="open"'}, "the file of open orders")
         t.to("Orders")
-        b.wait("finished")
+        past = "all('tbody tr.past').map(row => row.cells[3].textContent)"
+        b.becomes(f"cells(3).slice(-{past}.length).join() === {past}.join() && {past}[0]", "finished")
+        t.to_order("O-1")
+        b.wait("Opened on 2026-11-04. Closed on 2026-11-05.")
+        t.has("Placed on\n2026-11-02", css=".facts")
+        t.shot("58-days")
     t.read_again()
     t.to_order("O-2")
     b.wait("1 of 1")
@@ -176,21 +189,41 @@ def newcomer(t: Trial) -> None:
     t.office.do(
         """owner-add NEWCO NEWCOKEY1
         material-add NEWCO SYRUP kg
+        receive NEWCO NEW1 SYRUP SY-1 BAY9 40 105
         recipe-add NEWCO SYRUP-1 1
-        require NEWCO SYRUP-1 1 produced NEWCO SYRUP 10"""
+        require NEWCO SYRUP-1 1 produced NEWCO SYRUP 10
+        > NEWCO NEWCOKEY1 POST /lots/SY-1/release"""
     )
     b = t.entered("NEWCO")
     b.wait("No orders yet.")
-    offered = "all('#recipes option').map(option => option.value)"
+    offered = "all('select[name=recipe] option').map(option => option.value)"
     t.now(offered, [])
     t.has("Ask the plant for the names of your recipes.")
-    recipe = {"recipe": "SYRUP-1", "segments": 1, "lines": []}
+    use = {"segment": 1, "use": "consumed", "owner": "NEWCO"}
+    lines = [
+        {**use, "material": "SYRUP", "amount": 30},
+        {**use, "owner": "HOUSE", "material": "WATER", "amount": 70},
+        {**use, "use": "produced", "material": "SYRUP", "amount": 10},
+    ]
+    recipe = {"recipe": "SYRUP-1", "segments": 1, "lines": lines}
     t.companions.write(t.office, "NEWCO", lambda value: value.update(recipes=[recipe]))
     try:
         t.read_again()
-        b.becomes(offered, ["SYRUP-1"])
+        b.becomes(offered, ["", "SYRUP-1"])
         t.lacks("Ask the plant")
+        b.type("input[name=order]", "FIRST")
+        b.choose("select[name=recipe]", "SYRUP-1")
+        b.type("input[name=batches]", "3")
+        b.becomes("all('.needs tbody tr').length", 2)
+        needed = "all('.needs tbody tr').map(row => [...row.cells].map(cell => cell.innerText.trim()))"
+        t.now(
+            needed,
+            [["SYRUP", "90 kg", "40 kg", "0 kg", "50 kg missing"], ["WATER the plant's", "210 liter", "", "", ""]],
+        )
+        t.has("It makes 30 kg SYRUP.")
         t.shot("59-newcomer")
+        b.click("button", "Place the order", says="Order FIRST is placed: 3 × SYRUP-1.")
+        b.becomes("[fields('order', 'recipe'), all('.needs tbody tr').length]", [["", ""], 0])
     finally:
         t.companions.clear()
     t.log_off()
@@ -360,6 +393,6 @@ def colours(t: Trial) -> None:
                     if "lot" in view:
                         t.pictured()
                     t.shot(f"57-{name}-{view}")
-                t.now(f"[{ITEMS}.length, new Set({ITEMS}).size]", [3, 2])
+                t.now(f"[{ITEMS}.length > 2, new Set({ITEMS}).size]", [True, 2])
         finally:
             b.colours()

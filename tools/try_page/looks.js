@@ -21,8 +21,8 @@ function behind(element) {
 
 /** Rows of long lists that are far out of sight: the browser lays them out when they are looked at, one by one. */
 function farRows() {
-  const long = [...document.querySelectorAll("tbody")].filter(body => body.rows.length > 300);
-  return new Set(long.flatMap(body => [...body.rows]).filter(row => {
+  const long = [...document.querySelectorAll("table")].filter(table => table.rows.length > 300);
+  return new Set(long.flatMap(table => [...table.tBodies]).flatMap(body => [...body.rows]).filter(row => {
     const { top, bottom } = row.getBoundingClientRect();
     return bottom < -innerHeight || top > 2 * innerHeight;
   }));
@@ -50,6 +50,11 @@ function contrasts() {
     const contrast = ratio(over(colour(line), behind(shape.parentElement)), behind(shape.parentElement));
     if (contrast < 3) wrong.push(`contrast ${contrast.toFixed(2)} of a ${shape.matches("input, select") ? `field ${shape.name}` : shape.getAttribute("class")}`);
   }
+  for (const chip of document.querySelectorAll(".chip")) {
+    if (far.has(chip.closest("tr")) || !isSeen(chip)) continue;
+    const contrast = ratio(over(colour(getComputedStyle(chip, "::before").backgroundColor), behind(chip)), behind(chip));
+    if (contrast < 3) wrong.push(`contrast ${contrast.toFixed(2)} of the shape of "${words(chip)}"`);
+  }
   return { least, wrong };
 }
 
@@ -70,7 +75,7 @@ function names() {
   if (document.querySelectorAll("h1").length > 1) wrong.push("there are several h1");
   const twice = [...document.querySelectorAll("[id]")].map(element => element.id).filter((id, i, all) => all.indexOf(id) !== i);
   if (twice.length > 0) wrong.push(`ids that are there twice: ${twice}`);
-  if (document.documentElement.lang !== "en") wrong.push("the page has no language");
+  if (!["en", "de"].includes(document.documentElement.lang)) wrong.push("the page has no language");
   return wrong;
 }
 
@@ -78,7 +83,7 @@ function names() {
 function targets() {
   const far = farRows();
   const small = [...document.querySelectorAll("button, input, select, summary, nav a, .genealogy a, .genealogy [role=button]")].filter(control => !far.has(control.closest("tr")) && isSeen(control)).map(control => [control, control.getBoundingClientRect()])
-    .filter(([, box]) => box.width < 24 || box.height < 24);
+    .filter(([control, box]) => box.width < 24 || box.height < (innerWidth <= 640 && !control.closest(".genealogy") ? 44 : 24));
   return small.map(([control, box]) => `"${words(control) || control.name}" is ${box.width.toFixed(0)} by ${box.height.toFixed(0)} px`);
 }
 

@@ -32,6 +32,7 @@ def many(t: Trial) -> None:
         check_times(t, f"{rows} rows of {view}", draw, first=FIRST_DRAW, longest=LONGEST_TASK)
         t.shot(picture)
     check_times(t, f"a search among {LARGE_LOTS} lots", lambda: b.later(TYPED, "L-7"), longest=LONGEST_TASK)
+    longest(t)
     far(t)
     folds(t)
     chain(t)
@@ -51,6 +52,68 @@ def check_times(t: Trial, subject: str, measured: Callable[[], Any], **bounds: i
         is_in_time = bool(t.browser.slowness) or not slow
     print(f"{subject}: {milliseconds} ms", flush=True)
     t.expect(is_in_time, f"{subject} take long, on a machine that is {times:.1f} times slower: {milliseconds}")
+
+
+def longest(t: Trial) -> None:
+    """The longest list that an owner can have, of 5,000 lots: all of them are in the document, found and printed."""
+    b = t.browser
+    b.devtools("Performance.enable", timeDomain="threadTicks")
+    t.to("Orders")
+    b.js(OF_LOTS, LONGEST)
+    try:
+
+        def draw() -> dict[str, int]:
+            b.js("location.hash = '#/nowhere'")
+            b.heading("There is no such page")
+            times = {"drawn": spent(t, "location.hash = '#/stock'", LONGEST)}
+            times["searched"] = spent(t, SEARCHED, LONGEST // 5, "L-1")
+            times["shown again"] = spent(t, SEARCHED, LONGEST, "")
+            times["sorted"] = spent(t, "all('button.sort')[1].click()", LONGEST)
+            return times | {"left": spent(t, "location.hash = '#/nowhere'", 0)}
+
+        bounds = {"drawn": 300, "searched": 100, "shown again": 100, "left": 100}
+        check_times(t, f"{LONGEST} rows, in processor time", draw, **bounds)
+        b.js("location.hash = '#/stock'")
+        b.becomes("all('tbody tr').length", LONGEST)
+        b.becomes("window.find('L-4321', false, false, true)")
+        b.js("location.hash = '#/nowhere'")
+        b.heading("There is no such page")
+        b.js(OF_LOTS, PRINTED)
+        b.js("location.hash = '#/stock'")
+        b.becomes("all('tbody tr').length", PRINTED)
+        print_sheets(t, "36-paper-longest", PRINTED // 60, PRINTED // 20)
+    finally:
+        b.refresh()
+        b.heading("Stock")
+
+
+def spent(t: Trial, script: str, rows: int, *words: str) -> int:
+    """The milliseconds of processor time of the page until it has so many rows, and is at rest."""
+
+    def total() -> float:
+        metrics = t.browser.devtools("Performance.getMetrics")["metrics"]
+        return float(next(each["value"] for each in metrics if each["name"] == "TaskDuration"))
+
+    before = total()
+    t.browser.later(f"const done = [...arguments].at(-1); {script}; {AT_REST}", *words, rows)
+    return round((total() - before) * 1000)
+
+
+LONGEST, PRINTED = 5000, 200
+# The office's stock is one of so many lots, with names in turn; no such office is filled.
+OF_LOTS = """const before = window.fetch, [count] = arguments;
+const dispositions = ["released", "quarantined", "rejected"];
+const lots = Array.from({ length: count }, (_, at) => ({
+  lot: `L-${String(at).padStart(4, "0")}`, material: at % 3 ? "DRUM" : "SALT", measure: "kg", amount: at + 1,
+  disposition: dispositions[at % 3],
+}));
+const given = { headers: { "content-type": "application/json" } }, stock = JSON.stringify({ lots });
+window.fetch = async (path, ...rest) => path === "/stock" ? new Response(stock, given) : before(path, ...rest)"""
+SEARCHED = """one('input[type=search]').value = arguments[0];
+one('input[type=search]').dispatchEvent(new Event('input'))"""
+AT_REST = """const rows = [...arguments].at(-2);
+const look = () => document.querySelectorAll("tbody tr").length === rows ? setTimeout(done, 200) : setTimeout(look, 20);
+look();"""
 
 
 def far(t: Trial) -> None:

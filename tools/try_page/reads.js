@@ -31,6 +31,12 @@ function needs(title) {
 const heading = () => one("h1")?.isLeft ? "" : (one("h1")?.firstChild?.textContent ?? "").trim();
 const leaveView = () => { if (one("h1")) one("h1").isLeft = true; };
 
+/** Marks the view as leaveView() does, if an element that is seen leads to another address. */
+function leaveViewBy(css, text) {
+  const target = seen(css, text)?.hash;
+  if (target && target !== location.hash) leaveView();
+}
+
 function intoSight(css, whole) {
   const wanted = all(css).find(element => whole === null || element.textContent === whole);
   wanted?.scrollIntoView({ block: "center" });

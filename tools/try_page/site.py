@@ -132,7 +132,7 @@ class Proxy:
     """nginx with the site of packaging/nginx.conf for the host localhost, on a port and with a certificate of its own.
 
     `around` stands beside the site, as an administrator's other settings do. `changes` are pairs of a pattern
-    and what stands in its place.
+    and what stands in its place. `parts` are the parts of other packages, whose services have sockets in the folder.
     """
 
     nginx: "subprocess.Popen[str] | None" = None
@@ -147,21 +147,27 @@ class Proxy:
         workers: int = 1,
         connections: int = 256,
         user: str = "root",
+        parts: Iterable[str] = (),
     ) -> None:
-        self.folder, self.port = folder, port or free_port()
+        self.folder, self.port, self.guesses = folder, port or free_port(), free_port()
         self.address = f"https://localhost:{self.port}/owner/"
         certify = "openssl req -x509 -newkey rsa:2048 -nodes -days 2 -subj /CN=localhost"
         words = [*certify.split(), "-keyout", "key.pem", "-out", "certificate.pem"]
         subprocess.run(words, check=True, capture_output=True, cwd=folder)
         # the page's files and the contract, as packages have them
         subprocess.run([ROOT / "packaging" / "documents.py", folder], check=True)
-        own = {"user": "" if os.geteuid() else f"user {user};", "site": self._site(office_port, changes)}
+        site, changes = (ROOT / "packaging" / "nginx.conf").read_text(), tuple(changes)
+        for name in parts:
+            once, office = (ROOT / "packaging" / name / "nginx.conf").read_text().split("# Once per office\n")
+            around += self._own(once, office_port, changes)
+            (folder / "parts").mkdir(exist_ok=True)
+            (folder / "parts" / f"{name}.conf").write_text(self._own(office, office_port, changes))
+        own = {"user": "" if os.geteuid() else f"user {user};", "site": self._own(site, office_port, changes)}
         counts = {"workers": workers, "connections": connections}
         (folder / "nginx.conf").write_text(WRAPPER.format(folder=folder, around=around, **counts, **own))
 
-    def _site(self, office_port: int, changes: Iterable[tuple[str, str]]) -> str:
-        """The site as packages have it; host, ports, certificate, page and logs are those of the trial."""
-        site = (ROOT / "packaging" / "nginx.conf").read_text()
+    def _own(self, site: str, office_port: int, changes: Iterable[tuple[str, str]]) -> str:
+        """The site as packages have it; host, ports, certificate, page, sockets and logs are those of the trial."""
         for pattern, ours in (
             *changes,
             (r"listen \[::\]:443([^;]*);", rf"listen [::1]:{self.port}\1;" if has_ipv6() else ""),
@@ -169,8 +175,10 @@ class Proxy:
             (r"server_name [^;]*;", "server_name localhost;"),
             (r"ssl_certificate [^;]*;", f"ssl_certificate {self.folder}/certificate.pem;"),
             (r"ssl_certificate_key [^;]*;", f"ssl_certificate_key {self.folder}/key.pem;"),
-            (r"127\.0\.0\.1:800\b", f"127.0.0.1:{free_port()}"),
+            (r"127\.0\.0\.1:800\b", f"127.0.0.1:{self.guesses}"),
             (r"proxy_pass http://127\.0\.0\.1:\d+", f"proxy_pass http://127.0.0.1:{office_port}"),
+            (r"/etc/nginx/toll-NAME/", f"{self.folder}/parts/"),
+            (r"/run/toll-(\w+)/NAME/socket", rf"{self.folder}/\1.sock"),
             (r"alias [^;]*/page/;", f"alias {self.folder}/toll/page/;"),
             (r"/var/log/nginx/", f"{self.folder}/"),
             (r"/var/cache/toll-companion/NAME/", f"{self.folder}/companion/"),

@@ -190,10 +190,12 @@ class Trial:
 
     def to(self, view: str) -> None:
         """Goes to a view of the menu."""
-        self.browser.click("#nav a", view)
-        self.browser.heading(view)
+        self.follow("#nav a", view, view)
 
     def follow(self, css: str, text: str | None, heading: str) -> None:
+        """Clicks what leads to the view of this heading, and waits for a view that was drawn since."""
+        self.browser.find(css, text)
+        self.browser.js("leaveViewBy(...arguments)", css, text)
         self.browser.click(css, text)
         self.browser.heading(heading)
 

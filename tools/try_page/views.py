@@ -31,8 +31,8 @@ def orders(t: Trial) -> None:
     t.now("['O-1', 'O-2', 'O-3', 'O-4'].filter(name => row(name).includes('Cancel'))", [])
     t.shot("03-orders")
     t.expect(t.downloaded("csv-orders")[1].startswith("ACME-orders-20"), "the file of the orders has another name")
-    placed = ["O-1|BRINE-10|6|open", "O-2|BLEND-2|1|open", "O-3|FILL|2|open", "O-4|FILL|1|cancelled"]
-    t.check_file("csv-orders", placed, first=4)
+    placed = ["O-1|BRINE-10|6|open", "O-2|BLEND-2|1|open", "O-3|FILL|2|open", "O-5|BRINE-10|3|open"]
+    t.check_file("csv-orders", [*placed, "O-4|FILL|1|cancelled"], first=5)
     t.place("O-9", "NOPE", says="You have no recipe of this name.")
     t.now("focused().name", "recipe")
     t.shot("04-refused")
