@@ -73,6 +73,12 @@ class Browser:
         """Sends the form of the page that is shown, with what is typed."""
         return self.send(path, **{**self.form(kind), **fields})
 
+    def means(self, path: str, kind: str = "", **fields: object) -> str:
+        """Sends the form of the page that is shown, and says of what is unusual that it is meant."""
+        self.fill(path, kind, **fields)
+        assert "This is unusual." in self.text, self.text
+        return self.fill(path, kind, **fields, answer="yes")
+
     def log_in(self, login: str, password: str = "") -> str:
         """Logs somebody in."""
         return self.send("/login", login=login, password=password or PERSONS[login][0], to="/")

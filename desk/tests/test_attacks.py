@@ -3,10 +3,11 @@ import time
 
 import pytest
 from conftest import ORIGIN, PERSONS
-from hilpoven_desk import delays, sessions, web
+from hilpoven.core import delays, sessions
+from hilpoven_desk import web
 from hilpoven_desk.accounts import DeskPerson, SampleAccounts, Unavailable
 
-# The addresses of forms, each with the role that it is of.
+# The addresses of forms, each with the role that it is of, or either of two.
 FORMS = [
     ("/receive", {"owner": "ACME", "key": "K90", "material": "SALT", "lot": "S-9", "sublot": "BAY1", "amount": "5", "day": "103"}, "record"),
     ("/ship", {"scan": "ACME/S-1/BAY1", "key": "K90", "amount": "5", "day": "103"}, "record"),
@@ -17,7 +18,7 @@ FORMS = [
     ("/lot/ACME/B-1", {"what": "result", "test": "PH", "value": "7", "day": "103"}, "record"),
     ("/lot/ACME/S-1", {"what": "split", "key": "K90", "sublot": "BAY1", "target": "BAY9", "amount": "5", "day": "103"}, "record"),
     ("/lot/ACME/S-1", {"what": "scrap", "key": "K90", "sublot": "BAY1", "amount": "5", "day": "103", "reason": "torn"}, "record"),
-    ("/lot/ACME/S-1", {"what": "hold", "reason": "metal"}, "quality"),
+    ("/lot/ACME/S-1", {"what": "hold", "reason": "metal"}, "quality or record"),
     ("/lot/HOUSE/W-101", {"what": "reject", "reason": "metal"}, "quality"),
 ]
 
@@ -35,7 +36,8 @@ def seen_of(browser, path: str, kind: str) -> dict[str, str]:
 def test_each_form_is_of_a_role(browse, office, path, fields, role):
     frida = browse("frida")
     seen, before = seen_of(frida, path, fields.get("what", "")), office.content()
-    for login in ("nora", "quinn" if role == "record" else "anna"):
+    others = {"record": ["quinn"], "quality": ["anna"]}  # what both roles may do is refused to nobody else
+    for login in ("nora", *others.get(role, [])):
         browser = browse(login)
         browser.get("/")
         browser.send(path, **{**browser.form_of_page(), **fields, **seen})
@@ -70,7 +72,7 @@ def test_pages_need_a_session(browse):
 def test_no_page_shows_a_form_of_another_role(browse):
     for login in ("nora", "quinn"):
         browser = browse(login)
-        for path in ("/receive?owner=ACME", "/ship?scan=ACME/S-1/BAY1", "/count?owner=ACME", "/order/ACME/O-1", "/batch/ACME/O-1/1?scan=ACME/S-1/BAY1", "/lot/ACME/S-1"):
+        for path in ("/receive?owner=ACME&material=SALT", "/ship?scan=ACME/S-1/BAY1", "/count?owner=ACME", "/order/ACME/O-1", "/batch/ACME/O-1/1?scan=ACME/S-1/BAY1", "/lot/ACME/S-1"):
             browser.get(path)
             assert browser.status == 200 and "Record" not in browser.text.replace("Recorded", ""), path
             assert "data-draft" not in browser.page.replace('data-draft="hold', ""), path
@@ -147,10 +149,10 @@ def test_who_leaves_the_group_is_out_at_once(browse, desk):
 def test_roles_are_those_of_the_groups_now(browse, desk, office):
     anna = browse("anna")
     anna.get("/lot/ACME/S-1")
-    assert "Hold this lot" not in anna.text
+    assert "Sign this lot" not in anna.text
     desk.accounts = SampleAccounts({**PERSONS, "anna": (PERSONS["anna"][0], "Anna", frozenset({"hilpoven", "quality"}))})
     anna.get("/lot/ACME/S-1")
-    assert "Hold this lot" in anna.text
+    assert "Sign this lot" in anna.text
 
 
 def test_only_members_log_in_and_wrong_ones_look_alike(browse):
@@ -230,8 +232,8 @@ def test_a_log_in_leads_to_these_screens_alone(browse):
 
 def test_a_form_behind_the_end_of_a_session_is_kept_and_not_sent(browse, desk, office):
     anna = browse("anna")
-    anna.get("/receive?owner=ACME")
-    form = {**anna.form(), "material": "SALT", "lot": "S-9", "sublot": "BAY1", "amount": "5", "day": "103"}
+    anna.get("/receive?owner=ACME&material=SALT")
+    form = {**anna.form(), "material": "SALT", "lot": "S-9", "sublot": "BAY1", "amount": "5000", "day": "103"}
     before = office.content()
     desk.sessions.end(anna.cookie().value)
     anna.send("/receive", **form)
@@ -239,8 +241,8 @@ def test_a_form_behind_the_end_of_a_session_is_kept_and_not_sent(browse, desk, o
     kept = anna.hidden()
     anna.send("/login", **{**kept, "login": "anna", "password": PERSONS["anna"][0]})
     assert anna.status == 200 and office.content() == before
-    assert anna.form()["key"] == form["key"] and 'value="S-9"' in anna.page and 'value="5"' in anna.page
-    anna.fill("/receive", material="SALT", lot="S-9", sublot="BAY1", amount="5", day="103")
+    assert anna.form()["key"] == form["key"] and 'value="S-9"' in anna.page and 'value="5000"' in anna.page
+    anna.fill("/receive", material="SALT", lot="S-9", sublot="BAY1", amount="5000", day="103")
     assert "received into lot S-9" in anna.text
     assert [row[0] for row in office.rows("SELECT mkey FROM moves WHERE lot = 'S-9'")] == [form["key"]]
 
@@ -248,7 +250,7 @@ def test_a_form_behind_the_end_of_a_session_is_kept_and_not_sent(browse, desk, o
 @pytest.mark.parametrize("word", ["<script>alert(1)</script>", "\"><img src=x onerror=alert(1)>", "{{ 7 * 7 }}", "%s%n", "'; DROP TABLE lots; --", "\u202egnp", "a\r\nSet-Cookie: x=1"])
 def test_hostile_words_are_shown_as_words(browse, office, word):
     anna, before = browse("anna"), office.content()
-    anna.get("/receive?owner=ACME")
+    anna.get("/receive?owner=ACME&material=SALT")
     anna.fill("/receive", material=word, lot=word, sublot=word, amount=word, day=word, document=word)
     assert anna.status == 422 and "<script>alert" not in anna.page and "<img src=x" not in anna.page and "49" not in anna.text
     for path in ("/find", "/recall", "/ship"):
@@ -264,7 +266,7 @@ def test_hostile_words_are_shown_as_words(browse, office, word):
 
 def test_large_and_odd_forms_are_refused(browse, office):
     anna, before = browse("anna"), office.content()
-    anna.get("/receive?owner=ACME")
+    anna.get("/receive?owner=ACME&material=SALT")
     anna.fill("/receive", document="x" * 400_000)
     assert anna.status == 413
     anna.get("/lot/ACME/S-1")
@@ -272,6 +274,8 @@ def test_large_and_odd_forms_are_refused(browse, office):
     for fields in ({"what": "nothing"}, {}, {"what": "../x"}):
         anna.send("/lot/ACME/S-1", token=token, **fields)
         assert anna.status == 400
+    for kind in ("multipart/form-data", "multipart/form-data; boundary=\xff", "application/json", "text/plain"):
+        assert anna.client.post("/receive", base_url=ORIGIN, data="token=x", headers={"Origin": ORIGIN, "Content-Type": kind}).status_code == 415
     for method in ("put", "delete", "patch"):
         assert getattr(anna.client, method)("/receive", base_url=ORIGIN).status_code in (200, 401, 405)
     assert office.content() == before

@@ -76,7 +76,7 @@ def test_a_browser_chooses_its_language(browse):
     assert "Wartet auf Freigabe" in anna.text and 'lang="de"' in anna.page
     anna.send("/language", language="de", to="/recall")
     assert "Rückruf" in anna.text
-    anna.get("/receive?owner=ACME")
+    anna.get("/receive?owner=ACME&material=SALT")
     anna.fill("/receive", material="SALT", lot="S-9", sublot="BAY1", amount="5", day="31.2.2026")
     assert "Noch nichts erfasst" in anna.text
     anna.send("/language", language="xx", to="//evil.example")

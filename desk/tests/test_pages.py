@@ -1,4 +1,6 @@
 """What pages show, and what their forms record."""
+import re
+
 import pytest
 from conftest import text_of
 
@@ -17,7 +19,7 @@ def test_today_shows_what_needs_somebody(browse):
 
 def test_a_receipt_is_recorded_in_the_name_of_the_person(browse, office):
     anna = browse("anna")
-    anna.get("/receive?owner=ACME")
+    anna.get("/receive?owner=ACME&material=SALT")
     assert "SALT" in anna.page and "Saline Süd" in anna.page
     anna.fill("/receive", material="SALT", lot="s-9", sublot="bay1", amount="1 200", day="101", party="SALINE", document="LS 1")
     assert anna.status == 200 and "Recorded. 1,200 of SALT received into lot S-9 at BAY1" in anna.text, anna.text
@@ -29,15 +31,15 @@ def test_a_receipt_is_recorded_in_the_name_of_the_person(browse, office):
 
 
 def test_a_form_that_is_sent_again_records_nothing_twice(browse, office):
-    anna, fields = browse("anna"), {"material": "SALT", "lot": "S-9", "sublot": "BAY1", "amount": "5", "day": "101"}
-    anna.get("/receive?owner=ACME")
+    anna, fields = browse("anna"), {"material": "SALT", "lot": "S-9", "sublot": "BAY1", "amount": "5000", "day": "101"}
+    anna.get("/receive?owner=ACME&material=SALT")
     form = {**anna.form(), **fields}
     for slip in (form["slip"], form["slip"], "another"):  # the same form, and one whose slip the desk doesn't know any more
         anna.send("/receive", **{**form, "slip": slip})
         assert anna.status == 200
     assert "Was recorded already; nothing is there twice." in anna.text
-    assert office.rows("SELECT amount FROM sublots WHERE lot = 'S-9'") == [(5,)]
-    anna.send("/receive", **{**form, "slip": "third", "amount": "6"})
+    assert office.rows("SELECT amount FROM sublots WHERE lot = 'S-9'") == [(5_000,)]
+    anna.send("/receive", **{**form, "slip": "third", "amount": "6000"})
     assert anna.status == 409 and "Not recorded." in anna.text
 
 
@@ -53,17 +55,17 @@ def test_a_form_that_is_sent_again_records_nothing_twice(browse, office):
 ])
 def test_what_is_missing_or_wrong_is_said_at_its_field(browse, office, fields, fault):
     anna, before = browse("anna"), office.content()
-    anna.get("/receive?owner=ACME")
-    anna.fill("/receive", **{"material": "SALT", "lot": "S-9", "sublot": "BAY1", "amount": "5", "day": "101", **fields})
+    anna.get("/receive?owner=ACME&material=SALT")
+    anna.fill("/receive", **{"material": "SALT", "lot": "S-9", "sublot": "BAY1", "amount": "4900", "day": "101", **fields})
     assert anna.status in (409, 422) and fault in anna.text, anna.text
-    assert 'value="5"' in anna.page or "amount" in fields  # what was typed stands there still
+    assert 'value="4900"' in anna.page or "amount" in fields  # what was typed stands there still
     assert office.content() == before
 
 
 def test_what_may_not_be_meant_is_asked_before(browse, office):
     anna = browse("anna")
-    anna.get("/receive?owner=ACME")
-    form = {**anna.form(), "material": "SALT", "lot": "S-1", "sublot": "BAY1", "amount": "5", "day": "50"}
+    anna.get("/receive?owner=ACME&material=SALT")
+    form = {**anna.form(), "material": "SALT", "lot": "S-1", "sublot": "BAY1", "amount": "5000", "day": "50"}
     anna.send("/receive", **form)
     assert anna.status == 409 and "Nothing is recorded yet. Is this meant?" in anna.text and "DAY: 50 is before" in anna.text
     question = anna.page.split('name="asked" value="')[1].split('"')[0]
@@ -79,6 +81,8 @@ def test_a_batch_is_opened_run_and_closed(browse, office):
     assert "MIXER" in anna.page and "KETTLE" not in anna.page
     form = {**anna.form(), "unit": "MIXER"}
     anna.send("/order/ACME/O-1", **form)
+    assert anna.status == 409 and "BRINE-10 never ran on MIXER, but on KETTLE." in anna.text
+    anna.fill("/order/ACME/O-1", unit="MIXER", answer="yes")
     assert "MIXER not started" in anna.text, anna.text
     anna.send("/order/ACME/O-1", **{**form, "slip": "again", "unit": "KETTLE"})
     assert anna.status == 409 and "This changed since the page was shown" in anna.text
@@ -96,7 +100,7 @@ def test_a_batch_is_opened_run_and_closed(browse, office):
     assert f"{key} taken back" in anna.text
     assert (asked(office)["words"], asked(office)["notes"][0]["reason"]) == (["void", "ACME", key], "taken back at the screen")
     anna.get(path)
-    anna.fill(path, "produce", lot="b-2", sublot="TOTE3", amount="990", day="103")
+    anna.means(path, "produce", lot="b-2", sublot="TOTE3", amount="990", day="103")
     assert "990 came out into B-2, TOTE3" in anna.text, anna.text
     anna.fill(path, "do", command="done")
     assert "complete" in anna.text
@@ -187,7 +191,7 @@ def test_nobody_signs_what_they_recorded(browse, office):
 def test_a_lot_is_moved_and_scrapped(browse, office):
     anna, path = browse("anna"), "/lot/ACME/S-1"
     anna.get(path)
-    anna.fill(path, "split", sublot="BAY1", target="bay7", amount="200", day="103")
+    anna.means(path, "split", sublot="BAY1", target="bay7", amount="200", day="103")
     assert "200 of lot S-1 moved from BAY1 to BAY7" in anna.text and "BAY7 200 kg" in anna.text
     anna.fill(path, "scrap", sublot="BAY7", amount="50", day="103", reason="")
     assert anna.status == 422 and office.rows("SELECT amount FROM sublots WHERE sublot = 'BAY7'") == [(200,)]
@@ -255,3 +259,30 @@ def test_papers_and_labels_are_made_and_noted(browse, office, monkeypatch):
         assert reply.data.startswith(first) and name in reply.headers["Content-Disposition"]
     exported = [line for line in office.lines() if line.get("event") == "exported"]
     assert [(line["login"], line["words"][0]) for line in exported] == [("anna", "labels"), ("anna", "papers"), ("anna", "papers")]
+
+
+@pytest.mark.parametrize("path", ["/ship?scan=S-1", "/batch/ACME/O-1/1?scan=S-1", "/find?q=S-1", "/recall?q=S-1"])
+def test_a_name_that_several_lots_have_shows_which_of_them_is_held(browse, office, path):
+    assert office.run("receive", "BOLT", "K70", "PIGMENT", "S-1", "BAY5", "5", "103").status == 0
+    assert office.run("hold", "ACME", "S-1", "--reason", "metal found").status == 0
+    rows = [row for row in re.findall(r'<li><a class="row".*?</li>', browse("frida").get(path), re.S) if "SALT" in row]
+    assert [("on hold" in row, "released" in row) for row in rows] == [(True, False)], path
+
+
+def test_a_question_that_was_left_without_an_answer_takes_no_other_ones(browse, office):
+    anna, line = browse("anna"), {"material": "SALT", "lot": "S-9", "sublot": "BAY1", "amount": "5000"}
+    anna.get("/receive?owner=ACME&material=SALT")
+    anna.fill("/receive", **line, day="2031-01-01")
+    assert anna.status == 409 and "in the future" in anna.text and 'value="yes"' in anna.page
+    first = anna.hidden()["asked"]
+    anna.fill("/receive", **line, day="2032-01-01")  # another day, and no answer
+    assert anna.status == 409 and anna.page.count('name="asked"') == 1 and anna.hidden()["asked"] != first
+    anna.fill("/receive", **line, day="103")
+    assert anna.status == 409 or "received into lot S-9" in anna.text
+
+
+def test_a_wrong_password_leaves_the_focus_where_the_next_try_is(browse):
+    anna = browse()
+    assert re.search(r"<input name=\"login\"[^>]* autofocus", anna.get("/login"))
+    anna.send("/login", login="anna", password="wrong", to="/")
+    assert re.findall(r"<input name=\"(\w+)\"[^>]* autofocus", anna.page) == ["password"]

@@ -10,10 +10,10 @@ OPTIONS = {"party": {"receive": "--from", "ship": "--to"}, "supplier_lot": "--su
 
 def entries(anna, quinn, server) -> None:
     """A day of a clerk and of a quality person, with receipts, a batch, results, a hold, a signature, and a shipment."""
-    anna.get("/receive?owner=ACME")
-    anna.fill("/receive", material="SALT", lot="S-9", sublot="BAY1", amount="700", day=DAY, party="SALINE", supplier_lot="X 1", document="LS 1")
+    anna.get("/receive?owner=ACME&material=SALT")
+    anna.means("/receive", material="SALT", lot="S-9", sublot="BAY1", amount="700", day=DAY, party="SALINE", supplier_lot="X 1", document="LS 1")
     anna.get("/order/ACME/O-1")
-    anna.fill("/order/ACME/O-1", unit="MIXER")
+    anna.means("/order/ACME/O-1", unit="MIXER")
     path = "/batch/ACME/O-1/2"
     anna.get(path)
     anna.fill(path, "do", command="start")
@@ -21,13 +21,13 @@ def entries(anna, quinn, server) -> None:
         anna.get(f"{path}?scan={scan}")
         anna.fill(path, "consume", amount=amount, day=DAY)
     anna.get(path)
-    anna.fill(path, "produce", lot="B-2", sublot="TOTE3", amount="990", day=DAY)
+    anna.means(path, "produce", lot="B-2", sublot="TOTE3", amount="990", day=DAY)
     anna.fill(path, "do", command="done")
     anna.fill(path, "close")
     for test, value in (("DENSITY", "1180"), ("PH", "7")):
         anna.get("/lot/ACME/B-2")
         anna.send("/lot/ACME/B-2", **{**anna.form("result"), "test": test, "value": value, "day": DAY})
-    anna.fill("/lot/ACME/B-2", "split", sublot="TOTE3", target="TOTE4", amount="90", day=DAY)
+    anna.means("/lot/ACME/B-2", "split", sublot="TOTE3", target="TOTE4", amount="90", day=DAY)
     anna.fill("/lot/ACME/B-2", "scrap", sublot="TOTE4", amount="5", day=DAY, reason="sample")
     quinn.get("/lot/ACME/B-2")
     quinn.fill("/lot/ACME/B-2", "hold", reason="metal found")
@@ -40,7 +40,7 @@ def entries(anna, quinn, server) -> None:
 
 def lines_of(office, first: int) -> list[tuple]:
     """What the journal has of commands from a line on: the words, what is noted beside them, and the answers."""
-    return [(line.get("event"), line.get("words"), line.get("notes"), line.get("output"), line.get("status")) for line in office.lines()[first:]]
+    return [(line.get("event"), line.get("words"), line.get("notes"), line.get("answer"), line.get("status")) for line in office.lines()[first:]]
 
 
 def options(name: str, notes: list[dict] | None) -> list[str]:

@@ -7,6 +7,7 @@ import urllib.request
 
 import pytest
 from conftest import ROOT, Browser
+from hilpoven.care.demo.site import Site
 from hilpoven.cli import hilpoven
 from hilpoven_desk import accounts, making, sample, tables
 from hilpoven_desk.accounts import MachineAccounts, Unavailable
@@ -27,7 +28,7 @@ def test_no_module_of_hilpoven_imports_the_screens():
 
 
 def test_the_sample_has_three_persons_at_a_port_of_this_machine(office):
-    with sample.shown(str(office.folder / "hilpoven.toml")) as lines:
+    with sample.shown(str(office.folder / "hilpoven.toml"), Site(0)) as lines:
         origin = lines[1].strip().rstrip("/")
         assert re.fullmatch(r"http://localhost:\d+", origin) and len(lines) == 5
         page = urllib.request.urlopen(f"{origin}/login").read().decode()
@@ -45,8 +46,8 @@ def test_ten_clerks_at_once_lose_nothing(desk, office):
         browser = Browser(app.test_client(), desk)
         browser.log_in("anna")
         for place in range(5):
-            browser.get("/receive?owner=ACME")
-            browser.fill("/receive", material="SALT", lot=f"S-{number}{place}", sublot=f"BAY{number}", amount="7", day="103")
+            browser.get("/receive?owner=ACME&material=SALT")
+            browser.fill("/receive", material="SALT", lot=f"S-{number}{place}", sublot="BAY1", amount="7000", day="103")
             if browser.status != 200 or "received into lot" not in browser.text:
                 faults.append((number, place, browser.text))
 
@@ -57,13 +58,13 @@ def test_ten_clerks_at_once_lose_nothing(desk, office):
         for thread in threads:
             thread.join()
     assert not faults
-    assert office.rows("SELECT count(*), sum(amount) FROM moves WHERE mkey LIKE '______-______'") == [(50, 350)]
+    assert office.rows("SELECT count(*), sum(amount) FROM moves WHERE mkey LIKE '______-______'") == [(50, 350_000)]
 
 
 def test_an_office_that_cannot_be_asked_records_nothing_and_says_so(browse, office, desk):
     anna = browse("anna")
-    anna.get("/receive?owner=ACME")
-    form = {**anna.form(), "material": "SALT", "lot": "S-9", "sublot": "BAY1", "amount": "5", "day": "103"}
+    anna.get("/receive?owner=ACME&material=SALT")
+    form = {**anna.form(), "material": "SALT", "lot": "S-9", "sublot": "BAY1", "amount": "5000", "day": "103"}
     before = office.content()
     moved = office.db.rename(office.db.with_suffix(".away"))
     anna.send("/receive", **form)

@@ -10,9 +10,11 @@ from .language import LANGUAGES, Reader, best
 from .pages import ALL
 from .pages.entrance import log_in_page
 from .reading import HELD
-from .web import LANGUAGE_COOKIE, Answer, Desk, allows, fields_to_keep, new_slip, reader
+from .recording import lines_of
+from .web import LANGUAGE_COOKIE, Answer, Desk, allows, answers_typed, fields_to_keep, new_slip, reader
 
 MOST_BODY = 256 * 1_024  # bytes of a request
+FORM = "application/x-www-form-urlencoded"  # what browsers send of these pages
 POLICY = "; ".join(
     (
         "default-src 'none'",
@@ -50,7 +52,9 @@ def application(desk: Desk) -> flask.Flask:
         newstyle=True,
     )
     app.jinja_env.trim_blocks = app.jinja_env.lstrip_blocks = True
-    app.jinja_env.globals.update(LANGUAGES=LANGUAGES, HELD=HELD, allows=allows, slip=new_slip, reader=reader)
+    app.jinja_env.globals.update(
+        LANGUAGES=LANGUAGES, HELD=HELD, allows=allows, answers_typed=answers_typed, slip=new_slip, reader=reader
+    )
     app.before_request(begin)
     app.after_request(with_fields)
     app.register_error_handler(Failure, of_failure)
@@ -71,6 +75,8 @@ def begin() -> Answer | None:
         return failed(g.reader.text("This isn't the address of the screens."), 421)
     if request.method == "POST" and request.headers.get("Origin", "") != desk.origin:
         return failed(g.reader.text("This form isn't from these screens. Open the page again."), 403)
+    if request.method == "POST" and request.mimetype != FORM:
+        return failed(g.reader.text("This can't be read."), 415)
     name = request.cookies.get(desk.cookie, "")
     if name and (session := desk.sessions.find(name)):
         g.person = desk.accounts.person(session.login)  # whoever left the group has no session from now on
@@ -108,8 +114,8 @@ def failed(why: str, status: int, *advice: str) -> Answer:
 
 def of_failure(failure: Failure) -> Answer:
     """What can't be done."""
-    advice = [line for line in failure.advice.split("\n") if line and "`" not in line]
-    return failed(failure.message, 503 if failure.exit_code == FAULT else 409, *advice)
+    why, *advice = lines_of(failure)
+    return failed(why, 503 if failure.exit_code == FAULT else 409, *(line for line in advice if "`" not in line))
 
 
 def of_wrong_request(error: HTTPException) -> Answer:

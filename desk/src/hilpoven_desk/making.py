@@ -3,6 +3,7 @@
 The process reads what it makes from standard input, as JSON, and writes the file to standard output. Where that fails
 it writes why to standard error, as JSON.
 """
+import contextlib
 import io
 import json
 import os
@@ -16,7 +17,7 @@ from dataclasses import asdict, dataclass
 from typing import TYPE_CHECKING, Any, NamedTuple, TypeAlias
 
 import hilpoven
-from hilpoven.core import settings as site
+from hilpoven.core import roles, settings as site
 from hilpoven.core.context import Context
 from hilpoven.core.failure import FAULT, Failure
 from hilpoven.model.rows import BatchId, LotId
@@ -24,6 +25,7 @@ from hilpoven.model.rows import BatchId, LotId
 from .accounts import DeskPerson
 
 if TYPE_CHECKING:
+    from hilpoven.report.papers.case import Row as CaseRow
     from hilpoven.report.papers.copies import Source
     from hilpoven.report.papers.printing import Document
 
@@ -32,6 +34,7 @@ OFFICE_PATIENCE = 5.0  # seconds for the office's lock
 MOST_AT_ONCE = 2
 BEGIN = "import sys; sys.path[:0] = {}; from hilpoven_desk.making import main; main()"
 PDF, ZIP, HTML = "application/pdf", "application/zip", "text/html; charset=utf-8"
+JSON = "application/json"
 Names = Mapping[str, Any]
 Make: TypeAlias = "Callable[[Source], list[Document]]"
 
@@ -111,8 +114,54 @@ def main() -> None:
 
 
 def file_of(context: Context, kind: str, names: Names) -> Made:
-    """What is asked for: labels, or a paper."""
+    """What is asked for: labels, a step of a recall case, or a paper."""
+    if kind in CASES:
+        return step_of_case(context, CASES[kind], **names)
     return labels(context, **names) if kind == "labels" else paper(context, *PAPERS[kind](context, **names))
+
+
+def step_of_case(context: Context, word: str, **names: Any) -> Made:
+    """What a subcommand of a recall case prints, and why not all of it was done, as JSON. A screen gives no other words
+    than a terminal: which lots there are, who got them, and what an answer may say is decided there."""
+    from hilpoven.cli import cases
+
+    if word == "status":
+        with cases.reported(context, cases.read(context, names["number"], is_open=False)) as report:
+            rows = [row_of_case(row) for row in report.rows]
+            answer = {"facts": report.facts, "rows": rows, "is_open": not report.case.closed, "fault": ""}
+        return Made("case", JSON, json.dumps(answer).encode())
+    roles.require(context, f"case {word}")
+    steps: dict[str, Callable[..., None]] = {
+        "open": cases.open_command,
+        "hold": cases.hold,
+        "reply": cases.reply,
+        "close": cases.close,
+    }
+    printed, fault = io.StringIO(), ""
+    with contextlib.redirect_stdout(printed):
+        try:
+            steps[word](context, **names)
+            context.end()
+        except Failure as failure:
+            if failure.exit_code == FAULT or not printed.getvalue():
+                raise
+            fault = failure.message
+    return Made("case", JSON, json.dumps({"lines": printed.getvalue().splitlines(), "fault": fault}).encode())
+
+
+def row_of_case(row: "CaseRow") -> dict[str, Any]:
+    """What a customer had of a lot, and what became of it."""
+    customer, item = row
+    return {
+        "owner": customer.owner,
+        "party": customer.party,
+        "name": customer.name or customer.called,
+        "phone": customer.phone,
+        "answered": customer.answered_at,
+        "lot": item.lot.name,
+        "measure": item.measure,
+        **{name: getattr(item, name) for name in ("had", "back", "destroyed", "gone", "open")},
+    }
 
 
 def lot_card(_: Context, owner: str, lot: str) -> tuple[str, Make]:
@@ -153,13 +202,24 @@ def recall(_: Context, owner: str, lot: str) -> tuple[str, Make]:
     return f"recall-{owner}-{lot}", lambda source: recall_paper.documents(source, LotId(owner, lot))
 
 
+def papers_of_case(context: Context, number: str) -> tuple[str, Make]:
+    """The papers of a recall case: the plant's, a letter for each customer, and the contacts."""
+    from hilpoven.cli import cases
+    from hilpoven.report.papers import case as papers
+
+    case, plant, journal = cases.read(context, number, is_open=False), context.settings.plant, context.journal()
+    return f"case-{number}", lambda source: papers.documents(source, case, journal, plant)
+
+
 PAPERS: dict[str, Callable[..., tuple[str, Make]]] = {
     "lot": lot_card,
     "certificate": certificate,
     "delivery-note": delivery_note,
     "batch": batch_record,
     "recall": recall,
+    "case": papers_of_case,
 }
+CASES = {f"case-{word}": word for word in ("open", "hold", "reply", "close", "status")}
 
 
 def paper(context: Context, name: str, make: Make) -> Made:

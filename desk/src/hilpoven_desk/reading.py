@@ -3,6 +3,7 @@ from collections import defaultdict
 from collections.abc import Sequence
 from dataclasses import dataclass
 from functools import cached_property
+from itertools import islice
 from typing import NamedTuple
 
 from hilpoven import HOUSE
@@ -30,6 +31,7 @@ SOON = 30  # days within which a lot expires that is shown
 MOST = 40  # rows of a list of today
 MOST_MOVES = 40  # of a lot
 MOST_NAMES = 2_000  # that are offered for a field
+MOST_RECALLED = 500  # lots that a recall shows
 HELD = "held"
 
 WAITING = f"l.disposition = {Disposition.QUARANTINED:d} AND {ON_HAND} > 0 ORDER BY l.rowid LIMIT ?"
@@ -47,7 +49,10 @@ SELECT o.owner, o.ord, o.recipe, o.batches,
   (SELECT count(*) FROM batches AS b WHERE b.owner = o.owner AND b.ord = o.ord) AS opened
 FROM orders AS o WHERE o.cancelled = 0 AND opened < o.batches AND {} ORDER BY o.rowid LIMIT ?
 """
-PLACES = "SELECT DISTINCT sublot FROM sublots ORDER BY sublot LIMIT ?"
+LATEST = 20_000  # sublots, of which the places are offered
+PLACES = (
+    f"SELECT DISTINCT sublot FROM (SELECT sublot FROM sublots ORDER BY rowid DESC LIMIT {LATEST}) ORDER BY 1 LIMIT ?"
+)
 MEASURE = "SELECT measure FROM materials WHERE owner = ? AND material = ?"
 UNITS = """
 SELECT u.unit FROM units AS u WHERE NOT EXISTS (SELECT 1 FROM batches AS b WHERE b.unit = u.unit AND b.closed = 0)
@@ -118,7 +123,7 @@ class Reading:
 
     @cached_property
     def places(self) -> list[str]:
-        """The names of all places of the plant."""
+        """The names of the plant's places, of its latest lots."""
         return [str(name) for name, in self.base.execute(PLACES, (MOST_NAMES,))]
 
     @cached_property
@@ -167,6 +172,10 @@ class Reading:
         """The lots on hand that wait for results, a signature or their release, the oldest first."""
         return [WaitingRow(lot, self.missing(lot.id)) for lot in read_lots(self.base, WAITING, (MOST + 1,))]
 
+    def state(self, lot: Lot) -> str:
+        """The state of a lot in a word: held, or its disposition."""
+        return HELD if self.status(lot.id).state == QualityState.HELD else lot.disposition.word
+
     def missing(self, lot: LotId) -> list[str]:
         """The tests of a lot without a result within its limits."""
         return [test.name for test in quality.tests_of(self.base, self.register, lot) if not test.passes]
@@ -181,8 +190,9 @@ class Reading:
     def sublots_called(self, word: str) -> list["StockRow"]:
         """The sublots that hold something of the lots of a name."""
         lots = {lot.id: lot for lot in self.lots_called(word)}
+        states = {name: self.state(lot) for name, lot in lots.items()}
         return [
-            StockRow(lot, sublot, lots[lot].material, lots[lot].measure, lots[lot].disposition.word, amount)
+            StockRow(lot, sublot, lots[lot].material, lots[lot].measure, states[lot], amount)
             for (lot, sublot), amount in sublots_of(self.base, lots).items()
             if amount
         ]
@@ -203,12 +213,12 @@ class Reading:
     # Recalls and stock
 
     def recall(self, lot: LotId) -> "Recall":
-        """Where a lot went, by recorded actuals and links; fails if there is no such lot."""
+        """Where a lot went, by recorded actuals and links, also between owners; fails if there is no such lot."""
         require_lot(self.base, lot)
-        trace = Genealogy(self.base, self.register).trace(lot, FORWARD)
-        return Recall(
-            self, recall_lines(self.base, trace.steps), {each for each in trace.steps if trace.is_noted(each)}
-        )
+        trace = Genealogy(self.base, self.register, is_plants=True).trace(lot, FORWARD)
+        first = dict(islice(trace.steps.items(), MOST_RECALLED))
+        noted = {each for each in first if trace.is_noted(each)}
+        return Recall(self, recall_lines(self.base, first), noted, len(trace.steps))
 
     def stock(self, owner: str, place: str = "", material: str = "") -> list["StockRow"]:
         """What an owner's sublots hold, at a place or of a material alone where one is named."""
@@ -264,7 +274,7 @@ class StockRow(NamedTuple):
     sublot: str
     material: str
     measure: str
-    disposition: str
+    state: str
     amount: int
 
 
@@ -401,11 +411,12 @@ class BatchCard:
 
 @dataclass(frozen=True)
 class Recall:
-    """Where a lot went: the lots, and those that links add or shorten the way to."""
+    """Where a lot went: the first lots, those of them that links add or shorten the way to, and how many there are."""
 
     reading: Reading
     lines: list[RecallLine]
     noted: set[LotId]
+    count: int
 
     @cached_property
     def names(self) -> list[LotId]:
@@ -425,7 +436,8 @@ class Recall:
     def shipments(self) -> dict[LotId, list[tuple[Move, Party | None]]]:
         """What left of each lot, with who got it, if that is noted."""
         want(self.reading.base, self.names)
-        where = f"m.kind = {Kind.SHIP:d} AND (m.lot_owner, m.lot) IN temp.wanted"
+        own = "m.owner = m.lot_owner AND m.owner IN (SELECT owner FROM temp.wanted)"  # nobody else ships an owner's lot
+        where = f"m.kind = {Kind.SHIP:d} AND {own} AND (m.lot_owner, m.lot) IN temp.wanted"
         shipments: dict[LotId, list[tuple[Move, Party | None]]] = defaultdict(list)
         for move in read_moves(self.reading.base, where):
             facts = self.reading.register.facts.get((move.owner, move.key))

@@ -1,7 +1,9 @@
 """What a form records: the calls that the subcommands make, in a person's name, and what came of them as a value."""
 import contextlib
 import enum
+import errno
 import hashlib
+import os
 import secrets
 from collections.abc import Callable, Mapping
 from contextlib import ExitStack
@@ -9,7 +11,7 @@ from dataclasses import dataclass, field, replace
 from typing import Any, overload
 
 from hilpoven.core import meanings, roles
-from hilpoven.core.context import Context, Question, Unanswered, answered_by
+from hilpoven.core.context import YES, Context, Question, Unanswered, answered_by
 from hilpoven.core.days import day_of
 from hilpoven.core.failure import FAULT, REFUSED, Failure
 from hilpoven.core.grammar import LINES, MOVEMENTS, Line, faults, written
@@ -23,6 +25,7 @@ from hilpoven.record.doubts import is_recorded
 LETTERS = "23456789ABCDEFGHJKLMNPQRSTUVWXYZ"  # of a key: none that is read as another one
 KEY_LETTERS = 6
 OF_COMMANDS = "`hilpoven "  # in what is said to people who type commands
+DISK_FULL = "The disk of the machine is full. Tell whoever looks after it."
 NOT_NOTED = "The journal couldn't note what came of it. Tell whoever looks after the office."
 
 
@@ -117,6 +120,13 @@ def check(context: Context, entry: Entry, base: Base, register: Register) -> Out
     return caught(context, call)
 
 
+def doubt(entry: Entry, doubts: tuple[str, ...]) -> Outcome | None:
+    """The question whether what is unusual is meant; `None` where nothing is, or the answer is that it is meant."""
+    question = Question("unusual", " ".join(doubts))
+    is_meant = not doubts or entry.answers.get(question.text) == YES
+    return None if is_meant else Outcome(State.DOUBT, doubts, question=question)
+
+
 def give(context: Context, entry: Entry) -> Outcome:
     """Gives a line in the name of the context's person, whose fields were looked at."""
     lines = list[str]()
@@ -209,9 +219,14 @@ def caught(context: Context, call: Callable[[], Outcome | None]) -> Outcome | No
     except Unanswered as unanswered:
         return Outcome(State.DOUBT, question=unanswered.question)
     except Failure as failure:
-        state = State.FAULT if failure.exit_code == FAULT else State.REFUSED
-        advice = tuple(line for line in failure.advice.split("\n") if line and OF_COMMANDS not in line)
-        return Outcome(state, (failure.message, *advice))
+        return Outcome(State.FAULT if failure.exit_code == FAULT else State.REFUSED, lines_of(failure))
+
+
+def lines_of(failure: Failure) -> tuple[str, ...]:
+    """Why something can't be done, and what to do, for people who type no commands."""
+    if failure.message.endswith(os.strerror(errno.ENOSPC)):
+        return (DISK_FULL,)
+    return (failure.message, *(line for line in failure.advice.split("\n") if line and OF_COMMANDS not in line))
 
 
 def may(context: Context, word: str) -> bool:

@@ -6,6 +6,7 @@ import threading
 from collections.abc import Iterator
 from typing import Any
 
+from hilpoven.care.demo.site import Site
 from hilpoven.core.failure import Failure
 
 from .accounts import GROUP, SampleAccounts
@@ -22,7 +23,7 @@ PERSONS = {
 
 
 @contextlib.contextmanager
-def shown(settings: str) -> Iterator[list[str]]:
+def shown(settings: str, _: Site) -> Iterator[list[str]]:
     """Serves the screens at a port of their own until the end of the block; what is told of them. Each person has a
     password of this sample alone."""
     passwords = {login: secrets.token_hex(4) for login in PERSONS}

@@ -12,22 +12,24 @@ import flask
 from flask import g, request
 from hilpoven.core import scanned
 from hilpoven.core.context import Context
+from hilpoven.core.delays import Delays, keys_of
 from hilpoven.model import views
 from hilpoven.model.register.standing import register_of
 from hilpoven.model.rows import LotId
 from werkzeug.wrappers import Response as BaseResponse
 
 from .accounts import MOST_LOGIN, MOST_PASSWORD, Accounts, DeskPerson, Unavailable
-from .delays import Delays, keys_of
 from .language import Reader
 from .making import Contexts, Made
 from .reading import Reading
-from .recording import Entry, Outcome, State, check, give, may, new_key
+from .recording import Entry, Outcome, State, check, doubt, give, may, new_key
 from .sessions import Session, Sessions
 from .tables import KeptTables
 
 Answer = BaseResponse | str | tuple[str, int]
+Doubts = Callable[[Reading], Iterator[str]]  # about what is unusual
 LANGUAGE_COOKIE = "desk-language"
+CHOSEN = "_chosen"  # behind the name of a field: the choice beside it that is touched
 MOST_TEXT, MOST_FIELDS = 400, 60  # letters of a field, and fields of a form
 LEFT_OUT = {"token", "slip", "password", "asked", "answer", "seen"}  # fields that no form is filled in with again
 WRONG_TAKES = 1.0  # seconds that a wrong password takes
@@ -117,8 +119,18 @@ def allows(word: str) -> bool:
 
 
 def typed(name: str) -> str:
-    """What was typed in a field, without blanks around it."""
-    return request.values.get(name, "").strip()[:MOST_TEXT]
+    """What was typed in a field, without blanks around it, or chosen beside it."""
+    return (request.values.get(name, "").strip() or request.values.get(f"{name}{CHOSEN}", "").strip())[:MOST_TEXT]
+
+
+def chosen_otherwise() -> dict[str, str]:
+    """The fields in which another word is typed than what is chosen beside them."""
+    names = [name.removesuffix(CHOSEN) for name in request.form if name.endswith(CHOSEN)]
+    return {
+        name.upper(): text("%(chosen)s is chosen, and %(typed)s is typed.", chosen=chosen, typed=typed(name))
+        for name in names
+        if (chosen := request.form.get(f"{name}{CHOSEN}", "").strip()[:MOST_TEXT]) not in ("", typed(name))
+    }
 
 
 def name_typed(name: str) -> str:
@@ -200,18 +212,28 @@ def once(do: Callable[[], Outcome]) -> Outcome:
         return outcome
 
 
-def record(name: str, values: Mapping[str, str], noted: Mapping[str, Any] | None = None, seen: str = "") -> Outcome:
+def record(
+    name: str,
+    values: Mapping[str, str],
+    noted: Mapping[str, Any] | None = None,
+    seen: str = "",
+    doubts: Doubts | None = None,
+) -> Outcome:
     """Gives a line in the name of the person who asks. `seen` is the digest of what its form goes by now, which the
-    form carries as it was shown."""
+    form carries as it was shown; `doubts` are about what is unusual, which is asked before."""
     context = desk().working(person())
     entry = Entry(name, values, noted or {}, answers_typed())
 
     def do() -> Outcome:
         if seen and request.form.get("seen", "") != seen:
             return changed()
+        if faults := chosen_otherwise():
+            return Outcome(State.FAULTY, faults=faults)
         with reading(context) as office:
-            wrong = check(context, entry, office.base, office.register)
-        return wrong or give(context, entry)
+            stopped = check(context, entry, office.base, office.register)
+            if not stopped and doubts and not entry.is_known(office.base):
+                stopped = doubt(entry, tuple(doubts(office)))
+        return stopped or give(context, entry)
 
     return once(do)
 

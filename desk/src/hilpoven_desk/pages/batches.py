@@ -1,12 +1,16 @@
 """A batch's card: its state, what it takes and makes by a scanned label or by hand, and what was recorded."""
-from collections.abc import Mapping
+from collections.abc import Iterator, Mapping
 
 import flask
 from flask import request
 from hilpoven.model.rows import BatchId
+from hilpoven.model.schema import Kind
 from werkzeug.wrappers import Response
 
+from .. import usual
+from ..reading import Reading
 from ..recording import Outcome, State
+from ..usual import Usual
 from ..web import Answer, Undo, day_typed, desk, done, form_key, label_in, name_typed, number_typed, page, person
 from ..web import reader, reading, record, text, typed, values_of_form
 from .receipts import shown_of
@@ -43,6 +47,9 @@ def batch(owner: str, order: str, number: int) -> Answer | Response:
             need=card.need_of(lot) if lot else None,
             choices=[] if label or not scan else office.sublots_called(scan),
             places=office.places,
+            usual={
+                need.material: usual_of(office, name, need.material) for need in card.needs if need.use == "produced"
+            },
         )
 
 
@@ -106,7 +113,7 @@ def actual(name: BatchId, use: str, of_lot: Mapping[str, str]) -> Done:
         "AMOUNT": number_typed("amount"),
         "DAY": day_typed(desk().working(person())),
     }
-    outcome = record("actual", line)
+    outcome = record("actual", line, doubts=lambda office: unusual(office, name, line))
     template = (
         "%(amount)s from %(lot)s, %(place)s, went in"
         if use == "consumed"
@@ -114,6 +121,24 @@ def actual(name: BatchId, use: str, of_lot: Mapping[str, str]) -> Done:
     )
     undo = Undo(batch_page(name), {"what": "void", "key": line["KEY"]}) if outcome.state == State.ACCEPTED else None
     return outcome, text(template, **shown_of(line)), undo
+
+
+def usual_of(office: Reading, name: BatchId, material: str) -> Usual:
+    """What earlier batches of an owner made of a material."""
+    return Usual(office, reader(), Kind.PRODUCED, name.owner, name.owner, material)
+
+
+def unusual(office: Reading, name: BatchId, line: Mapping[str, str]) -> Iterator[str]:
+    """What of an actual is unusual."""
+    names = line["SEGMENT"], line["USE"], line["LOT-OWNER"], line["MATERIAL"]
+    for need in office.batch(name).needs:
+        if (str(need.segment), need.use, need.owner, need.material) == names:
+            yield from usual.of_need(reader(), need, line["AMOUNT"])
+    if line["USE"] == "produced":
+        earlier = usual_of(office, name, line["MATERIAL"])
+        yield from earlier.of_batch(name, line["LOT"])
+        yield from earlier.of_place(line["SUBLOT"])
+        yield from earlier.of_amount(line["AMOUNT"])
 
 
 def command_text(command: str) -> str:

@@ -12,7 +12,7 @@ from ..web import Answer, BLANKS, desk, name_typed, person, reading, typed
 
 PAGE = flask.Blueprint("counts", __name__)
 COLUMNS = ("lot", "sublot", "on_hand", "counted", "reason")
-MOST_ROWS = 500  # of a page
+MOST_ROWS = 200  # of a page
 
 
 @PAGE.route("/count", methods=["GET", "POST"])

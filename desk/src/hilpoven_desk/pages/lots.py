@@ -7,13 +7,15 @@ from hilpoven import HOUSE
 from hilpoven.core.context import Context
 from hilpoven.model.register.standing import register_of
 from hilpoven.model.rows import LotId
+from hilpoven.model.schema import Kind
 from hilpoven.record import judging
 from hilpoven.record.making import Desk as NoteDesk
 from werkzeug.wrappers import Response
 
 from .. import recording
-from ..reading import Reading
+from ..reading import Card, Reading
 from ..recording import Outcome, State
+from ..usual import Usual, of_result
 from ..web import Answer, changed, day_typed, desk, done, form_key, name_typed, number_typed, once, page
 from ..web import password_fault, person, reader, reading, record, text, typed, values_of_form
 from .receipts import shown_of
@@ -43,6 +45,7 @@ def lot(owner: str, name: str) -> Answer | Response:
             sent_form=typed("what"),
             card=card,
             moves=office.moves_of(asked),
+            usual=usual_of(card),
             places=office.places,
             is_house=owner == HOUSE,
             plants_test=context.settings.quality.test,
@@ -65,7 +68,10 @@ def result(context: Context, asked: LotId, seen: str) -> Done:
         "DAY": day_typed(context),
     }
     summary = text("%(test)s of lot %(lot)s: %(value)s", test=line["TEST"], lot=asked.name, value=typed("value"))
-    return record("result", line, seen=seen), summary, text("Wrong? Record the right result: the latest one counts.")
+    outcome = record(
+        "result", line, seen=seen, doubts=lambda office: of_result(office, reader(), asked, line["TEST"], value)
+    )
+    return outcome, summary, text("Wrong? Record the right result: the latest one counts.")
 
 
 def sign(context: Context, asked: LotId, seen: str) -> Done:
@@ -109,7 +115,8 @@ def split(context: Context, asked: LotId, seen: str) -> Done:
     """Moves some of a lot to another place."""
     line = {**taken(context, asked), "TARGET": name_typed("target")}
     summary = text("%(amount)s of lot %(lot)s moved from %(place)s to %(target)s", **shown_of(line))
-    return record("split", line), summary, text("Wrong? Move it back.")
+    outcome = record("split", line, doubts=lambda office: usual_of(office.card(asked)).of_place(line["TARGET"]))
+    return outcome, summary, text("Wrong? Move it back.")
 
 
 def scrap(context: Context, asked: LotId, seen: str) -> Done:
@@ -120,6 +127,11 @@ def scrap(context: Context, asked: LotId, seen: str) -> Done:
         return Outcome(State.FAULTY, faults={"REASON": ""}), summary, ""
     correction = text("Wrong? Receive it again, as a correction of this lot.")
     return record("scrap", line, {"reason": typed("reason")}), summary, correction
+
+
+def usual_of(card: Card) -> Usual:
+    """What earlier moves of a lot's material were like."""
+    return Usual(card.reading, reader(), Kind.SPLIT, card.lot.id.owner, card.lot.id.owner, card.lot.material)
 
 
 def taken(context: Context, asked: LotId) -> dict[str, str]:

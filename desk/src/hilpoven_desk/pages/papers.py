@@ -1,5 +1,7 @@
 """Papers and labels to print: each is made when it is asked for, which the journal notes."""
+import contextlib
 import threading
+from collections.abc import Iterator
 
 import flask
 from flask import request
@@ -45,18 +47,25 @@ def batch(owner: str, order: str, number: int) -> Response:
     return sent({"owner": owner, "order": order, "number": number}, "batch")
 
 
+@contextlib.contextmanager
+def at_most() -> Iterator[None]:
+    """Waits until few others are made at once."""
+    if not AT_ONCE.acquire(timeout=60):
+        raise Failure(text("Other papers are being made. Try again in a minute."))
+    try:
+        yield
+    finally:
+        AT_ONCE.release()
+
+
 def sent(names: dict[str, object], kind: str) -> Response:
     """The file that is made. Few are made at once, because each takes a processor for seconds."""
     if faults := [
         fault for word in names.values() if isinstance(word, str) and kind != "labels" and (fault := name_fault(word))
     ]:
         raise Failure(faults[0], WRONG_USE)
-    if not AT_ONCE.acquire(timeout=60):
-        raise Failure(text("Other papers are being made. Try again in a minute."))
-    try:
+    with at_most():
         file: Made = desk().making(person(), kind, names)
-    finally:
-        AT_ONCE.release()
     response = flask.make_response(file.content)
     response.headers["Content-Type"] = file.kind
     response.headers["Content-Disposition"] = f'attachment; filename="{file.name}"'

@@ -16,7 +16,7 @@ def recall() -> Answer:
         lots = office.lots_called(word) if word and not label else []
         lot = label[0] if label else lots[0].id if len(lots) == 1 else None
         if lot is None:
-            return page("recall.html", q=word, lots=lots, report=None, card=None)
+            return page("recall.html", q=word, lots=lots, report=None, card=None, state=office.state)
         card, report = office.card(lot), office.recall(lot)
         context.office_to_export("desk", "recall", *lot)
         return page("recall.html", q=word, lots=[], report=report, card=card, LotId=LotId)

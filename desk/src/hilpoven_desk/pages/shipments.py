@@ -1,9 +1,15 @@
 """Shipping: the label first, then to whom and how much. Nothing of it is filled in beforehand."""
+from collections.abc import Iterator, Mapping
+
 import flask
 from flask import url_for
 from hilpoven.model.kinds import Role
+from hilpoven.model.rows import LotId
+from hilpoven.model.schema import Kind
 from werkzeug.wrappers import Response
 
+from ..reading import Card, Reading
+from ..usual import Usual
 from ..web import Answer, day_typed, desk, done, form_key, label_in, name_typed, number_typed, page, person, reader
 from ..web import reading, record, text, typed, values_of_form
 from .receipts import shown_of
@@ -27,7 +33,8 @@ def ship() -> Answer | Response:
             "AMOUNT": number_typed("amount"),
             "DAY": day_typed(context),
         }
-        outcome = record("ship", line, {"party": name_typed("party"), "document": typed("document")})
+        noted = {"party": name_typed("party"), "document": typed("document")}
+        outcome = record("ship", line, noted, doubts=lambda office: unusual(office, line, noted["party"]))
         if outcome.is_done:
             summary = text(
                 "%(amount)s of lot %(lot)s shipped to %(party)s", party=name_typed("party") or "?", **shown_of(line)
@@ -42,8 +49,28 @@ def ship() -> Answer | Response:
             values=values,
             scan=scan,
             card=card,
+            amounts=amounts_of(usual_of(card), card.sublots.get(label[1], 0)) if label and card else [],
             sublot=label[1] if label else "",
             choices=[] if label or not scan else office.sublots_called(scan),
             parties=office.parties(label[0].owner, Role.CUSTOMER) if label else [],
             is_required=context.settings.require.recipient,
         )
+
+
+def usual_of(card: Card) -> Usual:
+    """What earlier shipments of a lot's material were like."""
+    return Usual(card.reading, reader(), Kind.SHIP, card.lot.id.owner, card.lot.id.owner, card.lot.material)
+
+
+def amounts_of(usual: Usual, on_hand: int) -> list[int]:
+    """The amounts that are offered: usual ones that there are, and all."""
+    return list(
+        dict.fromkeys([*(amount for amount in usual.amounts if amount < on_hand), *([on_hand] if on_hand else [])])
+    )
+
+
+def unusual(office: Reading, line: Mapping[str, str], party: str) -> Iterator[str]:
+    """What of a shipment is unusual."""
+    usual = usual_of(office.card(LotId(line["OWNER"], line["LOT"])))
+    yield from usual.of_party(party)
+    yield from usual.of_amount(line["AMOUNT"])

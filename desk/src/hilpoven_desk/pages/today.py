@@ -6,7 +6,8 @@ from werkzeug.wrappers import Response
 
 from ..reading import MOST
 from ..recording import digest_of
-from ..web import Answer, done, label_in, name_typed, page, reading, record, text, values_of_form
+from ..usual import of_unit
+from ..web import Answer, done, label_in, name_typed, page, reader, reading, record, text, values_of_form
 
 PAGE = flask.Blueprint("today", __name__)
 
@@ -42,7 +43,7 @@ def find() -> Answer | Response:
         names = [lot_page(lot.id) for lot in lots] + [batch_page(batch.id) for batch in batches]
         if len(names) == 1 and not orders:
             return redirect(names[0], 303)
-        return page("found.html", q=word, lots=lots, batches=batches, orders=orders)
+        return page("found.html", q=word, lots=lots, batches=batches, orders=orders, state=office.state)
 
 
 def lot_page(lot: LotId) -> str:
@@ -68,7 +69,10 @@ def order(owner: str, order: str) -> Answer | Response:
     seen = digest_of(row)
     if flask.request.method == "POST":
         unit = name_typed("unit")
-        outcome = record("open", {"OWNER": owner, "ORDER": order, "UNIT": unit}, seen=seen)
+        line = {"OWNER": owner, "ORDER": order, "UNIT": unit}
+        outcome = record(
+            "open", line, seen=seen, doubts=lambda office: of_unit(office, reader(), owner, row.recipe, unit)
+        )
         if outcome.is_done:
             summary = text("Batch of %(owner)s %(order)s opened on %(unit)s", owner=owner, order=order, unit=unit)
             to = batch_page(BatchId(owner, order, row.opened + 1))

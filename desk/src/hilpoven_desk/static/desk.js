@@ -21,7 +21,8 @@ function bringBack(form) {
   const kept = sessionStorage.getItem(nameOf(form));
   for (const [name, value] of kept ? JSON.parse(kept) : []) {
     const field = form.elements[name];
-    if (field && field.type !== "hidden" && !field.value) field.value = value;
+    if (field?.type === "radio") field.checked = field.value === value;
+    else if (field && field.type !== "hidden" && !field.value) field.value = value;
   }
 }
 
@@ -34,10 +35,23 @@ for (const form of document.querySelectorAll("form[data-draft]")) {
   form.addEventListener("input", () => keep(form));
 }
 
+// One choice is touched, or another one is typed.
+
+for (const either of document.querySelectorAll(".either")) {
+  const other = either.querySelector(".other input");
+  const demand = () => (other.required = !either.querySelector(":checked"));
+  either.addEventListener("input", (event) => {
+    if (event.target !== other) other.value = "";
+    else if (other.value) for (const choice of either.querySelectorAll("[type=radio]")) choice.checked = false;
+    demand();
+  });
+  demand();
+}
+
 // What is missing of a form, by the labels of its fields
 
 function labelOf(field) {
-  const holder = field.type === "radio" ? field.closest("fieldset") : field.closest("label");
+  const holder = field.closest(".either") ?? (field.type === "radio" ? field.closest("fieldset") : field.closest("label"));
   return holder?.dataset.name ?? holder?.querySelector(".label")?.firstChild?.textContent.trim() ?? "";
 }
 
