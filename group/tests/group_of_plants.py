@@ -1,5 +1,6 @@
 """A group in a database of the tests' cluster, with offices of `toll`'s tables that publish, and what a recall is by sets."""
 import contextlib
+import functools
 import itertools
 import json
 import os
@@ -332,11 +333,16 @@ class Sets:
 
     def trace(self, start: tuple, way: str) -> dict[tuple, int]:
         """The lots of a recall with their fewest steps."""
+        near, steps, level = self.near(way), {start: 0}, {start}
+        while level:
+            level = {other for lot in level for other in near.get(lot, ())} - steps.keys()
+            steps |= dict.fromkeys(level, max(steps.values()) + 1)
+        return steps
+
+    @functools.cache
+    def near(self, way: str) -> dict[tuple, set]:
+        """The lots that each lot went into, or was made of."""
         near: dict[tuple, set] = defaultdict(set)
         for src, dst in self.edges:
             near[src if way == "forward" else dst].add(dst if way == "forward" else src)
-        steps, level = {start: 0}, {start}
-        while level:
-            level = {other for lot in level for other in near[lot]} - steps.keys()
-            steps |= dict.fromkeys(level, max(steps.values()) + 1)
-        return steps
+        return near

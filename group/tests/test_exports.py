@@ -1,7 +1,10 @@
 """What others get of a recall: events of EPCIS 2.0, and the spreadsheet of FSMA 204."""
+import contextlib
 import csv
 import io
 import json
+import re
+import sqlite3
 
 import pytest
 from group_of_plants import SHIP, Group, Plant
@@ -71,3 +74,48 @@ def test_the_spreadsheet_keeps_the_suppliers_code(pair, group):
 
 def test_an_export_needs_the_name_with_which_lots_begin(pair, group):
     assert group.run("group", "export", "epcis", "NORTH", "ACME", "S-1").exit_code == 2
+
+
+def test_numbers_and_codes_that_are_noted_are_in_both_exports(pair, group):
+    north, south = pair
+    gln, gtin, sscc = "4098765000003", "4012345678901", "340123450000000017"
+    with contextlib.closing(sqlite3.connect(north.file)) as base:
+        shipped = base.execute("SELECT mkey FROM moves WHERE owner = 'ACME' AND kind = 2").fetchone()[0]
+    north.note({"kind": "material", "owner": "ACME", "material": "END", "gtin": gtin, "name": "Brine"})
+    north.note({"kind": "material", "owner": "ACME", "material": "END", "unit_code": "GRM"})  # the first one's GTIN still counts
+    north.note({"kind": "material", "owner": "BOLT", "material": "END", "gtin": "96385074"})
+    north.note({"kind": "owner", "owner": "ACME", "gln": gln})
+    north.note({"kind": "owner", "owner": "HOUSE", "gln": "4012345000016"})
+    withdrawn = north.note({"kind": "owner", "owner": "HOUSE", "gln": "4012345000009"})
+    north.withdraw("HOUSE", *withdrawn)
+    north.note({"kind": "party", "owner": "ACME", "party": "SHOP", "name": "Shop", "roles": ["customer"], "gln": "4012345000023"})
+    with north.writing() as base:
+        north.lot(base, "ACME", "ACME-2")
+        sold = north.move(base, "ACME", SHIP, "ACME-2", 7)
+    north.note_movement("ACME", sold, party="SHOP", document=sscc)
+    north.note_movement("ACME", shipped, document=sscc[:-1] + "8")  # no SSCC, by its last digit
+    assert north.publish() > 0 and north.differences() == []
+    events = json.loads(exported(group, "epcis", "NORTH", "ACME", "S-1"))["epcisBody"]["eventList"]
+    shipments = {event["destinationList"][0]["destination"].rpartition("/")[2]: event for event in events if event["bizStep"] == "shipping"}
+    assert set(shipments) == {"4012345000009", "4012345000023"}
+    event = shipments["4012345000023"]
+    assert event["quantityList"] == [{"epcClass": f"https://id.gs1.org/01/0{gtin}/10/ACME-2", "quantity": 7, "uom": "GRM"}]
+    assert event["epcList"] == [f"https://id.gs1.org/00/{sscc}"] and "bizTransactionList" not in event
+    assert event["sourceList"] == [{"type": "owning_party", "source": f"https://id.gs1.org/417/{gln}"}]
+    assert event["bizLocation"] == {"id": "https://id.gs1.org/414/4012345000016"}
+    assert "epcList" not in shipments["4012345000009"] and "96385074" not in str(events)
+    rows = list(csv.DictReader(io.StringIO(exported(group, "fsma", "NORTH", "ACME", "S-1"))))
+    row = next(row for row in rows if row["other party"] == "SHOP")
+    assert [row[name].strip('="') for name in ("GTIN", "GLN", "other GLN", "reference document")] == [gtin, "4012345000016", "4012345000023", sscc]
+
+
+def test_an_event_has_what_epcis_demands(pair, group):
+    """By hand, of the schema of GS1: what each kind of event has to have, and which words it may."""
+    document = json.loads(exported(group, "epcis", "NORTH", "ACME", "S-1"))
+    assert {"@context", "type", "schemaVersion", "creationDate", "epcisBody"} == set(document)
+    for event in document["epcisBody"]["eventList"]:
+        assert {"type", "eventID", "eventTime", "eventTimeZoneOffset"} <= set(event)
+        assert event["action"] in ("OBSERVE", "ADD", "DELETE") if event["type"] == "ObjectEvent" else "action" not in event
+        assert event.get("epcList") or event.get("quantityList") or event.get("outputQuantityList")
+        for quantity in [*event.get("quantityList", []), *event.get("inputQuantityList", []), *event.get("outputQuantityList", [])]:
+            assert set(quantity) <= {"epcClass", "quantity", "uom"} and re.fullmatch(r"[A-Z0-9]{2,3}", quantity.get("uom", "KGM"))

@@ -1,11 +1,13 @@
 """What a company's role learns of others: nothing by any question, and nothing by SQL that an injection would bring."""
 import contextlib
+import io
 import re
 
 import psycopg2
 import pytest
 from group_of_plants import SHIP
-from hilpoven_group import database
+from hilpoven.model.genealogy import BACK, FORWARD
+from hilpoven_group import database, recalls
 from hilpoven_group.questions import FUNCTIONS
 
 TABLES = """companies logins members offices parties joins files heads looked retracted materials lots moves voids results notes states facts links
@@ -35,12 +37,21 @@ def role_of(group, name: str) -> str:
     return group.rows(f"SELECT role FROM hg.companies WHERE name = '{name}'")[0][0]
 
 
+def open_tables(group) -> list[str]:
+    """Tables and partitions that have no row security or no policy."""
+    sql = """SELECT c.relname FROM pg_class AS c WHERE c.relnamespace = 'hg'::regnamespace AND c.relkind IN ('r', 'p', 'm', 'f')
+        AND NOT (c.relrowsecurity AND EXISTS (SELECT 1 FROM pg_policy AS p WHERE p.polrelid = c.oid))"""
+    return [row[0] for row in group.rows(sql)]
+
+
 def test_each_table_has_row_security_and_a_policy(two):
     """A new table without a policy fails here."""
-    sql = """SELECT c.relname, c.relrowsecurity, (SELECT count(*) FROM pg_policy AS p WHERE p.polrelid = c.oid) FROM pg_class AS c
-        WHERE c.relnamespace = 'hg'::regnamespace AND c.relkind IN ('r', 'p') ORDER BY 1"""
-    rows = two.rows(sql)
-    assert sorted(row[0] for row in rows) == sorted(TABLES) and all(row[1] and row[2] for row in rows)
+    assert open_tables(two) == []
+    tables = two.rows("SELECT relname, relkind FROM pg_class WHERE relnamespace = 'hg'::regnamespace AND relkind IN ('r', 'p')")
+    assert sorted(tables) == sorted((name, "r") for name in TABLES)  # no table has partitions, which have policies of their own
+    two.rows("CREATE TABLE hg.later (gid integer); CREATE TABLE hg.halfway (gid integer); ALTER TABLE hg.halfway ENABLE ROW LEVEL SECURITY; SELECT 1")
+    assert sorted(open_tables(two)) == ["halfway", "later"]
+    two.rows("DROP TABLE hg.later, hg.halfway; SELECT 1")
     owners = two.rows("SELECT c.relname FROM pg_class AS c WHERE c.relnamespace = 'hg'::regnamespace AND c.relkind = 'v' AND c.relowner = 'hg_questions'::regrole")
     assert sorted(row[0] for row in owners) == sorted(VIEWS)
 
@@ -49,7 +60,7 @@ def test_functions_are_for_roles_alone_and_have_a_path(two):
     functions = two.rows("SELECT p.proname, p.prosecdef, coalesce(p.proconfig::text, ''), coalesce(p.proacl::text, '') FROM pg_proc AS p WHERE p.pronamespace = 'hg'::regnamespace")
     for name, is_definer, config, rights in functions:
         assert re.search(r"[{,]=X", rights) is None and rights, name  # `=X` would be everybody's
-        assert name not in FUNCTIONS or {"jit=off", "plan_cache_mode=force_generic_plan"} <= set(config.strip("{}").replace('"', "").split(",")), name
+        assert name not in FUNCTIONS or {"jit=off", "plan_cache_mode=force_generic_plan", "client_min_messages=error"} <= set(config.strip("{}").replace('"', "").split(",")), name
         assert not is_definer or "search_path=hg, pg_catalog, pg_temp" in config, name
     for role in ("hg_company", "hg_reader", "hg_questions", "hg_publisher"):
         assert two.rows(f"SELECT rolsuper OR rolbypassrls OR rolcanlogin OR rolcreaterole FROM pg_roles WHERE rolname = '{role}'") == [(False,)]
@@ -88,6 +99,27 @@ def attempts(other_lot: int, other_gid: int, house_lot: int) -> list[str]:
         "SELECT hg.retract(1::smallint, 1, 'm', 0, '', '')",
         *(f"SET ROLE {role}" for role in ("admin", "hg_reader", "hg_questions", "hg_publisher", '"hg_publisher_NORTH"', f"hg_company_{other_gid}")),
         *(f"SET SESSION AUTHORIZATION {role}" for role in ("admin", "hg_questions", f"hg_company_{other_gid}")),
+        *(f"SELECT set_config('{name}', '{role}', false)" for name in ("role", "session_authorization") for role in ("admin", "hg_reader")),
+        f"SELECT lot_id FROM hg.find_lot('NORTH', 'ACME', ''); SET ROLE hg_reader; SELECT lot_id FROM hg.find_lot('NORTH', 'BOLT', '{SECRET}')",
+        "SET LOCAL ROLE hg_company; SELECT count(*) FROM hg.lots",
+        f"SELECT (SELECT string_agg(lot || owner, ',') FROM hg.lots_of(ARRAY[{other_lot}]::bigint[]))::int",
+        f"SELECT 1 / (SELECT count(*) FROM hg.lots_of(ARRAY[{other_lot}]::bigint[]))",
+        f"SELECT value FROM hg.descriptions(ARRAY[{other_gid}, 1000001])",
+        f"SELECT mkey FROM hg.events_of(ARRAY[{other_lot}]::bigint[], false)",
+        f"SELECT mkey FROM hg.events_of(ARRAY[{house_lot}]::bigint[], false) WHERE gid <> 1",
+        f"SELECT query_to_xml('SELECT lot FROM hg.lots_of(ARRAY[{other_lot}])', true, true, '')",
+        "CREATE TABLE hg.part PARTITION OF hg.moves DEFAULT",
+        "CREATE TEMP TABLE heir () INHERITS (hg.moves)",
+        "SELECT count(*) FROM ONLY hg.moves",
+        "SELECT relid FROM pg_partition_tree('hg.moves')",
+        "SELECT inhrelid FROM pg_inherits WHERE inhparent = 'hg.moves'::regclass",
+        "CREATE STATISTICS hg.s ON lot, owner FROM hg.lots",
+        "SELECT stxdndistinct FROM pg_statistic_ext_data",
+        "SELECT n_distinct FROM pg_stats_ext WHERE schemaname = 'hg'",
+        "SELECT most_common_vals FROM pg_stats_ext_exprs",
+        "SELECT calls FROM pg_stat_statements",
+        "SELECT calls FROM pg_stat_user_functions",
+        "SELECT idx_scan FROM pg_stat_user_indexes",
         "RESET ROLE; SELECT count(*) FROM hg.lots",
         "SET LOCAL session_authorization = 'admin'; SELECT count(*) FROM hg.lots",
         "SET search_path = pg_temp; SELECT count(*) FROM hg.lots",
@@ -138,6 +170,24 @@ def attempts(other_lot: int, other_gid: int, house_lot: int) -> list[str]:
         "SELECT txid_current()",
         "SELECT pg_current_xact_id()",
         "SELECT pg_current_snapshot()",
+        "SELECT age('3'::xid)",
+        "SELECT min(age(xmin)) FROM pg_namespace",
+        "SELECT mxid_age('3'::xid)",
+        "SELECT next_xid FROM pg_control_checkpoint()",
+        "SELECT pg_control_system()",
+        "SELECT pg_blocking_pids(1)",
+        "SELECT pg_safe_snapshot_blocking_pids(1)",
+        "SELECT pg_isolation_test_session_is_blocked(1, '{}')",
+        "SELECT pg_relation_filepath('hg.moves')",
+        "SELECT pg_tablespace_databases(1663)",
+        "SELECT refobjid FROM pg_shdepend",
+        "SELECT setrole FROM pg_db_role_setting",
+        "SELECT grantee FROM information_schema.role_table_grants",
+        "SELECT count(*) FROM pg_stat_ssl",
+        "SELECT pg_current_logfile()",
+        "SELECT pg_describe_object('pg_authid'::regclass, 16390, 0)",
+        "DECLARE c CURSOR WITH HOLD FOR SELECT lot FROM hg.lots",
+        "PREPARE p AS SELECT lot FROM hg.lots; EXECUTE p",
         "SELECT pg_export_snapshot()",
         "SELECT pg_advisory_lock(1)",
         "SELECT pg_try_advisory_lock(1)",
@@ -204,6 +254,44 @@ def test_a_company_learns_nothing_of_others(two):
     assert two.rows(f"SELECT count(*) FROM hg.lots WHERE lot = '{SECRET}'") == [(1,)]
 
 
+ARGUMENTS = {"bigint[]": "ARRAY[{}]::bigint[]", "integer[]": "ARRAY[2, 1000001]", "boolean": "false", "text": "'NORTH'"}
+SCANS = re.compile("SEQSCAN|INDEXSCAN|INDEXONLYSCAN|BITMAP|HASHJOIN|MERGEJOIN|NESTLOOP|internal sort")
+
+
+def test_messages_of_the_server_tell_no_plan(two):
+    ((other,),) = two.rows(f"SELECT lot_id FROM hg.lots WHERE lot = '{SECRET}'")
+    with contextlib.closing(two.cluster.connect(two.name, role_of(two, "ACME"))) as base:
+        for name in ("debug_print_parse", "debug_print_rewritten", "debug_print_plan", "trace_sort"):
+            answer_of(base, f"SET {name} = on; SET client_min_messages = debug5")
+        for name, (values, columns, _) in FUNCTIONS.items():
+            words = [ARGUMENTS[value.split()[-1]].format(other) for value in values.split(", ") if value]
+            del base.notices[:]
+            answer_of(base, f"SELECT {columns.split()[0]} FROM hg.{name}({', '.join(words)})")
+            messages = "".join(base.notices)
+            assert "FUNCTIONSCAN" in messages and not SCANS.findall(messages), name  # the function is all of the query
+
+
+def work_of(base, sql: str) -> int:
+    """How many pages PostgreSQL looks at for a query, once its plan is kept: what the time follows that it takes."""
+    for _ in range(8):
+        plan = database.rows(base, f"EXPLAIN (ANALYZE, BUFFERS, TIMING OFF, SUMMARY OFF) {sql}")
+    return sum(map(int, re.findall(r"(?:hit|read)=([0-9]+)", "\n".join(row[0] for row in plan[:3]))))
+
+
+def test_a_name_of_another_takes_no_other_work_than_a_name_of_nobody(two):
+    ((other,),) = two.rows(f"SELECT lot_id FROM hg.lots WHERE lot = '{SECRET}'")
+    with contextlib.closing(two.cluster.connect(two.name, role_of(two, "ACME"))) as base:
+        for known, unknown in (
+            (f"SELECT lot_id FROM hg.find_lot('NORTH', 'BOLT', '{SECRET}')", "SELECT lot_id FROM hg.find_lot('NORTH', 'BOLT', 'NOBODYS')"),
+            ("SELECT lot_id FROM hg.find_lot('NORTH', 'BOLT', 'S-1')", "SELECT lot_id FROM hg.find_lot('NORTH', 'NOBODY', 'S-1')"),
+        ):
+            assert work_of(base, known) == work_of(base, unknown), known
+        with base.cursor() as cursor:
+            copied = io.StringIO()
+            cursor.copy_expert(f"COPY (SELECT lot FROM hg.lots_of(ARRAY[{other}]::bigint[])) TO STDOUT", copied)
+            assert copied.getvalue() == ""
+
+
 def test_a_company_sees_its_own_and_what_it_used_of_the_plants(two):
     with contextlib.closing(two.cluster.connect(two.name, role_of(two, "ACME"))) as base:
         ((start,),) = [row[:1] for row in database.rows(base, "SELECT lot_id, file FROM hg.find_lot('NORTH', 'ACME', 'B-1')")]
@@ -213,6 +301,29 @@ def test_a_company_sees_its_own_and_what_it_used_of_the_plants(two):
         onward = database.rows(base, "SELECT DISTINCT dst FROM hg.onward(%s::bigint[])", (reached,))
         assert onward == [(start,)]
         assert [row[0] for row in database.rows(base, "SELECT office FROM hg.ages()")] == ["NORTH"]
+
+
+def reached(two, role: str, owner: str) -> dict[str, dict[int, int]]:
+    """What is told a role of recalls of an owner's lots, both ways, by their names."""
+    lots = two.rows(f"SELECT lot, lot_id FROM hg.lots WHERE owner = '{owner}' ORDER BY 1")
+    with contextlib.closing(two.cluster.connect(two.name, role)) as base:
+        return {f"{lot} {way}": recalls.trace(base, number, way).steps for lot, number in lots for way in (FORWARD, BACK)}
+
+
+def test_a_link_between_owners_is_the_plants_alone(two):
+    plant, roles = two.plants["NORTH"], {owner: role_of(two, owner) for owner in ("ACME", "BOLT")}
+    before = {owner: reached(two, role, owner) for owner, role in roles.items()}
+    between = {"kind": "plant-link", "spread": "residue", "day": 261127}
+    plant.note({**between, "owner": "ACME", "lot": "B-1", "of_owner": "BOLT", "of_lot": SECRET, "tells": True})
+    plant.note({**between, "owner": "BOLT", "order": "O-1", "batch": 1, "of_owner": "ACME", "of_order": "O-1", "of_batch": 1})
+    assert plant.publish() > 0 and plant.differences() == []
+    assert {owner: reached(two, role, owner) for owner, role in roles.items()} == before
+    ((used, product, secret),) = two.rows(f"""SELECT min(lot_id) FILTER (WHERE lot = 'S-1'), min(lot_id) FILTER (WHERE lot = 'B-1'),
+        (SELECT lot_id FROM hg.lots WHERE lot = '{SECRET}') FROM hg.lots WHERE owner = 'ACME'""")
+    quality = reached(two, "hg_quality", "ACME")
+    assert quality["S-1 forward"] == {used: 0, product: 1, secret: 1}  # the batch that took it was contained, too
+    assert quality["B-1 back"][secret] == 1 and quality["B-1 forward"] == {product: 0, secret: 1}
+    assert SECRET not in str(two.rows("SELECT value FROM hg.notes WHERE gid = 1"))
 
 
 def test_a_reader_sees_all_and_changes_nothing(two):

@@ -1,17 +1,23 @@
 """What an office publishes comes to its group once, whatever happens on the way; and what the group has is what the office has."""
 import contextlib
 import fcntl
+import pathlib
 import random
+import re
 import shutil
 import sqlite3
+import tempfile
+import time
 
 import psycopg2
 import pytest
-from group_of_plants import SHIP, Plant
+from conftest import Cluster
+from group_of_plants import SHIP, Plant, new_group
 from hilpoven.core.failure import Failure
-from hilpoven_group import publisher as publishers
+from hilpoven_group import database, publisher as publishers, settings
 from hilpoven_group import replica as replicas
 from hilpoven_group.numbers import place_of
+from hilpoven_group.tables import VERSIONS
 
 
 def busy(plant: Plant, at: int = 1) -> list[str]:
@@ -96,6 +102,39 @@ def test_what_was_changed_in_the_group_shows(plant, group):
     assert group.run("group", "verify").exit_code == 1
     group.rows("UPDATE hg.facts SET party = 'THIEF' RETURNING 1")
     assert any("of facts differ" in fault for fault in plant.differences())
+
+
+HEAD = "head = set_byte(head, 0, get_byte(head, 0) # 1)"  # done again, it is as before
+CHANGES = {  # of one row of each table
+    "materials": "measure = 'x' || measure",
+    "lots": "number = number + 1",
+    "moves": "segment = segment + 1",
+    "voids": "mkey = mkey || '-1'",
+    "results": "value = value + 1",
+    "notes": "value = value || ' '",
+    "states": "disposition = 1 - disposition",
+    "facts": "document = document || 'x'",
+    "links": "stands = NOT stands",
+    "standing": "fault = 'x'",
+}
+
+
+def test_each_row_that_the_superuser_changes_is_found(plant, group):
+    plant.publish()
+    known, printed = set(plant.differences()), set(group.ok("group", "verify").splitlines()[:-1])
+    assert known == printed == set()
+    for is_found in (True, False):
+        group.rows(f"UPDATE hg.heads SET {HEAD} WHERE ctid = (SELECT max(ctid) FROM hg.heads) RETURNING 1")
+        codes = plant.run("publish", "--check").exit_code, group.run("group", "verify").exit_code
+        assert codes == ((1, 1) if is_found else (0, 0))
+    for table, change in CHANGES.items():
+        group.rows(f"UPDATE hg.{table} SET {change} WHERE ctid = (SELECT max(ctid) FROM hg.{table}) RETURNING 1")
+        faults, lines = set(plant.differences()), set(group.run("group", "verify").stdout.splitlines()[:-1])
+        assert faults - known, table
+        assert lines - printed or table in VERSIONS, table  # what an office says now has no head: its own `verify` finds that
+        known, printed = faults, lines
+    group.rows("DELETE FROM hg.moves WHERE ctid = (SELECT min(ctid) FROM hg.moves) RETURNING 1")
+    assert set(plant.differences()) - known
 
 
 # What is lost on the way
@@ -202,6 +241,38 @@ def test_an_old_primary_is_refused_by_its_timeline(plant):
         publish.timeline, busy_again = 2, busy(plant, 2)  # as if it had written to a promoted standby
         publish.disconnect()
         assert busy_again and publish.step() is None and "timeline 1" in publish.state.fault
+
+
+def test_a_primary_that_was_cut_off_ends_with_a_publisher_connected(tmp_path, monkeypatch):
+    with tempfile.TemporaryDirectory(prefix="hg.", ignore_cleanup_errors=True) as folder:
+        cluster = Cluster(pathlib.Path(folder))
+        try:
+            with new_group(cluster, tmp_path, monkeypatch) as group:
+                plant = group.plant("NORTH")
+                with plant.publisher() as publish:
+                    assert publish.step() > 0
+                    with contextlib.closing(cluster.connect()) as base:
+                        waited = "SELECT string_agg(setting, ' ' ORDER BY name) FROM pg_settings WHERE name LIKE 'synchronous\\_%'"
+                        database.run(base, "ALTER SYSTEM SET synchronous_standby_names = 'nobody'")
+                        database.run(base, "SELECT pg_reload_conf()")
+                        eventually(lambda: "nobody" in database.value(base, waited))
+                    cluster.stop()  # in which its temporary tables go, and which fails if it takes a minute
+                cluster.start()
+                with contextlib.closing(cluster.connect()) as base:
+                    database.run(base, "SET synchronous_commit = local")
+                    database.run(base, "ALTER SYSTEM RESET synchronous_standby_names")
+                    database.run(base, "SELECT pg_reload_conf()")
+                assert plant.publish() == 0 and plant.differences() == []
+        finally:
+            cluster.stop("immediate")
+
+
+def eventually(is_so) -> None:
+    """Waits until something is so."""
+    until = time.monotonic() + 60
+    while not is_so():
+        assert time.monotonic() < until
+        time.sleep(0.05)
 
 
 # The copy that follows FILE
@@ -386,3 +457,38 @@ def test_the_database_is_away(plant, group, tmp_path):
         assert len(publish.lines) == 1 and publish.state.fault
     status = plant.run("publish", "status")
     assert status.exit_code == 1 and "ATTENTION" in status.stdout
+
+
+# How an office logs in
+
+
+def test_an_office_logs_in_as_what_is_beside_its_file_says(plant, group, tmp_path):
+    log_in = plant.file.with_name("office.db.group")
+    log_in.write_text(f"{group.database} user=hg_publisher_NORTH password=x\n")
+    log_in.chmod(0o640)
+    refused = plant.run("publish", "--once")
+    assert refused.exit_code == 2 and "others may read" in refused.stderr
+    log_in.chmod(0o600)
+    (group.folder / "group.toml").write_text("")
+    assert settings.of_office(plant.context()).database.endswith("user=hg_publisher_NORTH password=x")
+    first = plant.run("publish", "--once")
+    assert first.exit_code == 0 and "next: systemctl enable --now toll-publish@" in first.stderr
+    assert "next" not in plant.run("publish", "--once").stderr
+    log_in.rename(tmp_path / "aside")
+    log_in.symlink_to(tmp_path / "aside")
+    assert plant.run("publish", "--once").exit_code != 0  # a link is no file of the office's
+
+
+def test_each_command_of_a_group_tells_the_next(group):
+    added = group.run("group", "office", "add", "EAST", "--host", "db.example")
+    shell = re.search(r"echo '(host=db\.example dbname=\S+ user=hg_publisher_EAST password=[0-9a-f]{40} sslmode=require channel_binding=require)' \| install", added.stderr)
+    assert added.stdout == "EAST publishes as hg_publisher_EAST\n" and shell and "--member EAST OWNER" in added.stderr
+    hashed = group.rows("SELECT rolpassword FROM pg_authid WHERE rolname = 'hg_publisher_EAST'")[0][0]
+    assert hashed.startswith("SCRAM-SHA-256$") and shell[1].split("password=")[1][:40] not in hashed
+    group.ok("group", "office", "add", "WEST")
+    group.ok("group", "company", "add", "Acme", "--member", "EAST", "ACME", "--member", "WEST", "ACME-2", "--party", "WEST", "EASTCO", "EAST")
+    assert group.rows("SELECT o.name, m.owner FROM hg.members AS m JOIN hg.offices AS o USING (office) JOIN hg.companies AS c USING (gid) WHERE c.name = 'Acme' ORDER BY 1") == [("EAST", "ACME"), ("WEST", "ACME-2")]
+    assert group.rows("SELECT party, other FROM hg.parties") == [("EASTCO", 1)]
+    for words in (["--party", "WEST", "EASTCO", "EAST"], ["--member", "NOWHERE", "X"], ["--member", "EAST", "HOUSE"], ["--member", "EAST", "x y"]):
+        assert group.run("group", "company", "add", "Other", *words).exit_code in (1, 2), words
+    assert group.rows("SELECT count(*) FROM hg.companies WHERE name = 'Other'") == [(0,)]

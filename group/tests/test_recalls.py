@@ -1,18 +1,25 @@
 """A recall across offices is what sets in memory are, both ways, for the group and for each company; and what of it isn't sure is told."""
 import contextlib
+import csv
+import io
 import json
 import os
 import pathlib
 import random
 import shutil
+import sqlite3
 import subprocess
+import sys
 
 import pytest
-from group_of_plants import RECEIVE, ROOT, SHIP, TOLL, Group, Plant, Sets
+from group_of_plants import OWNERS, RECEIVE, ROOT, SHIP, TOLL, Group, Plant, Sets
+from hilpoven.core import private_server
 from hilpoven.model.genealogy import BACK, FORWARD
 from hilpoven_group import database, members, recalls
 from hilpoven_group.numbers import place_of
 
+sys.path.append(str(ROOT / "plant" / "tests" / "years"))
+import histories  # noqa: E402
 
 RECENT = 60  # of an owner's lots that a batch uses
 
@@ -20,15 +27,15 @@ RECENT = 60  # of an owner's lots that a batch uses
 class Works:
     """Plants in a ring that work at random, and send each other lots."""
 
-    def __init__(self, group: Group, seed: int, plants: int = 3, batches: int = 12) -> None:
-        self.group, self.dice, self.batches = group, random.Random(seed), batches
-        self.plants = [group.plant(f"P{at}") for at in range(1, plants + 1)]
+    def __init__(self, group: Group, seed: int, plants: int = 3, batches: int = 12, owners: tuple[str, ...] = OWNERS) -> None:
+        self.group, self.dice, self.batches, self.owners = group, random.Random(seed), batches, owners
+        self.plants = [group.plant(f"P{at}", owners) for at in range(1, plants + 1)]
         self.parties: dict[tuple[str, str, str], str] = {}
         self.notes: dict[str, list[dict]] = {plant.name: [] for plant in self.plants}
         self.sent: dict[tuple[str, str], list[tuple[str, str]]] = {}
         with contextlib.closing(group.cluster.connect(group.name)) as base:
             for plant, other in zip(self.plants, self.plants[-1:] + self.plants[:-1]):
-                for owner in ("ACME", "BOLT"):
+                for owner in owners:
                     members.add_party(base, plant.name, owner, "BEFORE", other.name)
                     self.parties[plant.name, owner, "BEFORE"] = other.name
 
@@ -43,7 +50,7 @@ class Works:
         dice = self.dice
         with plant.writing() as base:
             plant.receive(base, "HOUSE", f"W{file}", 10_000)
-            for owner in ("ACME", "BOLT"):
+            for owner in self.owners:
                 lots = [f"S{file}-{at}" for at in range(3)]
                 for lot in lots:
                     plant.receive(base, owner, lot)
@@ -87,15 +94,23 @@ class Works:
         self.happen()
         for plant in self.plants:
             assert plant.publish() > 0 and plant.differences() == []
+        return self.sets()
+
+    def sets(self) -> Sets:
+        """The same as sets in memory."""
         return Sets(self.plants, self.parties, self.notes)
+
+
+def names_of(group: Group) -> dict[int, tuple[str, int, str, str]]:
+    """What each lot is called: its plant, the file where it began, its owner and its name there, by its number."""
+    offices = dict(group.rows("SELECT office, name FROM hg.offices"))
+    rows = group.rows("SELECT lot_id, owner, lot FROM hg.lots WHERE NOT came ORDER BY lot_id")
+    return {number: (offices[place_of(number).office], place_of(number).file, owner, lot) for number, owner, lot in rows}
 
 
 def compare(group: Group, sets: Sets, base: object, owner: str = "") -> int:
     """Compares recalls of lots, of one owner's or of all, with sets; how many."""
-    offices = dict(group.rows("SELECT office, name FROM hg.offices"))
-    rows = group.rows("SELECT lot_id, owner, lot FROM hg.lots WHERE NOT came ORDER BY lot_id")
-    names = {number: (offices[place_of(number).office], place_of(number).file, lot_owner, lot) for number, lot_owner, lot in rows}
-    count = 0
+    names, count = names_of(group), 0
     for number, name in names.items():
         if owner in ("", name[2]):
             for way in (FORWARD, BACK):
@@ -223,3 +238,66 @@ def test_recalls_equal_those_of_toll(group, tmp_path):
     group.rows("UPDATE hg.moves SET segment = segment + 5 WHERE kind = 4 RETURNING 1")
     assert "recall" in plant.run("publish", "verify", "--full").stdout
     assert RECEIVE == 0
+
+
+# Offices that `toll` made, with files that were carried over
+
+
+@pytest.mark.skipif(not TOLL, reason="needs the program, by TOLL")
+@pytest.mark.parametrize("seed", [1, *(pytest.param(seed, marks=pytest.mark.long) for seed in range(2, 21))])
+def test_recalls_equal_those_of_years(group, tmp_path, seed):
+    plant = carried_over(group, tmp_path / "one.db", random.Random(seed), 40 if seed == 1 else 120)
+    assert plant.publish() > 0 and plant.differences() == []
+    files = sorted(path.name for path in plant.file.parent.glob("office*.db"))
+    assert len(files) == 3
+    lots = group.rows("SELECT l.owner, l.lot, f.name FROM hg.lots AS l JOIN hg.files AS f USING (office, file) WHERE NOT l.came ORDER BY l.lot_id")
+    assert len(lots) > 20
+    for owner, lot, file in lots:
+        for way, words in ((FORWARD, ["recall", owner, lot]), (BACK, ["trace", owner, lot, "back"])):
+            printed = group.ok("group", "recall", plant.name, owner, lot, way, "--in", file, "--json").partition("]\n")[0]  # without shipments
+            over_years = list(csv.DictReader(io.StringIO(group.ok("years", *words, "--in", file, "--csv", office=plant))))
+            ours = [{name: str(value) for name, value in row.items()} | {"came_in": row["file"]} for row in json.loads(printed + "]")]
+            same = over_years[0].keys() - {"noted"}
+            assert comparable(ours, same) == comparable(over_years, same), (owner, lot, file, way)
+
+
+def comparable(rows: list[dict], columns: set[str]) -> list[list]:
+    """These columns of rows, of which a lot that has another's name is called by its name alone."""
+    return sorted([row[name].partition(" ")[0] if name == "lot" else row[name] for name in sorted(columns)] for row in rows)
+
+
+def carried_over(group: Group, one: pathlib.Path, dice: random.Random, size: int) -> Plant:
+    """An office of three files whose history grew at random over one, with names that come again, and links between its lots in each file."""
+    plant = group.plant("YEARS")
+    for path in plant.file.parent.iterdir():
+        path.unlink()
+    with private_server.opened(TOLL, str(one)) as served:
+        growing = histories.Growing(served, dice, one)
+        growing.grow(size, 2)
+    parts = [[step for step in part if step != histories.CUT] for part in split_at(growing.steps, histories.CUT)]
+    names = {lot: name for lot, (name, _) in histories.named_again(growing, parts, 0.7).items()}
+    for number, part in enumerate(parts):
+        if number:
+            plant.run("carry-over", plant.file.with_name("next.db"), "--day", 260101)
+        with private_server.opened(TOLL, str(plant.file)) as office:
+            for step in part:
+                assert histories.accepts(office, histories.renamed(step, names)), step
+        link_some(plant, dice)
+    return plant
+
+
+def split_at(steps: list, cut: object) -> list[list]:
+    """The steps between cuts."""
+    at = [place for place, step in enumerate(steps) if step == cut]
+    return [steps[first:last] for first, last in zip([0, *(place + 1 for place in at)], [*at, len(steps)])]
+
+
+def link_some(plant: Plant, dice: random.Random) -> None:
+    """Notes links between lots and batches of the newest file, some of them between owners."""
+    with contextlib.closing(sqlite3.connect(plant.file)) as base:
+        lots = base.execute("SELECT owner, lot FROM lots ORDER BY rowid").fetchall()
+        batches = base.execute("SELECT owner, ord, number FROM batches ORDER BY rowid").fetchall()
+    for _ in range(4):
+        (owner, lot), (of_owner, of_lot), (of_batch, order, number) = dice.choice(lots), dice.choice(lots), dice.choice(batches)
+        of = ["--of-batch", order, number, "--of-owner", of_batch] if dice.random() < 0.5 else [of_lot, "--of-owner", of_owner]
+        plant.run("link", owner, lot, *of, "--why", dice.choice(("residue", "recovered", "transfer")))

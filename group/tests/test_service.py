@@ -1,5 +1,6 @@
 """The question service: each login asks under its own role, and nothing else is answered."""
 import base64
+import re
 
 import pytest
 from group_of_plants import SHIP
@@ -76,3 +77,15 @@ def test_a_database_that_is_away_is_told_without_its_address(group):
     client = service.application(settings.Group(database="host=/nowhere dbname=secret")).test_client()
     reply = client.get("/status", headers={"Authorization": "Basic " + base64.b64encode(b"a:b").decode()})
     assert reply.status_code == 503 and "secret" not in reply.text and "nowhere" not in reply.text
+
+
+def test_a_login_says_which_lines_of_postgresql_are_missing(group):
+    """They are commands of a shell, and none is told again once PostgreSQL has the line."""
+    group.plant("NORTH", owners=("ACME",))
+    added = group.run("group", "login", "add", "acme", "--company", "ACME")
+    assert re.fullmatch("[0-9a-f]{40}\n", added.stdout)
+    commands = added.stderr.strip().removeprefix("next, as root: ").split(" && ")
+    role = group.rows("SELECT role FROM hg.companies WHERE name = 'ACME'")[0][0]
+    assert commands[0].startswith(f"sed -i '1i local {group.name} hg_service,+hg_reader,+hg_company peer map=group' ")
+    assert commands[-3].startswith(f"echo group hilpoven-group {role} >> ")
+    assert commands[-2:] == ["systemctl reload postgresql", "systemctl enable --now hilpoven-group"]

@@ -6,12 +6,14 @@ from collections.abc import Iterator
 from dataclasses import dataclass, field
 from typing import Any
 
+from hilpoven import HOUSE
 from hilpoven.core.context import Context
 from hilpoven.core.journal.log import Journal
-from hilpoven.model.notes import Link, MovementFacts, Note, joined
-from hilpoven.model.register.keeping import OfficeFile as NotedFile, Reader
+from hilpoven.model.notes import Link, MovementFacts, Note, PlantLink, joined
+from hilpoven.model.register.keeping import IN_BATCH, OfficeFile as NotedFile, Reader
 from hilpoven.model.register.noted import Noted
 from hilpoven.model.register.standing import belonging, kept, statuses
+from hilpoven.model.rows import BatchId, LotId
 
 from .office import Office, Row
 
@@ -55,18 +57,21 @@ def read_notes(journal: Journal, office: Office) -> Notes:
         if note is None or file is None or note.owner not in (gids := office.files[file - 1].gids):
             continue
         own.faults[gids[note.owner], file, status.noted.name] = (status.fault,)
-        if not status.fault and isinstance(note, (MovementFacts, Link)):
+        if not status.fault and isinstance(note, (MovementFacts, Link, PlantLink)):
             for read in reader.read(status.noted, note):
                 add_standing(own, office, read)
     return own
 
 
 def add_row(own: Notes, office: Office, place: int, noted: Noted, number_of: dict[str, int]) -> None:
-    """Adds a note to those of its file, whether it stands or not."""
+    """Adds a note to those of its file, whether it stands or not, without what it says of another owner."""
     file = number_of.get(noted.after)
     if noted.note is not None and file is not None:
-        text = json.dumps(noted.value, sort_keys=True, separators=(",", ":"))
-        own.rows[file].append((place, noted.note.owner, (noted.name, noted.kind, text)))
+        owner = noted.note.owner
+        is_own = noted.value.get("of_owner", owner) in (owner, HOUSE)
+        value = {name: member for name, member in noted.value.items() if is_own or not name.startswith("of_")}
+        text = json.dumps(value, sort_keys=True, separators=(",", ":"))
+        own.rows[file].append((place, owner, (noted.name, noted.kind, text)))
 
 
 def add_standing(own: Notes, office: Office, note: Note) -> None:
@@ -76,34 +81,44 @@ def add_standing(own: Notes, office: Office, note: Note) -> None:
         gid = office.files[number - 1].gids.get(note.owner)
         if gid is not None:
             own.facts[gid, number, key] = joined(own.facts.get((gid, number, key)), note)
-    elif isinstance(note, Link):
-        number, name = unnumbered(note.of_lot)
-        src = office.lot(number, note.of_owner, name)
-        lot = batch = 0
-        if note.lot:
-            number, name = unnumbered(note.lot)
-            lot = office.lot(number, note.owner, name) or 0
-        else:
-            number, order = unnumbered(note.order)
-            batch = office.files[number - 1].batches.get((note.owner, order, note.batch), 0)
-        if src and (lot or batch):
-            own.links.add((office.files[number - 1].gids[note.owner], src, lot, batch))
+    elif isinstance(note, Link | PlantLink):
+        for src in contained_lots(office, note.contained):
+            add_link(own, office, note, src)
 
 
-def dispositions(office: Office) -> Said:
-    """The disposition of each lot, as the newest file has it that has the lot."""
-    claims: Said = {}
-    for file in office.files:
-        for owner, lot, disposition in file.base.execute("SELECT owner, lot, disposition FROM lots"):
-            if owner in file.gids:
-                claims[file.gids[owner], file.lots[owner, lot]] = (disposition,)
-    return claims
+def add_link(own: Notes, office: Office, note: Link | PlantLink, src: int) -> None:
+    """Adds that what a link is noted of contains a lot. A link of the plant's, which may join lots of two owners, is
+    HOUSE's, so that neither sees it."""
+    lot = batch = 0
+    if note.lot:
+        number, name = unnumbered(note.lot)
+        lot = office.lot(number, note.owner, name) or 0
+    else:
+        number, order = unnumbered(note.order)
+        batch = office.files[number - 1].batches.get((note.owner, order, note.batch), 0)
+    if lot or batch:
+        owner = HOUSE if isinstance(note, PlantLink) else note.owner
+        own.links.add((office.files[number - 1].gids[owner], src, lot, batch))
+
+
+def contained_lots(office: Office, end: LotId | BatchId) -> list[int]:
+    """The lots that a link says are contained: one, or all that a batch took or made; none if it isn't there."""
+    if isinstance(end, LotId):
+        number, name = unnumbered(end.name)
+        lots = [(end.owner, name)]
+    elif end.order:
+        number, order = unnumbered(end.order)
+        lots = office.files[number - 1].base.execute(IN_BATCH, (end.owner, order, end.number)).fetchall()
+    else:
+        return []
+    return [known for owner, lot in lots if (known := office.lot(number, owner, lot))]
 
 
 def said_by(office: Office, notes: Notes) -> dict[str, Said]:
     """What an office says now, by the names of the tables of versions."""
+    office.read_dispositions()
     return {
-        "states": dispositions(office),
+        "states": office.dispositions,
         "facts": {key: (fact.party, fact.supplier_lot, fact.document) for key, fact in notes.facts.items()},
         "links": {key: (True,) for key in notes.links},
         "standing": dict(notes.faults),

@@ -19,34 +19,45 @@ LOST = (psycopg2.OperationalError, psycopg2.InterfaceError)
 
 def connect(database: str, user: str = "") -> Connection:
     """A connection to the group's database, as a role unless the settings name one."""
-    if not database:
-        raise Failure("no group's database is named", WRONG_USE, f'database = ".." in {settings.PATH} says it')
     options: dict[str, Any] = {"connect_timeout": PATIENCE, "application_name": "hilpoven"}
-    try:
-        known = psycopg2.extensions.parse_dsn(database)
-    except psycopg2.ProgrammingError as error:
-        raise Failure(f"{settings.PATH}: database is wrong: {first_line(error)}", WRONG_USE) from error
+    known = parsed(database)
     if user and "user" not in known:
         options["user"] = user
     base: Connection = psycopg2.connect(database, **options)
     return base
 
 
+def parsed(database: str) -> dict[str, str]:
+    """What the settings say of the group's database, by libpq's names."""
+    try:
+        known: dict[str, str] = psycopg2.extensions.parse_dsn(database)
+    except psycopg2.ProgrammingError as error:
+        raise Failure(f"{settings.PATH}: database is wrong: {first_line(error)}", WRONG_USE) from error
+    return known
+
+
 @contextlib.contextmanager
 def opened(database: str, user: str = "", is_read_only: bool = False) -> Iterator[Connection]:
     """The group's database for one command: what it does is kept if nothing fails. Each fault is a failure."""
+    with failing(database), contextlib.closing(connect(database, user)) as base:
+        if is_read_only:
+            base.set_session("REPEATABLE READ", readonly=True)
+        with base:
+            yield base
+
+
+@contextlib.contextmanager
+def failing(database: str) -> Iterator[None]:
+    """Has each fault of the group's database be a failure."""
     try:
-        with contextlib.closing(connect(database, user)) as base:
-            if is_read_only:
-                base.set_session("REPEATABLE READ", readonly=True)
-            with base:
-                yield base
+        yield
     except psycopg2.errors.InsufficientPrivilege as error:
         raise Failure(f"the group's database refuses that: {first_line(error)}", REFUSED) from error
     except psycopg2.errors.UniqueViolation as error:
         raise Failure(f"that is there already: {detail_of(error)}", REFUSED) from error
     except psycopg2.Error as error:
-        raise Failure(f"the group's database: {first_line(error)}", FAULT) from error
+        advice = f'database = ".." in {settings.PATH} says where it is' if database == settings.LOCAL else ""
+        raise Failure(f"the group's database: {first_line(error)}", FAULT, advice) from error
 
 
 def first_line(error: Exception) -> str:

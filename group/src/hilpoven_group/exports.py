@@ -7,24 +7,30 @@ rows, tells events apart. A voided actual is in no event.
 import hashlib
 import json
 from collections import defaultdict
-from collections.abc import Sequence
+from collections.abc import Mapping, Sequence
 from dataclasses import dataclass
 from datetime import datetime, timezone
 from typing import Any, NamedTuple
 from urllib.parse import quote
 
+from hilpoven import HOUSE
+from hilpoven.core import gs1
 from hilpoven.core.days import date_of
 from hilpoven.core.failure import WRONG_USE, Failure
 from hilpoven.core.table import csv_of, as_cell
 from hilpoven.model.genealogy import BACK
+from hilpoven.model.notes import MaterialFacts, Note, OwnerFacts, Party, joined
+from hilpoven.model.register.noted import from_json
 from hilpoven.model.schema import Kind
 
 from . import database, recalls, settings
 from .database import Connection
+from .numbers import FIRST_HOUSE, place_of
 
-# Unit codes of UN/ECE Recommendation 20, by measures of materials in small letters.
+# Unit codes of UN/ECE Recommendation 20 where none is noted, by measures of materials in small letters.
 UNITS = {"kg": "KGM", "g": "GRM", "mg": "MGM", "t": "TNE", "l": "LTR", "liter": "LTR", "litre": "LTR", "ml": "MLT"}
 UNITS |= {"pcs": "H87", "piece": "H87", "pieces": "H87"}
+GS1 = "https://id.gs1.org"
 CONTEXT = "https://ref.gs1.org/standards/epcis/2.0.0/epcis-context.jsonld"
 STEPS = {
     Kind.RECEIVE: ("receiving", "OBSERVE", "in_progress"),
@@ -38,7 +44,7 @@ TRACKED = {
     Kind.PRODUCED: "transformation: food produced",
 }
 FSMA_COLUMNS = (
-    *("event", "traceability lot code", "source of the code", "product", "quantity", "unit", "location", "GLN"),
+    *("event", "traceability lot code", "source of the code", "product", "GTIN", "quantity", "unit", "location", "GLN"),
     *("other party", "other GLN", "date", "reference document", "lot here"),
 )
 EVENTS = """
@@ -87,18 +93,41 @@ def read(base: Connection, starts: list[int], way: str, uri: str) -> "Export":
         )
     ids = sorted({lot for start in starts for lot in recalls.trace(base, start, way).steps})
     rows = [Happened(*row) for row in database.rows(base, EVENTS, (ids, way == BACK))]
+    all_ids = sorted({*ids, *(row.lot for row in rows)})
     sql = "SELECT lot_id, office, owner, lot, material, measure FROM hg.lots_of(%s::bigint[])"
-    lots = {row[0]: Lot(*row[1:]) for row in database.rows(base, sql, (sorted({*ids, *(row.lot for row in rows)}),))}
-    return Export(rows, lots, uri.rstrip("/"))
+    lots = {row[0]: Lot(*row[1:]) for row in database.rows(base, sql, (all_ids,))}
+    return Export(rows, lots, uri.rstrip("/"), described(base, all_ids))
+
+
+# Notes by an office's number, a company, a kind, and what names the thing there.
+Described = Mapping[tuple[object, ...], Note]
+
+
+def described(base: Connection, lots: list[int]) -> Described:
+    """What plants noted of the owners of lots and of themselves, and of materials and parties: of several notes of a
+    thing the last one that says a member counts."""
+    places = set(map(place_of, lots))
+    gids = sorted({place.gid for place in places} | {FIRST_HOUSE + place.office for place in places})
+    facts: dict[tuple[object, ...], Note] = {}
+    for office, gid, value in database.rows(base, "SELECT office, gid, value FROM hg.descriptions(%s)", (gids,)):
+        if note := from_json(json.loads(value)):
+            key = (office, gid, note.KIND, *note.subject)
+            before = facts.get(key)
+            if isinstance(note, Party) and isinstance(before, Party):
+                facts[key] = note.over(before)
+            else:
+                facts[key] = joined(before, note)
+    return facts
 
 
 @dataclass(frozen=True)
 class Export:
-    """Movements of the lots of a recall, and what these lots are called."""
+    """Movements of the lots of a recall, what these lots are called, and what is noted of all that they name."""
 
     rows: Sequence[Happened]
     lots: dict[int, Lot]
     uri: str
+    described: Described
 
     def name(self, *parts: object) -> str:
         """The URI of a thing."""
@@ -106,9 +135,35 @@ class Export:
 
     def quantity(self, lot: int, amount: int) -> Json:
         """How much of a lot, with the unit code of its measure if that has one."""
-        of = self.lots[lot]
-        unit = {"uom": UNITS[of.measure.lower()]} if of.measure.lower() in UNITS else {}
-        return {"epcClass": self.name(of.office, "lot", of.owner, of.name), "quantity": amount, **unit}
+        unit = self.material(lot).unit_code or UNITS.get(self.lots[lot].measure.lower())
+        return {"epcClass": self.lot(lot), "quantity": amount, **({"uom": unit} if unit else {})}
+
+    def lot(self, lot: int) -> str:
+        """The URI of a lot: by the GTIN of its material, if that has one."""
+        of, gtin = self.lots[lot], self.material(lot).gtin
+        return f"{GS1}/01/{gtin:0>14}/10/{of.name}" if gtin else self.name(of.office, "lot", of.owner, of.name)
+
+    def material(self, lot: int) -> MaterialFacts:
+        """What is noted of the material of a lot."""
+        of, place = self.lots[lot], place_of(lot)
+        note = self.described.get((place.office, place.gid, MaterialFacts.KIND, of.owner, of.material))
+        return note if isinstance(note, MaterialFacts) else MaterialFacts(of.owner, of.material)
+
+    def gln(self, row: Happened) -> str:
+        """The GLN of an office, which is the plant's own where the group has none; empty if there is none."""
+        office = place_of(row.lot).office
+        return row.gln or self.owner_gln(office, FIRST_HOUSE + office, HOUSE)
+
+    def owner_gln(self, office: int, gid: int, owner: str) -> str:
+        """The GLN that an office noted of an owner; empty if there is none."""
+        note = self.described.get((office, gid, OwnerFacts.KIND, owner))
+        return note.gln if isinstance(note, OwnerFacts) else ""
+
+    def party_gln(self, row: Happened) -> str:
+        """The GLN of a party: that of its office, if it is one of the group; empty if there is none."""
+        place = place_of(row.lot)
+        note = self.described.get((place.office, row.gid, Party.KIND, self.lots[row.lot].owner, row.party))
+        return row.other_gln or (note.gln if isinstance(note, Party) else "")
 
     def event(self, kind: str, rows: Sequence[Happened], **members: Any) -> Json:
         """An event of rows of one office."""
@@ -127,22 +182,28 @@ class Export:
 
     def place(self, row: Happened) -> str:
         """The URI of an office: by its GLN, if it has one."""
-        return f"https://id.gs1.org/414/{row.gln}" if row.gln else self.name(row.office)
+        gln = self.gln(row)
+        return f"{GS1}/414/{gln}" if gln else self.name(row.office)
 
     def other(self, row: Happened) -> str:
-        """The URI of a party: by the GLN of its office, if it has one."""
-        return f"https://id.gs1.org/417/{row.other_gln}" if row.other_gln else self.name(row.office, "party", row.party)
+        """The URI of a party: by its GLN, if it has one."""
+        gln = self.party_gln(row)
+        return f"{GS1}/417/{gln}" if gln else self.name(row.office, "party", row.party)
 
     def observed(self, row: Happened) -> Json:
         """The event of a receipt, a shipment or a scrap."""
         step, action, disposition = STEPS[Kind(row.kind)]
+        own_end, other_end = ("destination", "source") if row.kind == Kind.RECEIVE else ("source", "destination")
         extras: Json = {}
-        if row.document:
+        if row.document and not gs1.SSCC.fault(row.document):
+            extras["epcList"] = [f"{GS1}/00/{row.document}"]  # the pallet
+        elif row.document:
             document = self.name(row.office, "document", row.document)
             extras["bizTransactionList"] = [{"type": "desadv", "bizTransaction": document}]
+        if gln := self.owner_gln(place_of(row.lot).office, row.gid, self.lots[row.lot].owner):
+            extras[f"{own_end}List"] = [{"type": "owning_party", own_end: f"{GS1}/417/{gln}"}]
         if row.party:
-            end = "source" if row.kind == Kind.RECEIVE else "destination"
-            extras[f"{end}List"] = [{"type": "possessing_party", end: self.other(row)}]
+            extras[f"{other_end}List"] = [{"type": "possessing_party", other_end: self.other(row)}]
         if row.supplier_lot:
             extras["hilpoven:supplierLot"] = row.supplier_lot
         quantities = [self.quantity(row.lot, row.amount)]
@@ -163,7 +224,7 @@ class Export:
             new = [row for row in inputs if row.key not in done]
             used = [self.quantity(*pair) for pair in totals(new).items()]
             again = {row.lot for row in inputs} - {row.lot for row in new}
-            used += [{"epcClass": self.quantity(lot, 0)["epcClass"]} for lot in sorted(again)]
+            used += [{"epcClass": self.lot(lot)} for lot in sorted(again)]
             done |= {row.key for row in inputs}
             named = {
                 "bizStep": "commissioning",
@@ -208,10 +269,12 @@ class Export:
                     code,
                     source,
                     f"{lot.owner} {lot.material}",
+                    self.material(row.lot).gtin,
                     row.amount,
                     lot.measure,
                 ]
-                cells += [row.office, row.gln, row.party, row.other_gln, str(day or row.day), document, lot.name]
+                cells += [row.office, self.gln(row), row.party, self.party_gln(row)]
+                cells += [str(day or row.day), document, lot.name]
                 lines.append(list(map(as_cell, cells)))
         return csv_of(lines)
 

@@ -1,19 +1,34 @@
 """`hilpoven group` and its subcommands."""
 import contextlib
+import socket
 import sys
 from collections.abc import Iterator
+from shlex import quote
 
 import click
 
 from hilpoven.cli.output import give_table, tell
+from hilpoven.core import settings as site
 from hilpoven.core.context import Context
-from hilpoven.core.failure import REFUSED, printable
+from hilpoven.core.failure import REFUSED, WRONG_USE, Failure, printable
 from hilpoven.model.genealogy import BACK, FORWARD
 
 from . import database, exports, members, recalls, settings
 from .database import Connection
 from .tables import TABLES
 
+# The secret says to each side who the other is, and whose connection it is.
+ENCRYPTED = "sslmode=require channel_binding=require"
+# What comes next, as commands to be copied.
+LET_IN = """next, as root: let offices in by their passwords, and listen for them
+  echo {rule} >> {hba} && \\
+  sudo -u postgres psql -qc "ALTER SYSTEM SET listen_addresses = '*'" && systemctl restart postgresql
+then each office: sudo -u postgres hilpoven group office add NAME"""
+ON_PLANT = """next, on its machine as root, if the office is called {plant} there too
+  echo {reached} | install -o toll -g toll -m 600 /dev/stdin {file}
+  hilpoven --office {plant} publish --once
+and here, each company with the owners that it is
+  sudo -u postgres hilpoven group company add COMPANY --member {plant} OWNER"""
 COMPUTED = "SELECT office, file, tbl, owner, n, head, told, told_head FROM hg.computed_heads(%s)"
 
 
@@ -27,22 +42,38 @@ def asked(context: Context, is_read_only: bool = True) -> Iterator[Connection]:
 
 def init(context: Context) -> None:
     """`hilpoven group init`."""
+    context.person.require_operator("group")
+    name = members.make_database(settings.load().database)
     with asked(context, is_read_only=False) as base:
         members.init(base)
-    click.echo("the group's tables are made")
+        hba = database.value(base, "SELECT current_setting('hba_file')")
+    click.echo(f"the group's tables are made in the database {name}")
+    tell(LET_IN.format(rule=quote(f"hostssl {name} +hg_publisher all scram-sha-256"), hba=quote(hba)))
 
 
-def office_add(context: Context, plant: str, gln: str) -> None:
+def office_add(context: Context, plant: str, gln: str | None, host: str | None) -> None:
     """`hilpoven group office add`."""
     with asked(context, is_read_only=False) as base:
-        role = members.add_office(base, plant, gln)
-    click.echo(printable(f"{plant} publishes as {role}"))
+        secret = members.add_office(base, plant, gln)
+        name = database.value(base, "SELECT current_database()")
+    role, file = f"{members.PUBLISHER}{plant}", f"{site.DATA}/{plant}/office.db{settings.LOG_IN}"
+    reached = f"host={host or socket.getfqdn()} dbname={name} user={role} password={secret} {ENCRYPTED}"
+    click.echo(f"{plant} publishes as {role}")
+    tell(ON_PLANT.format(plant=plant, reached=quote(reached), file=file))
 
 
-def company_add(context: Context, company: str) -> None:
+def company_add(
+    context: Context, company: str, owners: tuple[tuple[str, str], ...], parties: tuple[tuple[str, str, str], ...]
+) -> None:
     """`hilpoven group company add`."""
     with asked(context, is_read_only=False) as base:
         role = members.add_company(base, company)
+        for plant, owner in owners:
+            members.add_member(base, plant, owner, company, since=1)
+        for plant, party, other in parties:
+            if not (named := [owner for at, owner in owners if at == plant]):
+                raise Failure(f"--party {plant}: the company has no --member there", WRONG_USE)
+            members.add_party(base, plant, named[0], party, other)
     click.echo(printable(f"the question service asks for {company} as {role}"))
 
 
@@ -61,8 +92,10 @@ def party(context: Context, plant: str, owner: str, party: str, office: str) -> 
 def login_add(context: Context, login: str, company: str | None) -> None:
     """`hilpoven group login add`."""
     with asked(context, is_read_only=False) as base:
-        secret = members.add_login(base, login, company)
+        secret, role = members.add_login(base, login, company)
+        commands = members.lines_missing(base, role)
     click.echo(secret)
+    tell("next, as root: " + " && ".join([*commands, "systemctl enable --now hilpoven-group"]) if commands else "")
 
 
 def login_remove(context: Context, login: str) -> None:

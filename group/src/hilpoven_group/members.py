@@ -1,8 +1,13 @@
 """Who belongs to a group: offices, companies, which owner of an office is which company, and which party of a company
 is another office. The group's administrator says so."""
+import contextlib
 import os
 import re
+import shlex
 from importlib.resources import files
+from typing import Any, cast
+
+from psycopg2 import extensions
 
 from hilpoven import HOUSE
 from hilpoven.core.failure import REFUSED, WRONG_USE, Failure
@@ -13,13 +18,27 @@ from .database import Connection
 from .numbers import FIRST_HOUSE, MOST_FILES, MOST_OFFICES
 
 PLANT = re.compile("[A-Za-z0-9][A-Za-z0-9_.-]{0,31}")
-SECRET, QUALITY = 20, "hg_quality"  # bytes of a login's secret; the role of logins of no company
+PUBLISHER = "hg_publisher_"  # the beginning of the roles as which offices publish
+# Bytes of a secret; the role of logins of no company; and that as which the service looks logins up.
+SECRET, QUALITY, SERVICE = 20, "hg_quality", "hg_service"
+SERVICE_USER = "hilpoven-group"  # as whom the service runs
 MOST_LETTERS = 60  # of a company's name
-GLN = re.compile("[0-9]{13}")
 PARTY = """
 INSERT INTO hg.parties (gid, office, party, other) VALUES (%s, %s, %s, %s)
 ON CONFLICT (gid, office, party) DO UPDATE SET other = excluded.other
 """
+
+
+def make_database(dsn: str) -> str:
+    """Makes the database that the settings name, unless it is there; its name."""
+    if not (named := database.parsed(dsn).get("dbname", "")):
+        raise Failure("the settings name no database", WRONG_USE, "such as dbname=hilpoven")
+    beside = extensions.make_dsn(dsn, dbname="postgres")
+    with database.failing(dsn), contextlib.closing(database.connect(beside)) as base:
+        base.autocommit = True  # PostgreSQL makes no database within a transaction
+        if not database.value(base, "SELECT 1 FROM pg_database WHERE datname = %s", (named,)):
+            database.run(base, f"CREATE DATABASE {quoted(base, named)} TEMPLATE template0 ENCODING 'UTF8' LOCALE 'C'")
+    return named
 
 
 def init(base: Connection) -> None:
@@ -58,23 +77,25 @@ def require_plant(name: str) -> None:
         )
 
 
-def add_office(base: Connection, name: str, gln: str) -> str:
-    """Adds an office, whose own stock is a company of its own; the role as which it publishes."""
+def add_office(base: Connection, name: str, gln: str | None = None) -> str:
+    """Adds an office, whose own stock is a company of its own; the secret with which it publishes, as a role of its
+    name, which is told once."""
     require_plant(name)
-    if gln and not is_gln(gln):
-        raise Failure(f"{gln} is no GLN: 13 digits, of which the last is a check", WRONG_USE)
     number = database.value(base, "SELECT coalesce(max(office), 0) + 1 FROM hg.offices")
     if number > MOST_OFFICES:
         raise Failure(f"a group has at most {MOST_OFFICES:,} offices", REFUSED)
-    role = f"hg_publisher_{name}"
+    role = f"{PUBLISHER}{name}"
     sql = "INSERT INTO hg.offices (office, name, publisher, gln) VALUES (%s, %s, %s, %s)"
-    database.run(base, sql, (number, name, role, gln))
+    database.run(base, sql, (number, name, role, gln or ""))
     sql = "INSERT INTO hg.companies (gid, name, house) VALUES (%s, %s, %s)"
     database.run(base, sql, (FIRST_HOUSE + number, f"{HOUSE} of {name}", number))
     sql = "INSERT INTO hg.members (office, owner, since, gid) VALUES (%s, %s, 1, %s)"
     database.run(base, sql, (number, HOUSE, FIRST_HOUSE + number))
     make_role(base, role, "hg_publisher")
-    return role
+    secret = os.urandom(SECRET).hex()
+    hashed = cast(Any, extensions).encrypt_password(secret, role, scope=base, algorithm="scram-sha-256")
+    database.run(base, f"ALTER ROLE {quoted(base, role)} PASSWORD %s", (hashed,))
+    return secret
 
 
 def make_role(base: Connection, role: str, of: str) -> None:
@@ -97,9 +118,9 @@ def add_company(base: Connection, name: str) -> str:
     return role
 
 
-def add_login(base: Connection, login: str, company: str | None) -> str:
+def add_login(base: Connection, login: str, company: str | None) -> tuple[str, str]:
     """Adds a login of the question service, of a company or, without one, of the group's quality people; the secret,
-    which is told once."""
+    which is told once, and the role as which it asks."""
     require_plant(login)
     sql = "SELECT role FROM hg.companies WHERE name = %s AND role IS NOT NULL"
     role = database.value(base, sql, (company,)) if company else QUALITY
@@ -108,7 +129,25 @@ def add_login(base: Connection, login: str, company: str | None) -> str:
     secret = os.urandom(SECRET).hex()
     sql = "INSERT INTO hg.logins (login, secret, role) VALUES (%s, sha256(%s), %s)"
     database.run(base, sql, (login, secret.encode(), role))
-    return secret
+    return secret, role
+
+
+def lines_missing(base: Connection, role: str) -> list[str]:
+    """Shell commands that let the question service log in as a role, as far as PostgreSQL's files don't yet."""
+    hba, ident, name = (
+        database.value(base, f"SELECT {of}")
+        for of in ("current_setting('hba_file')", "current_setting('ident_file')", "current_database()")
+    )
+    commands = []
+    sql = "SELECT 1 FROM pg_hba_file_rules WHERE type = 'local' AND 'map=group' = ANY (options)"
+    if not database.value(base, sql):
+        rule = f"local {name} {SERVICE},+hg_reader,+hg_company peer map=group"
+        commands.append(f"sed -i {shlex.quote(f'1i {rule}')} {shlex.quote(hba)}")
+    sql = "SELECT 1 FROM pg_ident_file_mappings WHERE map_name = 'group' AND sys_name = %s AND pg_username = %s"
+    for mapped in (SERVICE, role):
+        if not database.value(base, sql, (SERVICE_USER, mapped)):
+            commands.append(f"echo group {SERVICE_USER} {mapped} >> {shlex.quote(ident)}")
+    return [*commands, "systemctl reload postgresql"] if commands else []
 
 
 def remove_login(base: Connection, login: str) -> None:
@@ -162,14 +201,3 @@ def add_party(base: Connection, plant: str, owner: str, party: str, other: str) 
         raise Failure(f"{plant} is no party of itself", WRONG_USE)
     words = (company_of(base, office, owner), office, party, at)
     database.run(base, PARTY, words)
-
-
-def is_gln(text: str) -> bool:
-    """Whether a text is a GLN of GS1: 13 digits, of which the last is a check of the others."""
-    return bool(GLN.fullmatch(text)) and check_digit(text[:-1]) == text[-1]
-
-
-def check_digit(digits: str) -> str:
-    """GS1's check digit: weights 3 and 1 in turn, from the last digit on."""
-    total = sum(int(digit) * (3, 1)[at % 2] for at, digit in enumerate(reversed(digits)))
-    return str(-total % 10)

@@ -21,7 +21,7 @@ from hilpoven.core import files as disk
 from hilpoven.core.context import Context
 from hilpoven.core.failure import FAULT, REFUSED, Failure
 
-from . import current, database, office as offices
+from . import current, database, members, office as offices
 from .current import Notes, Said
 from .database import LOST, Connection
 from .numbers import Head, first_head, line_of, text_of
@@ -50,6 +50,7 @@ SELECT (SELECT count(*) FROM moved) + (SELECT count(*) FROM begun), (SELECT coun
 BEGUN = """
 INSERT INTO hg.files (office, file, name) VALUES (%(office)s, %(file)s, %(name)s) ON CONFLICT DO NOTHING
 """
+CONFIRMED = "SET LOCAL synchronous_commit = on"  # the commit counts once the synchronous standby has it
 HEADS = "SELECT file, gid, tbl, n, head FROM hg.heads WHERE office = %s"
 LEVEL = """
 INSERT INTO hg.looked (office, at) VALUES (%s, clock_timestamp())
@@ -142,12 +143,19 @@ class SetBack:
 @dataclass
 class Progress:
     """How far the group is: its heads, up to which place of each file's tables it has all rows, how many rows of an
-    owner it has behind such a place, and what it has last of what the office says."""
+    owner it has behind such a place, what it had last of what the office says, and what it has otherwise since."""
 
     heads: dict[Key, Head] = field(default_factory=dict)
     places: dict[tuple[int, str], int] = field(default_factory=dict)
     skip: dict[Key, int] = field(default_factory=dict)
     claims: dict[str, Said] = field(default_factory=dict)
+    later: dict[str, Said] = field(default_factory=dict)
+
+    def settle(self) -> None:
+        """Has what it has since be what it had last."""
+        for name, versions in self.later.items():
+            self.claims[name] |= versions
+        self.later = {}
 
 
 class Publisher:
@@ -169,15 +177,15 @@ class Publisher:
     # The database
 
     def connect(self) -> Connection:
-        """A connection, on which a commit counts once the synchronous standby has it. Fails on an earlier timeline than
-        one that was written to: the old primary, started again."""
-        base = database.connect(self.group.database, f"hg_publisher_{self.group.plant}")
+        """A connection, whose temporary tables go without waiting for a standby: a primary that was cut off couldn't
+        end otherwise. Fails on an earlier timeline than one that was written to: the old primary, started again."""
+        base = database.connect(self.group.database, f"{members.PUBLISHER}{self.group.plant}")
         try:
             timeline = int(database.value(base, "SELECT pg_walfile_name(pg_current_wal_lsn())")[:8], 16)
             if timeline < self.timeline:
                 raise Overtaken(f"this server is of timeline {timeline}, and timeline {self.timeline} was written to")
             self.timeline = timeline
-            database.run(base, "SET synchronous_commit = on")
+            database.run(base, "SET synchronous_commit = local")
             database.run(base, "SET jit = off")
             for name, columns in STAGES.items():
                 database.run(base, f"CREATE TEMP TABLE {name} {columns} ON COMMIT DELETE ROWS")
@@ -199,7 +207,7 @@ class Publisher:
         """The office as its files are now, with the numbers that the group gave it and its owners."""
         rows = database.rows(base, "SELECT office, name FROM hg.offices")
         if not rows:
-            why = f"the group has no office whose publisher is hg_publisher_{self.group.plant}"
+            why = f"the group has no office whose publisher is {members.PUBLISHER}{self.group.plant}"
             raise Failure(why, REFUSED, "`group office add` adds one")
         ((number, name),) = rows
         self.members, self.scans = self.read_members(base), self.replica.scans
@@ -259,6 +267,7 @@ class Publisher:
             theirs = self.read_heads(self.base, self.office)
             for known in filter(None, (self.at, self.doubt)):
                 if theirs == known.heads:
+                    known.settle()
                     self.at, self.doubt = known, None
                     self.base.commit()
                     return []
@@ -340,6 +349,7 @@ class Publisher:
         """Has the group put aside what the office doesn't have, in one transaction; then it is computed anew where the
         group is."""
         assert self.base is not None
+        database.run(self.base, CONFIRMED)
         for file in sorted({part.key[0] for part in back}):
             database.run(self.base, "SELECT hg.new_epoch(%s::smallint)", (file,))
         for part in back:
@@ -381,31 +391,34 @@ class Publisher:
         batch.count += 1
 
     def stage_versions(self, at: Progress, batch: Batch) -> dict[str, Said]:
-        """Adds what the office says otherwise now than the group has it; all that is said then."""
+        """Adds what the office says otherwise now than the group has it, which is what is given."""
         assert self.office is not None
-        claims = current.said_by(self.office, self.notes)
-        for name, versions in VERSIONS.items():
-            before = at.claims[name]
-            claims[name] = {**dict.fromkeys(before, versions.gone), **claims[name]}
-            new = {key: value for key, value in claims[name].items() if before.get(key) != value}
+        later: dict[str, Said] = {}
+        for name, claims in current.said_by(self.office, self.notes).items():
+            before, gone = at.claims[name], VERSIONS[name].gone
+            new = {key: value for key, value in claims.items() if before.get(key) != value}
+            new |= {key: gone for key, value in before.items() if value != gone and key not in claims}
             batch.lines[f"stage_{name}"] += ["\t".join(map(cell_of, (*key, *value))) for key, value in new.items()]
             batch.count += len(new)
-        return claims
+            later[name] = new
+        return later
 
-    def send(self, at: Progress, batch: Batch, claims: dict[str, Said]) -> Progress:
+    def send(self, at: Progress, batch: Batch, later: dict[str, Said]) -> Progress:
         """One transaction: the heads, which move from where they were alone, and the rows; where the group is then."""
         assert self.base is not None
-        then = Progress({**at.heads, **batch.heads}, {**at.places, **batch.places}, batch.skipped, claims)
+        then = Progress({**at.heads, **batch.heads}, {**at.places, **batch.places}, batch.skipped, at.claims, later)
         self.doubt = then
         if batch.count:
             with self.base, self.base.cursor() as cursor:
                 self.add(cursor, batch)
+        then.settle()
         self.at, self.doubt = then, None
         self.sent += batch.count
         return then
 
     def add(self, cursor: Any, batch: Batch) -> None:
         """Adds what is sent, within a transaction."""
+        cursor.execute(CONFIRMED)
         words = {"office": batch.file.office, "file": batch.file.number, "name": batch.file.name}
         cursor.execute(BEGUN, words)
         for stage, lines in batch.lines.items():
@@ -435,7 +448,7 @@ class Publisher:
                 batch = self.staged(at, file)
                 is_all = batch.is_all
                 is_last = is_all and file is self.office.newest
-                at = self.send(at, batch, self.stage_versions(at, batch) if is_last else at.claims)
+                at = self.send(at, batch, self.stage_versions(at, batch) if is_last else {})
         self.is_new = False
         if self.sent != start or time.monotonic() - self.level_at >= LEVEL_EVERY:
             self.say_level(self.base, self.office)
@@ -445,6 +458,7 @@ class Publisher:
     def say_level(self, base: Connection, office: Office) -> None:
         """Has the group know that the office has nothing more, and looks whether owners became companies since."""
         with base:
+            database.run(base, CONFIRMED)
             database.run(base, LEVEL, (office.number,))
             if self.read_members(base) != self.members:
                 self.at = None

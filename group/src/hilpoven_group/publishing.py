@@ -25,7 +25,7 @@ def say(line: str) -> None:
 def publish_group(context: Context, once: bool, is_check: bool, accepted: int | None) -> None:
     """`hilpoven publish`."""
     context.person.require_operator("publish")
-    group = settings.of_office(context)
+    group, is_first = settings.of_office(context), publisher.load_state(context.file) is None
     with publisher.publishing(context, group, say) as publish:
         if is_check or accepted is not None:
             back = resumed(publish)
@@ -43,6 +43,7 @@ def publish_group(context: Context, once: bool, is_check: bool, accepted: int | 
         if publish.step() is None:
             raise Failure(publish.state.fault, FAULT)
         click.echo(f"sent {publish.sent:,}; {counted(publish)}")
+        tell(f"next: systemctl enable --now toll-publish@{context.settings.office}" if is_first else "")
 
 
 def resumed(publish: Publisher) -> list[publisher.SetBack]:

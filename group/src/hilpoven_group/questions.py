@@ -139,14 +139,22 @@ WHERE NOT m.came AND (m.lot_id = ANY (ids) AND m.kind IN ({Kind.RECEIVE:d}, {Kin
   OR m.batch_id IN (SELECT b.batch_id FROM hg.standing_moves AS b WHERE b.lot_id = ANY (ids) AND b.batch_id <> 0
     AND (b.kind = {Kind.PRODUCED:d} OR b.kind = {Kind.CONSUMED:d} AND NOT is_back)))
 ORDER BY o.name, m.day, m.gid, m.n"""
+# What the plants noted of companies, their materials and their parties, each note before those that count more.
+DESCRIPTIONS = """
+SELECT n.office, n.gid, n.value FROM hg.notes AS n
+JOIN hg.current_standing AS s ON s.gid = n.gid AND s.office = n.office AND s.file = n.file AND s.note = n.note
+WHERE n.gid = ANY (gids) AND n.kind IN ('owner', 'material', 'party') AND s.fault = ''
+ORDER BY n.office, n.gid, n.file, n.n"""
 # Receipts into lots that match shipments of several lots: all are followed.
 AMBIGUOUS = f"""
 SELECT DISTINCT x.dst FROM hg.matched AS x JOIN hg.matched AS y ON {SAME_KEY.format('y', 'x')} AND y.src <> x.src
 WHERE x.dst = ANY (ids)"""
+# All members that whoever asks may see are read first: an index would find those of others by their names, and take
+# another time for them.
 FIND = """
+WITH known AS MATERIALIZED (SELECT m.gid, m.owner, y.name FROM hg.members AS m JOIN hg.offices AS y USING (office))
 SELECT l.lot_id, f.name FROM hg.lots AS l JOIN hg.offices AS o USING (office) JOIN hg.files AS f USING (office, file)
-WHERE l.gid IN (SELECT m.gid FROM hg.members AS m JOIN hg.offices AS y USING (office)
-    WHERE y.name = in_office AND m.owner = in_owner)
+WHERE l.gid IN (SELECT k.gid FROM known AS k WHERE k.name = in_office AND k.owner = in_owner)
   AND o.name = in_office AND l.owner = in_owner AND l.lot = in_lot AND NOT l.came ORDER BY l.file"""
 AGES = """
 SELECT o.name, k.at, extract(epoch FROM clock_timestamp() - k.at)::double precision
@@ -187,6 +195,7 @@ FUNCTIONS = {
     "lots_of": ("ids bigint[]", LOT_COLUMNS, LOTS),
     "shipments_of": ("ids bigint[]", SHIPMENT_COLUMNS, SHIPMENTS),
     "events_of": ("ids bigint[], is_back boolean", EVENT_COLUMNS, EVENTS),
+    "descriptions": ("gids integer[]", "office smallint, gid integer, value text", DESCRIPTIONS),
     "ambiguous": ("ids bigint[]", "lot_id bigint", AMBIGUOUS),
     "ends": ("", END_COLUMNS, ENDS),
     "find_lot": ("in_office text, in_owner text, in_lot text", "lot_id bigint, file text", FIND),
@@ -201,10 +210,12 @@ def definitions() -> str:
     for name, sql in VIEWS.items():
         parts.append(f"CREATE VIEW hg.{name} AS {sql}; ALTER VIEW hg.{name} OWNER TO hg_questions;")
     for name, (values, columns, sql) in FUNCTIONS.items():
-        # plans are kept in a session, and one plan is for all lists of lots: planning would take most of the time
+        # Plans are kept in a session, and one plan is for all lists of lots: planning would take most of the time. A
+        # session could have PostgreSQL send it the plans as messages, which tell how much others have.
         parts.append(
             f"CREATE FUNCTION hg.{name}({values}) RETURNS TABLE ({columns}) LANGUAGE plpgsql STABLE SECURITY DEFINER "
             "SET search_path = hg, pg_catalog, pg_temp SET jit = off SET plan_cache_mode = force_generic_plan "
+            "SET client_min_messages = error "
             f"AS $hg$ #variable_conflict use_column\nBEGIN RETURN QUERY {sql}; END $hg$;"
             f"ALTER FUNCTION hg.{name} OWNER TO hg_questions; REVOKE ALL ON FUNCTION hg.{name} FROM PUBLIC;"
             f"GRANT EXECUTE ON FUNCTION hg.{name} TO hg_company, hg_reader, hg_publisher;"

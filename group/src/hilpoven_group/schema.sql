@@ -203,7 +203,8 @@ BEGIN
     'pg_stat_xact_all_tables', 'pg_stat_xact_user_tables', 'pg_stat_all_indexes', 'pg_stat_user_indexes',
     'pg_statio_all_indexes', 'pg_statio_user_indexes', 'pg_stat_database', 'pg_stat_database_conflicts',
     'pg_stat_bgwriter', 'pg_stat_wal', 'pg_stat_slru', 'pg_stat_archiver', 'pg_stat_progress_copy',
-    'pg_stat_progress_vacuum', 'pg_stat_progress_analyze', 'pg_replication_slots', 'pg_cursors'] LOOP
+    'pg_stat_progress_vacuum', 'pg_stat_progress_analyze', 'pg_replication_slots', 'pg_cursors', 'pg_shdepend',
+    'pg_db_role_setting'] LOOP
     EXECUTE format('REVOKE SELECT ON pg_catalog.%I FROM PUBLIC', f);
   END LOOP;
   FOR f IN SELECT p.oid::regprocedure::text FROM pg_proc AS p WHERE p.pronamespace = 'pg_catalog'::regnamespace
@@ -211,7 +212,9 @@ BEGIN
       OR p.proname LIKE 'pg\_try\_advisory%' OR p.proname LIKE 'lo\_%' OR p.proname LIKE 'txid\_%'
       OR p.proname LIKE '%\_to\_xml%' OR p.proname LIKE 'pg\_current\_xact%' OR p.proname LIKE 'pg\_current\_snapshot'
       OR p.proname LIKE 'pg\_current\_wal%' OR p.proname LIKE 'pg\_last\_%' OR p.proname LIKE 'pg\_wal%'
-      OR p.proname IN ('pg_lock_status', 'pg_notify', 'pg_database_size', 'pg_xact_status', 'pg_relation_filenode',
+      OR p.proname LIKE 'pg\_control\_%' OR p.proname LIKE 'pg\_%blocking\_pids' OR p.oid = 'age(xid)'::regprocedure
+      OR p.proname IN ('mxid_age', 'pg_isolation_test_session_is_blocked', 'pg_relation_filepath', 'pg_tablespace_databases',
+        'pg_lock_status', 'pg_notify', 'pg_database_size', 'pg_xact_status', 'pg_relation_filenode',
         'pg_export_snapshot', 'pg_get_replication_slots', 'pg_show_all_file_settings', 'pg_prepared_xact')) LOOP
     EXECUTE format('REVOKE EXECUTE ON FUNCTION %s FROM PUBLIC', f);
   END LOOP;

@@ -12,7 +12,6 @@ from dataclasses import dataclass
 from typing import Any, NamedTuple
 
 from flask import Flask, Response, render_template_string, request
-from psycopg2.extensions import parse_dsn
 
 from hilpoven.core.failure import WRONG_USE, Failure, printable
 from hilpoven.core.table import Row, formatted
@@ -20,11 +19,11 @@ from hilpoven.model.genealogy import BACK, FORWARD
 
 from . import database, recalls
 from .database import Connection
+from .members import SERVICE
 from .settings import PATH, Group
 from .tables import TABLES
 
 MOST_LETTERS = 64  # of a value
-SERVICE = "hg_service"  # the role as which logins are looked up
 TIMEOUT = "30s"  # of a question
 HEADERS = {
     "Cache-Control": "no-store",
@@ -168,6 +167,6 @@ def serve(group: Group) -> None:
     """Answers until a signal ends it."""
     import waitress
 
-    if "user" in parse_dsn(group.database):
+    if "user" in database.parsed(group.database):
         raise Failure(f"{PATH}: database names a user, and the service asks as many", WRONG_USE)
     waitress.serve(application(group), listen=group.listen, threads=8, ident=None, max_request_header_size=16_384)

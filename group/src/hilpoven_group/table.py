@@ -39,7 +39,7 @@ group
   > group status
 
 group init : grouping
-  Makes the group's tables and roles in an empty database, as PostgreSQL's superuser.
+  Makes the group's tables and roles in an empty database, which it makes too, as PostgreSQL's superuser.
   > group init
 
 group office
@@ -48,8 +48,10 @@ group office
   > group office add NORTH
 
 group office add PLANT : grouping.office_add
-  --gln GLN =gln ~  Its Global Location Number, for exports.
-  Adds an office, with the role as which it publishes.
+  --host HOST :plain  How offices reach this machine; by default its full name.
+  --gln GLN  Its Global Location Number, for exports; by default what the office describes of HOUSE.
+  Adds an office, with the role as which it publishes, and tells what to do on its machine. The secret in that is told
+  this once.
   > group office add NORTH --gln 4012345000009
 
 group company
@@ -58,8 +60,11 @@ group company
   > group company add 'Acme Foods Ltd'
 
 group company add COMPANY:filled : grouping.company_add
+  --member OFFICE OWNER =owners :word,word *  Which owner of an office it is, as `group member add` notes it.
+  --party OFFICE PARTY OTHER =parties :word,word,word *  A party of that owner is the office OTHER, as `group party`
+      notes it.
   Adds a company, with the role as which the question service asks for it.
-  > group company add 'Acme Foods Ltd'
+  > group company add 'Acme Foods Ltd' --member NORTH ACME --member SOUTH ACME-2 --party SOUTH NORTHCO NORTH
 
 group member
   = says which company an owner is
