@@ -54,7 +54,7 @@ class Notes:
     def part(self, name: str, until: int = 1, then: str = "true", **options: Any) -> Part:
         """A part that notes when it begins and ends, and stays until so many have begun."""
         notes = self.folder / "notes"
-        wait = f"for i in $(seq 200); do test $(grep -c begins {notes}) -ge {until} && break; sleep 0.05; done"
+        wait = f"for i in $(seq 1200); do test $(grep -c begins {notes}) -ge {until} && break; sleep 0.05; done"
         lines = f"echo {name} begins >> {notes}; {wait}; {then}; s=$?; echo {name} ends >> {notes}; exit $s"
         return sh(name, lines, **options)
 
@@ -87,7 +87,7 @@ def notes(tmp_path: pathlib.Path) -> Notes:
         (sh("ill", "echo why; echo because >&2; exit 3"), "ill 0 s FAILED why because"),
         (Part("absent", ("/nowhere/at-all",)), "absent 0 s FAILED nice: ‘/nowhere/at-all’: No such file or directory"),
         (sh("tried", f"test {PROGRAM} = /x/toll"), "tried 0 s ok"),
-        (sh("roomy", f"touch {FOLDER}/a && test -d {FOLDER}"), "roomy 0 s ok"),
+        (sh("roomy", f"touch {FOLDER}/a && test $(stat -c %a {FOLDER}) = 711"), "roomy 0 s ok"),
     ],
 )
 def test_a_part_has_one_line_and_one_that_fails_what_it_printed(part: Part, printed: str, capsys: Capture) -> None:
@@ -221,8 +221,10 @@ def test_a_part_that_does_not_end_is_ended_with_all_that_it_started(notes: Notes
 # What runs beside what: the parts by their names, with until how many have begun each stays
 
 UNTIL_2, TWO, HALF = {"until": 2}, {"processors": 2}, {"until": 2, "memory": 2.5 * GB}
+WAITING: dict[str, Any] = {"until": 3, "processors": 0.3}
 SIDES: list[tuple[str, list[dict[str, Any]], dict[str, Any], str, str]] = [
     ("on as many processors as there are", [{"until": 3}] * 4, {"processors": 3}, "abc", ""),
+    ("of those that mostly wait several on one", [WAITING] * 4, {"processors": 1}, "abc", ""),
     ("the first of the list first", [{}] * 3, {"processors": 1}, "a", "a,a,b,b,c,c"),
     ("one of several waits, and not one of fewer", [UNTIL_2, TWO, UNTIL_2], TWO, "ac", "b,b"),
     ("of more than there is alone", [{"processors": 9, "memory": 99 * GB}, {}], TWO, "a", "a,a,b,b"),

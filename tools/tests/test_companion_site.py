@@ -340,8 +340,7 @@ test-add ACME BRINE DENSITY 1100 1250
 recipe-add ACME R 1
 require ACME R 1 consumed HOUSE WATER 700
 require ACME R 1 produced ACME BRINE 1000"""
-MADE = """open ACME O-1 KETTLE
-do ACME O-1 1 start
+MADE = """do ACME O-1 1 start
 actual K2 ACME O-1 1 1 consumed WATER HOUSE W-1 TANK 700 261127
 actual K3 ACME O-1 1 1 produced BRINE ACME B-1 TOTE 980 261127
 actual K6 ACME O-1 1 1 produced BRINE ACME B-1 TOTE 5 261127"""
@@ -357,8 +356,13 @@ split ACME K8 B-2 TOTE TOTE2 2 261128
 link ACME B-2 B-1 --why return --amount 5 --reason again
 link ACME W-1 --of-owner HOUSE --batch O-1 1 --why use
 void ACME K6 --reason wrong
-do ACME O-1 1 hold --reason pump"""
-KINDS = "Gauge Party Material Recipe Order CompanionBatch CompanionLot Movement Link Reason".split()
+do ACME O-1 1 hold --reason pump
+link ACME B-1 LOT-OF-BOLT --of-owner BOLT --why residue --tell
+do ACME O-1 1 abort
+do ACME O-1 1 done
+close ACME O-1 1
+open ACME O-1 KETTLE"""
+KINDS = "Gauge Party Material Recipe Order CompanionOrder CompanionBatch CompanionLot Movement Link Reason".split()
 
 
 @pytest.fixture
@@ -386,6 +390,7 @@ def unknown_members(schema: Any, value: Any, place: str = "") -> list[str]:
 
 def test_the_contract_has_each_member(worked: Site) -> None:
     assert worked.hilpoven("for", "ACME", "order", "O-1", "R", "2", "--by", "mail")
+    assert worked.hilpoven("open", "ACME", "O-1", "KETTLE")
     worked.office.do(MADE)
     for words in NOTES.splitlines():
         worked.hilpoven(*words.split())
@@ -394,7 +399,7 @@ def test_the_contract_has_each_member(worked: Site) -> None:
     value = worked.get("ACME").value()
     assert faults_of(SCHEMAS["Companion"], value) == [] and unknown_members(SCHEMAS["Companion"], value) == []
     members = {name for rows in value.values() if isinstance(rows, list) for row in rows for name in row}
-    assert {name for kind in KINDS for name in SCHEMAS[kind]["properties"]} - members == {"closed"}
+    assert {name for kind in KINDS for name in SCHEMAS[kind]["properties"]} - members == set()
     assert set(SCHEMAS["Companion"]["properties"]) == set(value)
 
 

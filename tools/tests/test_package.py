@@ -60,7 +60,7 @@ def test_the_folder_gets_the_packages_and_nothing_else(packages: pathlib.Path) -
     files = {re.sub(r"[\d.]+(-\d+)?(?=[._-])", "V", name, count=1) for name in names}
     made_of_source = {f"hilpoven_V.{end}" for end in ("dsc", "orig.tar.gz", "debian.tar.xz")}
     binary = {"toll_V_amd64.deb", "hilpoven_V_all.deb", "hilpoven-papers_V_all.deb", "toll-V-x86_64.tar.gz"}
-    binary |= {"hilpoven-desk_V_all.deb", "hilpoven-group_V_all.deb"}
+    binary |= {f"hilpoven-{name}_V_all.deb" for name in ("desk", "group", "persons")}
     assert files == {"program"} | binary | made_of_source
     assert not [file for file in packages.iterdir() if file.name.startswith((".", "package"))]
 
@@ -241,7 +241,8 @@ def test_the_command_runs_from_the_tarball(unpacked: pathlib.Path) -> None:
     assert (local / "bin/toll").is_file() and not list(local.rglob("__pycache__"))
 
 
-OF_DESK = ("toll-desk@", "toll-passwords")  # units of the plant's screens, whose log-in is Debian's
+# Units of packages that are Debian's alone
+OF_DEBIAN = ("toll-desk@", "toll-passwords", "toll-persons@", "toll-notify@")
 
 
 def test_the_tarball_has_what_the_packages_have(unpacked: pathlib.Path) -> Any:
@@ -252,7 +253,8 @@ def test_the_tarball_has_what_the_packages_have(unpacked: pathlib.Path) -> Any:
         return {path for path in paths if not path.startswith(left_out)}
 
     debians = ["local/", "lib/python3/", "share/lintian/", "share/doc/hilpoven-papers/"]
-    debians += ["share/doc/hilpoven-desk/", "share/hilpoven-desk/", *(f"lib/systemd/system/{unit}" for unit in OF_DESK)]
+    debians += [f"share/{folder}hilpoven-{name}/" for folder in ("", "doc/") for name in ("desk", "persons")]
+    debians += [f"lib/systemd/system/{unit}" for unit in OF_DEBIAN]
     packaged = {path for path in files(unpacked / "usr", *debians) if not path.endswith("changelog.Debian.gz")}
     examples = {f"share/doc/hilpoven/examples/{path}" for path in files(unpacked / "etc", "pam.d/")}
     assert len(examples) == 3 and files(unpacked / "usr/local", "share/hilpoven/") == packaged | examples

@@ -585,6 +585,12 @@ def guess(site: Proxy, address: str, owner: str, key: str = WRONG_KEY) -> tuple[
     return reply.status, time.monotonic() - begun
 
 
+def least_wait(site: Proxy, *words: str) -> float:
+    """The least of three times that a guess takes: who has to wait does so each time, and on a busy machine one may
+    take long by itself."""
+    return min(guess(site, *words)[1] for _ in range(3))
+
+
 def test_the_twentieth_wrong_key_within_a_minute_is_answered_slowly(site: Proxy) -> None:
     address, numbers = "2001:db8:9::{:x}", itertools.count()  # of one network
     quick, most = quick_guesses(lambda: guess(site, address.format(next(numbers)), "ACME")[1])
@@ -592,10 +598,10 @@ def test_the_twentieth_wrong_key_within_a_minute_is_answered_slowly(site: Proxy)
     status, after = guess(site, address.format(20), "ACME")
     assert status == 403 and 1 < after < 5
     # nobody else waits: another owner, a right key of this one, and this one's people elsewhere
-    assert guess(site, address.format(21), "BOLT")[1] < 1
-    assert guess(site, address.format(22), "ACME", "ACMEKEY1")[1] < 1
-    assert guess(site, "2001:db8:a::1", "ACME")[1] < 1
-    assert guess(site, "192.0.2.40", "ACME", "ACMEKEY1")[1] < 1
+    assert least_wait(site, address.format(21), "BOLT") < 1
+    assert least_wait(site, address.format(22), "ACME", "ACMEKEY1") < 1
+    assert least_wait(site, "2001:db8:a::1", "ACME") < 1
+    assert least_wait(site, "192.0.2.40", "ACME", "ACMEKEY1") < 1
     # who writes the name otherwise guesses for the same owner
     status, after = guess(site, address.format(23), "ACME\t")
     assert status == 403 and after > 1

@@ -14,7 +14,7 @@ sys.path.insert(0, str(ROOT / "plant" / "src"))
 from hilpoven.core import settings  # noqa: E402
 
 OFFICE = """toll@acme.service toll-backup@acme.service toll-companion@acme.service toll-follow@acme.service
-    toll-publish@acme.service
+    toll-publish@acme.service toll-persons@acme.service toll-notify@acme.service toll-notify@acme.timer
     toll-backup@acme.timer toll-companion@acme.timer toll-failed@toll@acme.service.service""".split()
 SINGLE = ["toll.service", "toll-backup.service", "toll-backup.timer", "hilpoven-group.service"]
 PROGRAMS = r"(?m)^(Exec\w+=)(toll|hilpoven)\b"
@@ -103,7 +103,18 @@ def test_the_site_looks_for_companions_where_the_unit_puts_them_for_its_group() 
     # a state folder would be given to that group
     assert not setting(unit, "StateDirectory") and setting(text_of("office.conf"), "BindPaths") == ["/var/lib/toll/%i"]
     assert setting(unit, "EnvironmentFile") == ["/etc/toll/%i.env"]
-    assert setting(unit, "Environment") == ["FILE=/var/lib/toll/%i/office.db"]
+
+
+def test_companions_read_the_site_s_log_of_their_office_and_no_other_log() -> None:
+    """`--db FILE` would be an office without a name, which has no site."""
+    unit = text_of("toll-companion@.service")
+    assert setting(unit, "ExecStart")[0].startswith("hilpoven --office %i ")
+    assert setting(unit, "SupplementaryGroups") == ["adm"] and setting(unit, "InaccessiblePaths") == ["-/run/log"]
+    assert "/var/log:ro" in setting(unit, "TemporaryFileSystem")[0]
+    (folder,) = setting(unit, "BindReadOnlyPaths")
+    assert re.findall(r"create 0640 www-data adm", (ROOT / "packaging/etc/logrotate.d/hilpoven").read_text())
+    logs = set(re.findall(r"access_log (/\S+/)", text_of("nginx.conf")))
+    assert {f"{folder.removeprefix('-')}/"} == logs
 
 
 def test_server_and_backup_have_one_file_of_settings() -> None:
