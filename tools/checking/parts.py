@@ -28,7 +28,7 @@ class Part:
     words: tuple[str, ...]
     packages: tuple[str, ...] = ()
     minutes: float = 30
-    processors: int = 1
+    processors: float = 1  # less than one of a part that mostly waits
     memory: float = 0.5 * GB
     fault: str = ""
     is_alone: bool = False

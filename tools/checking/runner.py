@@ -87,7 +87,7 @@ async def end(process: asyncio.subprocess.Process) -> None:
 
 
 def folder_for_tests() -> str | None:
-    """In memory, if that has the room: tests make thousands of small files, and wait for a disk at each."""
+    """In memory, if that has the room."""
     has_room = os.path.isdir("/dev/shm") and shutil.disk_usage("/dev/shm").free > ROOM_IN_MEMORY
     return "/dev/shm" if has_room else None
 
@@ -132,7 +132,7 @@ class Runner:
         if not self.running or part.is_alone or any(other.is_alone for other in self.running):
             return not self.running
         processors = sum(other.processors for other in self.running if other != self.maker)
-        most = self.processors
+        most: float = self.processors
         if self.maker and self.maker in self.running:
             most = max(1, self.processors - self.maker.processors)
         memory = sum(other.memory for other in self.running)
@@ -167,6 +167,7 @@ class Runner:
         began, status, why = time.monotonic(), 1, ""
         room = tempfile.TemporaryDirectory(prefix="check.", dir=folder_for_tests(), ignore_cleanup_errors=True)
         with tempfile.NamedTemporaryFile("wb") as output, room as folder:
+            os.chmod(folder, 0o711)  # some tests are another user below it
             words = [word.replace(PROGRAM, str(self.program)).replace(FOLDER, folder) for word in part.words]
             how: dict[str, Any] = {"cwd": ROOT, "env": {**os.environ, "PYTHONDONTWRITEBYTECODE": "1"}}
             how |= {"stdin": asyncio.subprocess.DEVNULL, "stdout": output, "stderr": asyncio.subprocess.STDOUT}

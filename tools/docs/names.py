@@ -20,7 +20,7 @@ DECLARED = [
     re.compile(r"^\s+(?:pub )?(\w+)\s*[:,({=]", re.M),
     re.compile(r"\b(?:ensures|ghost) (\w+) "),
 ]
-FOLDERS = "tools|demo|desk|docs|page|packaging|crates|plant|bench|tests"
+FOLDERS = "tools|demo|desk|docs|page|persons|packaging|crates|plant|bench|tests"
 FILE = re.compile(rf"[\w./-]+\.(?:rt|antt|py|md|txt|toll|out|yaml|csv|sql|png|svg|1)|(?:{FOLDERS})/[\w./-]*")
 PATH = re.compile(rf"(?:{FOLDERS})/[\w@./-]*\w")
 NAMES = re.compile(r"[A-Za-z_][\w']*(?:(?:::|\.)[A-Za-z_][\w']*)*")
@@ -71,6 +71,7 @@ class Pages:
         self.folders += [
             root / "desk" / "src" / "hilpoven_desk",
             root / "group" / "src" / "hilpoven_group",
+            root / "persons" / "src" / "hilpoven_persons",
             sources.crates,
             *crates,
             *(crate / "specs" for crate in crates),
