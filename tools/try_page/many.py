@@ -59,20 +59,11 @@ def longest(t: Trial) -> None:
     b = t.browser
     b.devtools("Performance.enable", timeDomain="threadTicks")
     t.to("Orders")
+    b.refresh()  # what was found in a document stays in its memory
+    b.heading("Orders")
     b.js(OF_LOTS, LONGEST)
     try:
-
-        def draw() -> dict[str, int]:
-            b.js("location.hash = '#/nowhere'")
-            b.heading("There is no such page")
-            times = {"drawn": spent(t, "location.hash = '#/stock'", LONGEST)}
-            times["searched"] = spent(t, SEARCHED, LONGEST // 5, "L-1")
-            times["shown again"] = spent(t, SEARCHED, LONGEST, "")
-            times["sorted"] = spent(t, "all('button.sort')[1].click()", LONGEST)
-            return times | {"left": spent(t, "location.hash = '#/nowhere'", 0)}
-
-        bounds = {"drawn": 300, "searched": 100, "shown again": 100, "left": 100}
-        check_times(t, f"{LONGEST} rows, in processor time", draw, **bounds)
+        check_shares(t)
         b.js("location.hash = '#/stock'")
         b.becomes("all('tbody tr').length", LONGEST)
         b.becomes("window.find('L-4321', false, false, true)")
@@ -87,6 +78,22 @@ def longest(t: Trial) -> None:
         b.heading("Stock")
 
 
+def check_shares(t: Trial) -> None:
+    """Measures by the processor time that a table takes which is nothing but its cells, until all is within its bounds.
+    A processor that others share, or a slower one, takes as much longer for both."""
+    ends, slow = time.monotonic() + PATIENCE, list(SHARES)
+    while slow and time.monotonic() < ends:
+        t.browser.js("location.hash = '#/nowhere'")
+        t.browser.heading("There is no such page")
+        plain = spent(t, PLAIN, LONGEST)
+        t.browser.js("document.body.lastChild.remove()")
+        milliseconds = {name: spent(t, *step) for name, step in STEPS.items()}
+        slow = [name for name, share in SHARES.items() if milliseconds[name] >= share * plain]
+    print(f"{LONGEST} rows, in processor time: {milliseconds} ms, and a plain table {plain} ms", flush=True)
+    fault = f"{slow} of {LONGEST} rows take long: {milliseconds}, a plain table {plain}"
+    t.expect(t.browser.slowness or not slow, fault)
+
+
 def spent(t: Trial, script: str, rows: int, *words: str) -> int:
     """The milliseconds of processor time of the page until it has so many rows, and is at rest."""
 
@@ -95,7 +102,7 @@ def spent(t: Trial, script: str, rows: int, *words: str) -> int:
         return float(next(each["value"] for each in metrics if each["name"] == "TaskDuration"))
 
     before = total()
-    t.browser.later(f"const done = [...arguments].at(-1); {script}; {AT_REST}", *words, rows)
+    t.browser.later(f"const done = [...arguments].at(-1); {{ {script} }} {AT_REST}", *words, rows)
     return round((total() - before) * 1000)
 
 
@@ -111,6 +118,23 @@ const given = { headers: { "content-type": "application/json" } }, stock = JSON.
 window.fetch = async (path, ...rest) => path === "/stock" ? new Response(stock, given) : before(path, ...rest)"""
 SEARCHED = """one('input[type=search]').value = arguments[0];
 one('input[type=search]').dispatchEvent(new Event('input'))"""
+# What is done with the list, how many rows it has then, and which words the script takes.
+STEPS: dict[str, tuple[Any, ...]] = {
+    "drawn": ("location.hash = '#/stock'", LONGEST),
+    "searched": (SEARCHED, LONGEST // 5, "L-1"),
+    "shown again": (SEARCHED, LONGEST, ""),
+    "sorted": ("all('button.sort')[1].click()", LONGEST),
+    "left": ("location.hash = '#/nowhere'", 0),
+}
+SHARES = {"drawn": 0.8, "searched": 0.25, "shown again": 0.4, "left": 0.2}  # of a plain table's time, at most
+PLAIN = """const made = (name, inner) => {
+  const element = document.createElement(name);
+  element.append(...inner);
+  return element;
+};
+const cells = at => ["lot", "material", "amount", "disposition"].map(name => made("td", [`${name} ${at}`]));
+const row = (_, at) => made("tr", cells(at));
+document.body.append(made("table", [made("tbody", Array.from({ length: 5000 }, row))]));"""
 AT_REST = """const rows = [...arguments].at(-2);
 const look = () => document.querySelectorAll("tbody tr").length === rows ? setTimeout(done, 200) : setTimeout(look, 20);
 look();"""
