@@ -2,6 +2,7 @@
 ghost use Rattle.std.specs.Prelude.{List, Contains};
 ghost use Rattle.toll_base.specs.Bytes.{Bytes};
 ghost use Rattle.toll_answers.specs.Replies.{IsValidOwnerRequest};
+ghost use Rattle.toll_history.specs.OwnChanges.{PutsOnly};
 ghost use Rattle.toll_keep.specs.CallEffects.{IsReading};
 ghost use Rattle.toll_keep.specs.Meaning.{meaning_for};
 ghost use Rattle.toll_desk.specs.Clauses.{ChangesIfMayWrite, IsPlannedBy, OverContentRows};
@@ -38,6 +39,7 @@ pub fn owner_plan<K: Keep>(
         → ChangesIfMayWrite (OverContentRows (meaning_for K.meaning K.part os) keep.old keep.new owner.now) request.now result }
     ensures own { (os : List Bytes) → Contains os owner.now → Over (meaning_for K.meaning K.part os) keep.old keep.new
         (λ c H. IsPlannedBy c H owner.now key.now request.now result) }
+    ensures puts { PutsOnly owner.now result.changes.items }
 {
     match admit(alloc, keep, owner, key) {
         Ok(Some(owner)) => plan_for(alloc, keep, &owner, request),

@@ -1,6 +1,7 @@
 //! Plans of owners' requests over their rows.
 ghost use Rattle.std.specs.Prelude.{◌≡◌, List, Contains, IfOk, OnErr};
 ghost use Rattle.toll_base.specs.Bytes.{Bytes};
+ghost use Rattle.toll_history.specs.OwnChanges.{PutsOnly};
 ghost use Rattle.toll_keep.specs.CallEffects.{IsReading};
 ghost use Rattle.toll_keep.specs.Meaning.{meaning_for};
 ghost use Rattle.toll_keep.specs.Reads.{IsContentKept, ReadsOneMore};
@@ -34,6 +35,7 @@ pub fn plan_for<K: Keep>(
         → ChangesIfMayWrite (OverContentRows (meaning_for K.meaning K.part os) keep.old keep.new owner.now) request.now result }
     ensures own { (os : List Bytes) → Contains os owner.now → OverOwner (meaning_for K.meaning K.part os) keep.old keep.new owner.now
         (λ c H. IsPlannedFor c H owner.now request.now result) }
+    ensures puts { PutsOnly owner.now result.changes.items }
 {
     match keep.slice(alloc, owner) {
         Ok(Some(slice)) => match plan_over(alloc, keep, &slice, request) {
@@ -63,6 +65,7 @@ fn plan_over<K: Keep>(
     ensures stays { (os : List Bytes) → IsContentKept (meaning_for K.meaning K.part os) keep.old keep.new }
     ensures own { (os : List Bytes) → Contains os slice.now.owner → Over (meaning_for K.meaning K.part os) keep.old keep.new
         (λ c H. IfRowsOf H slice.now (IsPlannedOver H slice.now request.now result)) }
+    ensures puts { IfOk result (λ planned. PutsOnly slice.now.owner planned.changes.items) }
 {
     let owner = *slice.owner();
     match *request {

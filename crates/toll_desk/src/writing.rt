@@ -1,7 +1,10 @@
 //! Plans of owners' requests that change rows.
 ghost use Rattle.std.specs.Prelude.{◌≡◌, true, false, [], IfOk, is_ok};
+ghost use Rattle.toll_base.specs.Bytes.{Bytes};
+ghost use Rattle.toll_base.specs.Changes.{changes_of};
 ghost use Rattle.toll_base.specs.declared.request.Request.TheVariants.{Cancel, Place, Reject, Release};
 ghost use Rattle.toll_history.specs.OverRows.{OverOwnRows};
+ghost use Rattle.toll_history.specs.OwnChanges.{PutsOnly};
 ghost use Rattle.toll_desk.specs.Clauses.{ChangesIfMayWrite, IsDisposedOver, IsPlannedOver, OverSlice};
 ghost use Rattle.toll_desk.specs.Translations.{is_granted, meaning_of_reply};
 
@@ -25,6 +28,7 @@ pub fn plan_order(
     ensures reported { IfOk result (λ planned. is_ok (meaning_of_reply planned.reply) ≡ true) }
     ensures idle { IfOk result (ChangesIfMayWrite (OverSlice slice.now) (Place placing.now)) }
     ensures over { OverOwnRows slice.now (λ H. IsPlannedOver H slice.now (Place placing.now) result) }
+    ensures puts { IfOk result (λ planned. PutsOnly slice.now.owner planned.changes.items) }
 {
     // This names the bounds for the proof.
     let _within = placing.batches.get();
@@ -45,6 +49,7 @@ pub fn plan_cancelling(alloc: Global, slice: &Slice, order: Name) -> Result<Plan
     ensures reported { IfOk result (λ planned. is_ok (meaning_of_reply planned.reply) ≡ true) }
     ensures quiet { IfOk result (λ planned. is_granted (meaning_of_reply planned.reply) ≡ false → planned.changes.items ≡ []) }
     ensures over { OverOwnRows slice.now (λ H. IsPlannedOver H slice.now (Cancel order) result) }
+    ensures puts { IfOk result (λ planned. PutsOnly slice.now.owner planned.changes.items) }
 {
     let Some(row) = slice.order(&order) else {
         return Ok(Plan::unchanged(alloc, Reply::Refused(Refusal::UnknownOrder)));
@@ -70,6 +75,7 @@ pub fn plan_release(alloc: Global, slice: &Slice, lot: Name) -> Result<Plan<Repl
     ensures reported { IfOk result (λ planned. is_ok (meaning_of_reply planned.reply) ≡ true) }
     ensures quiet { IfOk result (λ planned. is_granted (meaning_of_reply planned.reply) ≡ false → planned.changes.items ≡ []) }
     ensures over { OverOwnRows slice.now (λ H. IsPlannedOver H slice.now (Release lot) result) }
+    ensures puts { IfOk result (λ planned. PutsOnly slice.now.owner planned.changes.items) }
 {
     let decision = release(alloc, slice, lot)?;
     disposed(alloc, slice, &lot, Disposition::Released, decision)
@@ -80,6 +86,7 @@ pub fn plan_rejection(alloc: Global, slice: &Slice, lot: Name) -> Result<Plan<Re
     ensures reported { IfOk result (λ planned. is_ok (meaning_of_reply planned.reply) ≡ true) }
     ensures quiet { IfOk result (λ planned. is_granted (meaning_of_reply planned.reply) ≡ false → planned.changes.items ≡ []) }
     ensures over { OverOwnRows slice.now (λ H. IsPlannedOver H slice.now (Reject lot) result) }
+    ensures puts { IfOk result (λ planned. PutsOnly slice.now.owner planned.changes.items) }
 {
     let decision = reject(alloc, slice, lot)?;
     disposed(alloc, slice, &lot, Disposition::Rejected, decision)
@@ -96,6 +103,7 @@ fn disposed(
     ensures reported { IfOk result (λ planned. is_ok (meaning_of_reply planned.reply) ≡ true) }
     ensures quiet { IfOk result (λ planned. is_granted (meaning_of_reply planned.reply) ≡ false → planned.changes.items ≡ []) }
     ensures over { OverOwnRows slice.now (λ H. IsDisposedOver H slice.now lot.now disposition decision result) }
+    ensures puts { (o : Bytes) → PutsOnly o (changes_of decision) → IfOk result (λ planned. PutsOnly o planned.changes.items) }
 {
     match decision {
         Decision::Accept(changes) => match lot_view(alloc, slice, lot) {

@@ -1,4 +1,5 @@
 use Rattle.std.proofs.Common.{◌≡◌, true, false, Contains, sym, subst, ◌∙◌}
+use Rattle.toll_history.specs.OwnChanges.{PutsOnly}
 use Rattle.toll_keep.specs.CallEffects.{IsReading}
 use Rattle.toll_keep.specs.Meaning.{meaning_for}
 use Rattle.toll_desk.proofs.Common.{IfOk-weaker, is_some, IfSome, same_bytes, order_at, house_name, owner_known, has_owner_key, read_fault, reads_then}
@@ -81,3 +82,8 @@ returns-in-Err-clause-alone g c = λ os mine.
     let m = meaning_for g.K.Keep.meaning g.K.Keep.part os in
     let r = c.in-Err.ensures.alone os in
     subst (λ reply. IsReading m c.args.keep.now c.admit.new.keep (meaning_of_reply reply)) (sym c.unchanged-in-Err.ensures.reply) (read_fault m c.args.keep.now c.admit.new.keep c.in-Err.fault r.goes r.keeps r.whole)
+
+pub returns-in-Ok-Some-clause-puts : goal.returns-in-Ok-Some-clause-puts
+returns-in-Ok-Some-clause-puts g c =
+    let named : c.in-Ok-Some.owner ≡ c.args.owner.now = subst (λ found. IfSome found (λ name. name ≡ c.args.owner.now)) c.in-Ok-Some.field-0-is c.in-Ok-Some.ensures.named in
+    subst (λ o. PutsOnly o c.plan_for.result.changes.items) named c.plan_for.ensures.puts

@@ -2,6 +2,7 @@ use Rattle.std.proofs.Common.{◌≡◌, true, false, Contains, IfSome, sym, ap,
 use Rattle.toll_keep.specs.CallEffects.{IsReading}
 use Rattle.toll_keep.specs.Meaning.{meaning_for}
 use Rattle.toll_desk.proofs.Common.{false≢true, IfOk-weaker, read_fault, read_ok, order_at, owner_known, house_name, same_bytes, IsRowsOf, is_some}
+use Rattle.toll_history.specs.OwnChanges.{PutsOnly}
 use Rattle.toll_desk.specs.Translations.{meaning_of_reply}
 use Rattle.toll_desk.proofs.OwnerPlans.{slice_read, unread_is_unknown, plan_lift}
 use Rattle.toll_desk.proofs.planning.plan_for.Goals as goal
@@ -66,3 +67,8 @@ returns-clause-alone g c = λ os mine.
     let m = meaning_for g.K.Keep.meaning g.K.Keep.part os in
     let r = (c.in-Err.ensures.alone os mine).reading in
     subst (λ reply. IsReading m c.args.keep.now c.slice.new.self (meaning_of_reply reply)) (sym c.unchanged-in-Err.ensures.reply) (read_fault m c.args.keep.now c.slice.new.self c.in-Err.fault r.goes r.keeps r.whole)
+
+pub returns-in-Ok-clause-puts : goal.returns-in-Ok-clause-puts
+returns-in-Ok-clause-puts g c =
+    let named : c.in-Ok-Some.slice.owner ≡ c.args.owner.now = subst (λ found. IfSome found (λ s. s.owner ≡ c.args.owner.now)) c.in-Ok-Some.field-0-is c.in-Ok-Some.ensures.named in
+    subst (λ o. PutsOnly o c.in-Ok.planned.changes.items) named c.in-Ok.ensures.puts

@@ -11,3 +11,6 @@ returns-clause-over c H lawful known there =
     let decided = c.in_ok-decision.ensures in
     c.disposed.ensures.over H lawful known there (request.Reject c.args.lot) a (rejecting H s.owner c.args.lot)
     (own_decision H s a c.in_ok-decision.decision lawful tt decided.decides decided.rules decided.own)
+
+pub returns-clause-puts : goal.returns-clause-puts
+returns-clause-puts c = c.disposed.ensures.puts c.args.slice.now.owner c.in_ok-decision.ensures.own
