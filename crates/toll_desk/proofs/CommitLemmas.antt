@@ -1,9 +1,11 @@
 -- A plan that is carried out.
-use Rattle.std.proofs.Common.{◌≡◌, ◌==◌, ◌&&◌, Bool, true, false, List, [], ◌∷◌, length, Result, Ok, Err, OnOk, OnErr, IfOk, refl, sym, ap, subst, arith, ◌∙◌}
+use Rattle.std.proofs.Common.{◌≡◌, ◌==◌, ◌&&◌, Bool, true, false, List, [], ◌∷◌, length, Result, Ok, Err, OnOk, OnErr, IfOk, Contains, refl, sym, ap, subst, arith, ◌∙◌}
 use Rattle.std.specs.Prelude.{◌≢◌}
-use Rattle.toll_desk.proofs.Common.{History, Change, nat_eq-exact, IsLawful, Meaning, Content, content_after, AllChangesFit, CallEffect, IsReading, KeepFault, OverContent, goes_then, goes_as, goes_fault, settles}
-use Rattle.toll_keep.proofs.Calls.{Rests}
+use Rattle.toll_desk.proofs.Common.{false≢true, same_bytes-exact, Bytes, PutsOnly, History, Change, nat_eq-exact, IsLawful, Meaning, Content, content_after, AllChangesFit, CallEffect, IsReading, KeepFault, OverContent, goes_then, goes_as, goes_fault, settles}
+use Rattle.toll_base.specs.declared.decision.Change.TheVariants.{Owner, Put, Unit as UnitAdded}
+use Rattle.toll_keep.proofs.Calls.{Rests, kept_as, kept_fault}
 use Rattle.toll_keep.specs.CallEffects.{FindsNoDamage}
+use Rattle.toll_keep.specs.HeldFor.{KeepsHeld, KeepsOneMore, PutsOutside}
 use Rattle.toll_keep.specs.declared.keep_fault.KeepFault.TheVariants.{Damaged}
 use Rattle.toll_desk.proofs.KeptRules.{represented_keeps_rules}
 use Rattle.toll_desk.proofs.StepLemmas.{answered_step, store_of}
@@ -16,6 +18,13 @@ use Rattle.toll_desk.specs.Steps.{Calls, IsKeepStep, answered_steps, calls_of}
 pub no_changes : (changes : List Change) → (length changes == 0) ≡ true → changes ≡ []
 no_changes [] e = refl
 no_changes (change ∷ changes) e = let none : length (change ∷ changes) ≡ 0 = nat_eq-exact (length (change ∷ changes)) 0 e in absurd (omega arith)
+
+-- Changes that put rows of one owner put none of owners without it.
+pub puts_outside : (os : List Bytes) (o : Bytes) (changes : List Change) → ¬ (Contains os o) → PutsOnly o changes → PutsOutside os changes
+puts_outside os o [] other puts = tt
+puts_outside os o (Put p row ∷ changes) other puts = (λ its. other (subst (Contains os) (same_bytes-exact p o puts.0) its), puts_outside os o changes other puts.1)
+puts_outside os o (Owner row ∷ changes) other puts = absurd (false≢true puts.0)
+puts_outside os o (UnitAdded row ∷ changes) other puts = absurd (false≢true puts.0)
 
 pub and_false : (b : Bool) → (b && false) ≡ false
 and_false true = refl
@@ -34,6 +43,21 @@ module _ {K : Type 0} {X : Type 0} (meaning : Meaning K) (old middle new : K) wh
   goes_on (Ok x) (change ∷ changes) (Err fault) first none idle on =
       goes_fault meaning old new fault (goes_then meaning old middle new x (Err fault) first (on (λ e. (cc))))
   goes_on (Err fault) (change ∷ changes) r first none idle on = (cc)
+
+  -- What is held is kept by a plan, and then by its changes. After a fault none are made.
+  pub kept_on : (planned : Result X KeepFault) (r : Result (Unit {0}) KeepFault) → KeepsHeld meaning old middle planned
+      → OnErr planned ((new ≡ middle) × (r ≡ Ok tt)) → KeepsOneMore meaning middle new r → KeepsHeld meaning old new (finished planned r)
+  kept_on (Ok x) (Ok done) kept unmade more = kept_as meaning old new done x (more old (kept_as meaning old middle x tt kept))
+  kept_on (Ok x) (Err fault) kept unmade more = kept_fault meaning old new fault (more old (kept_as meaning old middle x tt kept))
+  kept_on (Err fault) r kept unmade more =
+      subst (λ r. KeepsHeld {X = X} meaning old new (finished (Err fault) r)) (sym unmade.1) (subst (λ k. KeepsHeld {X = X} meaning old k (Err fault)) (sym unmade.0) kept)
+
+  -- A plan that is a fault makes no changes.
+  pub unmade_after_fault : (planned : Result X KeepFault) (changes made : List Change) (r : Result (Unit {0}) KeepFault) → made ≡ changes
+      → CommitEffect meaning middle new made r → (grants : Result X KeepFault → Bool) → ((fault : KeepFault) → grants (Err fault) ≡ false)
+      → (grants planned ≡ false → changes ≡ []) → OnErr planned ((new ≡ middle) × (r ≡ Ok tt))
+  unmade_after_fault (Ok x) changes made r same commit grants refuses quiet = tt
+  unmade_after_fault (Err fault) changes made r same commit grants refuses quiet = commit.idle (same ∙ quiet (refuses fault))
 
 -- A plan, and then its changes, are one step. If nothing is granted, there are no changes; they are read through a reference.
 module _ {K X : Type 0} (meaning : Meaning K) (rests : Rests meaning) (old middle new : K) (planned outcome : Result X KeepFault)

@@ -4,6 +4,8 @@ use Rattle.std.specs.Prelude.{if◌then◌else◌}
 use Rattle.std.specs.declared.alloc.AllocError.{AllocError}
 use Rattle.toll_answers.proofs.OwnReplies.{lawful-grow}
 use Rattle.toll_answers.specs.Replies.{IsValidOwnerRequest}
+use Rattle.toll_keep.proofs.Calls.{kept_as}
+use Rattle.toll_keep.specs.HeldFor.{KeepsOneMore}
 use Rattle.toll_keep.specs.Reads.{ReadsOneMore}
 use Rattle.toll_desk.specs.Translations.{meaning_of_reply, writes}
 use Rattle.toll_desk.proofs.Common.{IfOk-weaker, false≢true, Meaning, KeepFault, read_ok, option_map, Bytes, bytes_cmp, same_bytes, house_name, is_some_where, where_so, row_at, PlaceOrder, CancelOrder, Release, Reject, by, History, acts, owner_key, owner_known, Slice, IsRowsOf, IsLawful, after_changes, ChangesKeepRules, Change, OwnerRow, Content, knows, slice_of, Represents, PutsOnly, Request, OwnerReply, ReplyForbidden, has_owner_key, IsOwnerAnswer, after_answer, IsReply, after_reply}
@@ -116,6 +118,13 @@ module _ {K : Type 0} (meaning : Meaning K) (k : K) where
 
   pub plan_unread : (result : Result (Plan Reply) AllocError) → IfOk result (λ planned. is_ok (meaning_of_reply planned.reply) ≡ true) → IfOk result (λ planned. ReadsOneMore meaning k k (meaning_of_reply planned.reply))
   plan_unread result = IfOk-weaker result _ _ (λ planned answered. reply_unread (meaning_of_reply planned.reply) answered)
+
+  reply_kept_unread : (reported : Result OwnerReply KeepFault) → is_ok reported ≡ true → KeepsOneMore meaning k k reported
+  reply_kept_unread (Ok r) answered first kept = kept_as meaning first k tt r kept
+  reply_kept_unread (Err fault) answered first kept = absurd (false≢true answered)
+
+  pub plan_kept_unread : (result : Result (Plan Reply) AllocError) → IfOk result (λ planned. is_ok (meaning_of_reply planned.reply) ≡ true) → IfOk result (λ planned. KeepsOneMore meaning k k (meaning_of_reply planned.reply))
+  plan_kept_unread result = IfOk-weaker result _ _ (λ planned answered. reply_kept_unread (meaning_of_reply planned.reply) answered)
 
 pub plan_admitted : (c : Content) (H : History) (o key : Bytes) (q : Request) (reported : OwnerReply) (changes : List Change) → has_owner_key o key H ≡ true → IsPlanFor c H o q reported changes → IsPlan c H o key q reported changes
 unfolding IsReply after_reply

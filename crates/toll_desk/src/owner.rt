@@ -4,6 +4,7 @@ ghost use Rattle.toll_base.specs.Bytes.{Bytes};
 ghost use Rattle.toll_answers.specs.Replies.{IsValidOwnerRequest};
 ghost use Rattle.toll_history.specs.OwnChanges.{PutsOnly};
 ghost use Rattle.toll_keep.specs.CallEffects.{IsReading};
+ghost use Rattle.toll_keep.specs.HeldFor.{KeepsHeld};
 ghost use Rattle.toll_keep.specs.Meaning.{meaning_for};
 ghost use Rattle.toll_desk.specs.Clauses.{ChangesIfMayWrite, IsPlannedBy, OverContentRows};
 ghost use Rattle.toll_desk.specs.OfficeSteps.{owner_steps};
@@ -40,6 +41,7 @@ pub fn owner_plan<K: Keep>(
     ensures own { (os : List Bytes) → Contains os owner.now → Over (meaning_for K.meaning K.part os) keep.old keep.new
         (λ c H. IsPlannedBy c H owner.now key.now request.now result) }
     ensures puts { PutsOnly owner.now result.changes.items }
+    ensures others { (os : List Bytes) → KeepsHeld (meaning_for K.meaning K.part os) keep.old keep.new (meaning_of_reply result.reply) }
 {
     match admit(alloc, keep, owner, key) {
         Ok(Some(owner)) => plan_for(alloc, keep, &owner, request),
@@ -60,6 +62,7 @@ pub fn owner_do<K: Keep>(
     ensures step { IsKeepStep K.meaning (owner_steps owner.now key.now) keep.old request.now (meaning_of_reply result) keep.new }
     ensures alone { (os : List Bytes) → Contains os owner.now
         → IsKeepStep (meaning_for K.meaning K.part os) (owner_steps owner.now key.now) keep.old request.now (meaning_of_reply result) keep.new }
+    ensures others { (os : List Bytes) → ¬ (Contains os owner.now) → KeepsHeld (meaning_for K.meaning K.part os) keep.old keep.new (meaning_of_reply result) }
 {
     // For the proof: the bounds that the types give the values.
     keeps_bounds(request);

@@ -3,6 +3,7 @@ ghost use Rattle.std.specs.Prelude.{◌≡◌, List, Contains, IfOk, OnErr};
 ghost use Rattle.toll_base.specs.Bytes.{Bytes};
 ghost use Rattle.toll_history.specs.OwnChanges.{PutsOnly};
 ghost use Rattle.toll_keep.specs.CallEffects.{IsReading};
+ghost use Rattle.toll_keep.specs.HeldFor.{KeepsHeld, KeepsOneMore};
 ghost use Rattle.toll_keep.specs.Meaning.{meaning_for};
 ghost use Rattle.toll_keep.specs.Reads.{IsContentKept, ReadsOneMore};
 ghost use Rattle.toll_desk.specs.Clauses.{ChangesIfMayWrite, IfRowsOf, IsPlannedFor, IsPlannedOver, OverContentRows, OverOwner, OverSlice};
@@ -36,6 +37,7 @@ pub fn plan_for<K: Keep>(
     ensures own { (os : List Bytes) → Contains os owner.now → OverOwner (meaning_for K.meaning K.part os) keep.old keep.new owner.now
         (λ c H. IsPlannedFor c H owner.now request.now result) }
     ensures puts { PutsOnly owner.now result.changes.items }
+    ensures others { (os : List Bytes) → KeepsHeld (meaning_for K.meaning K.part os) keep.old keep.new (meaning_of_reply result.reply) }
 {
     match keep.slice(alloc, owner) {
         Ok(Some(slice)) => match plan_over(alloc, keep, &slice, request) {
@@ -48,7 +50,7 @@ pub fn plan_for<K: Keep>(
 }
 
 // The same over the rows of the owner. A trace also follows the edges that the keep has.
-#[tactic(auto, using(crate::proofs::OwnerPlans::plan_unread))]
+#[tactic(auto, using(crate::proofs::OwnerPlans::plan_unread, crate::proofs::OwnerPlans::plan_kept_unread))]
 fn plan_over<K: Keep>(
     alloc: Global,
     keep: &mut K,
@@ -66,6 +68,8 @@ fn plan_over<K: Keep>(
     ensures own { (os : List Bytes) → Contains os slice.now.owner → Over (meaning_for K.meaning K.part os) keep.old keep.new
         (λ c H. IfRowsOf H slice.now (IsPlannedOver H slice.now request.now result)) }
     ensures puts { IfOk result (λ planned. PutsOnly slice.now.owner planned.changes.items) }
+    ensures others { (os : List Bytes)
+        → IfOk result (λ planned. KeepsOneMore (meaning_for K.meaning K.part os) keep.old keep.new (meaning_of_reply planned.reply)) }
 {
     let owner = *slice.owner();
     match *request {

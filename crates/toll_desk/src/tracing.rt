@@ -5,6 +5,7 @@ ghost use Rattle.toll_base.specs.Lots.{lot_id};
 ghost use Rattle.toll_history.specs.History.{History};
 ghost use Rattle.toll_history.specs.OwnerFacts.{IsRowsOf};
 ghost use Rattle.toll_history.specs.Verdict.{IsLawful};
+ghost use Rattle.toll_keep.specs.HeldFor.{KeepsOneMore};
 ghost use Rattle.toll_keep.specs.Meaning.{meaning_for};
 ghost use Rattle.toll_keep.specs.Reads.{IsContentKept, ReadsOneMore};
 ghost use Rattle.toll_desk.specs.Clauses.{RowsAnswerTrace};
@@ -38,6 +39,7 @@ pub fn plan_trace<K: Keep>(
     ensures stays { (os : List Bytes) → IsContentKept (meaning_for K.meaning K.part os) keep.old keep.new }
     ensures own { (os : List Bytes) → Contains os slice.now.owner → Over (meaning_for K.meaning K.part os) keep.old keep.new
         (λ c H. RowsAnswerTrace H slice.now (lot_id owner lot) way (meaning_of_reply result.reply)) }
+    ensures others { (os : List Bytes) → KeepsOneMore (meaning_for K.meaning K.part os) keep.old keep.new (meaning_of_reply result.reply) }
 {
     let reply = trace_own(alloc, keep, slice, &LotId { owner, lot }, way);
     Plan::unchanged(alloc, reply)
@@ -54,6 +56,7 @@ fn trace_own<K: Keep>(alloc: Global, keep: &mut K, slice: &Slice, lot: &LotId, w
     ensures stays { (os : List Bytes) → IsContentKept (meaning_for K.meaning K.part os) keep.old keep.new }
     ensures own { (os : List Bytes) → Contains os slice.now.owner → Over (meaning_for K.meaning K.part os) keep.old keep.new
         (λ c H. RowsAnswerTrace H slice.now lot.now way (meaning_of_reply result)) }
+    ensures others { (os : List Bytes) → KeepsOneMore (meaning_for K.meaning K.part os) keep.old keep.new (meaning_of_reply result) }
 {
     if !may_trace(slice, lot) {
         return Reply::Refused(Refusal::UnknownLot);

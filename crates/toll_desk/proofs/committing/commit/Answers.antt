@@ -1,4 +1,5 @@
 use Rattle.std.proofs.Common.{refl, [], ◌∷◌, rules, sym, subst, ◌∙◌}
+use Rattle.toll_keep.proofs.Calls.{kept_then}
 use Rattle.toll_keep.specs.Meaning.{meaning_for}
 use Rattle.toll_desk.proofs.Common.{settles, settles_still, content_after}
 use Rattle.toll_desk.proofs.CommitLemmas.{no_changes}
@@ -61,3 +62,10 @@ returns-clause-alone g c = λ os.
       whole = makes.whole;
       crash = makes.crash;
     }
+
+pub returns-then-is_empty-clause-others : goal.returns-then-is_empty-clause-others
+returns-then-is_empty-clause-others g c = λ os outside first kept. kept
+
+pub returns-clause-others : goal.returns-clause-others
+returns-clause-others g c = λ os outside first kept.
+    kept_then (meaning_for g.K.Keep.meaning g.K.Keep.part os) first c.args.keep.now c.apply.new.self tt c.apply.result kept (c.apply.ensures.others os outside)

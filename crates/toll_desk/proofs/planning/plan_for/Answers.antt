@@ -1,7 +1,9 @@
 use Rattle.std.proofs.Common.{◌≡◌, true, false, Contains, IfSome, sym, ap, subst, ◌∙◌}
+use Rattle.toll_keep.proofs.Calls.{kept_as, kept_fault}
 use Rattle.toll_keep.specs.CallEffects.{IsReading}
+use Rattle.toll_keep.specs.HeldFor.{KeepsHeld}
 use Rattle.toll_keep.specs.Meaning.{meaning_for}
-use Rattle.toll_desk.proofs.Common.{false≢true, IfOk-weaker, read_fault, read_ok, order_at, owner_known, house_name, same_bytes, IsRowsOf, is_some}
+use Rattle.toll_desk.proofs.Common.{ReplyForbidden, false≢true, IfOk-weaker, read_fault, read_ok, order_at, owner_known, house_name, same_bytes, IsRowsOf, is_some}
 use Rattle.toll_history.specs.OwnChanges.{PutsOnly}
 use Rattle.toll_desk.specs.Translations.{meaning_of_reply}
 use Rattle.toll_desk.proofs.OwnerPlans.{slice_read, unread_is_unknown, plan_lift}
@@ -72,3 +74,18 @@ pub returns-in-Ok-clause-puts : goal.returns-in-Ok-clause-puts
 returns-in-Ok-clause-puts g c =
     let named : c.in-Ok-Some.slice.owner ≡ c.args.owner.now = subst (λ found. IfSome found (λ s. s.owner ≡ c.args.owner.now)) c.in-Ok-Some.field-0-is c.in-Ok-Some.ensures.named in
     subst (λ o. PutsOnly o c.in-Ok.planned.changes.items) named c.in-Ok.ensures.puts
+
+pub returns-in-Ok-clause-others : goal.returns-in-Ok-clause-others
+returns-in-Ok-clause-others g c = λ os.
+    c.in-Ok.ensures.others os c.args.keep.now (kept_as (meaning_for g.K.Keep.meaning g.K.Keep.part os) c.args.keep.now c.slice.new.self _ tt (c.in-Ok-Some.ensures.others os))
+
+pub returns-in-Ok-None-clause-others : goal.returns-in-Ok-None-clause-others
+returns-in-Ok-None-clause-others g c = λ os.
+    let m = meaning_for g.K.Keep.meaning g.K.Keep.part os in
+    subst (λ reply. KeepsHeld m c.args.keep.now c.slice.new.self (meaning_of_reply reply)) (sym c.unchanged-in-Ok-None.ensures.reply)
+    (kept_as m c.args.keep.now c.slice.new.self _ ReplyForbidden (c.in-Ok-None.ensures.others os))
+
+pub returns-clause-others : goal.returns-clause-others
+returns-clause-others g c = λ os.
+    let m = meaning_for g.K.Keep.meaning g.K.Keep.part os in
+    subst (λ reply. KeepsHeld m c.args.keep.now c.slice.new.self (meaning_of_reply reply)) (sym c.unchanged-in-Err.ensures.reply) (kept_fault m c.args.keep.now c.slice.new.self c.in-Err.fault (c.in-Err.ensures.others os))

@@ -1,6 +1,7 @@
 use Rattle.std.proofs.Common.{[], ◌∷◌, refl, sym, subst, ◌∙◌}
 use Rattle.toll_trace.specs.Chain.{edge_of}
 use Rattle.toll_desk.proofs.Common.{Bytes, IsTrace, ReplyTrace, ReplyRefused, UnknownLot, read_ok, read_fault, reads_then}
+use Rattle.toll_keep.proofs.Calls.{kept_as, kept_fault, kept_then}
 use Rattle.toll_keep.specs.Holding.{IsEdgeOfOne}
 use Rattle.toll_keep.specs.Meaning.{meaning_for}
 use Rattle.toll_desk.proofs.OwnTraces.{one_among}
@@ -85,3 +86,19 @@ returns-in-Ok-clause-own g c os own honest content H held stands lawful rows =
       traced = own_trace H content lawful stands s.owner w lot steps (subst (λ (o : Bytes). IsTrace (λ a b. IsEdgeOfOne content (o ∷ []) (edge_of w a b)) lot steps) c.owner.ensures.owner is);
       reported = refl;
     })
+
+pub returns-then-not-may_trace-clause-others : goal.returns-then-not-may_trace-clause-others
+returns-then-not-may_trace-clause-others g c os first kept = kept_as (meaning_for g.K.Keep.meaning g.K.Keep.part os) first c.args.keep.now tt (ReplyRefused UnknownLot) kept
+
+pub returns-in-Ok-clause-others : goal.returns-in-Ok-clause-others
+returns-in-Ok-clause-others g c os first kept =
+    let m = meaning_for g.K.Keep.meaning g.K.Keep.part os in
+    let new = c.trace.new.self in
+    let steps = c.in-Ok.steps in
+    kept_as m first new steps (ReplyTrace steps.items) (kept_then m first c.args.keep.now new tt _ kept (c.in-Ok.ensures.others os))
+
+pub returns-in-Err-clause-others : goal.returns-in-Err-clause-others
+returns-in-Err-clause-others g c os first kept =
+    let m = meaning_for g.K.Keep.meaning g.K.Keep.part os in
+    let new = c.trace.new.self in
+    kept_fault m first new c.in-Err.fault (kept_then m first c.args.keep.now new tt _ kept (c.in-Err.ensures.others os))
