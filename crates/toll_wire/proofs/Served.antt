@@ -2,8 +2,9 @@
 use Rattle.std.proofs.Common.{OnErr, IsTrue, nat_eq, codes, ◌≡◌, ℕ, Bool, true, false, ◌&&◌, cond, List, [], Some, None, Result, Ok, Err, IfErr, IfOk, refl, sym, subst, inl, inr, ◌∙◌}
 use Rattle.toll_wire.proofs.Common.{Vec, starts_with, digits, false≢true, Bytes, History, IsLawful, Meaning, Content, CallEffect, IsReading, Represents, KeepFault, Memory, Request, OwnerReply, ReplyForbidden, ReplyRefused, has_owner_key, IsReply, IsValidOwnerRequest, after_reply, is_granted, may_change, writes, finished, reply_text, Forbidden, IfOk-weaker, owner_steps, Calls, IsKeepStep, IsStepFrom, StoreEffect, calls_of, Text, Unavailable, fault_or_memory, text_of_failure, text_of_reply_meaning, text_if_reply, ClaimedRequest, Asks, Fails, Saying, By, Nobody, IsTold, MayBeReply, after_saying, IfPlacedBefore, IfSayingUnchanging, IsReplyWhere, IsGranted, IsSayingStep, IsFaultMet, SayingCalls, saying_steps}
 use Rattle.toll_base.specs.declared.decision.Change.{Change}
-use Rattle.toll_keep.proofs.Calls.{Rests, answered, failed_call, goes_fault, goes_memory, read_memory, settles_still}
+use Rattle.toll_keep.proofs.Calls.{Rests, answered, failed_call, goes_fault, goes_memory, kept_as, kept_fault, kept_memory, read_memory, settles_still}
 use Rattle.toll_keep.specs.CallEffects.{Keeps}
+use Rattle.toll_keep.specs.HeldFor.{KeepsHeld, KeepsOneMore}
 use Rattle.toll_desk.specs.Clauses.{IfUnchanging, OverContentRows}
 use Rattle.toll_desk.specs.Outcome.{CommitEffect}
 use Rattle.toll_desk.specs.Plans.{IsPlan}
@@ -13,7 +14,8 @@ use Rattle.toll_desk.proofs.OwnerPlans.{lawful_after_reply}
 use Rattle.toll_desk.proofs.StepLemmas.{step_as, store_of}
 use Rattle.toll_protocol.specs.declared.http_messages.failure.Failure.{Failure}
 use Rattle.toll_wire.specs.declared.outgoing.Out.{Out}
-use Rattle.toll_wire.specs.OutTexts.{IsText, text_if}
+use Rattle.toll_wire.specs.OutTexts.{IsText, out_of, text_if}
+use Rattle.toll_wire.specs.Steps.{IsAnsweredKeeping}
 
 -- ---- texts
 
@@ -219,3 +221,32 @@ module _ {K : Type 0} (meaning : Meaning K) where
               λ now c held keeps damaged. commit.whole now c ((reads.keeps (commit.honest now)).content c held) keeps (failed ∙ damaged),
             )
         by_plan (Err failing) goes is = absurd is
+
+  -- ---- what is held for others
+
+  module _ (old new : K) where
+    -- after calls that kept it, with the fault that a reply without a text has
+    pub kept_untold : {X Y : Type 0} (r : Result X KeepFault) → KeepsHeld meaning old new r → (fault : KeepFault) → fault ≡ fault_or_memory r
+        → KeepsHeld {X = Y} meaning old new (Err fault)
+    kept_untold {X} {Y} r kept fault is = subst (λ fault. KeepsHeld {X = Y} meaning old new (Err fault)) (sym is) (by_result r kept)
+      where
+        by_result : (r : Result X KeepFault) → KeepsHeld meaning old new r → KeepsHeld {X = Y} meaning old new (Err (fault_or_memory r))
+        by_result (Ok x) kept = kept_memory meaning old new x kept
+        by_result (Err fault) kept = kept_fault meaning old new fault kept
+
+    -- with a text, for which there may be no memory
+    pub kept_text : {X Y : Type 0} (x : X) → KeepsHeld meaning old new (answered x) → (r : Result Y KeepFault) → IfErr r (λ fault. fault ≡ Memory)
+        → KeepsHeld meaning old new r
+    kept_text x kept (Ok y) lacks = kept_as meaning old new x y kept
+    kept_text x kept (Err fault) lacks = kept_untold (Ok x) kept fault lacks
+
+    -- so the answer keeps it too
+    pub kept_answer : (r : Result (Vec ℕ) KeepFault) → KeepsHeld meaning old new r → IsAnsweredKeeping meaning old new (out_of r)
+    kept_answer (Ok text) kept = inl (Ok tt, refl, kept_as meaning old new text tt kept)
+    kept_answer (Err fault) kept = inl (Err fault, (fault, refl), kept_fault meaning old new fault kept)
+
+    -- the making of changes keeps it, after a plan with a text
+    pub kept_making : (middle : K) (planned : Result OwnerReply KeepFault) (text : Vec ℕ) → IsText (Text text) (text_if_reply planned)
+        → (made : Result (Unit {0}) KeepFault) → KeepsHeld meaning old middle planned → KeepsOneMore meaning middle new made → KeepsHeld meaning old new made
+    kept_making middle (Ok reported) text is made kept more = more old (kept_as meaning old middle reported tt kept)
+    kept_making middle (Err fault) text is made kept more = absurd is

@@ -1,7 +1,8 @@
 -- What is so once a request was served.
-use Rattle.std.specs.Prelude.{◌≡◌, ◌⊎◌, Bool, false, Some, None, Ok, Err, IsTrue, nat_eq, codes}
+use Rattle.std.specs.Prelude.{◌≡◌, ◌⊎◌, Bool, false, Some, None, Result, Ok, Err, IsTrue, nat_eq, codes}
 use Rattle.toll_wire.specs.Common.{Bytes, History, Meaning, Content, KeepFault, Memory, writes, starts_with}
 use Rattle.toll_keep.specs.CallEffects.{CallEffect, FindsNoDamage}
+use Rattle.toll_keep.specs.HeldFor.{KeepsHeld}
 use Rattle.toll_desk.specs.Clauses.{IfPlacedAgain}
 use Rattle.toll_desk.specs.Steps.{Calls, IsKeepStep, StepKind}
 use Rattle.toll_wire.specs.declared.outgoing.Out.{Out}
@@ -72,3 +73,9 @@ module _ {K : Type 0} (meaning : Meaning K) (old new : K) where
   abbrev pub IsAnswered : Bytes → Out → Type 0
   IsAnswered bytes out =
       ((saying : Saying) × Says bytes saying × IsKeepStep meaning saying_steps old saying out new) ⊎ ((out ≡ Unavailable) × (new ≡ old))
+
+  -- What is held stays, and a stop leaves it: the calls of the keep kept it, whatever they answered; or there was no memory to read the bytes,
+  -- and the keep is untouched.
+  abbrev pub IsAnsweredKeeping : Out → Type 0
+  IsAnsweredKeeping out =
+      ((outcome : Result (Unit {0}) KeepFault) × ReplyCalls out (Some outcome) × KeepsHeld meaning old new outcome) ⊎ ((out ≡ Unavailable) × (new ≡ old))

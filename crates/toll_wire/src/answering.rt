@@ -2,6 +2,7 @@
 ghost use Rattle.std.specs.Prelude.{◌≡◌, List, Contains, IfErr, Some};
 ghost use Rattle.toll_answers.specs.Replies.{IsValidOwnerRequest};
 ghost use Rattle.toll_base.specs.Bytes.{Bytes};
+ghost use Rattle.toll_keep.specs.HeldFor.{KeepsHeld};
 ghost use Rattle.toll_keep.specs.Meaning.{meaning_for};
 ghost use Rattle.toll_desk.specs.Steps.{IsKeepStep};
 ghost use Rattle.toll_desk.specs.Translations.{meaning_of_reply};
@@ -10,7 +11,7 @@ ghost use Rattle.toll_protocol.specs.Parsing.{IsParsedAs};
 ghost use Rattle.toll_wire.specs.OutTexts.{out_of};
 ghost use Rattle.toll_wire.specs.ReplyTexts.{fault_or_memory, text_of_failure};
 ghost use Rattle.toll_wire.specs.Sayings.{AreOfOneOf, Asks, By, Fails};
-ghost use Rattle.toll_wire.specs.Steps.{IsAnswered, IsFaultMet, saying_steps};
+ghost use Rattle.toll_wire.specs.Steps.{IsAnswered, IsAnsweredKeeping, IsFaultMet, saying_steps};
 
 use crate::outgoing::Out;
 use crate::reply::{fail, reply_out};
@@ -29,6 +30,7 @@ use toll_protocol::{Failure, HttpRequest, parse_http};
 pub fn answer<K: Keep>(alloc: Global, keep: &mut K, bytes: &[u8]) -> Out
     ensures answered { IsAnswered K.meaning keep.old keep.new bytes.now result }
     ensures alone { (os : List Bytes) → AreOfOneOf os bytes.now → IsAnswered (meaning_for K.meaning K.part os) keep.old keep.new bytes.now result }
+    ensures others { (os : List Bytes) → ¬ (AreOfOneOf os bytes.now) → IsAnsweredKeeping (meaning_for K.meaning K.part os) keep.old keep.new result }
 {
     reply_by_router(alloc, &mut OfficeRouter::new(), keep, bytes)
 }
@@ -42,6 +44,7 @@ pub fn reply_by_router<K: Keep>(
 ) -> Out
     ensures answered { IsAnswered K.meaning keep.old keep.new bytes.now result }
     ensures alone { (os : List Bytes) → AreOfOneOf os bytes.now → IsAnswered (meaning_for K.meaning K.part os) keep.old keep.new bytes.now result }
+    ensures others { (os : List Bytes) → ¬ (AreOfOneOf os bytes.now) → IsAnsweredKeeping (meaning_for K.meaning K.part os) keep.old keep.new result }
 {
     Out::of(answer_with_router(alloc, router, keep, parse_http(bytes)))
 }
@@ -57,6 +60,8 @@ pub fn answer_with_router<K: Keep>(
     ensures answered { (bytes : Bytes) → IsParsedAs bytes (parse_outcome parsed.entry) → IsAnswered K.meaning keep.old keep.new bytes (out_of result) }
     ensures alone { (os : List Bytes) (bytes : Bytes) → IsParsedAs bytes (parse_outcome parsed.entry) → AreOfOneOf os bytes
         → IsAnswered (meaning_for K.meaning K.part os) keep.old keep.new bytes (out_of result) }
+    ensures others { (os : List Bytes) (bytes : Bytes) → IsParsedAs bytes (parse_outcome parsed.entry) → ¬ (AreOfOneOf os bytes)
+        → IsAnsweredKeeping (meaning_for K.meaning K.part os) keep.old keep.new (out_of result) }
     ensures met { IfErr result (IsFaultMet K.meaning keep.old keep.new) }
 {
     match parsed {
@@ -86,6 +91,7 @@ fn serve<K: Keep>(
     ensures serves { IsKeepStep K.meaning saying_steps keep.old (By owner.now (Some key.now) (Asks request.now)) (out_of result) keep.new }
     ensures alone { (os : List Bytes) → Contains os owner.now → IsKeepStep (meaning_for K.meaning K.part os) saying_steps keep.old
         (By owner.now (Some key.now) (Asks request.now)) (out_of result) keep.new }
+    ensures others { (os : List Bytes) → ¬ (Contains os owner.now) → KeepsHeld (meaning_for K.meaning K.part os) keep.old keep.new result }
     ensures met { IfErr result (IsFaultMet K.meaning keep.old keep.new) }
 {
     let planned = owner_plan(alloc, keep, owner, key, request);
@@ -119,6 +125,7 @@ fn refuse<K: Keep>(
     ensures serves { IsKeepStep K.meaning saying_steps keep.old (By owner.now (Some key.now) (Fails (text_of_failure failure))) (out_of result) keep.new }
     ensures alone { (os : List Bytes) → IsKeepStep (meaning_for K.meaning K.part os) saying_steps keep.old
         (By owner.now (Some key.now) (Fails (text_of_failure failure))) (out_of result) keep.new }
+    ensures others { (os : List Bytes) → KeepsHeld (meaning_for K.meaning K.part os) keep.old keep.new result }
     ensures met { IfErr result (IsFaultMet K.meaning keep.old keep.new) }
 {
     match admit(alloc, keep, owner, key) {
