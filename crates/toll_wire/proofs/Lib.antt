@@ -21,4 +21,5 @@ pub mod Private
 pub mod Determined
 pub mod Served
 pub mod Serving
+pub mod OwnRuns
 pub mod PrintedLemmas

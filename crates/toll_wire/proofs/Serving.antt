@@ -13,7 +13,7 @@ use Rattle.toll_wire.proofs.Served.{keeps_still, still_from}
 
 module _ {K : Type 0} (meaning : Meaning K) where
   -- a keep that is honest now has always been so
-  event_honest : (old new : K) (e : Event) (a : Answer) → IsEventServed meaning old e a new → meaning.is_honest new → meaning.is_honest old
+  pub event_honest : (old new : K) (e : Event) (a : Answer) → IsEventServed meaning old e a new → meaning.is_honest new → meaning.is_honest old
   event_honest old new (Owner bytes) (Reply out) (inl answered) = answered.2.store.honest
   event_honest old new (Owner bytes) (Reply out) (inr unread) = subst meaning.is_honest unread.1
   event_honest old new (Command command) (CommandReply reply) served = served.0.store.honest
@@ -33,7 +33,7 @@ module _ {K : Type 0} (meaning : Meaning K) where
     request_step bytes s says (Text text) H G (reported, made) = (s, says, reported, made)
     request_step bytes s says Unavailable H G step = step
 
-    event_step : (old new : K) (e : Event) (a : Answer) → IsEventServed meaning old e a new
+    pub event_step : (old new : K) (e : Event) (a : Answer) → IsEventServed meaning old e a new
         → Over meaning old new (λ c H. IsStepFrom meaning IsStep MayMake old c H e a new)
     event_step old new (Owner bytes) (Reply out) (inl (s, says, step)) now c H held stands lawful =
         step_as meaning saying_steps.step saying_steps.may_make IsStep MayMake old new c H s out (Owner bytes) (Reply out)

@@ -1,7 +1,7 @@
 -- Events of the office, and their answers, as a run.
-use Rattle.std.specs.Prelude.{◌≡◌, ◌⊎◌, true, is_some, Option, Some, None, option_map, List, Err}
+use Rattle.std.specs.Prelude.{◌≡◌, ◌⊎◌, true, false, is_some, Option, Some, None, option_map, List, Contains, Err}
 use Rattle.std.specs.Result.{result_ok}
-use Rattle.toll_wire.specs.Common.{Bytes, History, IsLawful, Meaning, Content, KeepFault, Memory, PlantAnswer, after_plant, meaning_of_plant_reply, HoldsFor, AllByRecursion}
+use Rattle.toll_wire.specs.Common.{Bytes, same_bytes, house_name, History, IsLawful, Meaning, Content, KeepFault, Memory, PlantAnswer, after_plant, meaning_of_plant_reply, HoldsFor, AllByRecursion}
 use Rattle.toll_answers.specs.PlantAnswers.{IsValidCommand}
 use Rattle.toll_history.specs.Runs.{IsRun}
 use Rattle.toll_desk.specs.OfficeSteps.{IsPlantStep, plant_steps}
@@ -10,10 +10,12 @@ use Rattle.toll_wire.specs.declared.event.Event.{Event}
 use Rattle.toll_wire.specs.declared.event.Event.TheVariants.{Owner, Plant as Command}
 use Rattle.toll_wire.specs.declared.event.Answer.{Answer}
 use Rattle.toll_wire.specs.declared.event.Answer.TheVariants.{Bytes as Reply, Plant as CommandReply}
+use Rattle.toll_wire.specs.declared.outgoing.Out.{Out}
 use Rattle.toll_wire.specs.declared.outgoing.Out.TheVariants.{Text, Unavailable}
-use Rattle.toll_wire.specs.Parts.{IsPrivate}
-use Rattle.toll_wire.specs.Sayings.{Saying, Says, IsTold, after_saying}
-use Rattle.toll_wire.specs.Steps.{IsAnswered}
+use Rattle.toll_keep.specs.Meaning.{Part, meaning_for}
+use Rattle.toll_wire.specs.Parts.{AreThoseOf, IsPrivate, RepliesAsAlone}
+use Rattle.toll_wire.specs.Sayings.{AreOfOneOf, Saying, Says, IsTold, after_saying}
+use Rattle.toll_wire.specs.Steps.{IsAnswered, IsAnsweredKeeping}
 
 -- ---- one step
 
@@ -55,6 +57,33 @@ pub record IsRunOf (holds : Content → Type 0) (H : History) (events : List Eve
   pub private : IsPrivate H events answers
   pub lawful : IsLawful last
   pub left : HoldsFor holds last
+
+-- ---- requests of some owners, among those of anybody
+
+module _ {K : Type 0} (os : List Bytes) (meaning : Meaning K) (part : List Bytes → Part K) where
+  -- The request got this answer. One of these owners is a step over what is held for them, and any other leaves that.
+  pub record IsAnsweredFor (old new : K) (bytes : Bytes) (out : Out) : Type 0 where
+    pub answered : IsAnswered meaning old new bytes out
+    pub alone : AreOfOneOf os bytes → IsAnswered (meaning_for meaning part os) old new bytes out
+    pub others : ¬ (AreOfOneOf os bytes) → IsAnsweredKeeping (meaning_for meaning part os) old new out
+
+  -- the event is a request that got this answer so
+  abbrev pub IsRequestAnswered : K → Event → Answer → K → Type 0
+  IsRequestAnswered old (Owner bytes) (Reply out) new = IsAnsweredFor old new bytes.items out
+  IsRequestAnswered old _ _ new = ⊥
+
+  -- the events are requests that got these answers so, one after another, and made the one keep of the other
+  abbrev pub AreRequestsAnswered : K → List Event → List Answer → K → Type 0
+  AreRequestsAnswered = IsRun IsRequestAnswered
+
+-- The requests of these owners, with their replies, are a run of their own from this history, whose last rows are held. So each of them gets
+-- the replies that its part gives alone.
+pub record IsRunFor (os : List Bytes) (holds : Content → Type 0) (H : History) (events : List Event) (answers : List Answer) : Type 0 where
+  pub own : List Event
+  pub replies : List Answer
+  pub are_theirs : AreThoseOf os events answers own replies
+  pub run : IsRunOf holds H own replies
+  pub alone : (o : Bytes) → Contains os o → same_bytes o house_name ≡ false → RepliesAsAlone o H events answers
 
 -- ---- what an answer says
 

@@ -1,4 +1,4 @@
--- What one owner has of a run, as bytes: its requests and their replies, and the commands on its rows.
+-- What one owner has of a run, as bytes: its requests and their replies, and the commands on its rows. What some owners have of requests.
 use Rattle.std.specs.Prelude.{◌≡◌, ◌⊎◌, true, false, Option, Some, None, List, [], ◌∷◌, Result, Ok}
 use Rattle.toll_wire.specs.Common.{Bytes, same_bytes, house_name, History, part, Accepted, KeepFault, PlantAnswer, Judged, recorded_command, meaning_of_plant_reply}
 use Rattle.toll_base.specs.Words.{where_so}
@@ -8,7 +8,7 @@ use Rattle.toll_wire.specs.declared.event.Event.TheVariants.{Owner, Plant}
 use Rattle.toll_wire.specs.declared.event.Answer.{Answer}
 use Rattle.toll_wire.specs.declared.event.Answer.TheVariants.{Bytes as Reply, Plant as PlantReply}
 use Rattle.toll_wire.specs.declared.outgoing.Out.TheVariants.{Text, Unavailable}
-use Rattle.toll_wire.specs.Sayings.{Saying, Says, IsTold, after_saying, claims}
+use Rattle.toll_wire.specs.Sayings.{AreOfOneOf, Saying, Says, IsTold, after_saying, claims}
 
 -- an event of an owner's own: a request as it came, or a command of the plant on its rows
 pub data OwnEvent : Type 0 where
@@ -63,3 +63,14 @@ RepliesAsAlone o H events answers =
 abbrev pub IsPrivate : History → List Event → List Answer → Type 0
 IsPrivate H events answers =
     (o : Bytes) → HasPart o events answers × (same_bytes o house_name ≡ false → RepliesAsAlone o H events answers)
+
+-- Of these requests and their answers these are those of some owners, in their order: each that got a reply and claims no other owner with a
+-- key.
+abbrev pub AreThoseOf : List Bytes → List Event → List Answer → List Event → List Answer → Type 0
+AreThoseOf os [] [] own replies = (own ≡ []) × (replies ≡ [])
+AreThoseOf os (Owner bytes ∷ events) (Reply (Text text) ∷ answers) own replies =
+    (AreOfOneOf os bytes.items × (others : List Event) × (rest : List Answer) × (own ≡ Owner bytes ∷ others) × (replies ≡ Reply (Text text) ∷ rest)
+    × AreThoseOf os events answers others rest)
+    ⊎ ((¬ (AreOfOneOf os bytes.items)) × AreThoseOf os events answers own replies)
+AreThoseOf os (Owner bytes ∷ events) (Reply Unavailable ∷ answers) own replies = AreThoseOf os events answers own replies
+AreThoseOf os _ _ own replies = ⊥

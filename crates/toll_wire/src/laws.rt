@@ -11,9 +11,13 @@ ghost use Rattle.toll_answers.specs.Agreement.{IfPartsAgree};
 ghost use Rattle.toll_answers.specs.PlantAnswers.{IsPlantAnswer, Shows};
 ghost use Rattle.toll_answers.specs.declared.plant_cmd.PlantCmd.TheVariants as PlantCmd;
 ghost use Rattle.toll_answers.specs.Replies.{has_owner_key};
+ghost use Rattle.toll_keep.specs.Meaning.{meaning_for};
+ghost use Rattle.toll_desk.specs.Reads.{Over};
 ghost use Rattle.toll_wire.specs.Laws.{AnswerAlike, AreDetermined, AreRunsAlike, Course, IsRunTo, PrintTheSame, PrintsTrace, RunPrivately, RepliesWithTrace};
+ghost use Rattle.toll_wire.specs.OfficeRuns.{AreRequestsAnswered, IsRunFor};
 ghost use Rattle.toll_wire.specs.Parts.{AreAlone, HasPart, OwnEvent, RepliesAsAlone};
 ghost use Rattle.toll_wire.specs.Sayings.{Saying, Says};
+ghost use Rattle.toll_wire.specs.declared.event.Answer.{Answer};
 ghost use Rattle.toll_wire.specs.declared.event.Event.{Event};
 
 use toll_keep::Keep;
@@ -53,6 +57,16 @@ pub fn runs_with_the_same_part_give_the_same_replies<J: Keep, K: Keep>()
 /// HOUSE are those that its part gives alone.
 pub fn runs_are_private()
     ensures { (start : History) (events : List Event) → RunPrivately start events }
+{}
+
+/// Take any owners, and requests of anybody, answered one after another over one keep. Whatever rows the keep
+/// has of others, sound or damaged, the requests of these owners that got a reply are a run of their own over
+/// the rows of these owners, and leave its rows. So each owner besides HOUSE gets the reply bytes that its own
+/// requests give by themselves.
+pub fn requests_of_some_owners_are_a_run_of_their_own<K: Keep>()
+    ensures { (os : List Bytes) (old new : K) (events : List Event) (answers : List Answer)
+        → AreRequestsAnswered os K.meaning K.part old events answers new
+        → Over (meaning_for K.meaning K.part os) old new (λ c H. IsRunFor os ((K.part os).holds new) H events answers) }
 {}
 
 /// If no answer says that there was no memory, or a fault, events have one list of answers, and leave one

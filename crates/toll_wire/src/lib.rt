@@ -21,7 +21,8 @@ pub use laws::{
     a_part_alone_gives_one_list_of_replies, an_owners_traces_are_replied_byte_for_byte,
     answers_are_determined, any_two_keeps_answer_alike, bytes_say_one_thing,
     every_run_has_its_parts, recalls_print_the_same_lines_of_an_owner,
-    replies_are_those_that_the_owners_part_gives_alone, runs_are_private,
+    replies_are_those_that_the_owners_part_gives_alone,
+    requests_of_some_owners_are_a_run_of_their_own, runs_are_private,
     runs_with_the_same_part_give_the_same_replies, the_plants_traces_are_printed,
 };
 pub use outgoing::Out;
