@@ -5,8 +5,8 @@ use Rattle.toll_trace.proofs.Members.{Contains-cases, Contains-here, Contains-la
 use Rattle.toll_keep.specs.Meaning.{Part, meaning_for}
 use Rattle.toll_desk.specs.Outcome.{HoldsFor}
 use Rattle.toll_desk.specs.Reads.{Over}
-use Rattle.toll_wire.proofs.Common.{Vec, false≢true, Bytes, same_bytes, Content, History, IsLawful, IsRun, IsStep, Meaning, Represents, Event, Answer, Text, Unavailable, By, Nobody, Saying, Says, OwnEvent, IsPart, claims, run_back}
-use Rattle.toll_wire.specs.OfficeRuns.{AreRequestsAnswered, IsAnsweredFor, IsRequestAnswered, IsRunFor}
+use Rattle.toll_wire.proofs.Common.{AllByRecursion, Vec, false≢true, Bytes, same_bytes, Content, History, IsLawful, IsRun, IsStep, Meaning, Represents, Event, Answer, Text, Unavailable, By, Nobody, Saying, Says, OwnEvent, IsPart, claims, run_back}
+use Rattle.toll_wire.specs.OfficeRuns.{AreRequestsAnswered, IsAnsweredFor, IsRequest, IsRequestAnswered, IsRunFor}
 use Rattle.toll_wire.specs.Parts.{AreThoseOf}
 use Rattle.toll_wire.specs.Sayings.{AreOfOneOf, IsByOneOf}
 use Rattle.toll_wire.specs.Steps.{IsAnsweredKeeping}
@@ -71,6 +71,18 @@ module _ (os : List Bytes) (o : Bytes) (mine : Contains os o) where
   part_of_theirs [] (a ∷ answers) theirs their_replies own replies are part = absurd are
   part_of_theirs (Owner bytes ∷ events) [] theirs their_replies own replies are part = absurd are
   part_of_theirs (Command command ∷ events) [] theirs their_replies own replies are part = absurd are
+
+-- Events that are requests were answered as such.
+module _ {K : Type 0} (os : List Bytes) (meaning : Meaning K) (part : List Bytes → Part K) where
+  abbrev pub IsAnsweredIfRequest : K → Event → Answer → K → Type 0
+  IsAnsweredIfRequest old event answer new = IsRequest event → IsRequestAnswered os meaning part old event answer new
+
+  pub requests_answered : (old new : K) (events : List Event) (answers : List Answer) → AllByRecursion IsRequest events → IsRun IsAnsweredIfRequest old events answers new
+      → AreRequestsAnswered os meaning part old events answers new
+  requests_answered old new [] [] all run = run
+  requests_answered old new (e ∷ events) (a ∷ answers) all run = (run.0, run.1 all.0, requests_answered run.0 new events answers all.1 run.2)
+  requests_answered old new [] (a ∷ answers) all run = absurd run
+  requests_answered old new (e ∷ events) [] all run = absurd run
 
 module _ {K : Type 0} (os : List Bytes) (meaning : Meaning K) (part : List Bytes → Part K)
     (settled : (k : K) (c : Content) → meaning.is_honest k → meaning.is_store_open k → (part os).holds k c → (part os).leaves k (c ∷ [])) where

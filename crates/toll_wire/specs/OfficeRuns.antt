@@ -60,6 +60,11 @@ pub record IsRunOf (holds : Content → Type 0) (H : History) (events : List Eve
 
 -- ---- requests of some owners, among those of anybody
 
+-- the event is a request
+abbrev pub IsRequest : Event → Type 0
+IsRequest (Owner bytes) = Unit {0}
+IsRequest (Command command) = ⊥
+
 module _ {K : Type 0} (os : List Bytes) (meaning : Meaning K) (part : List Bytes → Part K) where
   -- The request got this answer. One of these owners is a step over what is held for them, and any other leaves that.
   pub record IsAnsweredFor (old new : K) (bytes : Bytes) (out : Out) : Type 0 where

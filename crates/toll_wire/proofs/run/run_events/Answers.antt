@@ -1,5 +1,6 @@
 use Rattle.std.proofs.Common.{◌≡◌, ◌+◌, List, [], ◌∷◌, ◌++◌, take, refl, sym, ap, ◌∙◌, subst, subst₂, arith}
-use Rattle.toll_wire.proofs.Common.{Event, Answer, AreServed, IsEventServed, take_more, take_all, run_more}
+use Rattle.toll_wire.proofs.Common.{Event, Answer, AreServed, IsEventServed, IsRun, take_more, take_all, run_more}
+use Rattle.toll_wire.proofs.OwnRuns.{IsAnsweredIfRequest, requests_answered, requests_run}
 use Rattle.toll_wire.proofs.Serving.{events_honest, events_open, events_run, events_steps}
 use Rattle.toll_wire.proofs.run.run_events.Goals as goal
 
@@ -12,6 +13,7 @@ loop-event-init g c =
       count = omega (arith, c.in_ok-answers.ensures.len);
       room = omega (arith, c.in_ok-answers.ensures.capacity);
       served = subst (λ answers. AreServed K.meaning keep [] answers keep) (sym none) refl;
+      requests = λ os. subst (λ answers. IsRun (IsAnsweredIfRequest os K.meaning K.part) keep [] answers keep) (sym none) refl;
     }
 
 pub loop-event-preserved : goal.loop-event-preserved
@@ -27,7 +29,11 @@ loop-event-preserved g c =
       count = omega arith;
       room = omega arith;
       served = subst₂ (λ (events : List Event) (answers : List Answer). AreServed K.meaning c.args.keep.now events answers reported.new.keep) events_are answers_are
-          (run_more (IsEventServed K.meaning) c.args.keep.now c.loop-event.keep reported.new.keep before c.loop-event.answers.items event reported.result c.loop-event.invariant.served reported.ensures);
+          (run_more (IsEventServed K.meaning) c.args.keep.now c.loop-event.keep reported.new.keep before c.loop-event.answers.items event reported.result c.loop-event.invariant.served reported.ensures.served);
+      requests = λ os.
+          let each = IsAnsweredIfRequest os K.meaning K.part in
+          subst₂ (λ (events : List Event) (answers : List Answer). IsRun each c.args.keep.now events answers reported.new.keep) events_are answers_are
+          (run_more each c.args.keep.now c.loop-event.keep reported.new.keep before c.loop-event.answers.items event reported.result (c.loop-event.invariant.requests os) (reported.ensures.alone os));
     }
 
 pub returns-clause-honest : goal.returns-clause-honest
@@ -52,3 +58,14 @@ pub returns-clause-open : goal.returns-clause-open
 returns-clause-open g c never_closes now content H held stands lawful =
     events_open g.K.Keep.meaning g.met.K.Keep.settled never_closes c.args.keep.now c.loop-event.keep (take c.loop-event.event-index c.args.events.now) c.loop-event.answers.items c.loop-event.invariant.served
     now content H held stands lawful
+
+pub returns-clause-alone : goal.returns-clause-alone
+returns-clause-alone g c os all_requests now content H held stands lawful =
+    let K = g.K.Keep in
+    let old = c.args.keep.now in
+    let new = c.loop-event.keep in
+    let events = c.args.events.now in
+    let answers = c.loop-event.answers.items in
+    let all = take_all c.loop-event.event-index events c.loop-event-test.false in
+    let answered = subst (λ events. IsRun (IsAnsweredIfRequest os K.meaning K.part) old events answers new) all (c.loop-event.invariant.requests os) in
+    requests_run os K.meaning K.part (g.met.K.Keep.settled_for os) old new events answers (requests_answered os K.meaning K.part old new events answers all_requests answered) now content H held stands lawful
