@@ -1,5 +1,6 @@
 pub mod Faults
 pub mod FileChanges
+pub mod Locks
 pub mod LogEnds
 pub mod LogMarks
 pub mod OfficeFiles

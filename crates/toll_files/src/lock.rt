@@ -1,4 +1,7 @@
 //! The lock of an office's file.
+ghost use Rattle.std.specs.Prelude.{◌≡◌, ⊤, IfErr, IfNone, IfOk, MatchBool, OnErr};
+ghost use Rattle.toll_files.specs.Locks.{IsLockRefused};
+
 use crate::file_id::FileId;
 use crate::file_stamps::LeftFiles;
 use crate::log_mark::{LogMark, MARK_BYTES};
@@ -52,41 +55,84 @@ impl Lease {
     }
 }
 
-/// Takes the lock of the file, `FILE.lock`, without waiting. Fails as [`LockFile::lock`] does.
+/// Takes the lock of the file, `FILE.lock`, without waiting. Fails as [`LockFile::lock`] does, or with Memory if there is
+/// none for the path.
 pub fn take_lock(rt: &HostRuntime, path: &str) -> Result<Lease, OfficeFault> {
-    LockFile::new().lock(rt, path)
+    LockFile::new().lock(&LockPath::of(rt, path)?)
+}
+
+/// The path of a lock's file. Other programs may take its lock, or put another file there.
+pub trait LockPlace {
+    /// A lock file that is open, and its lock while that is held.
+    type Open: Drop;
+
+    type Held: Drop;
+
+    // The file at the path couldn't be opened.
+    ghost is_shut: { Self → Type 0 };
+
+    // This file was opened at the path. Another program has its lock.
+    ghost is_opened: { Self → Self.Open → Type 0 };
+
+    ghost is_taken: { Self.Open → Type 0 };
+
+    // While this lock was held, its file was found at the path, or another one or none.
+    ghost is_at: { Self → Self.Held → Type 0 };
+
+    ghost is_replaced: { Self → Self.Held → Type 0 };
+
+    /// Opens the file at the path. If there is none, one is made.
+    fn open(&self) -> io::Result<Self::Open>
+        ensures opened { IfOk result (is_opened self.now) }
+        ensures shut { OnErr result (is_shut self.now) };
+
+    /// Takes the lock of an open file without waiting. The file is closed if another program has the lock.
+    fn try_lock(&self, file: Self::Open) -> Option<Self::Held>
+        ensures { IfNone result (is_taken file) };
+
+    /// Whether the file of this lock is at the path now. Whoever finds another file there takes the lock of that one.
+    fn has(&self, lock: &Self::Held) -> bool
+        ensures { MatchBool result (is_at self.now lock.now) (is_replaced self.now lock.now) };
 }
 
 /// The file `FILE.lock`, which stays open between leases, so that the next lease needn't open it.
 #[derive(Drop)]
-pub struct LockFile {
-    open: Option<OpenLock>,
+pub struct LockFile<F = OpenLock> {
+    open: Option<F>,
 }
 
-impl LockFile {
+impl<F: Drop> LockFile<F> {
     /// A lock file that isn't open yet.
     pub fn new() -> Self {
         LockFile { open: None }
     }
 
-    /// Takes the lock without waiting. If another file is at the path of `FILE.lock` by now, or none, the lock is
-    /// that of the file that is opened or made there. Locked if another program has the lock or the file can't be
-    /// opened, Memory if there is none for its path.
-    pub fn lock(&mut self, rt: &HostRuntime, path: &str) -> Result<Lease, OfficeFault> {
-        let Ok(name) = format!(in rt.alloc(); "{path}.lock") else {
-            return Err(OfficeFault::Memory);
-        };
-        if let Some(lock) = self.open.take() {
-            if lock.file.try_lock().is_ok() && lock.is_at(rt, name.as_str()) {
-                return Ok(Lease { lock });
+    /// Takes the lock without waiting. If another file is at the path by now, or none, the lock is that of the file
+    /// that is opened or made there. Locked if another program has the lock, or if the file can't be opened or was
+    /// replaced meanwhile.
+    pub fn lock<P: LockPlace<Open = F>>(&mut self, place: &P) -> Result<P::Held, OfficeFault>
+        ensures at { IfOk result (P.is_at place.now) }
+        ensures refused { IfErr result (λ fault. (fault ≡ OfficeFault.Locked)
+            × IsLockRefused (P.is_shut place.now) (P.is_opened place.now) P.is_taken (P.is_replaced place.now)) }
+    {
+        if let Some(file) = self.open.take() {
+            if let Some(lock) = place.try_lock(file) {
+                if place.has(&lock) {
+                    return Ok(lock);
+                }
             }
         }
-        match OpenLock::open(rt, name.as_str()) {
-            Ok(lock) if lock.file.try_lock().is_ok() => Ok(Lease { lock }),
+        let Ok(file) = place.open() else {
+            return Err(OfficeFault::Locked);
+        };
+        match place.try_lock(file) {
+            Some(lock) if place.has(&lock) => Ok(lock),
             _ => Err(OfficeFault::Locked),
         }
     }
+}
 
+impl LockFile {
     /// Releases the lock. The file stays open, unless the lock can't be released without closing it.
     pub fn unlock(&mut self, lease: Lease) {
         let Lease { lock } = lease;
@@ -97,22 +143,50 @@ impl LockFile {
     }
 }
 
-/// A lock file that is open, locked or not.
-#[derive(Drop)]
-struct OpenLock {
-    file: File,
-    id: FileId,
-    takes_marks: bool,
+/// The path of `FILE.lock`.
+pub struct LockPath<'a> {
+    rt: &'a HostRuntime,
+    name: String,
 }
 
-impl OpenLock {
-    fn open(rt: &HostRuntime, name: &str) -> io::Result<Self> {
+impl Drop for LockPath<'_> {
+    fn drop(self) {
+        let LockPath { rt: _, name: _ } = self;
+    }
+}
+
+impl<'a> LockPath<'a> {
+    /// The path of the lock of the file at this path. Memory if there is none for it.
+    pub fn of(rt: &'a HostRuntime, path: &str) -> Result<Self, OfficeFault> {
+        match format!(in rt.alloc(); "{path}.lock") {
+            Ok(name) => Ok(LockPath { rt, name }),
+            Err(_) => Err(OfficeFault::Memory),
+        }
+    }
+}
+
+impl LockPlace for LockPath<'_> {
+    type Open = OpenLock;
+
+    type Held = Lease;
+
+    ghost is_shut = { λ place. ⊤ };
+
+    ghost is_opened = { λ place file. ⊤ };
+
+    ghost is_taken = { λ file. ⊤ };
+
+    ghost is_at = { λ place lock. ⊤ };
+
+    ghost is_replaced = { λ place lock. ⊤ };
+
+    fn open(&self) -> io::Result<OpenLock> {
         let file = OpenOptions::new()
             .read(true)
             .write(true)
             .create(true)
             .mode(FILE_MODE)
-            .open(rt, name)?;
+            .open(self.rt, self.name.as_str())?;
         let metadata = file.metadata()?;
         Ok(OpenLock {
             file,
@@ -121,9 +195,22 @@ impl OpenLock {
         })
     }
 
-    // Whether it is the file at this path. This is looked at under the lock: whoever finds another file there
-    // takes the lock of that one.
-    fn is_at(&self, rt: &HostRuntime, name: &str) -> bool {
-        matches!(fs::metadata(rt, name), Ok(metadata) if FileId::from(&metadata) == self.id)
+    fn try_lock(&self, file: OpenLock) -> Option<Lease> {
+        match file.file.try_lock() {
+            Ok(()) => Some(Lease { lock: file }),
+            Err(_) => None,
+        }
     }
+
+    fn has(&self, lock: &Lease) -> bool {
+        matches!(fs::metadata(self.rt, self.name.as_str()), Ok(found) if FileId::from(&found) == lock.lock.id)
+    }
+}
+
+/// A lock file that is open.
+#[derive(Drop)]
+pub struct OpenLock {
+    file: File,
+    id: FileId,
+    takes_marks: bool,
 }

@@ -10,7 +10,7 @@ use std::fs::OpenOptions;
 use std::io::ErrorKind;
 use std::os::unix::fs::OpenOptionsExt;
 use toll_base::Name;
-use toll_files::{FILE_MODE, Lease, LeftFiles, LockFile, OfficeFault, PathFiles, check_mark};
+use toll_files::{FILE_MODE, Lease, LeftFiles, LockFile, LockPath, OfficeFault, PathFiles, check_mark};
 use toll_keep::CachedKeep;
 use toll_service::{KeepOpener, OfficePath};
 use toll_sql::{OpenFault, SqlKeep};
@@ -57,7 +57,7 @@ impl KeepOpener<FileKeep> for SqlOpener {
     ghost has_damaged = { λ keep owner. keep.damaged_owner ≡ Some owner };
 
     fn lock(&mut self, rt: &HostRuntime, path: &str) -> Result<Lease, OfficeFault> {
-        self.lock.lock(rt, path)
+        self.lock.lock(&LockPath::of(rt, path)?)
     }
 
     fn unlock(&mut self, lease: Lease) {
