@@ -17,7 +17,7 @@ pub use file_id::FileId;
 pub use file_stamps::{FileChange, FileStamps, FoundFiles, LeftFiles, Stamp, check_mark};
 pub use lock::{FILE_MODE, Lease, LockFile, LockPath, LockPlace, OpenLock, take_lock};
 pub use log_end::{FoundEnd, LogEnd, ReadAt, end_of};
-pub use log_mark::LogMark;
+pub use log_mark::{LogMark, a_mark_is_read_back};
 pub use notes::Notes;
 pub use office_fault::OfficeFault;
 pub use office_files::{OfficeFiles, OpenLog, OpenedLog, PathFiles};

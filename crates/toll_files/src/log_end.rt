@@ -327,7 +327,7 @@ fn is_frame(head: &[u8; 32], before: Sum, frame: &[u8]) -> bool
 }
 
 // The sum that is stored at this place.
-pub(crate) fn sum_at(bytes: &[u8], at: usize) -> Sum
+fn sum_at(bytes: &[u8], at: usize) -> Sum
     requires { at + 8 ≤ length bytes.now }
     ensures { result ≡ stored_sum bytes.now at }
 {
@@ -335,7 +335,7 @@ pub(crate) fn sum_at(bytes: &[u8], at: usize) -> Sum
 }
 
 // Four bytes as a number, the highest first.
-pub(crate) fn be32_at(bytes: &[u8], at: usize) -> u32
+fn be32_at(bytes: &[u8], at: usize) -> u32
     requires { at + 4 ≤ length bytes.now }
     ensures { result ≡ be32 bytes.now at }
 {
