@@ -52,6 +52,9 @@ def test_a_case_needs_the_role(browse, office):
     nora = browse("nora")
     nora.get("/recall?q=ACME S-1")
     assert "Open a recall case" not in nora.text
+    quinn = browse("quinn")
+    quinn.get("/recall?q=ACME S-1")
+    assert "Open a recall case" in quinn.text
     before = office.lines()
     nora.send("/case", token=nora.token(), owner="ACME", lot="S-1", reason="x")
     assert nora.status == 409 and "by the role" in nora.text

@@ -21,7 +21,7 @@ QUESTIONS = {"orders", "stock", "batch", "trace", "recall", "status", "verify", 
 GROUPS_OF_QUESTIONS = {"list", "show", "papers", "export"}  # of which no subcommand records anything
 OF_EACH_ROLE = {
     "record": ["ship ACME K9 S-1 BAY1 5 103", "count import -", "use ACME O-1 1 HOUSE W-101 TANK 5 103", "import -", "note not-linked ACME K1", "note corrects ACME K1 K2", "link ACME B-1 S-1 --why use", "do ACME O-1 1 hold",
-               "correct ACME K1 --amount 5 --reason x", "case open ACME S-1 --reason x", "case hold", "case reply ACME N B-1 --back 1", "case close",
+               "correct ACME K1 --amount 5 --reason x",
                "clean KETTLE --how hot", "note no-residue ACME O-1 1 --reason rinsed", "link BOLT P-1 S-1 --of-owner ACME --why residue --tell",
                "for ACME order O-9 BRINE-10 1 --by mail"],
     "quality": ["reject W-101", "release W-101", "sign ACME S-1", "describe lot ACME S-1 --expires 271127", "drill start S-1",
@@ -102,6 +102,23 @@ def test_whoever_records_holds_a_lot_and_quality_alone_lets_it_go(at_work):
     assert by(at_work, MAN, "hold", "ACME", "S-1", "--reason", "wet").status == 0 and len(at_work.lines()) == len(lines) + 1
     settle(at_work, quality=[], record=[])
     assert "hold is for root and the office's user alone" in by(at_work, MAN, "hold", "ACME", "S-1", "--reason", "wet").err
+
+
+CASE = ["case open ACME S-1 --reason wet", "case hold", "case reply ACME N S-1 --back 1", "case close --reason done"]
+
+
+def test_whoever_records_or_judges_recalls(at_work):
+    """DAEMON judges and MAN records; a member with neither role changes nothing of a case."""
+    settle(at_work, quality=["daemon"], record=["man"])
+    for user in (MAN, DAEMON):
+        assert by(at_work, user, *CASE[0].split()).out.startswith("case C-")
+        assert by(at_work, user, "case", "hold", "--case", "C-1").status == 0
+    settle(at_work, quality=["daemon"], record=["mail"])
+    lines = at_work.lines()
+    for text in CASE:
+        done = by(at_work, MAN, *text.split())
+        assert done.status == 2 and "is for the members of daemon or mail alone, by the role record or quality of the settings" in done.err, (text, done)
+    assert at_work.lines() == lines
 
 
 WITHDRAWN = {"master_data": ["describe test ACME BRINE PH --decimals 2", "describe recipe ACME BRINE-10 --allowance 1.5", "describe owner ACME --name Acme", "party add ACME N --name N --role customer", "describe unit KETTLE --name K"],

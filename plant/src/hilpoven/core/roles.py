@@ -18,7 +18,8 @@ COMMANDS = {
 }
 OPERATORS = {"promote"}  # of operators alone where the settings don't tell their role: they end another machine's work
 ROLES = {command: role for role, commands in COMMANDS.items() for command in commands.split(", ")}
-ALSO = {"hold": "record"}  # of a second role: whoever sees that a lot is bad stops it, and quality alone lets it go
+# of a second role: whoever sees that a lot is bad stops it and recalls it, and quality alone lets it go
+ALSO = {"hold": "record", **dict.fromkeys(["case open", "case hold", "case reply", "case close"], "quality")}
 
 
 def require(context: Context, command: str, subject: str = "") -> None:
