@@ -1,8 +1,8 @@
 //! How an office's files have changed since a server left them.
-ghost use Rattle.std.specs.Prelude.{◌≡◌, ◌↔◌, None, true, IfErr, IfOk, IfSome, IsOk, IsTrue};
+ghost use Rattle.std.specs.Prelude.{◌≡◌, ◌↔◌, None, true, IfErr, IfOk, IfSome, IsOk, IsTrue, OnOk};
 ghost use Rattle.toll_files.specs.FileChanges.{AreUntouched, HadSomething, HasContentOf, AreCommitsLost, IsEndLost, IsLogLost, IsStampUnchanged};
 ghost use Rattle.toll_files.specs.LogEnds.{HasEnd, IsEarlierEnd, IsEndOf, IsFoundAs};
-ghost use Rattle.toll_files.specs.LogMarks.{IsFileAsMarked};
+ghost use Rattle.toll_files.specs.LogMarks.{IsCommitLost, IsFileAsMarked};
 ghost use Rattle.toll_files.specs.OfficeFiles.{AreCompared, AreLookedAt, AreNoted, IsContinued, IsTurnNoted, answer_to};
 ghost use Rattle.toll_files.specs.declared.file_stamps.FileChange.{FileChange};
 
@@ -269,10 +269,18 @@ impl LeftFiles {
 /// the log was cut or changed since it was marked, so that SQLite would stop before that commit. Disk if the files
 /// can't be looked at, Memory if there is none for their paths.
 pub fn check_mark<F: OfficeFiles>(files: &F, lease: &Lease) -> Result<(), OfficeFault> {
-    let Some(mark) = lease.mark() else {
-        return Ok(());
-    };
-    match is_mark_lost(files, lease, &mark) {
+    match lease.mark() {
+        Some(mark) => check_commit(files, lease, &mark),
+        None => Ok(()),
+    }
+}
+
+// The same for the commit that this mark names.
+fn check_commit<F: OfficeFiles>(files: &F, lease: &Lease, mark: &LogMark) -> Result<(), OfficeFault>
+    ensures kept { OnOk result (IfSome (F.known files.now) (λ known. ¬ IsCommitLost mark.now known.0 known.1)) }
+    ensures lost { IfErr result (λ fault. fault ≡ OfficeFault.Damaged → IfSome (F.known files.now) (λ known. IsCommitLost mark.now known.0 known.1)) }
+{
+    match is_mark_lost(files, lease, mark) {
         Ok(false) => Ok(()),
         Ok(true) => Err(OfficeFault::Damaged),
         Err(fault) if fault.kind() == ErrorKind::OutOfMemory => Err(OfficeFault::Memory),

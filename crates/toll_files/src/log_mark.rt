@@ -3,8 +3,8 @@
 ghost use Rattle.sqlite_wal.specs.Format.{part};
 ghost use Rattle.sqlite_wal.specs.PageSize.{IsPageSize};
 ghost use Rattle.std.specs.Int.{w32, w64, from_be_bytes, to_be_bytes};
-ghost use Rattle.std.specs.Prelude.{◌≡◌, ◌↔◌, ◌+◌, ◌≤◌, ◌++◌, Some, true, IfSome, IsSome, MatchOption, length, take};
-ghost use Rattle.toll_files.specs.LogMarks.{AreMarked, IsFileAsMarked, IsMarkLost};
+ghost use Rattle.std.specs.Prelude.{◌≡◌, ◌↔◌, ◌+◌, ◌≤◌, ◌++◌, Some, true, IfNone, IfSome, IsSome, IsTrue, MatchOption, length, take};
+ghost use Rattle.toll_files.specs.LogMarks.{AreMarked, AreMarkedAlike, IsFileAsMarked, IsMarkLost, IsNoneToMark};
 ghost use Rattle.toll_files.specs.MarkBytes.{AreInRange, IsSameMark, end_bytes, mark_bytes, stamp_bytes, sum_bytes, time_bytes};
 ghost use Rattle.toll_files.specs.declared.log_mark.LogMark.{LogMark};
 
@@ -65,7 +65,8 @@ impl LogMark {
 
     /// The mark of files that are left so, unless that of files that were left as `marked` says is the same.
     pub fn unwritten(marked: &Option<LeftFiles>, left: &Option<LeftFiles>) -> Option<Self>
-        ensures { IfSome result (λ mark. IfSome left.now (λ left. AreMarked left (Some mark))) }
+        ensures marked { IfSome result (λ mark. IfSome left.now (λ left. AreMarked left (Some mark))) }
+        ensures alike { IfNone result (IsNoneToMark marked.now left.now) }
     {
         let Some(left) = left else {
             return None;
@@ -118,7 +119,9 @@ pub fn a_mark_is_read_back()
 {}
 
 // Whether files that are left so have the mark of files that were left so before.
-fn is_marked_alike(marked: &LeftFiles, left: &LeftFiles) -> bool {
+fn is_marked_alike(marked: &LeftFiles, left: &LeftFiles) -> bool
+    ensures { IsTrue result ↔ AreMarkedAlike marked.now left.now }
+{
     match (&marked.log_end, &left.log_end) {
         (Some(marked_end), Some(end)) => {
             marked_end.salts == end.salts
