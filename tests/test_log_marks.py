@@ -5,12 +5,14 @@ import pathlib
 import random
 import shutil
 import subprocess
+import threading
 from collections.abc import Callable
 from typing import Any
 
 import pytest
 
-from tests.harness import ACCEPTED, KILLED_AFTER, KILLED_BEFORE, TORN, UNAVAILABLE, Disk, Office, content, fault, put
+from tests.harness import ACCEPTED, KILLED_AFTER, KILLED_BEFORE, PATIENCE, TORN, UNAVAILABLE, Disk, Office, Server
+from tests.harness import content, fault, put
 
 DAMAGED = fault("Damaged")
 ORDER = '> ACME ACMEKEY1 POST /orders {"order":"N-%d","recipe":"R","batches":1}'
@@ -151,8 +153,9 @@ def sqlite(statement: str, *options: str) -> Callable[[Office], Any]:
 def copy_in_its_place(office: Office) -> None:
     """A copy of FILE and its log, with the times of theirs, in their place."""
     for end in ("", "-wal"):
-        shutil.copy2(office.db + end, office.db + end + ".copy")
-        os.rename(office.db + end + ".copy", office.db + end)
+        if os.path.exists(office.db + end):
+            shutil.copy2(office.db + end, office.db + end + ".copy")
+            os.rename(office.db + end + ".copy", office.db + end)
 
 
 def move_beside_the_lock_of_another(office: Office) -> None:
@@ -220,6 +223,112 @@ def test_a_copied_folder_is_as_whole_as_its_files_and_a_lock_of_elsewhere_says_n
     os.truncate(log_of(copy), 0)
     assert copy.plant("orders", "ACME").status == 0
     shutil.rmtree(at_work.folder + ".copy")
+
+
+# Lives of offices
+
+
+class Life:
+    """An office whose servers end in one way or another, between them what may happen to its files, and how many of its
+    orders were answered."""
+
+    def __init__(self, office: Office, seed: int) -> None:
+        self.office, self.chance, self.placed = office, random.Random(seed), 0
+        self.backup, self.saved = office.db + ".backup", 0
+        self.back_up()
+
+    def is_placed(self, server: Server) -> bool:
+        """Whether the next order is answered."""
+        if not server.ask(ORDER % self.placed).startswith("200 "):
+            return False
+        self.placed += 1
+        return True
+
+    def end_by_a_kill(self) -> None:
+        """Kills a server at some moment, while it answers one order after another."""
+        with self.office.serve() as server:
+            kill = threading.Timer(self.chance.uniform(0, 0.05), server.process.kill)
+            kill.start()
+            while self.is_placed(server):
+                pass
+            kill.join()
+
+    def end_by_a_stop(self) -> None:
+        """Has a server end by itself."""
+        count = self.chance.randrange(1, 4)
+        with self.office.serve(count=count) as server:
+            assert all(self.is_placed(server) for _ in range(count)) and server.has_ended(PATIENCE)
+
+    def end_beside_others(self) -> None:
+        """Kills a server, between whose orders others read or checkpoint."""
+        with self.office.serve() as server:
+            for _ in range(2):
+                assert self.is_placed(server)
+                self.read_or_checkpoint()
+            assert self.is_placed(server)
+
+    def read_or_checkpoint(self) -> None:
+        self.sqlite(self.reading())
+
+    def read_or_checkpoint_and_keep_log(self) -> None:
+        self.sqlite(KEEPING_LOG, self.reading())
+
+    def reading(self) -> str:
+        """A statement that reads or checkpoints."""
+        mode = self.chance.choice(["PASSIVE", "FULL", "RESTART", "TRUNCATE"])
+        return self.chance.choice(["SELECT count(*) FROM orders", f"PRAGMA wal_checkpoint({mode})"])
+
+    def sqlite(self, *commands: str) -> None:
+        """What sqlite3 does under the lock."""
+        words = ["flock", str(lock_of(self.office)), "sqlite3", self.office.db, *commands]
+        subprocess.run(words, check=True, stdout=subprocess.DEVNULL)
+
+    def back_up(self) -> None:
+        self.sqlite(f".backup {self.backup}")
+        self.saved = self.placed
+
+    def restore(self) -> None:
+        log_of(self.office).unlink(missing_ok=True)
+        shutil.copyfile(self.backup, self.backup + ".copy")
+        os.rename(self.backup + ".copy", self.office.db)
+        self.placed = self.saved
+
+    def copy(self) -> None:
+        copy_in_its_place(self.office)
+
+    def lose_lock(self) -> None:
+        lock_of(self.office).unlink(missing_ok=True)
+
+    def leave(self) -> None:
+        """Does nothing."""
+
+    def outcome(self) -> str:
+        """What the next opening says behind a server and what happened then."""
+        ends = [self.end_by_a_kill, self.end_by_a_kill, self.end_by_a_stop, self.end_beside_others]
+        between = [self.read_or_checkpoint, self.read_or_checkpoint_and_keep_log, self.back_up, self.restore, self.copy]
+        between += [self.lose_lock, self.leave]
+        done: list[Callable[[], None]] = [self.chance.choice(ends), self.chance.choice(between)]
+        for do in done:
+            do()
+        ended = outcome(self.office, self.placed, by_server=self.chance.random() < 0.5)
+        return ended if ended == "whole" else f"{ended} behind {' and '.join(do.__name__ for do in done)}"
+
+
+def outcome_of_life(new: Callable[[], Office], work: str, seed: int) -> str:
+    office = new()
+    put(work, office.db)
+    life = Life(office, seed)
+    outcomes = [life.outcome() for _ in range(2)]
+    shutil.rmtree(office.folder)
+    return next((ended for ended in outcomes if ended != "whole"), "whole")
+
+
+@pytest.mark.parametrize("seeds", [range(10), pytest.param(range(500), marks=pytest.mark.long)], ids=["10", "500"])
+def test_no_life_of_an_office_is_told_as_damage_or_lacks_an_answered_order(
+    new: Callable[[], Office], work: str, seeds: range
+) -> None:
+    outcomes = {seed: outcome_of_life(new, work, seed) for seed in seeds}
+    assert {seed: ended for seed, ended in outcomes.items() if ended != "whole"} == {}
 
 
 # Kills
