@@ -3,11 +3,14 @@ import contextlib
 import os
 import signal
 import subprocess
+import threading
 from typing import Any
 
 from trial import NAME, ROOT, Words, exit_at_signals, need
 
-__all__ = ["Failed", "NAME", "ROOT", "Words", "exit_at_signals", "need", "output"]
+__all__ = ["Failed", "NAME", "ROOT", "Words", "end_all", "exit_at_signals", "need", "output"]
+RUNNING: set["subprocess.Popen[str]"] = set()
+ENDING = threading.Event()
 
 
 class Failed(Exception):
@@ -16,8 +19,11 @@ class Failed(Exception):
 
 def output(*words: object, **options: Any) -> str:
     """What a program prints that ends with status 0. A signal ends it with all that it started."""
+    if ENDING.is_set():
+        raise Failed(f"{words[0]}: it was ended")
     merged: dict[str, Any] = {"stdout": subprocess.PIPE, "stderr": subprocess.STDOUT, "errors": "replace"}
     with subprocess.Popen(list(map(str, words)), start_new_session=True, **merged, **options) as process:
+        RUNNING.add(process)
         try:
             printed = str(process.communicate(timeout=900)[0])
         except BaseException:
@@ -26,8 +32,16 @@ def output(*words: object, **options: Any) -> str:
                 process.wait(10)
             raise
         finally:
+            RUNNING.discard(process)
             with contextlib.suppress(ProcessLookupError):
                 os.killpg(process.pid, signal.SIGKILL)
     if process.returncode:
         raise Failed(f"{words[0]}: status {process.returncode}\n{printed[-2000:].strip()}")
     return printed
+
+
+def end_all() -> None:
+    """Ends the programs whose output other threads wait for, and lets them begin no other."""
+    ENDING.set()
+    for process in [*RUNNING]:
+        process.terminate()

@@ -1,4 +1,5 @@
 """A clean root of Debian, in which packages are tried by sessions: commands, each with what it prints."""
+import fcntl
 import os
 import pathlib
 import re
@@ -71,15 +72,18 @@ for group in $groups; do find "$group" -depth -type d -exec rmdir {{}} + || true
 
 
 def make_base(folder: pathlib.Path, mirror: str) -> pathlib.Path:
-    """A folder with the least that Debian is; it is made unless it exists."""
+    """A folder with the least that Debian is; it is made unless it exists, or another process makes it just now."""
     base, part = folder / SUITE, folder / f"{SUITE}.part"
-    if not base.is_dir():
-        shutil.rmtree(part, ignore_errors=True)
-        output("debootstrap", "--variant=minbase", SUITE, part, mirror)
-        policy = part / "usr/sbin/policy-rc.d"
-        policy.write_text("#!/bin/sh\nexit 101\n")  # no service starts in it
-        policy.chmod(0o755)
-        part.rename(base)
+    with open(folder / f"{SUITE}.lock", "w") as lock:
+        fcntl.flock(lock, fcntl.LOCK_EX)
+        if not base.is_dir():
+            shutil.rmtree(part, ignore_errors=True)
+            output("debootstrap", "--variant=minbase", SUITE, part, mirror)
+            policy = part / "usr/sbin/policy-rc.d"
+            policy.write_text("#!/bin/sh\nexit 101\n")  # no service starts in it
+            policy.chmod(0o755)
+            (part / "etc/dpkg/dpkg.cfg.d/unsafe-io").write_text("force-unsafe-io\n")  # it needn't outlast a power cut
+            part.rename(base)
     (folder / "archives").mkdir(exist_ok=True)
     return base
 
@@ -109,8 +113,11 @@ class Root:
         self.variables = dict(VARIABLES)
 
     def copied(self, name: str) -> "Root":
-        """Another root beside this one, with what is installed in it."""
-        other = Root(self.folder, self.folder.parent / name, self.archives)
+        """Another root beside this one, with what is installed in it. apt-get doesn't wait for another one, so it has
+        archives of its own."""
+        archives = self.archives.with_name(f"{self.archives.name}.{name}")
+        archives.mkdir(exist_ok=True)
+        other = Root(self.folder, self.folder.parent / name, archives)
         other.variables = dict(self.variables)
         return other
 
