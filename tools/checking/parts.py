@@ -8,7 +8,7 @@ from machine import GB
 
 ROOT = pathlib.Path(__file__).resolve().parent.parent.parent
 PYTHON = "/usr/bin/python3"  # Debian's, which has Debian's packages
-PROGRAM, FOLDER = "PROGRAM", "FOLDER"
+PROGRAM, FOLDER, SHARED = "PROGRAM", "FOLDER", "SHARED"
 COMMANDS = {"python3": [PYTHON], "pytest-3": [PYTHON, "-m", "pytest", "-q", "-p", "no:cacheprovider", "--tb=short"]}
 TABLES = tomllib.loads(pathlib.Path(__file__).with_name("parts.toml").read_text())
 SKIPPED: dict[str, str] = TABLES["skipped"]
@@ -43,6 +43,13 @@ class Part:
     def beside_others(self) -> Self:
         """The same where it doesn't run alone at first: if it fails for that, it is run once more, alone."""
         return dataclasses.replace(self, is_alone=False)
+
+    def command(self, places: dict[str, str]) -> list[str]:
+        """What is run, with these places in the words that stand for them."""
+        words = list(self.words)
+        for name, place in places.items():
+            words = [word.replace(name, place) for word in words]
+        return words
 
     def needs_program(self) -> bool:
         """Whether it runs the program, and so behind the proofs."""

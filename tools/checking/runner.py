@@ -19,7 +19,7 @@ from machine import GB, free_memory, processors
 from trial import Words
 
 from . import debian
-from .parts import BESIDE, FOLDER, PROGRAM, PROOFS, ROOT, SKIPPED, UNPROVED, Part, parts
+from .parts import BESIDE, FOLDER, PROGRAM, PROOFS, ROOT, SHARED, SKIPPED, UNPROVED, Part, parts
 
 BUILT = ROOT / "crates" / "toll" / "out" / "toll"
 QUICK = ROOT / "out" / "quick" / "toll"  # of which nothing is proved
@@ -101,6 +101,7 @@ class Runner:
     program: pathlib.Path
     processors: int = 1
     memory: float = GB
+    shared: str = ""
     ended: list[Ended] = dataclasses.field(default_factory=list)
     running: list[Part] = dataclasses.field(default_factory=list)
     maker: Part | None = None
@@ -168,7 +169,7 @@ class Runner:
         room = tempfile.TemporaryDirectory(prefix="check.", dir=folder_for_tests(), ignore_cleanup_errors=True)
         with tempfile.NamedTemporaryFile("wb") as output, room as folder:
             os.chmod(folder, 0o711)  # some tests are another user below it
-            words = [word.replace(PROGRAM, str(self.program)).replace(FOLDER, folder) for word in part.words]
+            words = part.command({PROGRAM: str(self.program), FOLDER: folder, SHARED: self.shared})
             how: dict[str, Any] = {"cwd": ROOT, "env": {**os.environ, "PYTHONDONTWRITEBYTECODE": "1"}}
             how |= {"stdin": asyncio.subprocess.DEVNULL, "stdout": output, "stderr": asyncio.subprocess.STDOUT}
             command = ["nice", "-n", str(lowered), *words]
@@ -244,12 +245,13 @@ async def gate(program: pathlib.Path, wanted: list[Part]) -> Runner:
     """Runs the parts: the one that makes the program, beside it those that need none, and those that try the program
     once it is there. Behind all others, those that failed are run once more, each alone, since a failure may be bad
     luck."""
-    runner = Runner(program, processors(), free_memory())
-    maker = maker_of(wanted, runner.processors, runner.memory)
-    others = [part for part in wanted if part not in MAKERS]
-    await runner.run_all(others, maker, maker is None or program not in (BUILT, QUICK))
-    failed = {ended.name for ended in runner.failures()}
-    await runner.run_all(dataclasses.replace(part, is_alone=True) for part in others if part.name in failed)
+    with tempfile.TemporaryDirectory(prefix="check.", ignore_cleanup_errors=True) as shared:
+        runner = Runner(program, processors(), free_memory(), shared)
+        maker = maker_of(wanted, runner.processors, runner.memory)
+        others = [part for part in wanted if part not in MAKERS]
+        await runner.run_all(others, maker, maker is None or program not in (BUILT, QUICK))
+        failed = {ended.name for ended in runner.failures()}
+        await runner.run_all(dataclasses.replace(part, is_alone=True) for part in others if part.name in failed)
     return runner
 
 

@@ -12,7 +12,7 @@ from typing import Any
 
 import pytest
 from checking import debian, empty_names, parts, runner
-from checking.parts import FOLDER, PROGRAM, Part
+from checking.parts import FOLDER, PROGRAM, SHARED, Part
 from conftest import ROOT, eventually, script, tool
 from machine import GB
 
@@ -240,6 +240,15 @@ def test_parts_run_side_by_side(
     outcome = notes.run(*(notes.part(name, **options) for name, options in zip("abcd", wanted)), **machine)
     assert all(outcome.values()) and len(outcome) == len(wanted) and notes.first() == first
     assert ",".join(line[0] for line in notes.lines()).endswith(last)
+
+
+def test_what_one_part_leaves_in_the_shared_folder_another_has(notes: Notes, tmp_path: pathlib.Path) -> None:
+    making = notes.part("making", then=f"echo {SHARED} > {tmp_path}/shared; echo much > {SHARED}/root")
+    taking = notes.part("taking", until=2, then=f": {PROGRAM}; grep -q much {SHARED}/root")
+    (tmp_path / "toll").touch(0o755)
+    one = asyncio.run(runner.gate(tmp_path / "toll", [making, dataclasses.replace(taking, is_alone=True)]))
+    assert [ended.is_ok for ended in one.ended] == [True, True]
+    assert not os.path.exists((tmp_path / "shared").read_text().strip())
 
 
 def test_one_that_fails_or_hangs_stops_no_other(notes: Notes) -> None:
