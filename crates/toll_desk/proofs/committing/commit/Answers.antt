@@ -63,8 +63,6 @@ returns-clause-alone g c = λ os.
       crash = makes.crash;
     }
 
-pub returns-then-is_empty-clause-others : goal.returns-then-is_empty-clause-others
-returns-then-is_empty-clause-others g c = λ os outside first kept. kept
 
 pub returns-clause-others : goal.returns-clause-others
 returns-clause-others g c = λ os outside first kept.

@@ -1,10 +1,10 @@
 use Rattle.std.proofs.Common.{◌≡◌, true, false, Contains, sym, subst, ◌∙◌}
 use Rattle.toll_history.specs.OwnChanges.{PutsOnly}
-use Rattle.toll_keep.proofs.Calls.{kept_as, kept_fault, kept_of, kept_then}
+use Rattle.toll_keep.proofs.Calls.{kept_fault, kept_of, kept_then}
 use Rattle.toll_keep.specs.CallEffects.{IsReading}
 use Rattle.toll_keep.specs.HeldFor.{KeepsHeld}
 use Rattle.toll_keep.specs.Meaning.{meaning_for}
-use Rattle.toll_desk.proofs.Common.{ReplyForbidden, IfOk-weaker, is_some, IfSome, same_bytes, order_at, house_name, owner_known, has_owner_key, read_fault, reads_then}
+use Rattle.toll_desk.proofs.Common.{IfOk-weaker, is_some, IfSome, same_bytes, order_at, house_name, owner_known, has_owner_key, read_fault, reads_then}
 use Rattle.toll_desk.specs.Translations.{meaning_of_reply}
 use Rattle.toll_desk.specs.Plans.{IsPlanFor}
 use Rattle.toll_desk.proofs.OwnerPlans.{right_key, wrong_key, key_known, not_house_by, plan_admitted, plan_forbidden}
@@ -95,11 +95,6 @@ returns-in-Ok-Some-clause-others g c = λ os.
     let m = meaning_for g.K.Keep.meaning g.K.Keep.part os in
     kept_then m c.args.keep.now c.admit.new.keep c.plan_for.new.keep _ _ (kept_of m (c.in-Ok-Some.ensures.alone os)) (c.plan_for.ensures.others os)
 
-pub returns-in-Ok-None-clause-others : goal.returns-in-Ok-None-clause-others
-returns-in-Ok-None-clause-others g c = λ os.
-    let m = meaning_for g.K.Keep.meaning g.K.Keep.part os in
-    subst (λ reply. KeepsHeld m c.args.keep.now c.admit.new.keep (meaning_of_reply reply)) (sym c.unchanged.ensures.reply)
-    (kept_as m c.args.keep.now c.admit.new.keep _ ReplyForbidden (kept_of m (c.in-Ok-None.ensures.alone os)))
 
 pub returns-in-Err-clause-others : goal.returns-in-Err-clause-others
 returns-in-Err-clause-others g c = λ os.

@@ -3,7 +3,7 @@ use Rattle.toll_keep.proofs.Calls.{kept_as, kept_fault}
 use Rattle.toll_keep.specs.CallEffects.{IsReading}
 use Rattle.toll_keep.specs.HeldFor.{KeepsHeld}
 use Rattle.toll_keep.specs.Meaning.{meaning_for}
-use Rattle.toll_desk.proofs.Common.{ReplyForbidden, false≢true, IfOk-weaker, read_fault, read_ok, order_at, owner_known, house_name, same_bytes, IsRowsOf, is_some}
+use Rattle.toll_desk.proofs.Common.{false≢true, IfOk-weaker, read_fault, read_ok, order_at, owner_known, house_name, same_bytes, IsRowsOf, is_some}
 use Rattle.toll_history.specs.OwnChanges.{PutsOnly}
 use Rattle.toll_desk.specs.Translations.{meaning_of_reply}
 use Rattle.toll_desk.proofs.OwnerPlans.{slice_read, unread_is_unknown, plan_lift}
@@ -79,11 +79,6 @@ pub returns-in-Ok-clause-others : goal.returns-in-Ok-clause-others
 returns-in-Ok-clause-others g c = λ os.
     c.in-Ok.ensures.others os c.args.keep.now (kept_as (meaning_for g.K.Keep.meaning g.K.Keep.part os) c.args.keep.now c.slice.new.self _ tt (c.in-Ok-Some.ensures.others os))
 
-pub returns-in-Ok-None-clause-others : goal.returns-in-Ok-None-clause-others
-returns-in-Ok-None-clause-others g c = λ os.
-    let m = meaning_for g.K.Keep.meaning g.K.Keep.part os in
-    subst (λ reply. KeepsHeld m c.args.keep.now c.slice.new.self (meaning_of_reply reply)) (sym c.unchanged-in-Ok-None.ensures.reply)
-    (kept_as m c.args.keep.now c.slice.new.self _ ReplyForbidden (c.in-Ok-None.ensures.others os))
 
 pub returns-clause-others : goal.returns-clause-others
 returns-clause-others g c = λ os.

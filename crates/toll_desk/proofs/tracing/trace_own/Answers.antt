@@ -87,8 +87,6 @@ returns-in-Ok-clause-own g c os own honest content H held stands lawful rows =
       reported = refl;
     })
 
-pub returns-then-not-may_trace-clause-others : goal.returns-then-not-may_trace-clause-others
-returns-then-not-may_trace-clause-others g c os first kept = kept_as (meaning_for g.K.Keep.meaning g.K.Keep.part os) first c.args.keep.now tt (ReplyRefused UnknownLot) kept
 
 pub returns-in-Ok-clause-others : goal.returns-in-Ok-clause-others
 returns-in-Ok-clause-others g c os first kept =
