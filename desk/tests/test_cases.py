@@ -63,3 +63,21 @@ def test_a_case_needs_the_role(browse, office):
     assert nora.status == 409 and "there is no case C-9" in nora.text
     nora.get("/case/..%5cx")
     assert nora.status in (404, 409)
+
+
+def test_a_suppliers_lot_is_found_and_begins_a_case(browse, office):
+    for owner, words in (("ACME", ("--supplier-lot", "(TR-77, drum 3)")), ("BOLT", ("--document", "TR-77"))):
+        assert office.run("note", "movement", owner, "K1", *words).status == 0
+    anna = browse("anna")
+    for address in ("/find?q=tr-77", "/recall?q=tr-77"):
+        anna.get(address)
+        assert "S-1" in anna.text and "P-1" in anna.text, anna.text
+        assert "Nothing has this name." in anna.get(address.replace("77", "7")), anna.text
+    assert "Lots that came with TR-77" in anna.get("/recall?q=tr-77")
+    first = len(office.lines())
+    anna.fill("/case", reason="metal")
+    assert anna.status == 200 and "Case C-1 opened" in anna.text, anna.text
+    assert [line[1] for line in noted(office, first)] == [["case", "open", "--supplier-lot", "TR-77", "--document", "TR-77", "--reason", "metal"]]
+    assert office.run("note", "movement", "ACME", "K1", "--supplier-lot", "TR-78").status == 0
+    anna.get("/find?q=TR-77")  # of one lot now, which is shown
+    assert "P-1" in anna.text and "S-1" not in anna.text

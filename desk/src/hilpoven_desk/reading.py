@@ -10,6 +10,7 @@ from hilpoven import HOUSE
 from hilpoven.core.context import Context
 from hilpoven.core.days import last_day_within
 from hilpoven.core.failure import REFUSED, Failure
+from hilpoven.core.forms import whole_words
 from hilpoven.core.grammar import LINES
 from hilpoven.model import quality, views
 from hilpoven.model.answers import RecallLine, recall_lines
@@ -24,6 +25,7 @@ from hilpoven.model.rows import requirements_of, sublots_of, want
 from hilpoven.model.schema import CLOSABLE, FOLLOWING, IS_ACTUAL, ON_HAND, Disposition, Kind, State
 from hilpoven.record.choices import Choice, Place
 from hilpoven.record.expiry import last_day
+from hilpoven.report.finding import part_of
 
 from .recording import digest_of
 
@@ -49,6 +51,9 @@ SELECT o.owner, o.ord, o.recipe, o.batches,
   (SELECT count(*) FROM batches AS b WHERE b.owner = o.owner AND b.ord = o.ord) AS opened
 FROM orders AS o WHERE o.cancelled = 0 AND opened < o.batches AND {} ORDER BY o.rowid LIMIT ?
 """
+# Movements of which a supplier's lot or a document was noted once that may say a text.
+NOTED = "SELECT DISTINCT owner, mkey FROM register.movement_note WHERE supplier_lot LIKE :part OR document LIKE :part"
+OF_KEY = "m.owner = ? AND m.mkey = ?"
 LATEST = 20_000  # sublots, of which the places are offered
 PLACES = (
     f"SELECT DISTINCT sublot FROM (SELECT sublot FROM sublots ORDER BY rowid DESC LIMIT {LATEST}) ORDER BY 1 LIMIT ?"
@@ -91,6 +96,14 @@ class Reading:
         owner, _, name = word.replace("/", " ").rpartition(" ")
         where, words = ("l.owner = ? AND l.lot = ?", (owner, name)) if owner else ("l.lot = ?", (name,))
         return read_lots(self.base, where, words)
+
+    def lots_noted(self, word: str) -> list[Lot]:
+        """The lots of movements of which a supplier's lot or a document is noted that says a text."""
+        pattern, names = whole_words(word), self.base.execute(NOTED, {"part": part_of(word)}).fetchall()
+        facts = (self.register.facts[name] for name in names if name in self.register.facts)
+        said = [each for each in facts if pattern.search(each.supplier_lot) or pattern.search(each.document)]
+        moves = [move for each in said for move in read_moves(self.base, OF_KEY, (each.owner, each.key))]
+        return list(lots_of(self.base, {move.lot for move in moves}).values())
 
     def moves_of(self, lot: LotId) -> list[Move]:
         """The latest movements of a lot, the last first. A lot that isn't the plant's moves by its owner's alone."""

@@ -43,10 +43,15 @@ def all_cases() -> Answer:
 
 @PAGE.post("/case")
 def opened() -> Answer | Response:
-    """Opens a case from a lot."""
-    names = {"names": [name_typed("owner"), name_typed("lot")], "is_drill": typed("drill") == "yes"}
-    others: dict[str, Any] = {"lots": [], "supplier_lots": [], "documents": [], "parties": []}
-    outcome = step("open", {**names, **others, **dict.fromkeys(("unit", "since", "until")), "reason": typed("reason")})
+    """Opens a case from a lot, or from all that came with a supplier's lot or a document."""
+    said = [typed("said")] if typed("said") else []
+    names: dict[str, Any] = {
+        "names": [] if said else [name_typed("owner"), name_typed("lot")],
+        "lots": [],
+        "parties": [],
+    }
+    others = {"supplier_lots": said, "documents": said, **dict.fromkeys(("unit", "since", "until"))}
+    outcome = step("open", {**names, **others, "is_drill": typed("drill") == "yes", "reason": typed("reason")})
     if not outcome.is_done:
         return page("failed.html", outcome, why=outcome.lines[0], advice=outcome.lines[1:])
     number = outcome.lines[0].split()[1]  # as it is printed: case C-1 began on ..

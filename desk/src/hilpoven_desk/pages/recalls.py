@@ -14,9 +14,10 @@ def recall() -> Answer:
     label = label_in(word)
     with reading(context) as office:
         lots = office.lots_called(word) if word and not label else []
+        noted = office.lots_noted(word) if word and not label and not lots else []
         lot = label[0] if label else lots[0].id if len(lots) == 1 else None
         if lot is None:
-            return page("recall.html", q=word, lots=lots, report=None, card=None, state=office.state)
+            return page("recall.html", q=word, lots=lots, noted=noted, report=None, card=None, state=office.state)
         card, report = office.card(lot), office.recall(lot)
         context.office_to_export("desk", "recall", *lot)
-        return page("recall.html", q=word, lots=[], report=report, card=card, LotId=LotId)
+        return page("recall.html", q=word, lots=[], noted=[], report=report, card=card, LotId=LotId)

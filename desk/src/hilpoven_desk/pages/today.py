@@ -37,7 +37,7 @@ def find() -> Answer | Response:
     if label := label_in(word):
         return redirect(url_for("lots.lot", owner=label[0].owner, name=label[0].name), 303)
     with reading() as office:
-        lots = office.lots_called(word) if word else []
+        lots = (office.lots_called(word) or office.lots_noted(word)) if word else []
         batches = office.batches_called(word) if word else []
         orders = office.orders(order=word) if word else []
         names = [lot_page(lot.id) for lot in lots] + [batch_page(batch.id) for batch in batches]
