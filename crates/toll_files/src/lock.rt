@@ -1,5 +1,5 @@
 //! The lock of an office's file.
-ghost use Rattle.std.specs.Prelude.{◌≡◌, ⊤, IfErr, IfNone, IfOk, MatchBool, OnErr};
+ghost use Rattle.std.specs.Prelude.{◌≡◌, ⊤, IfErr, IfOk, MatchBool, MatchOption, OnErr};
 ghost use Rattle.toll_files.specs.Locks.{IsLockRefused};
 
 use crate::file_id::FileId;
@@ -23,7 +23,16 @@ pub struct Lease {
 impl Lease {
     /// Releases the lock to other programs, and closes its file.
     pub fn release(self) {
-        let _ = self.lock.file.unlock();
+        let _ = self.unlock();
+    }
+
+    /// Releases the lock to other programs. The file stays open, unless the lock can't be released without closing it.
+    pub fn unlock(self) -> Option<OpenLock> {
+        let Lease { lock } = self;
+        match lock.file.unlock() {
+            Ok(()) => Some(lock),
+            Err(_) => None,
+        }
     }
 
     /// The mark in the lock's file. `None` if it has none, or can't be read.
@@ -74,7 +83,10 @@ pub trait LockPlace {
     // This file was opened at the path. Another program has its lock.
     ghost is_opened: { Self → Self.Open → Type 0 };
 
-    ghost is_taken: { Self.Open → Type 0 };
+    ghost is_taken: { Self → Self.Open → Type 0 };
+
+    // This is the lock of the file.
+    ghost is_lock_of: { Self.Open → Self.Held → Type 0 };
 
     // While this lock was held, its file was found at the path, or another one or none.
     ghost is_at: { Self → Self.Held → Type 0 };
@@ -88,7 +100,7 @@ pub trait LockPlace {
 
     /// Takes the lock of an open file without waiting. The file is closed if another program has the lock.
     fn try_lock(&self, file: Self::Open) -> Option<Self::Held>
-        ensures { IfNone result (is_taken file) };
+        ensures { MatchOption result (is_taken self.now file) (is_lock_of file) };
 
     /// Whether the file of this lock is at the path now. Whoever finds another file there takes the lock of that one.
     fn has(&self, lock: &Self::Held) -> bool
@@ -107,13 +119,18 @@ impl<F: Drop> LockFile<F> {
         LockFile { open: None }
     }
 
+    /// Keeps a file, whose lock was released, open for the next lease.
+    pub fn keep(&mut self, file: Option<F>) {
+        self.open = file;
+    }
+
     /// Takes the lock without waiting. If another file is at the path by now, or none, the lock is that of the file
     /// that is opened or made there. Locked if another program has the lock, or if the file can't be opened or was
     /// replaced meanwhile.
     pub fn lock<P: LockPlace<Open = F>>(&mut self, place: &P) -> Result<P::Held, OfficeFault>
         ensures at { IfOk result (P.is_at place.now) }
         ensures refused { IfErr result (λ fault. (fault ≡ OfficeFault.Locked)
-            × IsLockRefused (P.is_shut place.now) (P.is_opened place.now) P.is_taken (P.is_replaced place.now)) }
+            × IsLockRefused (P.is_shut place.now) (P.is_opened place.now) (P.is_taken place.now) P.is_lock_of (P.is_replaced place.now)) }
     {
         if let Some(file) = self.open.take() {
             if let Some(lock) = place.try_lock(file) {
@@ -129,17 +146,6 @@ impl<F: Drop> LockFile<F> {
             Some(lock) if place.has(&lock) => Ok(lock),
             _ => Err(OfficeFault::Locked),
         }
-    }
-}
-
-impl LockFile {
-    /// Releases the lock. The file stays open, unless the lock can't be released without closing it.
-    pub fn unlock(&mut self, lease: Lease) {
-        let Lease { lock } = lease;
-        self.open = match lock.file.unlock() {
-            Ok(()) => Some(lock),
-            Err(_) => None,
-        };
     }
 }
 
@@ -174,7 +180,9 @@ impl LockPlace for LockPath<'_> {
 
     ghost is_opened = { λ place file. ⊤ };
 
-    ghost is_taken = { λ file. ⊤ };
+    ghost is_taken = { λ place file. ⊤ };
+
+    ghost is_lock_of = { λ file lock. ⊤ };
 
     ghost is_at = { λ place lock. ⊤ };
 

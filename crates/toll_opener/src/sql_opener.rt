@@ -61,7 +61,7 @@ impl KeepOpener<FileKeep> for SqlOpener {
     }
 
     fn unlock(&mut self, lease: Lease) {
-        self.lock.unlock(lease);
+        self.lock.keep(lease.unlock());
     }
 
     fn is_unchanged(

@@ -1,7 +1,9 @@
 //! What the contracts of what a server serves don't show: the replies to clients over a keep, and over an office that
-//! stays open in a file; and the last commit in a log.
+//! stays open in a file; which lock is taken; and the last commit in a log.
 #![tactic(auto)]
 
+#[cfg(test)]
+mod locks;
 #[cfg(test)]
 mod log_ends;
 #[cfg(test)]
