@@ -234,12 +234,6 @@ module _ {K : Type 0} (meaning : Meaning K) where
         by_result (Ok x) kept = kept_memory meaning old new x kept
         by_result (Err fault) kept = kept_fault meaning old new fault kept
 
-    -- with a text, for which there may be no memory
-    pub kept_text : {X Y : Type 0} (x : X) → KeepsHeld meaning old new (answered x) → (r : Result Y KeepFault) → IfErr r (λ fault. fault ≡ Memory)
-        → KeepsHeld meaning old new r
-    kept_text x kept (Ok y) lacks = kept_as meaning old new x y kept
-    kept_text x kept (Err fault) lacks = kept_untold (Ok x) kept fault lacks
-
     -- so the answer keeps it too
     pub kept_answer : (r : Result (Vec ℕ) KeepFault) → KeepsHeld meaning old new r → IsAnsweredKeeping meaning old new (out_of r)
     kept_answer (Ok text) kept = inl (Ok tt, refl, kept_as meaning old new text tt kept)

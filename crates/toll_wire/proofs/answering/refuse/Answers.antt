@@ -4,7 +4,7 @@ use Rattle.toll_keep.specs.Meaning.{meaning_for}
 use Rattle.toll_wire.proofs.Common.{text_of_failure, By, Fails, IsKeepStep, IsFaultMet, saying_steps}
 use Rattle.toll_answers.specs.Replies.{has_owner_key}
 use Rattle.toll_desk.proofs.OwnerPlans.{right_key, wrong_key}
-use Rattle.toll_wire.proofs.Served.{kept_text, met_memory, met_reading, untold, served_refused}
+use Rattle.toll_wire.proofs.Served.{met_memory, met_reading, untold, served_refused}
 use Rattle.toll_wire.proofs.answering.refuse.Goals as goal
 
 pub returns-in-Ok-Some-clause-serves : goal.returns-in-Ok-Some-clause-serves
@@ -69,16 +69,6 @@ pub returns-in-Err-clause-alone : goal.returns-in-Err-clause-alone
 returns-in-Err-clause-alone g c = λ os.
     let m = meaning_for g.K.Keep.meaning g.K.Keep.part os in
     untold m (g.met.K.Keep.settled_for os) c.args.keep.now c.admit.new.keep c.args.owner.now c.args.key.now (Fails (text_of_failure c.args.failure)) _ (c.in-Err.ensures.alone os)
-
-pub returns-in-Ok-Some-clause-others : goal.returns-in-Ok-Some-clause-others
-returns-in-Ok-Some-clause-others g c = λ os.
-    let m = meaning_for g.K.Keep.meaning g.K.Keep.part os in
-    kept_text m c.args.keep.now c.admit.new.keep _ (kept_of m (c.in-Ok-Some.ensures.alone os)) c.into_text.result c.into_text.ensures.memory
-
-pub returns-in-Ok-None-clause-others : goal.returns-in-Ok-None-clause-others
-returns-in-Ok-None-clause-others g c = λ os.
-    let m = meaning_for g.K.Keep.meaning g.K.Keep.part os in
-    kept_text m c.args.keep.now c.admit.new.keep _ (kept_of m (c.in-Ok-None.ensures.alone os)) c.into_text-in-Ok-None.result c.into_text-in-Ok-None.ensures.memory
 
 pub returns-in-Err-clause-others : goal.returns-in-Err-clause-others
 returns-in-Err-clause-others g c = λ os.

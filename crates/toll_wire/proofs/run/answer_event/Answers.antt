@@ -1,15 +1,12 @@
 use Rattle.std.proofs.Common.{sym, subst}
 use Rattle.toll_wire.proofs.Common.{IsEventServed, Plant}
-use Rattle.toll_wire.specs.OfficeRuns.{IsAnsweredFor, IsRequest, IsRequestAnswered}
+use Rattle.toll_wire.specs.OfficeRuns.{IsAnsweredFor, IsRequestAnswered}
 use Rattle.toll_wire.specs.declared.event.Answer.TheVariants.{Bytes as Reply}
 use Rattle.toll_wire.proofs.run.answer_event.Goals as goal
 
 pub returns-in-Plant-clause-served : goal.returns-in-Plant-clause-served
 returns-in-Plant-clause-served g c =
     subst (λ event. IsEventServed g.K.Keep.meaning c.args.keep.now event (Plant c.plant_do.result) c.plant_do.new.keep) (sym c.in-Plant.is) (c.plant_do.ensures.step, c.plant_do.ensures.valid)
-
-pub returns-in-Plant-clause-alone : goal.returns-in-Plant-clause-alone
-returns-in-Plant-clause-alone g c = λ os is. absurd (subst IsRequest c.in-Plant.is is)
 
 pub returns-in-Owner-clause-alone : goal.returns-in-Owner-clause-alone
 returns-in-Owner-clause-alone g c = λ os is.
