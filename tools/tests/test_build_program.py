@@ -529,7 +529,7 @@ if "wrong" in text:
 with tempfile.TemporaryDirectory() as folder:
     for module, more in (("stub", []), (text, ["-fsanitize=address"])):
         pathlib.Path(folder, "module.bc").write_text(module)
-        words = ["-c", "-x", "ir", "module.bc", "-o", "module.o", "-fPIE", "-O0", *more]
+        words = ["-mllvm", "-trap", "-c", "-x", "ir", "module.bc", "-o", "module.o", "-fPIE", "-O0", *more]
         if subprocess.run([kit / "toolchain/bin/clang", *words], cwd=folder, env={}).returncode:
             sys.exit("the tool clang failed")
     print("it was run, and nothing is left")
@@ -540,10 +540,19 @@ words = sys.argv[1:]
 how = " ".join(it for it in words if it.startswith(("-O", "-f")))
 pathlib.Path(words[words.index("-o") + 1]).write_text(how + "\n" + pathlib.Path("module.bc").read_text())
 """
+# Of the module it makes two objects.
+LINKER = r"""#!/usr/bin/python3
+import pathlib, sys
+words = sys.argv[1:]
+to = [it.partition("=")[2] for it in words if it.startswith("--lto-obj-path=")][0]
+how = " ".join(it for it in words if it.startswith(("--lto-newpm-passes", "-mllvm", "-trap")))
+pathlib.Path(to).write_text(how + "\n")
+pathlib.Path(to + "1").write_text(pathlib.Path("module.bc").read_text())
+"""
 LINK = r"""#!/usr/bin/python3
 import pathlib, sys
 to = pathlib.Path(sys.argv[sys.argv.index("-o") + 1])
-to.write_text("linked " + pathlib.Path(sys.argv[sys.argv.index("-o") + 2]).read_text())
+to.write_text("linked " + "".join(pathlib.Path(it).read_text() for it in sys.argv if it.endswith(".o")))
 """
 
 
@@ -553,8 +562,9 @@ class Unproved(Repository):
     def begin(self) -> "Unproved":
         super().begin()
         kit, self.quick = self.folder.parent / "kit", self.folder / "out" / "quick"
-        self.clang = kit / "toolchain/bin/clang"
+        self.linker = kit / "toolchain/bin/ld.lld"
         texts = {"bin/rt": TRYING, "bin/rtlib.py": "library", "bin/rattle-link": LINK, "toolchain/bin/clang": CLANG}
+        texts["toolchain/bin/ld.lld"] = LINKER
         for name, text in {**texts, "rlibs/one": "", "c/libos_c.a": ""}.items():
             (kit / name).parent.mkdir(parents=True, exist_ok=True)
             (kit / name).write_text(text)
@@ -588,7 +598,7 @@ def compiled(unproved: Unproved) -> Unproved:
 def test_an_unproved_build_is_the_tried_module_optimized_and_says_what_it_is(unproved: Unproved) -> None:
     done = unproved.build("--unproved")
     assert done.status == 0 and "toll: out/quick/toll is compiled, and NOTHING OF IT IS PROVED" in done.err, done.err
-    assert unproved.compiled() == "linked -fPIE -O1\nfn it\n"
+    assert unproved.compiled() == "linked --lto-newpm-passes=default<O1> -mllvm -trap\nfn it\n"
     assert not unproved.is_left() and not (unproved.out("toll") / "toll").exists()
 
 
@@ -625,7 +635,7 @@ def test_an_unproved_build_that_a_signal_ends_leaves_the_one_from_before(
 def test_an_unproved_build_says_what_it_compiles_and_how_far_it_is(unproved: Unproved) -> None:
     unproved.write("toll", "seconds 1\n" + "fn it\n" * 30000)
     slow = "import time\nwords = sys.argv[1:]\ntime.sleep(1)"
-    unproved.clang.write_text(CLANG.replace("words = sys.argv[1:]", slow))
+    unproved.linker.write_text(LINKER.replace("words = sys.argv[1:]", slow))
     lines = unproved.build("--unproved --every 0.2").err.splitlines()[:-1]
     steps = [r"step 1 of 2, 7 crates of 30,0\d\d lines become one module", "step 2 of 2, the module is optimized"]
     beginning = "toll: compiling out/quick/toll, of which nothing is proved: "
