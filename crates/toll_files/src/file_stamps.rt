@@ -275,8 +275,12 @@ pub fn check_mark<F: OfficeFiles>(files: &F, lease: &Lease) -> Result<(), Office
     }
 }
 
-// The same for the commit that this mark names.
-fn check_commit<F: OfficeFiles>(files: &F, lease: &Lease, mark: &LogMark) -> Result<(), OfficeFault>
+/// The same for the commit that this mark names.
+pub fn check_commit<F: OfficeFiles>(
+    files: &F,
+    lease: &Lease,
+    mark: &LogMark,
+) -> Result<(), OfficeFault>
     ensures kept { OnOk result (IfSome (F.known files.now) (λ known. ¬ IsCommitLost mark.now known.0 known.1)) }
     ensures lost { IfErr result (λ fault. fault ≡ OfficeFault.Damaged → IfSome (F.known files.now) (λ known. IsCommitLost mark.now known.0 known.1)) }
 {

@@ -14,7 +14,9 @@ mod shared_file;
 
 pub use fault_log::{FaultLog, FaultNote, OperatorLines, ServingFault};
 pub use file_id::FileId;
-pub use file_stamps::{FileChange, FileStamps, FoundFiles, LeftFiles, Stamp, check_mark};
+pub use file_stamps::{
+    FileChange, FileStamps, FoundFiles, LeftFiles, Stamp, check_commit, check_mark,
+};
 pub use lock::{FILE_MODE, Lease, LockFile, LockPath, LockPlace, OpenLock, take_lock};
 pub use log_end::{FoundEnd, LogEnd, ReadAt, end_of};
 pub use log_mark::{LogMark, a_mark_is_read_back};
