@@ -142,6 +142,15 @@ def test_a_mark_is_taken_out_when_the_log_is_in_the_file(at_work: Office) -> Non
     assert lock_of(at_work).stat().st_size == 0 and outcome(at_work, 2, by_server=False) == "whole"
 
 
+def test_a_lock_that_is_longer_than_a_mark_keeps_its_bytes(at_work: Office) -> None:
+    lines = "4711\n" * 40
+    lock_of(at_work).write_text(lines)
+    place_orders(at_work, 2)
+    assert lock_of(at_work).read_text() == lines
+    assert at_work.plant("unit-add", "U7") == ACCEPTED
+    assert lock_of(at_work).read_text() == lines and outcome(at_work, 2, by_server=False) == "whole"
+
+
 # What is no loss
 
 
